@@ -14,6 +14,9 @@ mod Exporting
 mod Cleared
 mod Resized
 mod SpecialReads
+mod Causing
+mod Untaken
+mod Parts
 mod Told
 mod Unwritten
 mod Counting

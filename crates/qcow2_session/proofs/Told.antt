@@ -11,9 +11,10 @@ use Rattle.qcow2_image.specs.declared.prepared.Prepared.{Prepared}
 use Rattle.qcow2_image.specs.Image.{IsSameImage, is_failed, size_of}
 use Rattle.qcow2_image.specs.ImageInvariant.{abstract_of, image_abstraction}
 use Rattle.qcow2_image.proofs.Free.{free_places}
+use Rattle.qcow2_session.specs.Causes.{IsRightlyRefused}
 use Rattle.qcow2_session.specs.Commands.{command_of, reply_of}
 use Rattle.qcow2_session.specs.Sessions.{found_in}
-use Rattle.qcow2_session.specs.Told.{IsToldAlong, IsToldStep, LeavesUnwritten, TellsOfImage, free_slots}
+use Rattle.qcow2_session.specs.Told.{AreRightlyRefused, IsToldAlong, IsToldStep, LeavesUnwritten, TellsOfImage, free_slots}
 use Rattle.qcow2_session.specs.declared.session.Command.{Command}
 use Rattle.qcow2_session.specs.declared.session.Reply.{Reply}
 use Rattle.qcow2_session.proofs.Meanings.{step_found, found_same}
@@ -30,6 +31,22 @@ none_refused X (Some e) a early = absurd (let no : Ok a ≡ Err e = early.0 in c
 
 pub never_refused : {A E : Type 0} (X : Type 0) (P : E → Type 0) (o : Option E) (a : A) → IfSome o (λ e. (Ok a ≡ Err e) × X) → IfSome o P
 never_refused X P o a early = subst (λ q. IfSome q P) (sym (none_refused X o a early)) tt
+
+module _ {S F : Type 0} (view : S → StorageView) (backing : F → BackingView) where
+  -- nothing was refused yet
+  pub first_refused : (image : Qcow2 S F) (out : List (Option Prepared)) (replies : List Reply) → out ≡ free_slots → replies ≡ [] → AreRightlyRefused view backing image free_slots [] replies image out
+  first_refused image out replies none unanswered = subst (λ (r : List Reply). AreRightlyRefused view backing image free_slots [] r image out) (sym unanswered) (refl, none)
+
+  -- one command more
+  pub refused_push : (old : Qcow2 S F) (before : List (Option Prepared)) (commands : List Command) (replies : List Reply) (mid : Qcow2 S F) (left : List (Option Prepared)) (command : Command) (reply : Reply) (new : Qcow2 S F) (after : List (Option Prepared))
+      → AreRightlyRefused view backing old before commands replies mid left → IsRightlyRefused view backing mid new left command reply
+      → AreRightlyRefused view backing old before (commands ++ command ∷ []) (replies ++ reply ∷ []) new after
+  refused_push old before [] [] mid left command reply new after same step =
+      subst (λ (o : Qcow2 S F). AreRightlyRefused view backing o before (command ∷ []) (reply ∷ []) new after) same.0
+      (subst (λ (b : List (Option Prepared)). AreRightlyRefused view backing mid b (command ∷ []) (reply ∷ []) new after) same.1 (new, after, step, (refl, refl)))
+  refused_push old before (c ∷ commands) (r ∷ replies) mid left command reply new after along step = (along.0, along.1, along.2, refused_push along.0 along.1 commands replies mid left command reply new after along.3 step)
+  refused_push old before [] (r ∷ replies) mid left command reply new after along step = absurd along
+  refused_push old before (c ∷ commands) [] mid left command reply new after along step = absurd along
 
 module _ {S F : Type 0} (view : S → StorageView) (backing : F → BackingView) (x : Setting) where
   -- one command more
@@ -69,13 +86,13 @@ module _ {S F : Type 0} (view : S → StorageView) (backing : F → BackingView)
   pub told_more : (old mid new : Qcow2 S F) (out after : List (Option Prepared)) (s : State) (commands : List Command) (replies : List Reply) (mappings mappings' : List (Option Mapping)) (command : Command) (reply : Reply)
       → IsToldSoFar old mid out s commands replies mappings
       → ((s' : State) → RefinesState x (abstract_of view backing mid out) s' → (s'.is_failed ≡ false → (k : ℕ) → s'.found k ≡ found_in mappings k) → RefinesCommand x (abstract_of view backing mid out) (abstract_of view backing new after) s' (command_of command) (reply_of reply))
-      → TellsOfImage view backing mid new out after command reply → (IsTrue (is_failed mid) → size_of new ≡ size_of mid) → LeavesUnwritten view backing mid out new after
+      → TellsOfImage view backing mid new out after command reply → IsRightlyRefused view backing mid new out command reply → (IsTrue (is_failed mid) → size_of new ≡ size_of mid) → LeavesUnwritten view backing mid out new after
       → ((k : ℕ) → found_in mappings' k ≡ found_after (found_in mappings) (command_of command) (reply_of reply) k)
       → IsToldSoFar old new after s (commands ++ command ∷ []) (replies ++ reply ∷ []) mappings'
-  told_more old mid new out after s commands replies mappings mappings' command reply so_far steps tells size unwritten finds =
+  told_more old mid new out after s commands replies mappings mappings' command reply so_far steps tells causes size unwritten finds =
       let step = steps so_far.end so_far.stands so_far.found in record {
         end = step.end;
-        along = told_push old free_slots s commands replies mid out so_far.end command reply new after so_far.along (record { step = step; tells = tells; size = size; unwritten = unwritten });
+        along = told_push old free_slots s commands replies mid out so_far.end command reply new after so_far.along (record { step = step; tells = tells; causes = causes; size = size; unwritten = unwritten });
         stands = step.stands;
         found = λ ok k.
             let so = step_found x so_far.end step.end (command_of command) (reply_of reply) step.step ok in

@@ -96,7 +96,7 @@ read_let_go view old new goes clean = read_known view old new (ap (λ (image : Q
 pub left_same : {S F : Type 0} (view : S → StorageView) (backing : F → BackingView) (old new : Qcow2 S F) (out : List (Option Prepared)) → new ≡ old → is_writable old ≡ false → IsUnmodified view old → AreExisting out → IsLeftUnwritten view backing old new out
 left_same view backing old new out same reading clean existing = record { reading = ap is_writable same ∙ reading; read = read_same view old new (ap (λ (image : Qcow2 _ _). image.file) same) clean; existing = existing }
 
-set_or_was : {X : Type 0} (xs : List X) (slot k : ℕ) (a x : X) → slice_get (slice_set xs slot a) k ≡ Some x → (x ≡ a) ⊎ (slice_get xs k ≡ Some x)
+pub set_or_was : {X : Type 0} (xs : List X) (slot k : ℕ) (a x : X) → slice_get (slice_set xs slot a) k ≡ Some x → (x ≡ a) ⊎ (slice_get xs k ≡ Some x)
 set_or_was [] slot k a x is = inr is
 set_or_was (y ∷ ys) zero zero a x is = inl (let e : Some a ≡ Some x = is in cc)
 set_or_was (y ∷ ys) zero (suc k) a x is = inr is

@@ -12,6 +12,7 @@ use Rattle.qcow2_image.specs.ImageInvariant.{abstract_of, meaning}
 use Rattle.qcow2_image.specs.Prepared.{table_of}
 use Rattle.qcow2_image.specs.Preparing.{IsAnswered, IsOfNothing}
 use Rattle.qcow2_image.specs.Unwritten.{HoldsSame, IsOnlyRead, IsUnmodified}
+use Rattle.qcow2_session.specs.Causes.{IsRightlyRefused}
 use Rattle.qcow2_session.specs.Commands.{command_of, reply_of}
 use Rattle.qcow2_session.specs.Sessions.{IsUntouched, ReleasesMappings}
 use Rattle.qcow2_session.specs.declared.session.Command.{Command}
@@ -55,12 +56,25 @@ module _ {S F : Type 0} (view : S → StorageView) (backing : F → BackingView)
   abbrev pub LeavesUnwritten : (old : Qcow2 S F) (before : List (Option Prepared)) (new : Qcow2 S F) (after : List (Option Prepared)) → Type 0
   LeavesUnwritten old before new after = is_writable old ≡ false → (abstract_of view backing old before).is_sound → IsUnmodified view old → AreExisting before → IsLeftUnwritten old new after
 
-  -- One command of a run, from an image with its prepared mappings to another. What it tells of the image is so, the size of a failed one stays, and an image that was opened for reading is left unwritten.
+  -- One command of a run, from an image with its prepared mappings to another. What it tells of the image is so, and it is refused for its causes alone. The size of a failed image stays, and one that was opened for reading is left unwritten.
   pub record IsToldStep (x : Setting) (old : Qcow2 S F) (before : List (Option Prepared)) (new : Qcow2 S F) (after : List (Option Prepared)) (s : State) (command : Command) (reply : Reply) : Type 0 where
     pub step : RefinesCommand x (abstract_of view backing old before) (abstract_of view backing new after) s (command_of command) (reply_of reply)
     pub tells : TellsOfImage old new before after command reply
+    pub causes : IsRightlyRefused view backing old new before command reply
     pub size : IsTrue (is_failed old) → size_of new ≡ size_of old
     pub unwritten : LeavesUnwritten old before new after
+
+  -- Each command of a run is refused rightly, whatever the image: from where the one before it left the image with its mappings, up to an image with these.
+  abbrev pub AreRightlyRefused : (old : Qcow2 S F) (before : List (Option Prepared)) → List Command → List Reply → (new : Qcow2 S F) (after : List (Option Prepared)) → Type 0
+  AreRightlyRefused old before [] [] new after = (new ≡ old) × (after ≡ before)
+  AreRightlyRefused old before (command ∷ commands) (reply ∷ replies) new after =
+      (mid : Qcow2 S F) × (left : List (Option Prepared)) × IsRightlyRefused view backing old mid before command reply × AreRightlyRefused mid left commands replies new after
+  AreRightlyRefused old before [] (reply ∷ replies) new after = ⊥
+  AreRightlyRefused old before (command ∷ commands) [] new after = ⊥
+
+  -- nothing was answered, or so it is from free slots on
+  abbrev pub RefusesRightly : Qcow2 S F → List Command → List Reply → Type 0
+  RefusesRightly image commands replies = (replies ≡ []) ⊎ ((last : Qcow2 S F) × (left : List (Option Prepared)) × AreRightlyRefused image free_slots commands replies last left)
 
   -- so is each command, one after the other, up to an image with these mappings at this place of the run
   abbrev pub IsToldAlong : (x : Setting) (old : Qcow2 S F) (before : List (Option Prepared)) (s : State) → List Command → List Reply → (new : Qcow2 S F) (after : List (Option Prepared)) (end : State) → Type 0

@@ -1,16 +1,20 @@
 //! Commands, one after the other, on one image.
-ghost use Rattle.std.specs.Prelude.{◌≡◌, ◌+◌, ◌^◌, ◌≤◌, ◌⊎◌, ◌<◌, ◌++◌, ◌∷◌, ℕ, List, [], length, vec_len, IfSome, IfErr, IfOk, IsTrue, Option, Err, false};
+ghost use Rattle.std.specs.Prelude.{◌≡◌, ◌+◌, ◌^◌, ◌≤◌, ◌⊎◌, ◌<◌, ◌++◌, ◌∷◌, ℕ, List, [], length, vec_len, IfSome, IfErr, IfOk, IsTrue, Option, None, Err, false};
+ghost use Rattle.qcow2_alloc.specs.declared.error.ImageError.TheVariants.{Failed, TablePrepared};
+ghost use Rattle.qcow2_image.specs.Clearing.{IsUnderMapping};
+ghost use Rattle.qcow2_image.specs.Preallocation.{IsUnderMappingIn};
 ghost use Rattle.qcow2_image.specs.Image.{IsSameImage, is_failed, is_writable, number_of, size_of};
 ghost use Rattle.qcow2_image.specs.Prepared.{image_of};
 ghost use Rattle.qcow2_image.specs.ImageInvariant.{abstract_of};
 ghost use Rattle.qcow2_image.specs.Calls.{Discards};
-ghost use Rattle.qcow2_image.specs.Refusals.{unusable, refuses_to_read, refuses_to_prepare};
+ghost use Rattle.qcow2_image.specs.Refusals.{IsMet, IsMetPreparing, unusable, refuses_mapping, refuses_to_read, refuses_to_prepare};
 ghost use Rattle.qcow2_image.specs.Faults.{CountsImageFaults, NoFewerFaults, TellsFault};
+ghost use Rattle.qcow2_session.specs.Causes.{IsRightlyRefused};
 ghost use Rattle.qcow2_session.specs.CountedFaults.{CommandCounts, RunCounts};
 ghost use Rattle.qcow2_session.specs.Sessions.{IsRightlyBeyond, IsOfReading, IsOfWriting, EndsCluster, Reads, ReadsInto, ReadsFirst, Writes, WritesFirst, CommandSteps, Finds, ReleasesMappings, RunsThrough, RunRefinesDisk, LookupsFindContents};
 ghost use Rattle.qcow2_image.specs.Ranges.{LetsGo};
 ghost use Rattle.qcow2_image.specs.Unwritten.{IsOnlyRead, IsUnmodified};
-ghost use Rattle.qcow2_session.specs.Told.{IsNeverWritten, LeavesUnwritten, StaysUnwritten, TellsOfImage, TellsThrough};
+ghost use Rattle.qcow2_session.specs.Told.{IsNeverWritten, LeavesUnwritten, RefusesRightly, StaysUnwritten, TellsOfImage, TellsThrough};
 ghost use Rattle.qcow2_image.specs.declared.prepared.Prepared.{Prepared};
 
 use crate::clearing::{discard_to_any, discard_to_backing, discard_to_zero, ensure_zero};
@@ -137,6 +141,7 @@ pub fn read<S: Storage, F: WrappedFormat<S>>(
     ensures unwritten { StaysUnwritten S.view F.backing image.old image.new }
     ensures faults { CountsImageFaults S.view F.backing image.old image.new result }
     ensures early { IfSome (refuses_to_read image.old offset length) (λ e. (result ≡ Err e) × (image.new ≡ image.old)) }
+    ensures late { refuses_to_read image.old offset length ≡ None → IfErr result IsMet }
     ensures beyond { IfErr result (IsRightlyBeyond image.old offset length) }
     ensures cause { IfErr result IsOfReading }
     ensures sees { Reads S.view F.backing image.old image.new offset length result }
@@ -162,6 +167,7 @@ pub fn read_into<S: Storage, F: WrappedFormat<S>>(
     ensures unwritten { StaysUnwritten S.view F.backing image.old image.new }
     ensures faults { CountsImageFaults S.view F.backing image.old image.new result }
     ensures early { IfSome (refuses_to_read image.old offset (length bytes.old)) (λ e. (result ≡ Err e) × (image.new ≡ image.old)) }
+    ensures late { refuses_to_read image.old offset (length bytes.old) ≡ None → IfErr result IsMet }
     ensures beyond { IfErr result (IsRightlyBeyond image.old offset (length bytes.old)) }
     ensures cause { IfErr result IsOfReading }
     ensures sees { ReadsInto S.view F.backing image.old image.new offset bytes.new result }
@@ -188,6 +194,8 @@ fn read_some<S: Storage, F: WrappedFormat<S>>(
     ensures faults { CountsImageFaults S.view F.backing image.old image.new result }
     ensures some { IfOk result (λ n. 0 < n) }
     ensures within { IfOk result (λ n. n ≤ length bytes.old) }
+    ensures late { refuses_to_read image.old offset (length bytes.old) ≡ None → 0 < length bytes.old → IfErr result IsMet }
+    ensures works { IfOk result (λ n. is_failed image.new ≡ is_failed image.old) }
     ensures beyond { 0 < length bytes.old → IfErr result (IsRightlyBeyond image.old offset (length bytes.old)) }
     ensures cause { IfErr result IsOfReading }
     ensures sees { ReadsFirst S.view F.backing image.old image.new offset bytes.new result }
@@ -212,6 +220,9 @@ pub fn write<S: Storage, F: WrappedFormat<S>>(
     ensures unwritten { StaysUnwritten S.view F.backing image.old image.new }
     ensures faults { NoFewerFaults S.view F.backing image.old image.new × IfErr result (λ (e, n). TellsFault S.view F.backing image.old image.new e) }
     ensures early { IfSome (refuses_to_prepare image.old offset (length bytes.now)) (λ e. (result ≡ Err (e, 0)) × (image.new ≡ image.old)) }
+    ensures late { refuses_to_prepare image.old offset (length bytes.now) ≡ None → IfErr result (λ (e, n). IsMetPreparing e ⊎ ((e ≡ Failed) × (0 < n))) }
+    ensures taken { refuses_to_prepare image.old offset (length bytes.now) ≡ None → (out : List (Option Prepared)) → (abstract_of S.view F.backing image.old out).is_sound
+        → IfErr result (λ (e, n). e ≡ TablePrepared → IsUnderMappingIn image.old.file.header.fields offset (offset + length bytes.now) out) }
     ensures within { IfErr result (λ (e, n). n ≤ length bytes.now) }
     ensures beyond { IfErr result (λ (e, n). IsRightlyBeyond image.old offset (length bytes.now) e) }
     ensures cause { IfErr result (λ (e, n). IsOfWriting e) }
@@ -244,6 +255,9 @@ fn write_some<S: Storage, F: WrappedFormat<S>>(
     ensures unwritten { StaysUnwritten S.view F.backing image.old image.new }
     ensures faults { CountsImageFaults S.view F.backing image.old image.new result }
     ensures early { IfSome (refuses_to_prepare image.old offset (length bytes.now)) (λ e. (result ≡ Err e) × (image.new ≡ image.old)) }
+    ensures late { refuses_to_prepare image.old offset (length bytes.now) ≡ None → IfErr result IsMetPreparing }
+    ensures taken { refuses_to_prepare image.old offset (length bytes.now) ≡ None → (out : List (Option Prepared)) → (abstract_of S.view F.backing image.old out).is_sound
+        → IfErr result (λ e. e ≡ TablePrepared → (0 < length bytes.now) × IsUnderMapping image.old.file.header.fields offset out) }
     ensures some { IfOk result (λ n. 0 < length bytes.now → 0 < n) }
     ensures within { IfOk result (λ n. n ≤ length bytes.now) }
     ensures beyond { IfErr result (IsRightlyBeyond image.old offset (length bytes.now)) }
@@ -294,6 +308,7 @@ pub fn run<S: Storage, F: WrappedFormat<S>>(
     ensures runs { RunsThrough S.view F.backing image.old image.new commands.now result.items }
     ensures means { RunRefinesDisk S.view F.backing image.old image.new commands.now result.items }
     ensures tells { TellsThrough S.view F.backing image.old image.new commands.now result.items }
+    ensures causes { RefusesRightly S.view F.backing image.old commands.now result.items }
     ensures unwritten { IsNeverWritten S.view F.backing image.old image.new }
     ensures maps { LookupsFindContents S.view F.backing image.old image.new commands.now result.items }
 {
@@ -326,6 +341,7 @@ fn step<S: Storage, F: WrappedFormat<S>>(
     ensures finds { Finds slots.old slots.new command.now result }
     ensures tells { TellsOfImage S.view F.backing image.old image.new slots.old.prepared.items slots.new.prepared.items command.now result }
     ensures size { IsTrue (is_failed image.old) → size_of image.new ≡ size_of image.old }
+    ensures causes { IsRightlyRefused S.view F.backing image.old image.new slots.old.prepared.items command.now result }
     ensures unwritten { LeavesUnwritten S.view F.backing image.old slots.old.prepared.items image.new slots.new.prepared.items }
 {
     match command {
@@ -374,8 +390,10 @@ fn get_mapping<S: Storage, F: WrappedFormat<S>>(
     offset: u64,
     max: u64,
 ) -> Reply
+    requires { slots.old.image ≡ number_of image.old }
     ensures image { IsSameImage image.old image.new }
     ensures faults { CommandCounts S.view F.backing image.old image.new result }
+    ensures causes { IsRightlyRefused S.view F.backing image.old image.new slots.old.prepared.items (Command.GetMapping slot offset max) result }
     ensures slots { slots.new.image ≡ slots.old.image }
     ensures goes { CommandSteps S.view F.backing image.old image.new slots.old slots.new (Command.GetMapping slot offset max) result }
     ensures finds { Finds slots.old slots.new (Command.GetMapping slot offset max) result }
@@ -399,9 +417,11 @@ fn read_mapped<S: Storage, F: WrappedFormat<S>>(
     at: u64,
     length: u64,
 ) -> Reply
+    requires { slots.now.image ≡ number_of image.old }
     ensures image { IsSameImage image.old image.new }
     ensures unwritten { StaysUnwritten S.view F.backing image.old image.new }
     ensures faults { CommandCounts S.view F.backing image.old image.new result }
+    ensures causes { IsRightlyRefused S.view F.backing image.old image.new slots.now.prepared.items (Command.ReadMapped slot at length) result }
     ensures goes { CommandSteps S.view F.backing image.old image.new slots.now slots.now (Command.ReadMapped slot at length) result }
     ensures finds { Finds slots.now slots.now (Command.ReadMapped slot at length) result }
 {
@@ -430,6 +450,7 @@ fn read_range<S: Storage, F: WrappedFormat<S>>(
     ensures unwritten { StaysUnwritten S.view F.backing image.old image.new }
     ensures faults { CountsImageFaults S.view F.backing image.old image.new result }
     ensures early { IfSome (unusable image.old) (λ e. (result ≡ Err e) × (image.new ≡ image.old)) }
+    ensures late { refuses_mapping image.old mapping.now.image ≡ None → IfErr result IsMet }
     ensures sees { Reads S.view F.backing image.old image.new (mapping.now.offset + at) length result }
 {
     image.check_read(0, 0)?;
@@ -449,6 +470,7 @@ fn prepare<S: Storage, F: WrappedFormat<S>>(
     requires { slots.old.image ≡ number_of image.old }
     ensures image { IsSameImage image.old image.new }
     ensures faults { CommandCounts S.view F.backing image.old image.new result }
+    ensures causes { IsRightlyRefused S.view F.backing image.old image.new slots.old.prepared.items (Command.PrepareDataMapping slot offset length overwrite) result }
     ensures slots { slots.new.image ≡ slots.old.image }
     ensures goes { CommandSteps S.view F.backing image.old image.new slots.old slots.new (Command.PrepareDataMapping slot offset length overwrite) result }
     ensures finds { Finds slots.old slots.new (Command.PrepareDataMapping slot offset length overwrite) result }
@@ -479,9 +501,11 @@ fn write_mapped<S: Storage, F: WrappedFormat<S>>(
     at: u64,
     bytes: &Vec<u8>,
 ) -> Reply
+    requires { slots.now.image ≡ number_of image.old }
     ensures image { IsSameImage image.old image.new }
     ensures reading { is_writable image.old ≡ false → image.new ≡ image.old }
     ensures faults { CommandCounts S.view F.backing image.old image.new result }
+    ensures causes { IsRightlyRefused S.view F.backing image.old image.new slots.now.prepared.items (Command.WriteMapped slot at bytes.now) result }
     ensures goes { CommandSteps S.view F.backing image.old image.new slots.now slots.now (Command.WriteMapped slot at bytes.now) result }
     ensures finds { Finds slots.now slots.now (Command.WriteMapped slot at bytes.now) result }
 {
@@ -506,6 +530,7 @@ fn commit<S: Storage, F: WrappedFormat<S>>(
     requires { slots.old.image ≡ number_of image.old }
     ensures image { IsSameImage image.old image.new }
     ensures faults { CommandCounts S.view F.backing image.old image.new result }
+    ensures causes { IsRightlyRefused S.view F.backing image.old image.new slots.old.prepared.items (Command.CommitDataMapping slot) result }
     ensures slots { slots.new.image ≡ slots.old.image }
     ensures goes { CommandSteps S.view F.backing image.old image.new slots.old slots.new (Command.CommitDataMapping slot) result }
     ensures finds { Finds slots.old slots.new (Command.CommitDataMapping slot) result }
@@ -532,6 +557,7 @@ fn discard<S: Storage, F: WrappedFormat<S>>(
     requires { slots.old.image ≡ number_of image.old }
     ensures image { IsSameImage image.old image.new }
     ensures faults { CommandCounts S.view F.backing image.old image.new result }
+    ensures causes { IsRightlyRefused S.view F.backing image.old image.new slots.old.prepared.items (Command.DiscardDataMapping slot) result }
     ensures slots { slots.new.image ≡ slots.old.image }
     ensures goes { CommandSteps S.view F.backing image.old image.new slots.old slots.new (Command.DiscardDataMapping slot) result }
     ensures finds { Finds slots.old slots.new (Command.DiscardDataMapping slot) result }
@@ -550,6 +576,7 @@ fn flush<S: Storage, F: WrappedFormat<S>>(image: &mut Qcow2<S, F>) -> Reply
     ensures image { IsSameImage image.old image.new }
     ensures unwritten { StaysUnwritten S.view F.backing image.old image.new }
     ensures faults { CommandCounts S.view F.backing image.old image.new result }
+    ensures causes { (before : List (Option Prepared)) → IsRightlyRefused S.view F.backing image.old image.new before Command.Flush result }
     ensures goes { (slots : Slots) → CommandSteps S.view F.backing image.old image.new slots slots Command.Flush result }
     ensures finds { (slots : Slots) → Finds slots slots Command.Flush result }
 {

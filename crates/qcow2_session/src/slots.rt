@@ -1,6 +1,7 @@
 //! The slots of a run, in which mappings stand.
 ghost use Rattle.std.specs.Prelude.{◌≡◌, ℕ, length, replicate, IfSome, MatchOption, Option, Some, None, slice_get, slice_set};
 ghost use Rattle.qcow2_image.specs.Prepared.{image_of};
+ghost use Rattle.qcow2_image.specs.declared.mapping.Mapping.{Mapping};
 ghost use Rattle.qcow2_image.specs.declared.prepared.Prepared.{Prepared};
 
 use qcow2_image::{Mapping, Prepared};
@@ -15,6 +16,7 @@ pub(crate) struct Slots {
     ghost all_prepared: { length prepared.items ≡ 256 },
     ghost all_mappings: { length mappings.items ≡ 256 },
     ghost own: { (k : ℕ) (p : Prepared) → slice_get prepared.items k ≡ Some (Some p) → image_of p ≡ image },
+    ghost looked_up: { (k : ℕ) (m : Mapping) → slice_get mappings.items k ≡ Some (Some m) → m.image ≡ image },
 }
 
 impl Slots {

@@ -1,12 +1,14 @@
 //! The commands that read what isn't mapped plainly.
-ghost use Rattle.std.specs.Prelude.{◌≡◌, [], List, Option, IfErr, IfOk, IfSome, MatchOption, Err};
+ghost use Rattle.std.specs.Prelude.{◌≡◌, ◌⊎◌, [], List, Option, None, IfErr, IfOk, IfSome, MatchOption, Err};
 ghost use Rattle.qcow2_alloc.specs.ImageFile.{known_in};
 ghost use Rattle.qcow2_image.specs.Calls.{AnswersCall};
 ghost use Rattle.qcow2_image.specs.Image.{IsSameImage};
-ghost use Rattle.qcow2_image.specs.Refusals.{unusable};
+ghost use Rattle.qcow2_image.specs.Refusals.{IsMet, unusable};
+ghost use Rattle.qcow2_alloc.specs.declared.error.ImageError.TheVariants.{NotCompressed};
 ghost use Rattle.qcow2_image.specs.ImageInvariant.{abstract_of};
 ghost use Rattle.qcow2_image.specs.declared.prepared.Prepared.{Prepared};
 ghost use Rattle.qcow2_image.specs.Faults.{CountsImageFaults};
+ghost use Rattle.qcow2_session.specs.Causes.{IsRightlyRefused};
 ghost use Rattle.qcow2_session.specs.CountedFaults.{CommandCounts};
 ghost use Rattle.qcow2_session.specs.Commands.{IsOwnOffset, TellsPlain, TellsSpecial};
 ghost use Rattle.qcow2_session.specs.Sessions.{CommandSteps, Finds};
@@ -29,6 +31,7 @@ pub(crate) fn readv_special<S: Storage, F: WrappedFormat<S>>(
     ensures image { IsSameImage image.old image.new }
     ensures unwritten { StaysUnwritten S.view F.backing image.old image.new }
     ensures faults { CommandCounts S.view F.backing image.old image.new result }
+    ensures causes { (before : List (Option Prepared)) → IsRightlyRefused S.view F.backing image.old image.new before (ReadvSpecial offset length) result }
     ensures goes { (slots : Slots) → CommandSteps S.view F.backing image.old image.new slots slots (ReadvSpecial offset length) result }
     ensures finds { (slots : Slots) → Finds slots slots (ReadvSpecial offset length) result }
 {
@@ -48,6 +51,7 @@ pub(crate) fn try_readv_special<S: Storage, F: WrappedFormat<S>>(
     ensures image { IsSameImage image.old image.new }
     ensures unwritten { StaysUnwritten S.view F.backing image.old image.new }
     ensures faults { CommandCounts S.view F.backing image.old image.new result }
+    ensures causes { (before : List (Option Prepared)) → IsRightlyRefused S.view F.backing image.old image.new before (TryReadvSpecial offset length) result }
     ensures goes { (slots : Slots) → CommandSteps S.view F.backing image.old image.new slots slots (TryReadvSpecial offset length) result }
     ensures finds { (slots : Slots) → Finds slots slots (TryReadvSpecial offset length) result }
 {
@@ -67,6 +71,7 @@ fn read_range<S: Storage, F: WrappedFormat<S>>(
     ensures unwritten { StaysUnwritten S.view F.backing image.old image.new }
     ensures faults { CountsImageFaults S.view F.backing image.old image.new result }
     ensures early { IfSome (unusable image.old) (λ e. (result ≡ Err e) × (image.new ≡ image.old)) }
+    ensures late { unusable image.old ≡ None → IfErr result (λ e. IsMet e ⊎ (e ≡ NotCompressed offset)) }
     ensures empty { IfOk result (λ done. length ≡ 0) }
     ensures own { IfErr result (IsOwnOffset offset) }
     ensures tells { (out : List (Option Prepared)) → (abstract_of S.view F.backing image.old out).is_sound → TellsSpecial (known_in S.view image.old.file) offset length result }
@@ -87,6 +92,7 @@ fn try_range<S: Storage, F: WrappedFormat<S>>(
     ensures unwritten { StaysUnwritten S.view F.backing image.old image.new }
     ensures faults { CountsImageFaults S.view F.backing image.old image.new result }
     ensures early { IfSome (unusable image.old) (λ e. (result ≡ Err e) × (image.new ≡ image.old)) }
+    ensures late { unusable image.old ≡ None → IfErr result IsMet }
     ensures answer { IfOk result (λ plain. MatchOption plain (length ≡ 0) (λ at. at ≡ offset)) }
     ensures tells { (out : List (Option Prepared)) → (abstract_of S.view F.backing image.old out).is_sound → TellsPlain (known_in S.view image.old.file) offset length result }
     ensures sees { AnswersCall S.view F.backing image.old image.new [] (λ plain was is. is ≡ was) result }

@@ -55,7 +55,10 @@ returns-clause-tells g c = λ honest consistent.
     let opened = c.in-Ok.image in
     let v = abstract_of view below opened [] in
     let is = c.in-Ok.ensures.opens honest consistent in
-    record { opened = opened; is = is; run = c.run-replies.ensures.tells v.setting (started (guest_of v)) (begins v is.opened.sound (whole view below opened [] is.opened.sound) is.opened.clean) }
+    record { opened = opened; is = is; number_is = c.in-Ok.ensures.ok.0; writable = c.in-Ok.ensures.ok.2; run = c.run-replies.ensures.tells v.setting (started (guest_of v)) (begins v is.opened.sound (whole view below opened [] is.opened.sound) is.opened.clean) }
 
 pub returns-clause-faults : goal.returns-clause-faults
 returns-clause-faults g c = (c.in-Ok.image, c.run-replies.ensures.faults)
+
+pub returns-clause-causes : goal.returns-clause-causes
+returns-clause-causes g c = record { opened = c.in-Ok.image; number_is = c.in-Ok.ensures.ok.0; writable = c.in-Ok.ensures.ok.2; causes = c.run-replies.ensures.causes }

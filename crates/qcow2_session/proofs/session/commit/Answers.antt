@@ -12,6 +12,14 @@ use Rattle.qcow2_image.specs.Calls.{refusal_of, Commits}
 use Rattle.qcow2_image.proofs.Map.Unmodified.{read_none}
 use Rattle.qcow2_session.proofs.Unwritten.{existing_set, read_let_go}
 use Rattle.qcow2_session.specs.Told.{AreExisting}
+use Rattle.qcow2_session.specs.declared.session.Command.TheVariants as C
+use Rattle.qcow2_session.specs.declared.session.Reply.TheVariants as R
+use Rattle.qcow2_image.specs.Image.{is_failed}
+use Rattle.qcow2_image.specs.Calls.{reason_of}
+use Rattle.qcow2_image.specs.Prepared.{table_of}
+use Rattle.qcow2_image.specs.Refusals.{IsMet}
+use Rattle.std.specs.Prelude.{IsNone}
+use Rattle.qcow2_session.proofs.Causing.{is_done, is_misused, is_refused, kept_error, not_failed, not_free, same_mapping, where_failed}
 use Rattle.qcow2_session.proofs.session.commit.Goals as goal
 
 pub returns-in_default-clause-goes : goal.returns-in_default-clause-goes
@@ -68,3 +76,28 @@ returns-in-Err-Kept-clause-unwritten g c = λ reading sound clean existing. absu
 
 pub returns-in_default-clause-unwritten : goal.returns-in_default-clause-unwritten
 returns-in_default-clause-unwritten g c = λ reading sound clean existing. record { reading = reading; read = read_none g.S.Storage.view c.args.image.now clean; existing = subst AreExisting (sym c.put.ensures.is) (existing_set c.args.slots.now.prepared.items c.args.slot None existing tt) }
+
+pub returns-in_default-clause-causes : goal.returns-in_default-clause-causes
+returns-in_default-clause-causes g c = is_misused g.S.Storage.view g.F.BackingDisk.backing c.args.image.now c.args.image.now c.args.slots.now.prepared.items (C.CommitDataMapping c.args.slot) (λ _. c.in_default.ensures.was, λ _. refl) refl tt
+
+pub returns-in-Ok-clause-causes : goal.returns-in-Ok-clause-causes
+returns-in-Ok-clause-causes g c =
+    let own = c.in-Some.ensures.own ∙ c.put.ensures.image ∙ c.requires in
+    is_done g.S.Storage.view g.F.BackingDisk.backing c.args.image.now c.commit_data_mapping.new.self c.args.slots.now.prepared.items (C.CommitDataMapping c.args.slot) R.Done (λ is. absurd cc) (λ is. absurd cc, λ free. absurd (not_free c.args.slots.now.prepared.items c.args.slot c.in-Some.ensures.was free)) refl
+    (where_failed _ (is_failed c.args.image.now) (λ f. absurd (not_both (c.in-Ok.ensures.failed own f)))) (λ _ _. tt)
+
+pub returns-in-Err-Spent-clause-causes : goal.returns-in-Err-Spent-clause-causes
+returns-in-Err-Spent-clause-causes g c =
+    let own = c.in-Some.ensures.own ∙ c.put.ensures.image ∙ c.requires in
+    is_refused g.S.Storage.view g.F.BackingDisk.backing c.args.image.now c.commit_data_mapping.new.self c.args.slots.now.prepared.items (C.CommitDataMapping c.args.slot) c.in-Err-Spent.refusal (R.Refused c.in-Err-Spent.refusal) (λ is. absurd cc) (λ is. absurd cc, λ free. absurd (not_free c.args.slots.now.prepared.items c.args.slot c.in-Some.ensures.was free)) refl
+    (where_failed _ (is_failed c.args.image.now) (λ f. absurd (not_spent c.in-Err-Spent.field-0-is (c.in-Err-Spent.ensures.failed own f))))
+    (λ none. subst (λ r. IsMet (reason_of r)) c.in-Err-Spent.field-0-is (c.in-Err-Spent.ensures.late own (not_failed (is_failed c.args.image.now) none)))
+    (λ none idle. let no = (c.in-Err-Spent.ensures.existing own (not_failed (is_failed c.args.image.now) none) (subst (λ p. IsNone (table_of p)) (same_mapping c.args.slots.now.prepared.items c.args.slot c.in-Some.ensures.was idle.1) idle.2)).0 in absurd cc) (λ _ _. tt)
+
+pub returns-in-Err-Kept-clause-causes : goal.returns-in-Err-Kept-clause-causes
+returns-in-Err-Kept-clause-causes g c =
+    let own = c.in-Some.ensures.own ∙ c.put.ensures.image ∙ c.requires in
+    is_refused g.S.Storage.view g.F.BackingDisk.backing c.args.image.now c.commit_data_mapping.new.self c.args.slots.now.prepared.items (C.CommitDataMapping c.args.slot) c.in-Err-Kept.refusal (R.Refused c.in-Err-Kept.refusal) (λ is. absurd cc) (λ is. absurd cc, λ free. absurd (not_free c.args.slots.now.prepared.items c.args.slot c.in-Some.ensures.was free)) refl
+    (where_failed _ (is_failed c.args.image.now) (λ f. (kept_error c.in-Err-Kept.field-0-is (c.in-Err-Kept.ensures.failed own f).0, (c.in-Err-Kept.ensures.failed own f).1)))
+    (λ none. subst (λ r. IsMet (reason_of r)) c.in-Err-Kept.field-0-is (c.in-Err-Kept.ensures.late own (not_failed (is_failed c.args.image.now) none)))
+    (λ none idle. let no = (c.in-Err-Kept.ensures.existing own (not_failed (is_failed c.args.image.now) none) (subst (λ p. IsNone (table_of p)) (same_mapping c.args.slots.now.prepared.items c.args.slot c.in-Some.ensures.was idle.1) idle.2)).0 in absurd cc) (λ _ _. tt)

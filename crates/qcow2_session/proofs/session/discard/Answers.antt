@@ -9,6 +9,9 @@ use Rattle.qcow2_session.proofs.Meanings.{found_at, none_at, does_discard}
 use Rattle.qcow2_image.proofs.Map.Unmodified.{read_none}
 use Rattle.qcow2_session.proofs.Unwritten.{existing_set, read_let_go}
 use Rattle.qcow2_session.specs.Told.{AreExisting}
+use Rattle.qcow2_session.specs.declared.session.Command.TheVariants as C
+use Rattle.qcow2_session.specs.declared.session.Reply.TheVariants as R
+use Rattle.qcow2_session.proofs.Causing.{is_done, is_misused, not_free}
 use Rattle.qcow2_session.proofs.session.discard.Goals as goal
 
 pub returns-in-None-clause-goes : goal.returns-in-None-clause-goes
@@ -35,3 +38,10 @@ returns-in-Some-clause-unwritten g c = λ reading sound clean existing.
 
 pub returns-in-None-clause-unwritten : goal.returns-in-None-clause-unwritten
 returns-in-None-clause-unwritten g c = λ reading sound clean existing. record { reading = reading; read = read_none g.S.Storage.view c.args.image.now clean; existing = subst AreExisting (sym c.put.ensures.is) (existing_set c.args.slots.now.prepared.items c.args.slot None existing tt) }
+
+pub returns-in-None-clause-causes : goal.returns-in-None-clause-causes
+returns-in-None-clause-causes g c = is_misused g.S.Storage.view g.F.BackingDisk.backing c.args.image.now c.args.image.now c.args.slots.now.prepared.items (C.DiscardDataMapping c.args.slot) (λ _. c.in-None.ensures.was, λ _. refl) refl tt
+
+pub returns-in-Some-clause-causes : goal.returns-in-Some-clause-causes
+returns-in-Some-clause-causes g c =
+    is_done g.S.Storage.view g.F.BackingDisk.backing c.args.image.now c.release.new.image c.args.slots.now.prepared.items (C.DiscardDataMapping c.args.slot) R.Done (λ is. absurd cc) (λ is. absurd cc, λ free. absurd (not_free c.args.slots.now.prepared.items c.args.slot c.in-Some.ensures.was free)) refl tt (λ _ _. tt)

@@ -9,6 +9,14 @@ use Rattle.qcow2_session.specs.Sessions.{found_in}
 use Rattle.qcow2_session.proofs.Turns.{does_if}
 use Rattle.qcow2_session.proofs.Meanings.{found_set}
 use Rattle.qcow2_session.proofs.Answering.{unusable_first, error_is, not_both, lookup_answer}
+use Rattle.qcow2_session.specs.declared.session.Command.TheVariants as C
+use Rattle.qcow2_session.specs.declared.session.Reply.TheVariants as R
+use Rattle.qcow2_image.specs.Refusals.{unusable}
+use Rattle.qcow2_session.proofs.Causing.{begun_with, is_answered, is_refused, some_error}
+use Rattle.std.proofs.Common.{⊎_elim}
+use Rattle.qcow2_image.specs.declared.mapping.Mapping.{Mapping}
+use Rattle.qcow2_image.proofs.Call.Slots.{length_set}
+use Rattle.qcow2_session.proofs.Unwritten.{set_or_was}
 use Rattle.qcow2_session.proofs.session.get_mapping.Goals as goal
 
 pub returns-in-Ok-clause-goes : goal.returns-in-Ok-clause-goes
@@ -40,3 +48,20 @@ returns-in-Ok-clause-unwritten g c = λ reading sound clean existing. record { r
 
 pub returns-in-Err-clause-unwritten : goal.returns-in-Err-clause-unwritten
 returns-in-Err-clause-unwritten g c = λ reading sound clean existing. record { reading = c.get_mapping.ensures.image.writable ∙ reading; read = c.get_mapping.ensures.unwritten _ c.args.slots.now.prepared.items sound clean; existing = existing }
+
+pub returns-in-Err-clause-causes : goal.returns-in-Err-clause-causes
+returns-in-Err-clause-causes g c =
+    is_refused g.S.Storage.view g.F.BackingDisk.backing c.args.image.now c.get_mapping.new.self c.args.slots.now.prepared.items (C.GetMapping c.args.slot c.args.offset c.args.max) c.in-Err.refusal (R.Refused c.in-Err.refusal) (λ is. absurd cc) (λ is. absurd cc, λ is. absurd is) refl
+    (begun_with _ _ _ (unusable c.args.image.now) c.in-Err.ensures.early) c.in-Err.ensures.late (λ none past. let no = (c.in-Err.ensures.past none past).0 in absurd cc) (λ _ _. tt)
+
+pub returns-in-Ok-clause-causes : goal.returns-in-Ok-clause-causes
+returns-in-Ok-clause-causes g c =
+    is_answered g.S.Storage.view g.F.BackingDisk.backing c.args.image.now c.get_mapping.new.self c.args.slots.now.prepared.items (C.GetMapping c.args.slot c.args.offset c.args.max) _ _ (R.Mapping c.in-Ok.mapping) (λ is. absurd cc) (λ is. absurd cc, λ is. absurd is) refl c.in-Ok.ensures.early (λ _ _. tt)
+
+pub invariant_of-slots-clause-looked_up : goal.invariant_of-slots-clause-looked_up
+invariant_of-slots-clause-looked_up g c = λ k m at.
+    ⊎_elim (λ (new : Some m ≡ Some c.in-Ok.mapping). ap (λ (x : Mapping). x.image) (some_error new) ∙ c.in-Ok.ensures.own.0 ∙ sym c.requires) (λ was. c.args.slots.now.looked_up k m was)
+    (set_or_was c.args.slots.now.mappings.items c.from.result k (Some c.in-Ok.mapping) (Some m) at)
+
+pub invariant_of-slots-clause-all_mappings : goal.invariant_of-slots-clause-all_mappings
+invariant_of-slots-clause-all_mappings g c = length_set c.args.slots.now.mappings.items c.from.result (Some c.in-Ok.mapping) ∙ c.args.slots.now.all_mappings

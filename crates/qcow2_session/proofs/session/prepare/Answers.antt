@@ -20,6 +20,12 @@ use Rattle.qcow2_session.proofs.Unwritten.{existing_set, nothing_prepared, prepa
 use Rattle.qcow2_image.specs.declared.image.Qcow2.{Qcow2}
 use Rattle.qcow2_image.specs.Image.{is_writable}
 use Rattle.qcow2_session.specs.Told.{AreExisting}
+use Rattle.qcow2_session.specs.declared.session.Command.TheVariants as C
+use Rattle.qcow2_session.specs.declared.session.Reply.TheVariants as R
+use Rattle.qcow2_disk.specs.AbstractImages.{Setting}
+use Rattle.qcow2_image.specs.ImageInvariant.{meaning}
+use Rattle.qcow2_session.proofs.Untaken.{prepared_untaken}
+use Rattle.qcow2_session.proofs.Causing.{begun_with, holds, is_answered, is_misused, is_refused, not_free, some_error}
 use Rattle.qcow2_session.proofs.session.prepare.Goals as goal
 
 pub returns-then-is_some-clause-goes : goal.returns-then-is_some-clause-goes
@@ -86,3 +92,31 @@ returns-in-Err-clause-unwritten g c = λ reading sound clean existing.
 
 pub returns-then-is_some-clause-unwritten : goal.returns-then-is_some-clause-unwritten
 returns-then-is_some-clause-unwritten g c = λ reading sound clean existing. record { reading = reading; read = read_none g.S.Storage.view c.args.image.now clean; existing = existing }
+
+pub returns-then-is_some-clause-causes : goal.returns-then-is_some-clause-causes
+returns-then-is_some-clause-causes g c = is_misused g.S.Storage.view g.F.BackingDisk.backing c.args.image.now c.args.image.now c.args.slots.now.prepared.items (C.PrepareDataMapping c.args.slot c.args.offset c.args.length c.args.overwrite) (λ _. holds c.args.slots.now.prepared.items c.args.slot c.get.result c.get.ensures (sym c.is_some.ensures ∙ c.if-is_some.true), λ _. refl) refl (λ is. absurd cc)
+
+pub returns-in-Err-clause-causes : goal.returns-in-Err-clause-causes
+returns-in-Err-clause-causes g c =
+    let free = untaken (image_abstraction g.S.Storage.view g.F.BackingDisk.backing) c.args.image.now c.args.slots.now.prepared.items c.args.slot c.get.result c.get.ensures (sym c.is_some.ensures ∙ c.if-is_some.false) in
+    let e = c.in-Err.refusal in
+    is_refused g.S.Storage.view g.F.BackingDisk.backing c.args.image.now c.prepare_data_mapping.new.self c.args.slots.now.prepared.items (C.PrepareDataMapping c.args.slot c.args.offset c.args.length c.args.overwrite) e (R.Refused e) (λ is. absurd cc) (λ is. absurd cc, λ is. absurd (not_free c.args.slots.now.prepared.items c.args.slot is.1 free)) refl
+    (begun_with _ _ _ (refuses_to_prepare c.args.image.now c.args.offset c.args.length) c.in-Err.ensures.early) c.in-Err.ensures.late
+    (λ none empty. let no = (c.in-Err.ensures.nothing (ap (λ n. refuses_to_prepare c.args.image.now c.args.offset n) (sym empty) ∙ none) empty).0 in absurd cc)
+    (λ none sound is. c.in-Err.ensures.taken none c.args.slots.now.prepared.items sound (some_error is))
+
+pub returns-in-Ok-clause-causes : goal.returns-in-Ok-clause-causes
+returns-in-Ok-clause-causes g c =
+    let free = untaken (image_abstraction g.S.Storage.view g.F.BackingDisk.backing) c.args.image.now c.args.slots.now.prepared.items c.args.slot c.get.result c.get.ensures (sym c.is_some.ensures ∙ c.if-is_some.false) in
+    is_answered g.S.Storage.view g.F.BackingDisk.backing c.args.image.now c.prepare_data_mapping.new.self c.args.slots.now.prepared.items (C.PrepareDataMapping c.args.slot c.args.offset c.args.length c.args.overwrite) _ c.in-Ok.prepared (R.Prepared c.offset.result c.length.result c.is_nonblocking.result) (λ is. absurd cc) (λ is. absurd cc, λ is. absurd (not_free c.args.slots.now.prepared.items c.args.slot is.1 free)) refl
+    c.in-Ok.ensures.early
+    (λ none sound.
+    let view = g.S.Storage.view in
+    let below = g.F.BackingDisk.backing in
+    let old = c.args.image.now in
+    let new = c.prepare_data_mapping.new.self in
+    let p = c.in-Ok.prepared in
+    let out = c.args.slots.now.prepared.items in
+    let sees = c.in-Ok.ensures.sees out c.args.slot free in
+    prepared_untaken view below old.file.header.fields (known_in view old.file) new out c.args.slot p (meaning view below new p) c.args.offset c.args.length free (sees.answer sound).0
+    (ap (λ (x : Setting). x.cluster_size) (sees.acts.works sound).setting) (sees.answer sound).1.0.from (λ some. c.in-Ok.ensures.maps some out sound))

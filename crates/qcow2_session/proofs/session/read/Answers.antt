@@ -5,6 +5,8 @@ use Rattle.qcow2_disk.specs.AbstractImages.{guest_of}
 use Rattle.qcow2_image.specs.ImageInvariant.{abstract_of}
 use Rattle.qcow2_session.specs.Sessions.{Reads}
 use Rattle.qcow2_session.proofs.Turns.{refused_is, does_if}
+use Rattle.std.specs.Prelude.{IfErr}
+use Rattle.qcow2_image.specs.Refusals.{IsMet}
 use Rattle.qcow2_session.proofs.session.read.Goals as goal
 
 pub returns-in_err-read_into-clause-sees : goal.returns-in_err-read_into-clause-sees
@@ -16,3 +18,6 @@ pub returns-clause-sees : goal.returns-clause-sees
 returns-clause-sees g c = λ out.
     let whole : take c.in_ok-bytes.bytes.len (c.read_into.new.bytes ++ drop (length c.read_into.new.bytes) c.in_ok-bytes.bytes.items) ≡ c.read_into.new.bytes = grind (arith, common_steps) in
     does_if (λ h. (grind (arith, common_steps), subst (λ b. Shows (guest_of (abstract_of g.S.Storage.view g.F.BackingDisk.backing c.args.image.now out)).disk c.args.offset b) (sym whole) h.0, h.1)) (c.in_ok-read_into.ensures.sees out)
+
+pub returns-in_err-read_into-clause-late : goal.returns-in_err-read_into-clause-late
+returns-in_err-read_into-clause-late g c = λ none. subst (λ r. IfErr r IsMet) (sym (refused_is _ c.in_err-read_into.field-0.0 c.from_residual-in_err-read_into.ensures)) (c.in_err-read_into.ensures.late (grind (arith, common_steps)))

@@ -11,6 +11,8 @@ use Rattle.qcow2_session.proofs.Turns.{refused_is, refuses_here, none_within, do
 use Rattle.qcow2_session.proofs.Told.{same_then}
 use Rattle.qcow2_image.proofs.Map.Unmodified.{read_then}
 use Rattle.qcow2_image.proofs.Call.FaultCounts.{fewer_then}
+use Rattle.qcow2_image.specs.Refusals.{IsMet}
+use Rattle.qcow2_session.proofs.Parts.{part_reads}
 use Rattle.qcow2_session.proofs.session.read_into.Goals as goal
 
 pub returns-in_default-clause-sees : goal.returns-in_default-clause-sees
@@ -29,6 +31,7 @@ loop-done-preserved g c = record {
   within = grind (arith, common_steps);
   end = grind (arith, common_steps);
   image = same_then c.loop-done.invariant.image c.read_some.ensures.image;
+  works = c.in_ok-done.ensures.works ∙ c.loop-done.invariant.works;
   unwritten = λ reading out sound clean.
       let so_far = c.loop-done.invariant.unwritten reading out sound clean in
       read_then g.S.Storage.view so_far (c.read_some.ensures.unwritten (c.loop-done.invariant.image.writable ∙ reading) out ((c.loop-done.invariant.shown out).answer sound).0 so_far.unmodified);
@@ -66,3 +69,16 @@ pub returns-in_err-done-clause-unwritten : goal.returns-in_err-done-clause-unwri
 returns-in_err-done-clause-unwritten g c = λ reading out sound clean.
     let so_far = c.loop-done.invariant.unwritten reading out sound clean in
     read_then g.S.Storage.view so_far (c.read_some.ensures.unwritten (c.loop-done.invariant.image.writable ∙ reading) out ((c.loop-done.invariant.shown out).answer sound).0 so_far.unmodified)
+
+pub returns-in_default-clause-late : goal.returns-in_default-clause-late
+returns-in_default-clause-late g c = λ none. absurd (c.in_default.ensures (omega (arith, c.loop-done.invariant.end, c.loop-done-test.true)))
+
+pub returns-in_err-done-clause-late : goal.returns-in_err-done-clause-late
+returns-in_err-done-clause-late g c = λ none.
+    subst (λ r. IfErr r IsMet) (sym (refused_is _ c.in_err-done.field-0.0 c.from_residual-in_err-done.ensures))
+    (let part = take (length c.loop-done.bytes - c.loop-done.done) (drop c.loop-done.done c.loop-done.bytes) in
+    let rest : length part ≡ length c.loop-done.bytes - c.loop-done.done = grind (arith, common_steps) in
+    c.in_err-done.ensures.late
+    (part_reads c.args.image.now c.loop-done.image c.loop-done.invariant.image c.args.offset (length c.args.bytes.now) c.in-Some.at (length part) (omega (arith, c.in-Some.ensures.1))
+    (omega (arith, rest, c.in-Some.ensures.1, c.loop-done.invariant.within, c.loop-done.auto.bytes)) c.loop-done.invariant.works none)
+    (omega (arith, rest, c.loop-done-test.true)))

@@ -6,6 +6,13 @@ use Rattle.qcow2_session.proofs.session.read_mapped.Goals.{then-at-mapping-via-t
 use Rattle.qcow2_session.proofs.Meanings.{found_here, live, is_beyond}
 use Rattle.qcow2_session.proofs.Answering.{unusable_first, error_is, not_both}
 use Rattle.qcow2_disk.specs.Runs.{misuse}
+use Rattle.qcow2_session.specs.declared.session.Command.TheVariants as C
+use Rattle.qcow2_session.specs.declared.session.Reply.TheVariants as R
+use Rattle.std.specs.Prelude.{get_or, length}
+use Rattle.std.proofs.Common.{◌≡◌, subst}
+use Rattle.std.proofs.lemmas.Option.{slice_get_read}
+use Rattle.qcow2_image.specs.Refusals.{unusable}
+use Rattle.qcow2_session.proofs.Causing.{begun_with, is_answered, is_misused, is_refused, own_mapping}
 use Rattle.qcow2_session.proofs.session.read_mapped.Goals as goal
 
 pub returns-in_default-clause-goes : goal.returns-in_default-clause-goes
@@ -34,3 +41,21 @@ returns-in-Ok-clause-goes g c = λ x s stands founds.
 
 pub returns-in-Err-clause-goes : goal.returns-in-Err-clause-goes
 returns-in-Err-clause-goes g c = λ x s stands founds. refused_as x _ _ s _ _ _ _ refl stands (record { sized = λ _. tt; failed = λ f. error_is (unusable_first c.args.image.now _ c.in-Err.ensures.early f); may = λ _. tt }) (c.in-Err.ensures.sees c.args.slots.now.prepared.items) (λ f. f) (λ _ _. refl) tt
+
+pub returns-in_default-clause-causes : goal.returns-in_default-clause-causes
+returns-in_default-clause-causes g c = is_misused g.S.Storage.view g.F.BackingDisk.backing c.args.image.now c.args.image.now c.args.slots.now.prepared.items (C.ReadMapped c.args.slot c.args.at c.args.length) tt refl tt
+
+pub returns-then-at-mapping-clause-causes : goal.returns-then-at-mapping-clause-causes
+returns-then-at-mapping-clause-causes g c = is_misused g.S.Storage.view g.F.BackingDisk.backing c.args.image.now c.args.image.now c.args.slots.now.prepared.items (C.ReadMapped c.args.slot c.args.at c.args.length) tt refl tt
+
+pub returns-in-Ok-clause-causes : goal.returns-in-Ok-clause-causes
+returns-in-Ok-clause-causes g c =
+    is_answered g.S.Storage.view g.F.BackingDisk.backing c.args.image.now c.read_range.new.image c.args.slots.now.prepared.items (C.ReadMapped c.args.slot c.args.at c.args.length) _ _ (R.Bytes c.in-Ok.bytes) (λ is. absurd cc) tt refl c.in-Ok.ensures.early (λ _ _. tt)
+
+pub returns-in-Err-clause-causes : goal.returns-in-Err-clause-causes
+returns-in-Err-clause-causes g c =
+    let mappings = c.args.slots.now.mappings.items in
+    let there = slice_get_read mappings (length mappings) c.args.slot c.index.result.now refl (omega (arith, c.args.slots.now.all_mappings, c.ranges.slot)) (subst (λ k. c.index.result.now ≡ get_or mappings k c.index.result.now) c.from.ensures c.index.ensures) in
+    let own = c.args.slots.now.looked_up c.args.slot c.in-Some.mapping (there ∙ ap Some c.in-Some.is) ∙ c.requires in
+    is_refused g.S.Storage.view g.F.BackingDisk.backing c.args.image.now c.read_range.new.image c.args.slots.now.prepared.items (C.ReadMapped c.args.slot c.args.at c.args.length) c.in-Err.refusal (R.Refused c.in-Err.refusal) (λ is. absurd cc) tt refl
+    (begun_with _ _ _ (unusable c.args.image.now) c.in-Err.ensures.early) (λ none. c.in-Err.ensures.late (own_mapping c.args.image.now c.in-Some.mapping.image own ∙ none)) (λ _ is. is) (λ _ _. tt)

@@ -5,6 +5,8 @@ use Rattle.qcow2_disk.specs.AbstractImages.{guest_of}
 use Rattle.qcow2_image.specs.ImageInvariant.{abstract_of}
 use Rattle.qcow2_session.specs.Sessions.{Reads}
 use Rattle.qcow2_session.proofs.Turns.{refused_is, does_if}
+use Rattle.std.specs.Prelude.{IfErr}
+use Rattle.qcow2_image.specs.Refusals.{IsMet}
 use Rattle.qcow2_session.proofs.session.read_range.Goals as goal
 
 pub returns-in_err-read_mapped-clause-sees : goal.returns-in_err-read_mapped-clause-sees
@@ -22,3 +24,7 @@ returns-in_err-read_mapped-clause-unwritten g c = λ reading out sound clean. c.
 
 pub returns-clause-unwritten : goal.returns-clause-unwritten
 returns-clause-unwritten g c = λ reading out sound clean. c.read_mapped.ensures.unwritten _ out sound clean
+
+pub returns-in_err-read_mapped-clause-late : goal.returns-in_err-read_mapped-clause-late
+returns-in_err-read_mapped-clause-late g c = λ none.
+    subst (λ r. IfErr r IsMet) (sym (refused_is _ c.in_err-read_mapped.field-0.0 c.from_residual-in_err-read_mapped.ensures)) (c.in_err-read_mapped.ensures.late none)

@@ -7,6 +7,12 @@ use Rattle.qcow2_session.specs.Sessions.{ReadsFirst}
 use Rattle.qcow2_session.proofs.Bytes.{shows_as}
 use Rattle.qcow2_session.proofs.Turns.{refused_is, refuses_here, none_within, does_if, refuses_if, does_then, refuses_then}
 use Rattle.qcow2_image.proofs.Map.Unmodified.{read_then}
+use Rattle.std.specs.Prelude.{IfErr, length}
+use Rattle.qcow2_image.specs.Image.{size_of}
+use Rattle.qcow2_image.specs.Refusals.{IsMet, unusable, passes}
+use Rattle.qcow2_alloc.specs.declared.error.ImageError.TheVariants.{BeyondSize}
+use Rattle.qcow2_session.proofs.Causing.{fits_below, then_none}
+use Rattle.qcow2_session.proofs.Parts.{mapping_usable}
 use Rattle.qcow2_session.proofs.session.read_some.Goals as goal
 
 pub returns-in_err-mapping-clause-sees : goal.returns-in_err-mapping-clause-sees
@@ -49,3 +55,23 @@ returns-in_err-mapping-clause-unwritten g c = λ reading out sound clean. c.get_
 
 pub returns-then-count-eq0-clause-unwritten : goal.returns-then-count-eq0-clause-unwritten
 returns-then-count-eq0-clause-unwritten g c = λ reading out sound clean. c.get_mapping.ensures.unwritten _ out sound clean
+
+pub returns-in_err-mapping-clause-late : goal.returns-in_err-mapping-clause-late
+returns-in_err-mapping-clause-late g c = λ none some.
+    let first = then_none (unusable c.args.image.now) (passes (size_of c.args.image.now) c.args.offset (length c.args.bytes.now)) BeyondSize none in
+    subst (λ r. IfErr r IsMet) (sym (refused_is _ c.in_err-mapping.field-0.0 c.from_residual.ensures)) (c.in_err-mapping.ensures.late first.0)
+
+pub returns-then-count-eq0-clause-late : goal.returns-then-count-eq0-clause-late
+returns-then-count-eq0-clause-late g c = λ none some.
+    let first = then_none (unusable c.args.image.now) (passes (size_of c.args.image.now) c.args.offset (length c.args.bytes.now)) BeyondSize none in
+    let found = c.in_ok-mapping.ensures.some (fits_below (size_of c.args.image.now) c.args.offset (length c.args.bytes.now) first.1 some) (omega (arith, some)) in
+    absurd (omega (arith, found))
+
+pub returns-in_err-read_mapped-clause-late : goal.returns-in_err-read_mapped-clause-late
+returns-in_err-read_mapped-clause-late g c = λ none some.
+    let first = then_none (unusable c.args.image.now) (passes (size_of c.args.image.now) c.args.offset (length c.args.bytes.now)) BeyondSize none in
+    subst (λ r. IfErr r IsMet) (sym (refused_is _ c.in_err-read_mapped.field-0.0 c.from_residual-in_err-read_mapped.ensures))
+    (c.in_err-read_mapped.ensures.late (mapping_usable c.args.image.now c.get_mapping.new.self c.get_mapping.ensures.image c.in_ok-mapping.mapping.image c.in_ok-mapping.ensures.own.0 c.in_ok-mapping.ensures.marks first.0))
+
+pub returns-clause-works : goal.returns-clause-works
+returns-clause-works g c = c.in_ok-read_mapped.ensures.marks ∙ c.in_ok-mapping.ensures.marks

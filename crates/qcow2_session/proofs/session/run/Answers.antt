@@ -12,8 +12,8 @@ use Rattle.qcow2_alloc.specs.ImageFile.{contents_in, view_in}
 use Rattle.qcow2_session.proofs.LookingUp.{looked_up, none_said}
 use Rattle.qcow2_session.proofs.Places.{surplus_none}
 use Rattle.qcow2_session.proofs.Runs.{GoesOn, first_of_all, free_stands, goes_on, map_more}
-use Rattle.qcow2_session.specs.Told.{IsToldRun, free_slots}
-use Rattle.qcow2_session.proofs.Told.{IsToldSoFar, first_told, told_more}
+use Rattle.qcow2_session.specs.Told.{AreRightlyRefused, IsToldRun, free_slots}
+use Rattle.qcow2_session.proofs.Told.{IsToldSoFar, first_refused, first_told, refused_push, told_more}
 use Rattle.qcow2_image.proofs.Map.Unmodified.{holds_none}
 use Rattle.qcow2_session.proofs.Unwritten.{existing_none, never_written}
 use Rattle.qcow2_session.specs.CountedFaults.{RunCounts}
@@ -25,6 +25,7 @@ loop-command-init g c = record {
   faults = subst (λ l. RunCounts g.S.Storage.view g.F.BackingDisk.backing c.args.image.now c.args.image.now l) (sym c.in-Ok.ensures.items) (none_counted g.S.Storage.view g.F.BackingDisk.backing c.args.image.now);
   own = grind (arith, common_steps);
   number = refl;
+  causes = first_refused g.S.Storage.view g.F.BackingDisk.backing c.args.image.now _ _ c.in-Some.ensures.prepared c.in-Ok.ensures.items;
   answered = c.in-Ok.ensures.len;
   ran = λ x s stands.
       let view = g.S.Storage.view in
@@ -39,6 +40,17 @@ loop-command-preserved g c = record {
       (run_counts_more g.S.Storage.view g.F.BackingDisk.backing c.args.image.now c.loop-command.image c.step-reply.new.image c.loop-command.replies.items c.step-reply.result c.loop-command.invariant.faults c.step-reply.ensures.faults);
   own = c.step-reply.ensures.slots ∙ c.loop-command.invariant.own ∙ sym c.step-reply.ensures.number;
   number = c.step-reply.ensures.number ∙ c.loop-command.invariant.number;
+  causes =
+      let view = g.S.Storage.view in
+      let below = g.F.BackingDisk.backing in
+      let done = c.loop-command.command-index in
+      let commands = c.args.commands.now in
+      let next = c.step-reply.new.image in
+      let out = c.step-reply.new.slots.prepared.items in
+      let split = take_more commands done c.command-item.result c.loop-command-test.true ∙ ap (λ q. take done commands ++ q ∷ []) (sym c.command-item.is) in
+      subst (λ l. AreRightlyRefused view below c.args.image.now free_slots (take (done + 1) commands) l next out) (sym c.push_reserved.ensures.items)
+      (subst (λ l. AreRightlyRefused view below c.args.image.now free_slots l (c.loop-command.replies.items ++ c.step-reply.result ∷ []) next out) (sym split)
+      (refused_push view below c.args.image.now free_slots (take done commands) c.loop-command.replies.items c.loop-command.image c.loop-command.slots.prepared.items c.command-item.result c.step-reply.result next out c.loop-command.invariant.causes c.step-reply.ensures.causes));
   answered = c.push_reserved.ensures.len ∙ ap (λ n. n + 1) c.loop-command.invariant.answered;
   ran = λ x s stands.
       let spec = image_abstraction g.S.Storage.view g.F.BackingDisk.backing in
@@ -67,7 +79,7 @@ loop-command-preserved g c = record {
       subst (λ l. IsToldSoFar view below x c.args.image.now next out (begun s) (take (done + 1) commands) l found) (sym c.push_reserved.ensures.items)
       (subst (λ l. IsToldSoFar view below x c.args.image.now next out (begun s) l (c.loop-command.replies.items ++ c.step-reply.result ∷ []) found) (sym split)
       (told_more view below x c.args.image.now c.loop-command.image next c.loop-command.slots.prepared.items out (begun s) (take done commands) c.loop-command.replies.items
-      c.loop-command.slots.mappings.items found c.command-item.result c.step-reply.result (c.loop-command.invariant.told x s stands) (c.step-reply.ensures.goes x) c.step-reply.ensures.tells c.step-reply.ensures.size c.step-reply.ensures.unwritten c.step-reply.ensures.finds));
+      c.loop-command.slots.mappings.items found c.command-item.result c.step-reply.result (c.loop-command.invariant.told x s stands) (c.step-reply.ensures.goes x) c.step-reply.ensures.tells c.step-reply.ensures.causes c.step-reply.ensures.size c.step-reply.ensures.unwritten c.step-reply.ensures.finds));
 }
 
 pub returns-clause-number : goal.returns-clause-number
@@ -155,3 +167,14 @@ returns-in_default-clause-unwritten g c = λ reading opened. holds_none (view_in
 
 pub returns-in_default-new-clause-unwritten : goal.returns-in_default-new-clause-unwritten
 returns-in_default-new-clause-unwritten g c = λ reading opened. holds_none (view_in g.S.Storage.view c.args.image.now.file)
+
+pub returns-in_default-clause-causes : goal.returns-in_default-clause-causes
+returns-in_default-clause-causes g c = inl c.new.ensures.items
+
+pub returns-in_default-new-clause-causes : goal.returns-in_default-new-clause-causes
+returns-in_default-new-clause-causes g c = inl c.new-in_default-new.ensures.items
+
+pub returns-clause-causes : goal.returns-clause-causes
+returns-clause-causes g c =
+    let all : take c.loop-command.command-index c.args.commands.now ≡ c.args.commands.now = take_all c.loop-command.command-index c.args.commands.now c.loop-command-test.false in
+    inr (c.loop-command.image, c.loop-command.slots.prepared.items, subst (λ k. AreRightlyRefused g.S.Storage.view g.F.BackingDisk.backing c.args.image.now free_slots k c.loop-command.replies.items c.loop-command.image c.loop-command.slots.prepared.items) all c.loop-command.invariant.causes)

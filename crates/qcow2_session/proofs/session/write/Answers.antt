@@ -14,6 +14,10 @@ use Rattle.qcow2_image.specs.Refusals.{refuses_to_prepare}
 use Rattle.qcow2_session.proofs.Told.{same_then}
 use Rattle.qcow2_image.proofs.Map.Unmodified.{read_then}
 use Rattle.qcow2_image.proofs.Call.FaultCounts.{fewer_then}
+use Rattle.std.proofs.Common.{◌+◌, inl, inr, ⊎_elim, refl}
+use Rattle.qcow2_alloc.specs.declared.error.ImageError.TheVariants as I
+use Rattle.qcow2_image.specs.Refusals.{IsMetPreparing}
+use Rattle.qcow2_session.proofs.Parts.{later_refused, part_prepares, part_under}
 use Rattle.qcow2_session.proofs.session.write.Goals as goal
 
 pub returns-in_default-clause-sees : goal.returns-in_default-clause-sees
@@ -23,6 +27,7 @@ pub loop-done-preserved : goal.loop-done-preserved
 loop-done-preserved g c = record {
   faults = fewer_then g.S.Storage.view g.F.BackingDisk.backing c.args.image.now c.loop-done.image c.write_some-in-loop-done.new.image c.loop-done.invariant.faults c.write_some-in-loop-done.ensures.faults.no_fewer;
   within = grind (arith, common_steps);
+  some = λ any. let so_far = c.loop-done.invariant.some any in omega (arith, so_far);
   image = same_then c.loop-done.invariant.image c.write_some-in-loop-done.ensures.image;
   unwritten = λ reading out sound clean.
       let so_far = c.loop-done.invariant.unwritten reading out sound clean in
@@ -78,3 +83,40 @@ refused_first A B X (Some x) e n early = (let is = early.0 in cc, early.1)
 
 pub returns-in-Err-clause-early : goal.returns-in-Err-clause-early
 returns-in-Err-clause-early g c = refused_first ℕ (Unit {0}) _ (refuses_to_prepare c.args.image.now c.args.offset (length c.args.bytes.now)) c.in-Err.refusal 0 c.in-Err.ensures.early
+
+pub returns-in-Err-clause-late : goal.returns-in-Err-clause-late
+returns-in-Err-clause-late g c = λ none. inl (c.in-Err.ensures.late none)
+
+pub returns-in_default-clause-late : goal.returns-in_default-clause-late
+returns-in_default-clause-late g c = λ none. absurd (c.in_default.ensures (omega (arith, c.loop-done.invariant.end, c.loop-done-test.true)))
+
+pub returns-in-Err-write_some-clause-late : goal.returns-in-Err-write_some-clause-late
+returns-in-Err-write_some-clause-late g c = λ none.
+    let n = length c.args.bytes.now in
+    let any : 0 < n = omega (arith, c.loop-done-test.true) in
+    let so_far = c.loop-done.invariant.some any in
+    ⊎_elim (λ (met : IsMetPreparing c.in-Err-write_some.refusal). inl met) (λ (failed : c.in-Err-write_some.refusal ≡ I.Failed). inr (failed, so_far))
+    (later_refused c.args.image.now c.loop-done.image c.loop-done.invariant.image c.args.offset n c.in-Some.at (length (drop c.loop-done.done c.args.bytes.now)) (grind (arith, common_steps)) (grind (arith, common_steps)) _ c.in-Err-write_some.refusal
+    (rw (take_rest c.args.bytes.now c.loop-done.done) at c.in-Err-write_some.ensures.early) (rw (take_rest c.args.bytes.now c.loop-done.done) at c.in-Err-write_some.ensures.late) any none)
+
+pub returns-in-Err-clause-taken : goal.returns-in-Err-clause-taken
+returns-in-Err-clause-taken g c = λ none out sound is.
+    let under = c.in-Err.ensures.taken none out sound is in
+    let h = c.args.image.now.file.header.fields in
+    part_under h h refl c.args.offset (c.args.offset + length c.args.bytes.now) c.args.offset out (omega arith) (omega (arith, under.0)) under.1
+
+pub returns-in_default-clause-taken : goal.returns-in_default-clause-taken
+returns-in_default-clause-taken g c = λ none out sound is. absurd (c.in_default.ensures (omega (arith, c.loop-done.invariant.end, c.loop-done-test.true)))
+
+pub returns-in-Err-write_some-clause-taken : goal.returns-in-Err-write_some-clause-taken
+returns-in-Err-write_some-clause-taken g c = λ none out sound is.
+    let old = c.args.image.now in
+    let mid = c.loop-done.image in
+    let n = length c.args.bytes.now in
+    let rest = length (drop c.loop-done.done c.args.bytes.now) in
+    let long : c.in-Some.at + rest ≡ c.args.offset + n = grind (arith, common_steps) in
+    let so_far = c.loop-done.invariant.written out in
+    let still = (so_far.answer sound).0 in
+    let under = (rw (take_rest c.args.bytes.now c.loop-done.done) at c.in-Err-write_some.ensures.taken)
+    (part_prepares old mid c.loop-done.invariant.image c.args.offset n c.in-Some.at rest (grind (arith, common_steps)) (grind (arith, common_steps)) still.works (omega (arith, c.loop-done-test.true)) none) out still is in
+    part_under old.file.header.fields mid.file.header.fields (ap (λ (x : Setting). x.cluster_size) (so_far.acts.works sound).setting) c.args.offset (c.args.offset + n) c.in-Some.at out (grind (arith, common_steps)) (omega (arith, under.0, long)) under.1

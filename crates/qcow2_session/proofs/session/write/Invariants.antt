@@ -16,6 +16,7 @@ abbrev pub invariant-loop-done : goal.invariant-loop-done
 invariant-loop-done g l = record {
   faults : NoFewerFaults g.S.Storage.view g.F.BackingDisk.backing l.fn.image l.image;
   within : l.done ≤ length l.bytes;
+  some : 0 < length l.bytes → 0 < l.done;
   image : IsSameImage l.fn.image l.image;
   ends : (out : List (Option Prepared)) → (abstract_of g.S.Storage.view g.F.BackingDisk.backing l.fn.image out).is_sound → l.done < length l.bytes → EndsCluster l.fn.image (l.fn.offset + l.done);
   end : l.fn.offset + length l.bytes < 2 ^ 64;

@@ -7,6 +7,18 @@ use Rattle.qcow2_disk.specs.Runs.{misuse}
 use Rattle.qcow2_session.proofs.Unwritten.{put_same}
 use Rattle.qcow2_image.specs.Prepared.{image_of}
 use Rattle.qcow2_image.specs.Refusals.{refuses_mapping}
+use Rattle.qcow2_session.specs.declared.session.Command.TheVariants as C
+use Rattle.qcow2_session.specs.declared.session.Reply.TheVariants as R
+use Rattle.std.proofs.Common.{◌≡◌, ◌⊎◌, ◌+◌, ◌<◌, ◌≤◌, ◌∙◌, inl, inr, ℕ, ap, subst, List, Option, Some, None, Err}
+use Rattle.std.specs.Prelude.{◌&&◌, not, nat_lt, slice_get, IfSome, Result, Ok}
+use Rattle.std.proofs.lemmas.Bool.{cases_lt}
+use Rattle.qcow2_alloc.specs.declared.error.ImageError.{ImageError}
+use Rattle.qcow2_alloc.specs.declared.error.ImageError.TheVariants.{ReadOnly}
+use Rattle.qcow2_image.specs.Image.{is_writable}
+use Rattle.qcow2_image.specs.Prepared.{length_of, table_of}
+use Rattle.qcow2_image.specs.declared.prepared.Prepared.{Prepared}
+use Rattle.qcow2_image.specs.Refusals.{unusable}
+use Rattle.qcow2_session.proofs.Causing.{begun_with, is_answered, is_misused, is_refused, none_of, not_free, own_mapping, put_reads, put_writes, same_error, same_mapping, some_error, then_early, then_none}
 use Rattle.qcow2_session.proofs.session.write_mapped.Goals as goal
 use Rattle.qcow2_session.proofs.session.write_mapped.Goals.{then-at-length-via-then-at-length, then-at-length-via-else-at-length+then-len-length}
 
@@ -48,3 +60,49 @@ returns-in-Ok-clause-reading g c = λ reading. put_same c.args.image.now reading
 
 pub returns-in-Err-clause-reading : goal.returns-in-Err-clause-reading
 returns-in-Err-clause-reading g c = λ reading. put_same c.args.image.now reading _ (refuses_mapping c.args.image.now (image_of c.in-Some.prepared.now)) _ c.write_mapped.ensures.early c.write_mapped.ensures.read_only c.write_mapped.ensures.nothing
+
+-- the slot holds a mapping that the bytes lie in
+in_mapping : {p : Prepared} (out : List (Option Prepared)) (slot at n : ℕ) → slice_get out slot ≡ Some (Some p) → at + n ≤ length_of p
+    → (slice_get out slot ≡ Some None) ⊎ ((q : Prepared) × (slice_get out slot ≡ Some (Some q)) × (length_of q < at + n)) → ⊥
+in_mapping out slot at n there within (inl free) = not_free out slot there free
+in_mapping out slot at n there within (inr past) = let same = ap length_of (same_mapping out slot there past.1) in omega (arith, past.2, same, within)
+
+pub returns-in_default-clause-causes : goal.returns-in_default-clause-causes
+returns-in_default-clause-causes g c = is_misused g.S.Storage.view g.F.BackingDisk.backing c.args.image.now c.args.image.now c.args.slots.now.prepared.items (C.WriteMapped c.args.slot c.args.at c.args.bytes.now) (λ _. inl c.in_default.ensures, λ _. refl) refl (λ is. absurd cc)
+
+pub returns-then-at-length-clause-causes : goal.returns-then-at-length-clause-causes
+returns-then-at-length-clause-causes g c =
+    let past : length_of c.in-Some.prepared.now < c.args.at + length c.args.bytes.now.items = elim c.then-at-length.branch [
+      | then-at-length-via-then-at-length w ↦ omega (arith, w.if-at-length.true, c.length-length.ensures)
+      | then-at-length-via-else-at-length+then-len-length w ↦ omega (arith, w.if-at-length.false, w.if-len-length.true, w.len.ensures, c.length-length.ensures)
+    ] in
+    is_misused g.S.Storage.view g.F.BackingDisk.backing c.args.image.now c.args.image.now c.args.slots.now.prepared.items (C.WriteMapped c.args.slot c.args.at c.args.bytes.now) (λ _. inr (c.in-Some.prepared.now, c.in-Some.ensures, past), λ _. refl) refl (λ is. absurd cc)
+
+pub returns-in-Ok-clause-causes : goal.returns-in-Ok-clause-causes
+returns-in-Ok-clause-causes g c =
+    let p = c.in-Some.prepared.now in
+    let usable = own_mapping c.args.image.now (image_of p) (c.args.slots.now.own c.args.slot p c.in-Some.ensures ∙ c.requires) in
+    let n = length c.args.bytes.now.items in
+    is_answered g.S.Storage.view g.F.BackingDisk.backing c.args.image.now c.write_mapped.new.self c.args.slots.now.prepared.items (C.WriteMapped c.args.slot c.args.at c.args.bytes.now) {A = Unit {0}} (c.write_mapped.new.self ≡ c.args.image.now) tt R.Done (λ is. absurd cc) (λ is. absurd cc, λ is. absurd (in_mapping c.args.slots.now.prepared.items c.args.slot c.args.at n c.in-Some.ensures (omega (arith, c.if-at-length.false, c.if-len-length.false, c.len.ensures, c.length-length.ensures)) is)) refl
+    (then_early (unusable c.args.image.now) (nat_lt 0 n && not (is_writable c.args.image.now)) ReadOnly (λ (e : ImageError). (◌≡◌ {A = Result (Unit {0}) ImageError} (Ok tt) (Err e)) × (c.write_mapped.new.self ≡ c.args.image.now)) (subst (λ o. IfSome o (λ (e : ImageError). (◌≡◌ {A = Result (Unit {0}) ImageError} (Ok tt) (Err e)) × (c.write_mapped.new.self ≡ c.args.image.now))) usable c.in-Ok.ensures.early)
+    (λ none reads. let r = put_reads n (is_writable c.args.image.now) reads in (rw c.deref.ensures.value at c.in-Ok.ensures.read_only) r.0 (usable ∙ none) r.1)) (λ _ _ is. absurd cc)
+
+pub returns-in-Err-clause-causes : goal.returns-in-Err-clause-causes
+returns-in-Err-clause-causes g c =
+    let p = c.in-Some.prepared.now in
+    let e = c.in-Err.refusal in
+    let usable = own_mapping c.args.image.now (image_of p) (c.args.slots.now.own c.args.slot p c.in-Some.ensures ∙ c.requires) in
+    let n = length c.args.bytes.now.items in
+    is_refused g.S.Storage.view g.F.BackingDisk.backing c.args.image.now c.write_mapped.new.self c.args.slots.now.prepared.items (C.WriteMapped c.args.slot c.args.at c.args.bytes.now) e (R.Refused e) (λ is. absurd cc) (λ is. absurd cc, λ is. absurd (in_mapping c.args.slots.now.prepared.items c.args.slot c.args.at n c.in-Some.ensures (omega (arith, c.if-at-length.false, c.if-len-length.false, c.len.ensures, c.length-length.ensures)) is)) refl
+    (then_early (unusable c.args.image.now) (nat_lt 0 n && not (is_writable c.args.image.now)) ReadOnly (λ (x : ImageError). (e ≡ x) × (c.write_mapped.new.self ≡ c.args.image.now)) (begun_with (Unit {0}) (c.write_mapped.new.self ≡ c.args.image.now) e (unusable c.args.image.now) (subst (λ o. IfSome o (λ (x : ImageError). (◌≡◌ {A = Result (Unit {0}) ImageError} (Err e) (Err x)) × (c.write_mapped.new.self ≡ c.args.image.now))) usable c.in-Err.ensures.early))
+    (λ none reads. let r = put_reads n (is_writable c.args.image.now) reads in let h = (rw c.deref.ensures.value at c.in-Err.ensures.read_only) r.0 (usable ∙ none) r.1 in (same_error h.0, h.1)))
+    (λ none.
+    let first = then_none (unusable c.args.image.now) (nat_lt 0 n && not (is_writable c.args.image.now)) ReadOnly none in
+    elim (cases_lt 0 n) [
+      | inl some ↦ c.in-Err.ensures.late (usable ∙ first.0) (put_writes n (is_writable c.args.image.now) first.1 some)
+      | inr least ↦ absurd (let no = ((rw c.deref.ensures.value at c.in-Err.ensures.nothing) (usable ∙ first.0) (omega (arith, least))).0 in cc)
+    ])
+    (λ none empty. let first = then_none (unusable c.args.image.now) (nat_lt 0 n && not (is_writable c.args.image.now)) ReadOnly none in let no = ((rw c.deref.ensures.value at c.in-Err.ensures.nothing) (usable ∙ first.0) empty).0 in absurd cc)
+    (λ none sound is.
+    let existing = none_of (table_of p) (λ some. c.in-Err.ensures.private some (ap Err (some_error is))) in
+    record { mapping = p; there = c.in-Some.ensures; existing = existing; moved = (rw c.deref.ensures.value at c.in-Err.ensures.outdated) existing c.args.slots.now.prepared.items sound (ap Err (some_error is)) })

@@ -15,6 +15,16 @@ use Rattle.qcow2_session.proofs.Turns.{refused_is, none_within, refuses_if, refu
 use Rattle.qcow2_image.proofs.Map.Unmodified.{read_same, read_then}
 use Rattle.qcow2_session.proofs.Unwritten.{nothing_prepared, prepare_same, put_same, read_let_go}
 use Rattle.qcow2_image.specs.declared.image.Qcow2.{Qcow2}
+use Rattle.std.proofs.Common.{◌<◌, inl, inr, take}
+use Rattle.std.specs.Prelude.{IfErr}
+use Rattle.std.proofs.lemmas.Bool.{cases_lt}
+use Rattle.std.proofs.lemmas.Grind.{common_steps}
+use Rattle.qcow2_alloc.specs.declared.error.ImageError.{ImageError}
+use Rattle.qcow2_alloc.specs.declared.error.ImageError.TheVariants.{TablePrepared}
+use Rattle.qcow2_image.specs.Calls.{reason_of}
+use Rattle.qcow2_image.specs.Clearing.{IsUnderMapping}
+use Rattle.qcow2_image.specs.Refusals.{IsMet, IsMetPreparing}
+use Rattle.qcow2_session.proofs.Parts.{not_failed_yet, prepares_usable, put_met, under_taken}
 use Rattle.qcow2_session.proofs.session.write_some.Goals as goal
 
 pub returns-in_err-prepared-clause-sees : goal.returns-in_err-prepared-clause-sees
@@ -146,3 +156,47 @@ returns-in-Err-Kept-clause-unwritten g c = λ reading out sound clean.
     let goes = c.commit_data_mapping.ensures.existing (c.in_ok-prepared.ensures.own ∙ sym (ap number_of same)) (ap is_failed same ∙ sound.works) none.0 in
     let second = read_then view first (read_let_go view put c.commit_data_mapping.new.self goes.1 first.unmodified) in
     read_then view second (read_let_go view c.commit_data_mapping.new.self c.release-in-Err-Kept.new.image c.release-in-Err-Kept.ensures.rest second.unmodified)
+
+pub returns-in_err-prepared-clause-late : goal.returns-in_err-prepared-clause-late
+returns-in_err-prepared-clause-late g c = λ none. subst (λ r. IfErr r IsMetPreparing) (sym (refused_is _ c.in_err-prepared.field-0.0 c.from_residual.ensures)) (c.in_err-prepared.ensures.late none)
+
+pub returns-in-Err-clause-late : goal.returns-in-Err-clause-late
+returns-in-Err-clause-late g c = λ none. inl (put_met c.args.image.now c.prepare_data_mapping.new.self c.prepare_data_mapping.ensures.image (image_of c.in_ok-prepared.prepared) c.args.offset (length c.args.bytes.now) (length (take c.min-count.result c.args.bytes.now)) c.in-Err.refusal
+    c.in_ok-prepared.ensures.own c.in_ok-prepared.ensures.marks (λ empty. grind (arith, common_steps)) none c.in-Err.ensures.late (λ usable empty. let no = (c.in-Err.ensures.nothing usable empty).0 in absurd cc))
+
+pub returns-in-Err-Spent-clause-late : goal.returns-in-Err-Spent-clause-late
+returns-in-Err-Spent-clause-late g c = λ none. inl (subst (λ r. IsMet (reason_of r)) c.in-Err-Spent.field-0-is
+    (c.in-Err-Spent.ensures.late (c.in_ok-prepared.ensures.own ∙ sym (c.write_mapped.ensures.image.number ∙ c.prepare_data_mapping.ensures.image.number))
+    (c.in_default.ensures.marks ∙ c.in_ok-prepared.ensures.marks ∙ not_failed_yet c.args.image.now c.prepare_data_mapping.new.self c.prepare_data_mapping.ensures.image (prepares_usable c.args.image.now c.args.offset (length c.args.bytes.now) none))))
+
+pub returns-in-Err-Kept-clause-late : goal.returns-in-Err-Kept-clause-late
+returns-in-Err-Kept-clause-late g c = λ none. inl (subst (λ r. IsMet (reason_of r)) c.in-Err-Kept.field-0-is
+    (c.in-Err-Kept.ensures.late (c.in_ok-prepared.ensures.own ∙ sym (c.write_mapped.ensures.image.number ∙ c.prepare_data_mapping.ensures.image.number))
+    (c.in_default.ensures.marks ∙ c.in_ok-prepared.ensures.marks ∙ not_failed_yet c.args.image.now c.prepare_data_mapping.new.self c.prepare_data_mapping.ensures.image (prepares_usable c.args.image.now c.args.offset (length c.args.bytes.now) none))))
+
+pub returns-in_err-prepared-clause-taken : goal.returns-in_err-prepared-clause-taken
+returns-in_err-prepared-clause-taken g c = λ none out sound.
+    let old = c.args.image.now in
+    let n = length c.args.bytes.now in
+    subst (λ r. IfErr r (λ (e : ImageError). e ≡ TablePrepared → (0 < n) × IsUnderMapping old.file.header.fields c.args.offset out)) (sym (refused_is _ c.in_err-prepared.field-0.0 c.from_residual.ensures))
+    (λ is. (
+      elim (cases_lt 0 n) [
+        | inl some ↦ some
+        | inr least ↦ absurd (let empty : n ≡ 0 = omega (arith, least) in let no = (c.in_err-prepared.ensures.nothing (ap (λ k. refuses_to_prepare old c.args.offset k) (sym empty) ∙ none) empty).0 in cc)
+      ],
+      under_taken (c.in_err-prepared.ensures.taken none out sound is),
+    ))
+
+pub returns-in-Err-clause-taken : goal.returns-in-Err-clause-taken
+returns-in-Err-clause-taken g c = λ none out sound is. absurd (subst IsMet is (put_met c.args.image.now c.prepare_data_mapping.new.self c.prepare_data_mapping.ensures.image (image_of c.in_ok-prepared.prepared) c.args.offset (length c.args.bytes.now) (length (take c.min-count.result c.args.bytes.now)) c.in-Err.refusal
+    c.in_ok-prepared.ensures.own c.in_ok-prepared.ensures.marks (λ empty. grind (arith, common_steps)) none c.in-Err.ensures.late (λ usable empty. let no = (c.in-Err.ensures.nothing usable empty).0 in absurd cc)))
+
+pub returns-in-Err-Spent-clause-taken : goal.returns-in-Err-Spent-clause-taken
+returns-in-Err-Spent-clause-taken g c = λ none out sound is. absurd (subst IsMet is (subst (λ r. IsMet (reason_of r)) c.in-Err-Spent.field-0-is
+    (c.in-Err-Spent.ensures.late (c.in_ok-prepared.ensures.own ∙ sym (c.write_mapped.ensures.image.number ∙ c.prepare_data_mapping.ensures.image.number))
+    (c.in_default.ensures.marks ∙ c.in_ok-prepared.ensures.marks ∙ not_failed_yet c.args.image.now c.prepare_data_mapping.new.self c.prepare_data_mapping.ensures.image (prepares_usable c.args.image.now c.args.offset (length c.args.bytes.now) none)))))
+
+pub returns-in-Err-Kept-clause-taken : goal.returns-in-Err-Kept-clause-taken
+returns-in-Err-Kept-clause-taken g c = λ none out sound is. absurd (subst IsMet is (subst (λ r. IsMet (reason_of r)) c.in-Err-Kept.field-0-is
+    (c.in-Err-Kept.ensures.late (c.in_ok-prepared.ensures.own ∙ sym (c.write_mapped.ensures.image.number ∙ c.prepare_data_mapping.ensures.image.number))
+    (c.in_default.ensures.marks ∙ c.in_ok-prepared.ensures.marks ∙ not_failed_yet c.args.image.now c.prepare_data_mapping.new.self c.prepare_data_mapping.ensures.image (prepares_usable c.args.image.now c.args.offset (length c.args.bytes.now) none)))))

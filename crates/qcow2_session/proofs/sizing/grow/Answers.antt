@@ -3,6 +3,13 @@ use Rattle.qcow2_session.proofs.Resized.{none_early, grow_done, grow_refused}
 use Rattle.qcow2_session.proofs.Unwritten.{resizes_failed, resizes_reading, same_early}
 use Rattle.qcow2_image.specs.Image.{size_of}
 use Rattle.qcow2_image.specs.Resizing.{refuses_to_resize}
+use Rattle.qcow2_session.specs.declared.session.Command.TheVariants as C
+use Rattle.qcow2_session.specs.declared.session.Reply.TheVariants as R
+use Rattle.std.proofs.Common.{refl}
+use Rattle.std.specs.Prelude.{◌&&◌, nat_lt}
+use Rattle.qcow2_alloc.specs.declared.error.ImageError.TheVariants.{Preallocation}
+use Rattle.qcow2_image.specs.Resizing.{takes_over}
+use Rattle.qcow2_session.proofs.Causing.{begun_with, grow_meets, is_answered, is_refused, same_error, some_error, takes_larger, then_early, then_none}
 use Rattle.qcow2_session.proofs.sizing.grow.Goals as goal
 
 pub returns-in-Ok-clause-goes : goal.returns-in-Ok-clause-goes
@@ -31,3 +38,21 @@ returns-in-Err-clause-reading g c = λ reading. same_early _ (refuses_to_resize 
 
 pub returns-in-Err-clause-size : goal.returns-in-Err-clause-size
 returns-in-Err-clause-size g c = λ failed. ap size_of (same_early _ (refuses_to_resize c.args.image.now) (resizes_failed c.args.image.now failed) c.resize_grow.ensures.early)
+
+pub returns-in-Ok-clause-causes : goal.returns-in-Ok-clause-causes
+returns-in-Ok-clause-causes g c = λ before.
+    is_answered g.S.Storage.view g.F.BackingDisk.backing c.args.image.now c.resize_grow.new.self before (C.ResizeGrow c.args.size c.args.mode) _ tt R.Done (λ is. absurd cc) (λ is. absurd cc, λ is. absurd is) refl
+    (then_early (refuses_to_resize c.args.image.now) (nat_lt (size_of c.args.image.now) c.args.size && takes_over c.args.image.now c.args.mode) Preallocation _ c.in-Ok.ensures.early
+    (λ none takes. let t = takes_larger (size_of c.args.image.now) c.args.size (takes_over c.args.image.now c.args.mode) takes in c.in-Ok.ensures.preallocation none t.0 t.1)) (λ _ _ larger is. absurd cc)
+
+pub returns-in-Err-clause-causes : goal.returns-in-Err-clause-causes
+returns-in-Err-clause-causes g c = λ before.
+    let old = c.args.image.now in
+    let e = c.in-Err.refusal in
+    let first = then_none (refuses_to_resize old) (nat_lt (size_of old) c.args.size && takes_over old c.args.mode) Preallocation in
+    is_refused g.S.Storage.view g.F.BackingDisk.backing old c.resize_grow.new.self before (C.ResizeGrow c.args.size c.args.mode) e (R.Refused e) (λ is. absurd cc) (λ is. absurd cc, λ is. absurd is) refl
+    (then_early (refuses_to_resize old) (nat_lt (size_of old) c.args.size && takes_over old c.args.mode) Preallocation _ (begun_with _ _ _ (refuses_to_resize old) c.in-Err.ensures.early)
+    (λ none takes. let t = takes_larger (size_of old) c.args.size (takes_over old c.args.mode) takes in let h = c.in-Err.ensures.preallocation none t.0 t.1 in (same_error h.0, h.1)))
+    (λ none. grow_meets e (size_of old) c.args.size (takes_over old c.args.mode) (first none).1 (λ le. let no = (c.in-Err.ensures.no_larger (first none).0 le).0 in absurd cc) (c.in-Err.ensures.late (first none).0))
+    (λ none le. let no = (c.in-Err.ensures.no_larger (first none).0 le).0 in absurd cc)
+    (λ none sound larger is. c.in-Err.ensures.tables (first none).0 larger before sound (some_error is))

@@ -3,6 +3,10 @@ use Rattle.qcow2_session.proofs.Resized.{shrink_done, shrink_refused}
 use Rattle.qcow2_session.proofs.Unwritten.{resizes_failed, resizes_reading, same_early}
 use Rattle.qcow2_image.specs.Image.{size_of}
 use Rattle.qcow2_image.specs.Resizing.{refuses_to_resize}
+use Rattle.qcow2_session.specs.declared.session.Command.TheVariants as C
+use Rattle.qcow2_session.specs.declared.session.Reply.TheVariants as R
+use Rattle.std.proofs.Common.{refl}
+use Rattle.qcow2_session.proofs.Causing.{begun_with, is_answered, is_refused, some_error}
 use Rattle.qcow2_session.proofs.sizing.shrink.Goals as goal
 
 pub returns-in-Ok-clause-goes : goal.returns-in-Ok-clause-goes
@@ -30,3 +34,16 @@ returns-in-Err-clause-reading g c = λ reading. same_early _ (refuses_to_resize 
 
 pub returns-in-Err-clause-size : goal.returns-in-Err-clause-size
 returns-in-Err-clause-size g c = λ failed. ap size_of (same_early _ (refuses_to_resize c.args.image.now) (resizes_failed c.args.image.now failed) c.resize_shrink.ensures.early)
+
+pub returns-in-Ok-clause-causes : goal.returns-in-Ok-clause-causes
+returns-in-Ok-clause-causes g c = λ before.
+    is_answered g.S.Storage.view g.F.BackingDisk.backing c.args.image.now c.resize_shrink.new.self before (C.ResizeShrink c.args.size) _ _ (R.Shrunk c.in-Ok.offset) (λ is. absurd cc) (λ is. absurd cc, λ is. absurd is) refl c.in-Ok.ensures.early
+    (λ none sound smaller. (λ is. absurd cc, λ prepared. let no = (c.in-Ok.ensures.prepared none smaller before sound prepared).0 in absurd cc))
+
+pub returns-in-Err-clause-causes : goal.returns-in-Err-clause-causes
+returns-in-Err-clause-causes g c = λ before.
+    let old = c.args.image.now in
+    let e = c.in-Err.refusal in
+    is_refused g.S.Storage.view g.F.BackingDisk.backing old c.resize_shrink.new.self before (C.ResizeShrink c.args.size) e (R.Refused e) (λ is. absurd cc) (λ is. absurd cc, λ is. absurd is) refl (begun_with _ _ _ (refuses_to_resize old) c.in-Err.ensures.early)
+    (λ none. (c.in-Err.ensures.late none).cause) (λ none le. let no = (c.in-Err.ensures.no_smaller none le).0 in absurd cc)
+    (λ none sound smaller. (λ is. (c.in-Err.ensures.late none).prepared (some_error is) before sound, λ prepared. let same = (c.in-Err.ensures.prepared none smaller before sound prepared).0 in cc))

@@ -15,3 +15,6 @@ returns-clause-tells g c = λ out sound.
 
 pub returns-clause-unwritten : goal.returns-clause-unwritten
 returns-clause-unwritten g c = λ reading out sound clean. c.readv_special.ensures.unwritten _ out sound clean
+
+pub returns-clause-late : goal.returns-clause-late
+returns-clause-late g c = c.readv_special.ensures.late

@@ -1,0 +1,121 @@
+-- A part of a range is refused for what the work meets, where nothing refuses the whole at once.
+use Rattle.std.proofs.Common.{◌≡◌, ◌⊎◌, ◌+◌, ◌<◌, ◌≤◌, ◌∙◌, inl, inr, ℕ, Bool, true, false, not, IsTrue, List, Option, Some, None, refl, sym, ap, subst, arith}
+use Rattle.std.specs.Prelude.{◌&&◌, nat_lt, IfSome, Result, Err}
+use Rattle.std.specs.Option.{option_or}
+use Rattle.std.proofs.lemmas.Bool.{cases_Bool, cases_lt}
+use Rattle.qcow2_metadata.specs.Bytes.{Bytes}
+use Rattle.qcow2_metadata.specs.Header.{cluster_size}
+use Rattle.qcow2_metadata.specs.declared.header.HeaderFields.{HeaderFields}
+use Rattle.qcow2_alloc.specs.declared.error.ImageError.{ImageError}
+use Rattle.qcow2_alloc.specs.declared.error.ImageError.TheVariants as I
+use Rattle.qcow2_image.specs.Clearing.{IsUnderMapping}
+use Rattle.qcow2_image.specs.Image.{IsSameImage, is_external, is_failed, is_writable, number_of, size_of}
+use Rattle.qcow2_image.specs.Preallocation.{IsUnderMappingIn}
+use Rattle.qcow2_image.specs.Preparing.{IsTaken}
+use Rattle.qcow2_image.specs.Refusals.{IsMet, IsMetPreparing, passes, refuse_if, refuses_mapping, refuses_to_prepare, refuses_to_read, unusable}
+use Rattle.qcow2_image.specs.declared.image.Qcow2.{Qcow2}
+use Rattle.qcow2_image.specs.declared.prepared.Prepared.{Prepared}
+use Rattle.qcow2_session.proofs.Beyond.{part_passes}
+use Rattle.qcow2_session.proofs.Causing.{own_mapping, put_writes, same_error, then_none}
+use Rattle.qcow2_session.proofs.Untaken.{row_as}
+
+both_none : (a b : Bool) → option_or (refuse_if a I.Failed) (refuse_if b I.Dependency) ≡ None → (a ≡ false) × (b ≡ false)
+both_none true b none = absurd (let no : Some I.Failed ≡ None = none in cc)
+both_none false true none = absurd (let no : Some I.Dependency ≡ None = none in cc)
+both_none false false none = (refl, refl)
+
+three_none : (u : Option ImageError) (a b : Bool) → option_or u (option_or (refuse_if a I.BeyondSize) (refuse_if b I.ReadOnly)) ≡ None → (u ≡ None) × (a ≡ false) × (b ≡ false)
+three_none (Some e) a b none = absurd (let no : Some e ≡ None = none in cc)
+three_none None true b none = absurd (let no : Some I.BeyondSize ≡ None = none in cc)
+three_none None false true none = absurd (let no : Some I.ReadOnly ≡ None = none in cc)
+three_none None false false none = (refl, refl, refl)
+
+all_none : (a b c d : Bool) → a ≡ false → b ≡ false → c ≡ false → d ≡ false → option_or (option_or (refuse_if a I.Failed) (refuse_if b I.Dependency)) (option_or (refuse_if c I.BeyondSize) (refuse_if d I.ReadOnly)) ≡ None
+all_none a b c d na nb nc nd =
+    ap (λ x. option_or (option_or (refuse_if x I.Failed) (refuse_if b I.Dependency)) (option_or (refuse_if c I.BeyondSize) (refuse_if d I.ReadOnly))) na
+    ∙ ap (λ x. option_or (refuse_if x I.Dependency) (option_or (refuse_if c I.BeyondSize) (refuse_if d I.ReadOnly))) nb ∙ ap (λ x. option_or (refuse_if x I.BeyondSize) (refuse_if d I.ReadOnly)) nc ∙ ap (λ x. refuse_if x I.ReadOnly) nd
+
+module _ {S F : Type 0} (old mid : Qcow2 S F) (same : IsSameImage old mid) where
+  -- the image may still be used
+  pub still_usable : is_failed mid ≡ false → unusable old ≡ None → unusable mid ≡ None
+  still_usable works none =
+      ap (λ b. option_or (refuse_if b I.Failed) (refuse_if (is_external mid) I.Dependency)) works ∙ ap (λ b. refuse_if b I.Dependency) (same.external ∙ (both_none (is_failed old) (is_external old) none).1)
+
+  pub not_failed_yet : unusable old ≡ None → is_failed old ≡ false
+  not_failed_yet none = (both_none (is_failed old) (is_external old) none).0
+
+  module _ (offset n at m : ℕ) (from : offset ≤ at) (upto : at + m ≤ offset + n) where
+    still_within : passes (size_of old) offset n ≡ false → passes (size_of mid) at m ≡ false
+    still_within within = ap (λ size. passes size at m) same.size ∙ elim (cases_Bool (passes (size_of old) at m)) [
+      | inl past ↦ absurd (let no : true ≡ false = sym (part_passes (size_of old) offset n at m from upto past) ∙ within in cc)
+      | inr fits ↦ fits
+    ]
+
+    pub part_reads : is_failed mid ≡ is_failed old → refuses_to_read old offset n ≡ None → refuses_to_read mid at m ≡ None
+    part_reads works none =
+        let whole = then_none (unusable old) (passes (size_of old) offset n) I.BeyondSize none in
+        ap (λ u. option_or u (refuse_if (passes (size_of mid) at m) I.BeyondSize)) (still_usable (works ∙ not_failed_yet whole.0) whole.0) ∙ ap (λ b. refuse_if b I.BeyondSize) (still_within whole.1)
+
+    pub part_prepares : is_failed mid ≡ false → 0 < n → refuses_to_prepare old offset n ≡ None → refuses_to_prepare mid at m ≡ None
+    part_prepares works some none =
+        let whole = three_none (unusable old) (passes (size_of old) offset n) (nat_lt 0 n && not (is_writable old)) none in
+        let external = same.external ∙ (both_none (is_failed old) (is_external old) whole.0).1 in
+        let writes : is_writable mid ≡ true = same.writable ∙ put_writes n (is_writable old) whole.2 some in
+        let test : (nat_lt 0 m && not (is_writable mid)) ≡ false = ap (λ b. nat_lt 0 m && not b) writes ∙ never (nat_lt 0 m) in
+        all_none (is_failed mid) (is_external mid) (passes (size_of mid) at m) (nat_lt 0 m && not (is_writable mid)) works external (still_within whole.1) test
+      where
+        never : (b : Bool) → (b && false) ≡ false
+        never true = refl
+        never false = refl
+
+    -- a later part of a write was refused: for what the work meets, or the image failed on the way
+    pub later_refused : (X : Type 0) (e : ImageError) → IfSome (refuses_to_prepare mid at m) (λ x. (◌≡◌ {A = Result ℕ ImageError} (Err e) (Err x)) × X) → (refuses_to_prepare mid at m ≡ None → IsMetPreparing e) → 0 < n → refuses_to_prepare old offset n ≡ None → IsMetPreparing e ⊎ (e ≡ I.Failed)
+    later_refused X e early late some none = elim (cases_Bool (is_failed mid)) [
+      | inl failed ↦
+          let first : refuses_to_prepare mid at m ≡ Some I.Failed =
+          ap (λ b. option_or (option_or (refuse_if b I.Failed) (refuse_if (is_external mid) I.Dependency)) (option_or (refuse_if (passes (size_of mid) at m) I.BeyondSize) (refuse_if (nat_lt 0 m && not (is_writable mid)) I.ReadOnly))) failed in
+          inr (same_error (subst (λ o. IfSome o (λ x. (◌≡◌ {A = Result ℕ ImageError} (Err e) (Err x)) × X)) first early).0)
+      | inr works ↦ inl (late (part_prepares works some none))
+    ]
+
+  -- its mapping may be written
+  pub mapping_usable : (number : ℕ) → number ≡ number_of old → is_failed mid ≡ is_failed old → unusable old ≡ None → refuses_mapping mid number ≡ None
+  mapping_usable number own works none = own_mapping mid number (own ∙ sym same.number) ∙ still_usable (works ∙ not_failed_yet none) none
+
+  -- what a put of k of n bytes is refused for
+  pub put_met : (number offset n k : ℕ) (e : ImageError) → number ≡ number_of old → is_failed mid ≡ is_failed old → (n ≡ 0 → k ≡ 0) → refuses_to_prepare old offset n ≡ None
+      → (refuses_mapping mid number ≡ None → IsTrue (is_writable mid) → IsMet e) → (refuses_mapping mid number ≡ None → k ≡ 0 → ⊥) → IsMet e
+  put_met number offset n k e own works none_of_none none late nothing =
+      let whole = three_none (unusable old) (passes (size_of old) offset n) (nat_lt 0 n && not (is_writable old)) none in
+      let usable = mapping_usable number own works whole.0 in
+      elim (cases_lt 0 n) [
+        | inl some ↦ late usable (same.writable ∙ put_writes n (is_writable old) whole.2 some)
+        | inr least ↦ absurd (nothing usable (none_of_none (omega (arith, least))))
+      ]
+
+-- what nothing refuses to prepare may be used, and bytes may be written
+pub prepares_usable : {S F : Type 0} (image : Qcow2 S F) (offset n : ℕ) → refuses_to_prepare image offset n ≡ None → unusable image ≡ None
+prepares_usable image offset n none = (three_none (unusable image) (passes (size_of image) offset n) (nat_lt 0 n && not (is_writable image)) none).0
+
+pub prepares_writable : {S F : Type 0} (image : Qcow2 S F) (offset n : ℕ) → refuses_to_prepare image offset n ≡ None → 0 < n → IsTrue (is_writable image)
+prepares_writable image offset n none some = put_writes n (is_writable image) (three_none (unusable image) (passes (size_of image) offset n) (nat_lt 0 n && not (is_writable image)) none).2 some
+
+-- ---- a table that is prepared
+
+pub under_taken : {h : HeaderFields} {known : Bytes} {offset n : ℕ} {out : List (Option Prepared)} → IsTaken h known offset n out → IsUnderMapping h offset out
+under_taken taken = record { place = taken.place; other = taken.other; is_out = taken.is_out; keeps_table = taken.keeps_table; same_table = taken.same_table }
+
+-- a part of the range lies under it
+pub part_under : (h h' : HeaderFields) → cluster_size h' ≡ cluster_size h → (offset to at : ℕ) (out : List (Option Prepared)) → offset ≤ at → at < to → IsUnderMapping h' at out → IsUnderMappingIn h offset to out
+part_under h h' same offset to at out from upto under = record {
+  offset = at;
+  low = from;
+  high = upto;
+  under = record {
+    place = under.place;
+    other = under.other;
+    is_out = under.is_out;
+    keeps_table = under.keeps_table;
+    same_table = sym (row_as h h' same under.other.guest) ∙ under.same_table ∙ row_as h h' same at;
+  };
+}

@@ -1,0 +1,164 @@
+-- Why the commands of a run are refused: what is asked before any work, in order, and what the work meets.
+use Rattle.std.specs.Prelude.{ℕ, ◌+◌, ◌<◌, ◌≤◌, ◌≡◌, ◌↔◌, ◌⊎◌, ◌&&◌, not, nat_lt, true, length, List, Option, Some, None, IfSome, IsNone, slice_get}
+use Rattle.std.specs.Option.{option_or}
+use Rattle.image_access.specs.Backing.{BackingView}
+use Rattle.image_access.specs.Moments.{StorageView}
+use Rattle.image_access.specs.declared.storage.PreallocateMode.{PreallocateMode}
+use Rattle.qcow2_metadata.specs.Header.{cluster_size}
+use Rattle.qcow2_disk.specs.Calls.{Clearing, to_backing, to_kept_zero, to_zero}
+use Rattle.qcow2_disk.specs.ClearedCovers.{needs_zeros, rounds_past}
+use Rattle.qcow2_alloc.specs.ImageError.{IsFault}
+use Rattle.qcow2_alloc.specs.ImageFile.{known_in}
+use Rattle.qcow2_alloc.specs.declared.error.ImageError.{ImageError}
+use Rattle.qcow2_alloc.specs.declared.error.ImageError.TheVariants as I
+use Rattle.qcow2_image.specs.Backings.{HasPrepared}
+use Rattle.qcow2_image.specs.Clearing.{IsUnderMapping, from_in, to_in}
+use Rattle.qcow2_image.specs.Found.{IsFoundWhole}
+use Rattle.qcow2_image.specs.Image.{is_failed, is_writable, size_of}
+use Rattle.qcow2_image.specs.ImageInvariant.{abstract_of}
+use Rattle.qcow2_image.specs.Preallocation.{IsUnderMappingIn}
+use Rattle.qcow2_image.specs.Prepared.{length_of, table_of}
+use Rattle.qcow2_image.specs.Preparing.{IsTaken}
+use Rattle.qcow2_image.specs.Refusals.{IsMet, IsMetPreparing, passes, refuse_if, refuses_to_prepare, refuses_to_read, unusable}
+use Rattle.qcow2_image.specs.Resizing.{boundary_in, refuses_to_resize, takes_over}
+use Rattle.qcow2_image.specs.declared.image.Qcow2.{Qcow2}
+use Rattle.qcow2_image.specs.declared.mapping.MappingKind.TheVariants.{Raw}
+use Rattle.qcow2_image.specs.declared.mapping.Place.TheVariants.{Image}
+use Rattle.qcow2_image.specs.declared.prepared.Prepared.{Prepared}
+use Rattle.qcow2_session.specs.CountedFaults.{refusal_in}
+use Rattle.qcow2_session.specs.declared.session.Command.{Command}
+use Rattle.qcow2_session.specs.declared.session.Command.TheVariants as C
+use Rattle.qcow2_session.specs.declared.session.Reply.{Reply}
+use Rattle.qcow2_session.specs.declared.session.Reply.TheVariants as R
+
+-- ---- before any work
+
+module _ {S F : Type 0} (image : Qcow2 S F) where
+  -- of putting n bytes into a mapping of the image, in this order: what makes it unusable, and of bytes that it isn't to be written
+  abbrev pub refuses_to_put : ℕ → Option ImageError
+  refuses_to_put n = option_or (unusable image) (refuse_if (nat_lt 0 n && not (is_writable image)) I.ReadOnly)
+
+  -- of clearing a range, in this order: what makes the image unusable, that it isn't to be written, a range beyond the size, version 2 where zeros are needed, and offsets past 64 bits
+  abbrev pub refuses_clearing : Clearing → (offset n : ℕ) → Option ImageError
+  refuses_clearing how offset n =
+      option_or (unusable image) (option_or (refuse_if (not (is_writable image)) I.ReadOnly) (option_or (refuse_if (passes (size_of image) offset n) I.BeyondSize)
+      (option_or (refuse_if (needs_zeros how && nat_lt image.file.header.fields.version 3) I.Version) (refuse_if (rounds_past (cluster_size image.file.header.fields) (size_of image) offset n) I.Overflow))))
+
+  -- of a larger disk: what refuses each other size, and that the mode takes clusters where there is a disk below
+  abbrev pub refuses_to_grow : ℕ → PreallocateMode → Option ImageError
+  refuses_to_grow size mode = option_or (refuses_to_resize image) (refuse_if (nat_lt (size_of image) size && takes_over image mode) I.Preallocation)
+
+  -- of a command: the first cause that holds, in the order in which its call asks for them
+  abbrev pub first_cause : Command → Option ImageError
+  first_cause (C.Read offset n) = refuses_to_read image offset n
+  first_cause (C.Write offset bytes) = refuses_to_prepare image offset (length bytes.items)
+  first_cause (C.GetMapping slot offset max) = unusable image
+  first_cause (C.ReadMapped slot at n) = unusable image
+  first_cause (C.PrepareDataMapping slot offset n overwrite) = refuses_to_prepare image offset n
+  first_cause (C.WriteMapped slot at bytes) = refuses_to_put (length bytes.items)
+  first_cause (C.CommitDataMapping slot) = refuse_if (is_failed image) I.Failed
+  first_cause (C.DiscardDataMapping slot) = None
+  first_cause (C.EnsureZeroMapping offset n) = refuses_clearing to_kept_zero offset n
+  first_cause (C.DiscardToZero offset n) = refuses_clearing to_zero offset n
+  first_cause (C.DiscardToAny offset n) = refuses_clearing to_zero offset n
+  first_cause (C.DiscardToBacking offset n) = refuses_clearing to_backing offset n
+  first_cause (C.ReadvSpecial offset n) = unusable image
+  first_cause (C.TryReadvSpecial offset n) = unusable image
+  first_cause C.Flush = refuse_if (is_failed image) I.Failed
+  first_cause (C.ResizeGrow size mode) = refuses_to_grow size mode
+  first_cause (C.ResizeShrink size) = refuses_to_resize image
+  first_cause C.Size = None
+
+-- its slot is taken or empty, or the range passes the end of the mapping there
+abbrev pub IsMisused : List (Option Prepared) → Command → Type 0
+IsMisused before (C.PrepareDataMapping slot offset n overwrite) = (p : Prepared) × (slice_get before slot ≡ Some (Some p))
+IsMisused before (C.WriteMapped slot at bytes) = (slice_get before slot ≡ Some None) ⊎ ((p : Prepared) × (slice_get before slot ≡ Some (Some p)) × (length_of p < at + length bytes.items))
+IsMisused before (C.CommitDataMapping slot) = slice_get before slot ≡ Some None
+IsMisused before (C.DiscardDataMapping slot) = slice_get before slot ≡ Some None
+IsMisused before command = ⊥
+
+-- it is replied so exactly then; of a range that was looked up the run itself tells it
+abbrev pub TellsMisuse : List (Option Prepared) → Command → Reply → Type 0
+TellsMisuse before (C.ReadMapped slot at n) reply = Unit {0}
+TellsMisuse before command reply = (reply ≡ R.Misuse) ↔ IsMisused before command
+
+-- ---- where the work meets it
+
+-- some bytes of a refused write were written
+abbrev pub IsAfterSome : Reply → Type 0
+IsAfterSome (R.WriteRefused e n) = 0 < n
+IsAfterSome reply = ⊥
+
+-- what a command may be refused for where nothing refused it at once; a write also where the image failed after some of its bytes
+abbrev pub MayMeet : Command → Reply → ImageError → Type 0
+MayMeet (C.Write offset bytes) reply e = IsMetPreparing e ⊎ ((e ≡ I.Failed) × IsAfterSome reply)
+MayMeet (C.PrepareDataMapping slot offset n overwrite) reply e = IsMetPreparing e
+MayMeet (C.DiscardDataMapping slot) reply e = ⊥
+MayMeet (C.EnsureZeroMapping offset n) reply e = IsMetPreparing e
+MayMeet (C.DiscardToZero offset n) reply e = IsMetPreparing e
+MayMeet (C.DiscardToAny offset n) reply e = IsMetPreparing e
+MayMeet (C.DiscardToBacking offset n) reply e = IsMetPreparing e
+MayMeet (C.ReadvSpecial offset n) reply e = IsMet e ⊎ (e ≡ I.NotCompressed offset)
+MayMeet (C.ResizeGrow size mode) reply e = IsMetPreparing e
+MayMeet (C.ResizeShrink size) reply e = IsFault e ⊎ (e ≡ I.MappingPrepared)
+MayMeet C.Size reply e = ⊥
+MayMeet command reply e = IsMet e
+
+module _ {S F : Type 0} (view : S → StorageView) (backing : F → BackingView) (old new : Qcow2 S F) (before : List (Option Prepared)) where
+  -- there is nothing to do
+  abbrev pub HasNothingToDo : Command → Type 0
+  HasNothingToDo (C.GetMapping slot offset max) = size_of old ≤ offset
+  HasNothingToDo (C.PrepareDataMapping slot offset n overwrite) = n ≡ 0
+  HasNothingToDo (C.WriteMapped slot at bytes) = length bytes.items ≡ 0
+  HasNothingToDo (C.CommitDataMapping slot) = (p : Prepared) × (slice_get before slot ≡ Some (Some p)) × IsNone (table_of p)
+  HasNothingToDo (C.EnsureZeroMapping offset n) = to_in old offset n ≤ from_in old offset n
+  HasNothingToDo (C.DiscardToZero offset n) = to_in old offset n ≤ from_in old offset n
+  HasNothingToDo (C.DiscardToAny offset n) = to_in old offset n ≤ from_in old offset n
+  HasNothingToDo (C.DiscardToBacking offset n) = to_in old offset n ≤ from_in old offset n
+  HasNothingToDo (C.ResizeGrow size mode) = size ≤ size_of old
+  HasNothingToDo (C.ResizeShrink size) = size_of old ≤ size
+  HasNothingToDo command = ⊥
+
+  -- ---- mappings that are prepared, on a sound image
+
+  -- a range in whose L2 table a mapping is prepared isn't prepared, but where it may be written in place
+  abbrev pub IsUntakenIn : (offset n : ℕ) → Reply → Type 0
+  IsUntakenIn offset n (R.Prepared host count existing) = ¬ IsTaken old.file.header.fields (known_in view old.file) offset n before
+  IsUntakenIn offset n reply = refusal_in reply ≡ Some I.TablePrepared → IsTaken old.file.header.fields (known_in view old.file) offset n before
+
+  -- nor is such a range cleared
+  abbrev pub IsUntouchedUnder : (offset n : ℕ) → Reply → Type 0
+  IsUntouchedUnder offset n (R.Range from count) = from_in old offset n < to_in old offset n → ¬ IsUnderMapping old.file.header.fields (from_in old offset n) before
+  IsUntouchedUnder offset n reply = from_in old offset n < to_in old offset n → refusal_in reply ≡ Some I.TablePrepared → IsUnderMapping old.file.header.fields (from_in old offset n) before
+
+  -- the mapping in a slot is existing, and the bytes no longer stand where it says
+  pub record IsOutdatedAt (slot at n : ℕ) : Type 0 where
+    pub mapping : Prepared
+    pub there : slice_get before slot ≡ Some (Some mapping)
+    pub existing : table_of mapping ≡ None
+    pub moved : ¬ IsFoundWhole view new (mapping.guest + at) (Raw Image (mapping.offset + at) true) n
+
+  -- What a prepared mapping refuses, and nothing else: a range of its L2 table (9), a smaller disk (17). What is put is refused as outdated (10) only where it is.
+  abbrev pub HeedsPrepared : Command → Reply → Type 0
+  HeedsPrepared (C.Write offset bytes) reply = refusal_in reply ≡ Some I.TablePrepared → IsUnderMappingIn old.file.header.fields offset (offset + length bytes.items) before
+  HeedsPrepared (C.PrepareDataMapping slot offset n overwrite) reply = IsUntakenIn offset n reply
+  HeedsPrepared (C.WriteMapped slot at bytes) reply = refusal_in reply ≡ Some I.OutdatedMapping → IsOutdatedAt slot at (length bytes.items)
+  HeedsPrepared (C.EnsureZeroMapping offset n) reply = IsUntouchedUnder offset n reply
+  HeedsPrepared (C.DiscardToZero offset n) reply = IsUntouchedUnder offset n reply
+  HeedsPrepared (C.DiscardToAny offset n) reply = IsUntouchedUnder offset n reply
+  HeedsPrepared (C.DiscardToBacking offset n) reply = IsUntouchedUnder offset n reply
+  HeedsPrepared (C.ResizeGrow size mode) reply = size_of old < size → refusal_in reply ≡ Some I.TablePrepared → IsUnderMappingIn old.file.header.fields (size_of old) (boundary_in old size) before
+  HeedsPrepared (C.ResizeShrink size) reply = size < size_of old → (refusal_in reply ≡ Some I.MappingPrepared) ↔ HasPrepared before
+  HeedsPrepared command reply = Unit {0}
+
+  -- ---- a command
+
+  -- Where its slot or its range is misused, it is replied so, and nothing changes. Else the first cause that holds before any work is the reply, and nothing changes.
+  -- Where none holds, it is refused for what the work meets alone. It isn't where there is nothing to do, and heeds what is prepared on a sound image.
+  pub record IsRightlyRefused (command : Command) (reply : Reply) : Type 0 where
+    pub misuse : TellsMisuse before command reply
+    pub still : reply ≡ R.Misuse → new ≡ old
+    pub early : IfSome (first_cause old command) (λ e. ((refusal_in reply ≡ Some e) ⊎ (reply ≡ R.Misuse)) × (new ≡ old))
+    pub late : first_cause old command ≡ None → IfSome (refusal_in reply) (MayMeet command reply)
+    pub idle : first_cause old command ≡ None → HasNothingToDo command → refusal_in reply ≡ None
+    pub heeds : first_cause old command ≡ None → (abstract_of view backing old before).is_sound → HeedsPrepared command reply
