@@ -240,7 +240,7 @@ impl<S: Storage, F: WrappedFormat<S>> Qcow2<S, F> {
         }
         table.set_cluster(cluster);
         self.file.storage.will_write(WriteKind::Other);
-        table.write(&mut self.file.storage)?;
+        self.file.storage.write_new_l2_table(&table)?;
         table.clear_modified();
         self.file.caches.l2_insert(&mut self.file.storage, table)
     }
@@ -261,7 +261,7 @@ impl<S: Storage, F: WrappedFormat<S>> Qcow2<S, F> {
     {
         self.file.storage.will_write(WriteKind::Other);
         self.l1_table.enter_l2_table(index, cluster);
-        self.l1_table.write_entry(&mut self.file.storage, index)?;
+        self.file.storage.write_l1_entry(&self.l1_table, index)?;
         Ok(())
     }
 

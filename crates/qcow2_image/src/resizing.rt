@@ -271,7 +271,7 @@ impl<S: Storage, F: WrappedFormat<S>> Qcow2<S, F> {
         let old = self.file.header.size();
         self.file.header.set_size(size);
         self.file.storage.will_write(WriteKind::Other);
-        match self.file.header.write_size(&mut self.file.storage) {
+        match self.file.storage.write_size(&self.file.header) {
             Ok(()) => Ok(()),
             Err(refusal) => {
                 self.file.header.set_size(old);
