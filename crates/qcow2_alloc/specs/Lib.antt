@@ -24,3 +24,4 @@ pub mod GrownTables
 pub mod Rooms
 pub mod Limits
 pub mod Faults
+pub mod WriteKinds

@@ -15,6 +15,7 @@ mod refblocks;
 mod reftable_growth;
 mod reftable_length;
 mod reftable_naming;
+mod told_writes;
 
 pub use allocation::Allocator;
 pub use cache::{Direction, L2CacheBackend, MetadataCaches, RefBlockCacheBackend};

@@ -78,7 +78,7 @@ fn write_new_block<S: Storage>(
 {
     file.caches.rb_remove(cluster);
     file.storage.will_write(WriteKind::Other);
-    block.write(&mut file.storage)?;
+    file.storage.write_new_refblock(block)?;
     Ok(())
 }
 
@@ -103,7 +103,7 @@ pub(crate) fn place_table<S: Storage>(
 {
     table.set_cluster(cluster);
     file.storage.will_write(WriteKind::Other);
-    table.write(&mut file.storage)?;
+    file.storage.write_reftable(table)?;
     Ok(())
 }
 

@@ -66,7 +66,7 @@ fn write_block<S: Storage>(file: &mut ImageFile<S>, mut block: RefBlock) -> Resu
 {
     file.caches.flush_rb(&mut file.storage)?;
     file.storage.will_write(WriteKind::Other);
-    block.write(&mut file.storage)?;
+    file.storage.write_new_refblock(&block)?;
     block.clear_modified();
     file.caches.rb_insert(&mut file.storage, block)
 }
@@ -310,8 +310,8 @@ impl Allocator {
         file.caches.note_change();
         self.reftable.enter_refblock(range as usize, cluster);
         file.storage.will_write(WriteKind::Other);
-        self.reftable
-            .write_entry(&mut file.storage, range as usize)?;
+        file.storage
+            .write_reftable_entry(&self.reftable, range as usize)?;
         Ok(())
     }
 

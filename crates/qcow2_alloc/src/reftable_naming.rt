@@ -44,7 +44,7 @@ impl Allocator {
         file.header.set_reftable(offset, clusters)?;
         file.caches.note_change();
         file.storage.will_write(WriteKind::Other);
-        file.header.write_reftable_pointer(&mut file.storage)?;
+        file.storage.write_reftable_pointer(&file.header)?;
         self.reftable = table;
         Ok(())
     }

@@ -23,3 +23,4 @@ pub mod SpecialReads
 pub mod Resizing
 pub mod Preallocation
 pub mod Unwritten
+pub mod L1Entries

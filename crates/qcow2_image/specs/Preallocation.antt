@@ -23,6 +23,7 @@ use Rattle.qcow2_image.specs.CallParts.{AreCopied, StaysBeside}
 use Rattle.qcow2_image.specs.Clearing.{IsUnderMapping, setting_of}
 use Rattle.qcow2_image.specs.Image.{size_of}
 use Rattle.qcow2_image.specs.ImageInvariant.{ImageInvariant, abstract_of, disk_of, meaning, pending_in}
+use Rattle.qcow2_image.specs.L1Entries.{StaysAsLong}
 use Rattle.qcow2_image.specs.MovedTables.{CoversStay, MovesTables}
 use Rattle.qcow2_alloc.specs.ImageFile.{known_in}
 
@@ -69,6 +70,7 @@ module _ {S F : Type 0} (view : S → StorageView) (backing : F → BackingView)
     pub sound : ImageInvariant view backing (pending_in view backing new out) new out
     pub shows : guest_of (abstract_of view backing new out) ≡ with_disk (guest_of (abstract_of view backing old out)) (zeroed_between (disk_of view backing old) from to)
     pub header : MovesTables old.file.header.fields new.file.header.fields
+    pub length : StaysAsLong to old.file.header.fields new.file.header.fields
     pub covers : FilledCovers (cluster_size old.file.header.fields) first from to old.file.header.fields (known_in view old.file) new.file.header.fields (known_in view new.file)
 
   -- it was refused on its way: all is sound, and any of these bytes may be zeros
@@ -119,6 +121,7 @@ module _ {S F : Type 0} (view : S → StorageView) (backing : F → BackingView)
     pub sound : ImageInvariant view backing (pending_in view backing new out) new out
     pub shows : guest_of (abstract_of view backing new out) ≡ with_disk (guest_of (abstract_of view backing old out)) (filled_to (cluster_size old.file.header.fields) (disk_of view backing old) size mode)
     pub header : MovesTables old.file.header.fields new.file.header.fields
+    pub length : StaysAsLong (rounded_up (cluster_size old.file.header.fields) size) old.file.header.fields new.file.header.fields
     pub covers : GrownCovers mode (size_of old) size old.file.header.fields (known_in view old.file) new.file.header.fields (known_in view new.file)
 
   -- it was refused: each byte behind the end is as before or zero, and all others are as before

@@ -1,5 +1,5 @@
 -- What a disk of another size is: the tail is uncovered, or the L1 table made longer, and the size is written last.
-use Rattle.std.specs.Prelude.{ℕ, ◌^◌, ◌≡◌, ◌⊎◌, ◌<◌, ◌≤◌, Bool, false, is_some, not, true, List, [], ◌∷◌, Option, Some, None, IsTrue, Result, Ok, Err}
+use Rattle.std.specs.Prelude.{ℕ, ◌-◌, ◌^◌, ◌≡◌, ◌⊎◌, ◌<◌, ◌≤◌, Bool, false, is_some, not, true, List, [], ◌∷◌, Option, Some, None, IsTrue, Result, Ok, Err}
 use Rattle.std.specs.Option.{option_or}
 use Rattle.image_access.specs.Backing.{BackingView}
 use Rattle.image_access.specs.Moments.{StorageView, Passing}
@@ -26,6 +26,7 @@ use Rattle.qcow2_image.specs.declared.prepared.Prepared.{Prepared}
 use Rattle.qcow2_image.specs.Growing.{ReachesSize, SameFormat}
 use Rattle.qcow2_image.specs.Image.{is_external, is_failed, is_writable, number_of, size_of}
 use Rattle.qcow2_image.specs.ImageInvariant.{ImageInvariant, abstract_of, disk_of, pending_in}
+use Rattle.qcow2_image.specs.L1Entries.{ReachesOffset}
 use Rattle.qcow2_image.specs.MovedTables.{CoversStay}
 use Rattle.qcow2_image.specs.NewTables.{LacksTable}
 use Rattle.qcow2_image.specs.Preallocation.{IsUnderMappingIn}
@@ -113,10 +114,11 @@ module _ {S F : Type 0} (view : S → StorageView) (backing : F → BackingView)
   GrowsTo old new size mode (Err e) = (out : List (Option Prepared)) → let v = abstract_of view backing old out in let w = abstract_of view backing new out in
       Refuses v w (gifts_of_grow old size mode) (size ∷ []) (refusal_of e) ((d : Disk) × MayGrow v.setting (guest_of v).disk size mode d × (guest_of w ≡ with_disk (guest_of v) d))
 
-  -- What a larger disk leaves of the tables: a header of the same format, an L1 table with an entry for each byte, and for each guest cluster what the mode asks for.
+  -- What a larger disk leaves of the tables: a header of the same format, an L1 table with an entry for each byte and no more than that and the old one need, and for each guest cluster what the mode asks for.
   pub record LeavesTables (mode : PreallocateMode) (size : ℕ) (old new : Qcow2 S F) : Type 0 where
     pub format : SameFormat old.file.header.fields new.file.header.fields
     pub reaches : ReachesSize new.file.header.fields
+    pub length : ReachesOffset (size - 1) old.file.header.fields new.file.header.fields
     pub covers : GrownCovers mode (size_of old) size old.file.header.fields (known_in view old.file) new.file.header.fields (known_in view new.file)
 
   -- An answer leaves that. A prepared L2 table refuses it only where one of the range behind the old end is.

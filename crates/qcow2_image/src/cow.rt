@@ -125,7 +125,7 @@ impl<S: Storage, F: WrappedFormat<S>> Qcow2<S, F> {
         ensures faults { CountsImageFaults S.view F.backing self.old self.new result }
     {
         self.file.storage.will_write(WriteKind::Data);
-        self.file.storage.write_zeroes(at, length)?;
+        self.file.storage.write_zero_data(at, length)?;
         Ok(())
     }
 }

@@ -13,6 +13,7 @@ ghost use Rattle.qcow2_alloc.specs.MetadataCaches.{IsEntryAt, l2_at};
 ghost use Rattle.qcow2_alloc.specs.declared.error.ImageError.TheVariants.{TablePrepared};
 ghost use Rattle.qcow2_image.specs.declared.prepared.Prepared.{Prepared};
 ghost use Rattle.qcow2_image.specs.Backings.{HasPrepared};
+ghost use Rattle.qcow2_image.specs.L1Entries.{ReachesOffset};
 ghost use Rattle.qcow2_image.specs.NewTables.{IsFaultOrLacksTable};
 ghost use Rattle.qcow2_image.specs.Image.{HasNothingToFree, IsSameImage, ImageStays, is_failed, is_writable, size_of};
 ghost use Rattle.qcow2_image.specs.ImageInvariant.{ImageInvariant, abstract_of, pending_in, listed_run};
@@ -119,6 +120,8 @@ impl<S: Storage, F: WrappedFormat<S>> Qcow2<S, F> {
         ensures covers { (out : List (Option Prepared)) → (abstract_of S.view F.backing self.old out).is_sound
             → OnOk result (ClearsImageCovers Clearance.Uncovered (from_in self.old offset length) (to_in self.old offset length) self.old.file.header.fields (known_in S.view self.old.file) self.new.file.header.fields (known_in S.view self.new.file)) }
         ensures emptied { from_in self.old offset length < to_in self.old offset length → OnOk result (HasNothingToFree self.new) }
+        ensures reaches { from_in self.old offset length < to_in self.old offset length → (out : List (Option Prepared)) → (abstract_of S.view F.backing self.old out).is_sound
+            → OnOk result (ReachesOffset (from_in self.old offset length) self.old.file.header.fields self.new.file.header.fields) }
         ensures faults { CountsImageFaults S.view F.backing self.old self.new result }
     {
         self.clear_range(offset, length, Clearance::Uncovered)
@@ -141,6 +144,8 @@ impl<S: Storage, F: WrappedFormat<S>> Qcow2<S, F> {
         ensures covers { (out : List (Option Prepared)) → (abstract_of S.view F.backing self.old out).is_sound
             → OnOk result (ClearsImageCovers Clearance.Zeros (from_in self.old offset length) (to_in self.old offset length) self.old.file.header.fields (known_in S.view self.old.file) self.new.file.header.fields (known_in S.view self.new.file)) }
         ensures emptied { from_in self.old offset length < to_in self.old offset length → OnOk result (HasNothingToFree self.new) }
+        ensures reaches { from_in self.old offset length < to_in self.old offset length → (out : List (Option Prepared)) → (abstract_of S.view F.backing self.old out).is_sound
+            → OnOk result (ReachesOffset (from_in self.old offset length) self.old.file.header.fields self.new.file.header.fields) }
         ensures faults { CountsImageFaults S.view F.backing self.old self.new result }
     {
         self.clear_range(offset, length, Clearance::Zeros)
@@ -163,6 +168,8 @@ impl<S: Storage, F: WrappedFormat<S>> Qcow2<S, F> {
         ensures covers { (out : List (Option Prepared)) → (abstract_of S.view F.backing self.old out).is_sound
             → OnOk result (ClearsImageCovers Clearance.Zeros (from_in self.old offset length) (to_in self.old offset length) self.old.file.header.fields (known_in S.view self.old.file) self.new.file.header.fields (known_in S.view self.new.file)) }
         ensures emptied { from_in self.old offset length < to_in self.old offset length → OnOk result (HasNothingToFree self.new) }
+        ensures reaches { from_in self.old offset length < to_in self.old offset length → (out : List (Option Prepared)) → (abstract_of S.view F.backing self.old out).is_sound
+            → OnOk result (ReachesOffset (from_in self.old offset length) self.old.file.header.fields self.new.file.header.fields) }
         ensures faults { CountsImageFaults S.view F.backing self.old self.new result }
     {
         self.discard_to_zero_unsafe(offset, length)
@@ -185,6 +192,8 @@ impl<S: Storage, F: WrappedFormat<S>> Qcow2<S, F> {
         ensures covers { (out : List (Option Prepared)) → (abstract_of S.view F.backing self.old out).is_sound
             → OnOk result (ClearsImageCovers Clearance.KeptZeros (from_in self.old offset length) (to_in self.old offset length) self.old.file.header.fields (known_in S.view self.old.file) self.new.file.header.fields (known_in S.view self.new.file)) }
         ensures emptied { from_in self.old offset length < to_in self.old offset length → OnOk result (HasNothingToFree self.new) }
+        ensures reaches { from_in self.old offset length < to_in self.old offset length → (out : List (Option Prepared)) → (abstract_of S.view F.backing self.old out).is_sound
+            → OnOk result (ReachesOffset (from_in self.old offset length) self.old.file.header.fields self.new.file.header.fields) }
         ensures faults { CountsImageFaults S.view F.backing self.old self.new result }
     {
         self.clear_range(offset, length, Clearance::KeptZeros)
@@ -207,6 +216,8 @@ impl<S: Storage, F: WrappedFormat<S>> Qcow2<S, F> {
         ensures covers { (out : List (Option Prepared)) → (abstract_of S.view F.backing self.old out).is_sound
             → OnOk result (ClearsImageCovers how (from_in self.old offset length) (to_in self.old offset length) self.old.file.header.fields (known_in S.view self.old.file) self.new.file.header.fields (known_in S.view self.new.file)) }
         ensures emptied { from_in self.old offset length < to_in self.old offset length → OnOk result (HasNothingToFree self.new) }
+        ensures reaches { from_in self.old offset length < to_in self.old offset length → (out : List (Option Prepared)) → (abstract_of S.view F.backing self.old out).is_sound
+            → OnOk result (ReachesOffset (from_in self.old offset length) self.old.file.header.fields self.new.file.header.fields) }
         ensures refused { IfErr result (RefusesClearing S.view F.backing how self.old self.new offset length) }
         ensures faults { CountsImageFaults S.view F.backing self.old self.new result }
     {
@@ -285,6 +296,7 @@ impl<S: Storage, F: WrappedFormat<S>> Qcow2<S, F> {
             → IfErr result (λ e. e ≡ TablePrepared → IsUnderMapping self.old.file.header.fields from out) }
         ensures free { (out : List (Option Prepared)) → ImageInvariant S.view F.backing (pending_in S.view F.backing self.old out) self.old out
             → IfOk result (λ done. IsUnderMapping self.old.file.header.fields from out → ⊥) }
+        ensures reaches { (out : List (Option Prepared)) → ImageInvariant S.view F.backing (pending_in S.view F.backing self.old out) self.old out → OnOk result (ReachesOffset from self.old.file.header.fields self.new.file.header.fields) }
         ensures faults { CountsImageFaults S.view F.backing self.old self.new result }
     {
         let table = self.table_for(from)?;

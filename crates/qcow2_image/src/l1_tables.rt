@@ -1,5 +1,5 @@
 //! A longer L1 table, in the place of the former one.
-ghost use Rattle.std.specs.Prelude.{ℕ, List, Option, ◌≡◌, ◌<◌, ◌≤◌, ◌++◌, Some, IfErr, IfOk, IsTrue, OnOk};
+ghost use Rattle.std.specs.Prelude.{ℕ, List, Option, ◌≡◌, ◌<◌, ◌≤◌, ◌++◌, ◌+◌, max, Some, IfErr, IfOk, IsTrue, OnOk};
 ghost use Rattle.qcow2_metadata.specs.EntryTable.{entry_count};
 ghost use Rattle.qcow2_metadata.specs.L2Mapping.{IsHostCluster};
 ghost use Rattle.qcow2_laws.specs.CrashInvariant.{Pending};
@@ -29,7 +29,7 @@ impl<S: Storage, F: WrappedFormat<S>> Qcow2<S, F> {
         ensures stays { ImageStays self.old self.new }
         ensures cause { IfErr result IsMet }
         ensures lacks { (out : List (Option Prepared)) → ImageInvariant S.view F.backing (pending_in S.view F.backing self.old out) self.old out → IfErr result (IsFaultOrLacksTable S.view self.new offset) }
-        ensures reaches { OnOk result (l1_index_of self.old.file.header.fields offset < entry_count self.new.l1_table) }
+        ensures length { OnOk result (entry_count self.new.l1_table ≡ max (entry_count self.old.l1_table) (l1_index_of self.old.file.header.fields offset + 1)) }
         ensures none { l1_index_of self.old.file.header.fields offset < entry_count self.old.l1_table → self.new ≡ self.old }
         ensures emptied { entry_count self.old.l1_table ≤ l1_index_of self.old.file.header.fields offset → OnOk result (HasNothingToFree self.new) }
         ensures makes { (out : List (Option Prepared)) → ImageInvariant S.view F.backing (pending_in S.view F.backing self.old out) self.old out → MakesEntry S.view F.backing self.old self.new out result }
@@ -48,7 +48,7 @@ impl<S: Storage, F: WrappedFormat<S>> Qcow2<S, F> {
         ensures stays { ImageStays self.old self.new }
         ensures cause { IsTrue (is_writable self.old) → IfErr result IsMet }
         ensures lengthens { (p : Pending) (out : List (Option Prepared)) → ImageInvariant S.view F.backing p self.old out → Lengthens S.view F.backing p self.old self.new out result }
-        ensures reaches { OnOk result (index < entry_count self.new.l1_table) }
+        ensures length { OnOk result (entry_count self.new.l1_table ≡ max (entry_count self.old.l1_table) (index + 1)) }
         ensures list { OnOk result (ListGrows self.old self.new) }
         ensures faults { CountsImageFaults S.view F.backing self.old self.new result }
     {
@@ -144,7 +144,7 @@ impl<S: Storage, F: WrappedFormat<S>> Qcow2<S, F> {
         table.set_cluster(cluster);
         self.file.caches.flush_rb(&mut self.file.storage)?;
         self.file.storage.will_write(WriteKind::Other);
-        table.write(&mut self.file.storage)?;
+        self.file.storage.write_l1_table(table)?;
         Ok(())
     }
 
@@ -162,9 +162,7 @@ impl<S: Storage, F: WrappedFormat<S>> Qcow2<S, F> {
         let offset = cluster.offset(self.file.header.cluster_bits());
         self.file.header.set_l1_table(offset, table.len() as u32)?;
         self.file.storage.will_write(WriteKind::Other);
-        self.file
-            .header
-            .write_l1_table_pointer(&mut self.file.storage)?;
+        self.file.storage.write_l1_table_pointer(&self.file.header)?;
         self.l1_table = table;
         Ok(())
     }

@@ -1,5 +1,5 @@
 //! The L2 table of a range: found, made, or put in the place of one that others may name too.
-ghost use Rattle.std.specs.Prelude.{ℕ, List, Option, is_some, ◌≡◌, ◌≢◌, ◌-◌, ◌/◌, Some, ◌^◌, ◌<◌, IfErr, IsSome, IsTrue, Ok, Err, length};
+ghost use Rattle.std.specs.Prelude.{ℕ, List, Option, is_some, ◌≡◌, ◌≢◌, ◌-◌, ◌/◌, Some, ◌^◌, ◌<◌, IfErr, OnOk, IsSome, IsTrue, Ok, Err, length};
 ghost use Rattle.qcow2_metadata.specs.L2Mapping.{IsHostCluster};
 ghost use Rattle.qcow2_metadata.specs.EntryTable.{entry_count};
 ghost use Rattle.qcow2_alloc.specs.ImageError.{IsFault};
@@ -16,6 +16,7 @@ ghost use Rattle.qcow2_image.specs.UnseenSteps.{Ensures, UnseenStep};
 ghost use Rattle.qcow2_image.specs.ImageInvariant.{ImageInvariant, pending_in};
 ghost use Rattle.qcow2_metadata.specs.Cover.{cover};
 ghost use Rattle.qcow2_image.specs.declared.mapping.Place.TheVariants.{Image};
+ghost use Rattle.qcow2_image.specs.L1Entries.{HadOwnTableOrFrees, HasOwnTable, ReachesOffset};
 ghost use Rattle.qcow2_image.specs.NewTables.{IsFaultOrKeepsL1Table, IsFaultOrLacksTable, SaysKnown, IsStored, StandsReady, MayName, NamesShared, PlacesNewTable, Stores, NamesNew, WritesNew, EntersTable, OwnsTable};
 ghost use Rattle.qcow2_alloc.specs.TableCaches.{IsTableOf};
 ghost use Rattle.qcow2_laws.specs.Changes.{one_at, with_fresh};
@@ -37,6 +38,8 @@ impl<S: Storage, F: WrappedFormat<S>> Qcow2<S, F> {
         ensures cause { IfErr result IsMet }
         ensures lacks { (out : List (Option Prepared)) → ImageInvariant S.view F.backing (pending_in S.view F.backing self.old out) self.old out → (HasPrepared out → ⊥) → IfErr result (IsFaultOrLacksTable S.view self.new offset) }
         ensures finds { (out : List (Option Prepared)) → ImageInvariant S.view F.backing (pending_in S.view F.backing self.old out) self.old out → FindsTable S.view F.backing self.old self.new out offset result }
+        ensures reaches { (out : List (Option Prepared)) → ImageInvariant S.view F.backing (pending_in S.view F.backing self.old out) self.old out → OnOk result (ReachesOffset offset self.old.file.header.fields self.new.file.header.fields) }
+        ensures freed { (out : List (Option Prepared)) → ImageInvariant S.view F.backing (pending_in S.view F.backing self.old out) self.old out → OnOk result (HadOwnTableOrFrees self.old self.new offset) }
         ensures faults { CountsImageFaults S.view F.backing self.old self.new result }
     {
         if self.has_own_l2(offset) {
@@ -49,7 +52,9 @@ impl<S: Storage, F: WrappedFormat<S>> Qcow2<S, F> {
     }
 
     // Whether there is an L2 table for an offset that is marked copied.
-    fn has_own_l2(&self, offset: u64) -> bool {
+    fn has_own_l2(&self, offset: u64) -> bool
+        ensures { IsTrue result → HasOwnTable self.now offset }
+    {
         let index = GuestOffset::new(offset).l1_index(self.file.header.cluster_bits());
         match self.l1_table.get(index) {
             Some(entry) => entry.copied,
@@ -65,6 +70,7 @@ impl<S: Storage, F: WrappedFormat<S>> Qcow2<S, F> {
         ensures cause { IfErr result IsMet }
         ensures lacks { (p : Pending) (out : List (Option Prepared)) → ImageInvariant S.view F.backing p self.old out → (HasPrepared out → ⊥) → IfErr result (IsFaultOrLacksTable S.view self.new offset) }
         ensures ready { (p : Pending) (out : List (Option Prepared)) → ImageInvariant S.view F.backing p self.old out → Ensures S.view F.backing p self.old self.new out offset result }
+        ensures quiet { HasOwnTable self.old offset → self.new.file.free_list ≡ self.old.file.free_list }
         ensures faults { CountsImageFaults S.view F.backing self.old self.new result }
     {
         let cluster = self.own_l2(offset)?;
@@ -82,6 +88,7 @@ impl<S: Storage, F: WrappedFormat<S>> Qcow2<S, F> {
         ensures cause { IfErr result IsMet }
         ensures lacks { (p : Pending) (out : List (Option Prepared)) → ImageInvariant S.view F.backing p self.old out → IfErr result (IsFaultOrLacksTable S.view self.new offset) }
         ensures owns { (p : Pending) (out : List (Option Prepared)) → ImageInvariant S.view F.backing p self.old out → OwnsTable S.view F.backing p self.old self.new out (l1_index_of self.old.file.header.fields offset) result }
+        ensures quiet { HasOwnTable self.old offset → self.new ≡ self.old }
         ensures faults { CountsImageFaults S.view F.backing self.old self.new result }
     {
         let bits = self.file.header.cluster_bits();
@@ -233,7 +240,7 @@ impl<S: Storage, F: WrappedFormat<S>> Qcow2<S, F> {
         }
         table.set_cluster(cluster);
         self.file.storage.will_write(WriteKind::Other);
-        table.write(&mut self.file.storage)?;
+        self.file.storage.write_new_l2_table(&table)?;
         table.clear_modified();
         self.file.caches.l2_insert(&mut self.file.storage, table)
     }
@@ -254,7 +261,7 @@ impl<S: Storage, F: WrappedFormat<S>> Qcow2<S, F> {
     {
         self.file.storage.will_write(WriteKind::Other);
         self.l1_table.enter_l2_table(index, cluster);
-        self.l1_table.write_entry(&mut self.file.storage, index)?;
+        self.file.storage.write_l1_entry(&self.l1_table, index)?;
         Ok(())
     }
 

@@ -4,6 +4,8 @@ ghost use Rattle.image_access.specs.declared.storage.PreallocateMode.TheVariants
 ghost use Rattle.qcow2_metadata.specs.Header.{cluster_size, rounded_up as rounded_up_to};
 ghost use Rattle.image_access.specs.Contents.{zeroed};
 ghost use Rattle.image_access.specs.Moments.{Calls, Changes};
+ghost use Rattle.qcow2_alloc.specs.ImageStorage.{storage_of};
+ghost use Rattle.qcow2_alloc.specs.WriteKinds.{IsToldData};
 ghost use Rattle.qcow2_alloc.specs.declared.error.ImageError.TheVariants.{Version};
 ghost use Rattle.qcow2_image.specs.declared.prepared.Prepared.{Prepared};
 ghost use Rattle.qcow2_image.specs.CallParts.{WritesBytes};
@@ -16,7 +18,7 @@ ghost use Rattle.qcow2_image.specs.Faults.{CountsImageFaults, IsNotOfStorage, No
 use crate::discarding::{Clearance, rounded_up};
 use crate::{Prepared, Qcow2};
 use image_access::{PreallocateMode, Storage, StorageError, WrappedFormat};
-use qcow2_alloc::{ImageError, WriteKind};
+use qcow2_alloc::{ImageError, ImageStorage, WriteKind};
 use std::alloc::Global;
 
 // How many zeros are written at once where they are written as bytes: those of the largest cluster.
@@ -57,16 +59,22 @@ impl ZeroWrites {
     }
 
     // Writes so many zeros to a storage.
-    fn write<S: Storage>(&self, storage: &mut S, at: u64, count: u64) -> Result<(), StorageError>
+    fn write<S: Storage>(
+        &self,
+        storage: &mut ImageStorage<S>,
+        at: u64,
+        count: u64,
+    ) -> Result<(), StorageError>
         requires few { count ≤ most_of self.now }
         requires zeros { AreZeros self.now }
-        ensures written { Changes (S.view storage.old) (S.view storage.new) result (zeroed (S.view storage.old).contents at count) }
-        ensures calls { Calls (S.view storage.old) (S.view storage.new) result }
+        requires told { IsToldData storage.old }
+        ensures written { Changes (S.view (storage_of storage.old)) (S.view (storage_of storage.new)) result (zeroed (S.view (storage_of storage.old)).contents at count) }
+        ensures calls { Calls (S.view (storage_of storage.old)) (S.view (storage_of storage.new)) result }
     {
         match self {
-            ZeroWrites::Short => storage.write_zeroes(at, count),
-            ZeroWrites::Taken => storage.write_allocated_zeroes(at, count),
-            ZeroWrites::Plain(zeros) => storage.write(at, &zeros[..count as usize]),
+            ZeroWrites::Short => storage.write_zero_data(at, count),
+            ZeroWrites::Taken => storage.write_allocated_zero_data(at, count),
+            ZeroWrites::Plain(zeros) => storage.write_data(at, &zeros[..count as usize]),
         }
     }
 }

@@ -1,5 +1,5 @@
 //! A disk of another size: what lies behind a smaller one is dropped first, and the size is written last.
-ghost use Rattle.std.specs.Prelude.{ℕ, List, Option, ◌≡◌, ◌⊎◌, ◌+◌, ◌-◌, ◌<◌, ◌≤◌, nat_lt, [], Some, None, Ok, Err, IfOk, IfErr, IfSome, OnOk, OnErr, IsTrue, MatchOption, false};
+ghost use Rattle.std.specs.Prelude.{ℕ, List, Option, ◌≡◌, ◌⊎◌, ◌+◌, ◌-◌, ◌<◌, ◌≤◌, max, nat_lt, [], Some, None, Ok, Err, IfOk, IfErr, IfSome, OnOk, OnErr, IsTrue, MatchOption, false};
 ghost use Rattle.image_access.specs.Moments.{Passing};
 ghost use Rattle.image_access.specs.declared.storage.PreallocateMode.TheVariants.{Zero};
 ghost use Rattle.qcow2_metadata.specs.EntryTable.{entry_count};
@@ -234,7 +234,7 @@ impl<S: Storage, F: WrappedFormat<S>> Qcow2<S, F> {
         requires writable { IsTrue (is_writable self.old) }
         ensures stays { ImageStays self.old self.new }
         ensures cause { IfErr result IsMet }
-        ensures reaches { OnOk result (l1_index_of self.old.file.header.fields offset < entry_count self.new.l1_table) }
+        ensures length { OnOk result (entry_count self.new.l1_table ≡ max (entry_count self.old.l1_table) (l1_index_of self.old.file.header.fields offset + 1)) }
         ensures makes { (out : List (Option Prepared)) → ImageInvariant S.view F.backing (pending_in S.view F.backing self.old out) self.old out → MakesEntry S.view F.backing self.old self.new out result }
         ensures faults { CountsImageFaults S.view F.backing self.old self.new result }
     {
@@ -271,7 +271,7 @@ impl<S: Storage, F: WrappedFormat<S>> Qcow2<S, F> {
         let old = self.file.header.size();
         self.file.header.set_size(size);
         self.file.storage.will_write(WriteKind::Other);
-        match self.file.header.write_size(&mut self.file.storage) {
+        match self.file.storage.write_size(&self.file.header) {
             Ok(()) => Ok(()),
             Err(refusal) => {
                 self.file.header.set_size(old);

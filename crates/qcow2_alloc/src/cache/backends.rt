@@ -71,7 +71,7 @@ impl<S: Storage> AsyncLruCacheBackend for L2CacheBackend<S> {
             return Err(MetadataError::Limit);
         }
         store.will_write(WriteKind::L2Table);
-        match value.write_if_modified(store, key) {
+        match store.write_l2_table(value, key) {
             Ok(()) => Ok(()),
             Err(e) => Err(MetadataError::Storage(e)),
         }
@@ -161,7 +161,7 @@ impl<S: Storage> AsyncLruCacheBackend for RefBlockCacheBackend<S> {
             return Err(MetadataError::Limit);
         }
         store.will_write(WriteKind::RefBlock);
-        match value.write_if_modified(store, key) {
+        match store.write_refblock(value, key) {
             Ok(()) => Ok(()),
             Err(e) => Err(MetadataError::Storage(e)),
         }

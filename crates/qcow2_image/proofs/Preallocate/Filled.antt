@@ -22,12 +22,14 @@ use Rattle.qcow2_image.specs.declared.discarding.Clearance.TheVariants.{KeptZero
 use Rattle.qcow2_image.specs.declared.image.Qcow2.{Qcow2}
 use Rattle.qcow2_image.specs.declared.prepared.Prepared.{Prepared}
 use Rattle.qcow2_image.specs.ImageInvariant.{ImageInvariant, abstract_of, disk_of, pending_in}
+use Rattle.qcow2_image.specs.L1Entries.{ReachesOffset}
 use Rattle.qcow2_image.specs.MovedTables.{MovesTables}
 use Rattle.qcow2_image.specs.Preallocation.{FilledCovers, FillsOrRefuses, FillsPart, FillsSome, InterruptedGiving, IsUnderMappingIn, MayBeZero, RefusedFill, gift_of_zeros}
 use Rattle.qcow2_image.specs.Refusals.{IsMet}
 use Rattle.qcow2_image.proofs.Call.Called.{works_none}
 use Rattle.qcow2_image.proofs.Clear.ClearCalls.{under_before}
 use Rattle.qcow2_image.proofs.Clear.Ranges.{table_end, table_whole}
+use Rattle.qcow2_image.proofs.Grow.Lengths.{reaches_stays, same_length, stays_long_shorter, stays_long_then}
 use Rattle.qcow2_image.proofs.Moved.{moves_then}
 use Rattle.std.proofs.lemmas.Nat.{pow_pos}
 use Rattle.qcow2_image.proofs.Preallocate.Covers.{covers_before, covers_cleared, covers_from, covers_none, covers_stay, covers_then}
@@ -93,6 +95,7 @@ module _ {S F : Type 0} (view : S → StorageView) (backing : F → BackingView)
     sound = sound;
     shows = ap (λ (d : Disk). with_disk (guest_of (abstract_of view backing image out)) d) (sym (zeroed_none (disk_of view backing image) from from (omega arith)));
     header = refl;
+    length = λ within. refl;
     covers = covers_none (cluster_size image.file.header.fields) (pow_pos image.file.header.fields.cluster_bits) first from image.file.header.fields (known_in view image.file);
   }
 
@@ -132,6 +135,7 @@ module _ {S F : Type 0} (view : S → StorageView) (backing : F → BackingView)
       sound = then.sound;
       shows = then.shows ∙ ap (λ (g : Guest). with_disk g (zeroed_between g.disk mid to)) first.shows ∙ ap (λ (d : Disk). with_disk (guest_of (abstract_of view backing a out)) d) (zeroed_then (disk_of view backing a) from mid to low high);
       header = moves_then a.file.header.fields b.file.header.fields c.file.header.fields first.header then.header;
+      length = stays_long_then a.file.header.fields b.file.header.fields c.file.header.fields to first.header (stays_long_shorter a.file.header.fields b.file.header.fields mid to high first.length) then.length;
       covers = covers_then (cluster_size a.file.header.fields) (pow_pos a.file.header.fields.cluster_bits) zeros a.file.header.fields (known_in view a.file) b.file.header.fields (known_in view b.file) c.file.header.fields (known_in view c.file) from mid to low high first.covers
           (as_large mid to first.header then.covers);
     }
@@ -143,6 +147,7 @@ module _ {S F : Type 0} (view : S → StorageView) (backing : F → BackingView)
       sound = then.sound;
       shows = then.shows ∙ ap (λ (g : Guest). with_disk g (zeroed_between g.disk from mid)) first.shows ∙ ap (λ (d : Disk). with_disk (guest_of (abstract_of view backing a out)) d) (zeroed_before (disk_of view backing a) from mid to low high);
       header = moves_then a.file.header.fields b.file.header.fields c.file.header.fields first.header then.header;
+      length = stays_long_then a.file.header.fields b.file.header.fields c.file.header.fields to first.header first.length (stays_long_shorter b.file.header.fields c.file.header.fields mid to high then.length);
       covers = covers_before (cluster_size a.file.header.fields) (pow_pos a.file.header.fields.cluster_bits) zeros a.file.header.fields (known_in view a.file) b.file.header.fields (known_in view b.file) c.file.header.fields (known_in view c.file) from mid to low high first.covers
           (as_large from mid first.header then.covers);
     }
@@ -175,12 +180,13 @@ module _ {S F : Type 0} (view : S → StorageView) (backing : F → BackingView)
 
   -- a part, and then a step that no guest sees
   module _ (a b c : Qcow2 S F) (zeros from to : ℕ) (first : FillsPart view backing zeros from to a b out) where
-    pub fills_stays : UnseenCall view backing b c out → FillsPart view backing zeros from to a c out
-    fills_stays then = record {
+    pub fills_stays : UnseenCall view backing b c out → c.file.header ≡ b.file.header → FillsPart view backing zeros from to a c out
+    fills_stays then same = record {
       works = works_then (abstract_of view backing a out) (abstract_of view backing b out) (abstract_of view backing c out) (gift_of_zeros from to ∷ []) [] first.sound first.works (none_of _ _ (gift_of_zeros from to ∷ []) then.works);
       sound = then.sound;
       shows = then.same ∙ first.shows;
       header = moves_then a.file.header.fields b.file.header.fields c.file.header.fields first.header then.header;
+      length = λ within. same_length b.file.header c.file.header same ∙ first.length within;
       covers = covers_stay (cluster_size a.file.header.fields) (pow_pos a.file.header.fields.cluster_bits) zeros a.file.header.fields (known_in view a.file) b.file.header.fields (known_in view b.file) c.file.header.fields (known_in view c.file) from to first.covers then.covers;
     }
 
@@ -190,12 +196,13 @@ module _ {S F : Type 0} (view : S → StorageView) (backing : F → BackingView)
         refused_after a b c zeros from to' from to from to' (omega arith) high (omega arith) (omega arith) first e (record { left = fill_unseen b c from to' e then; taken = met_taken e met })
 
   -- whole clusters are cleared
-  pub cleared_fills : (old new : Qcow2 S F) (from to : ℕ) → from % cluster_size old.file.header.fields ≡ 0 → ClearsPart view backing KeptZeros from to old new out → FillsPart view backing 0 from to old new out
-  cleared_fills old new from to whole part = record {
+  pub cleared_fills : (old new : Qcow2 S F) (from to : ℕ) → from < to → ReachesOffset from old.file.header.fields new.file.header.fields → from % cluster_size old.file.header.fields ≡ 0 → ClearsPart view backing KeptZeros from to old new out → FillsPart view backing 0 from to old new out
+  cleared_fills old new from to lt reaches whole part = record {
     works = works_less (abstract_of view backing old out) (abstract_of view backing new out) _ (gift_of_zeros from to ∷ []) [] (λ o w given. inr (shown_zeros (disk_of view backing old) from to o w given)) part.works;
     sound = part.sound;
     shows = part.shows;
     header = part.header;
+    length = reaches_stays old.file.header.fields new.file.header.fields from to lt reaches;
     covers = covers_cleared old.file.header.fields new.file.header.fields (known_in view old.file) (known_in view new.file) from to whole part.covers;
   }
 
@@ -206,6 +213,7 @@ module _ {S F : Type 0} (view : S → StorageView) (backing : F → BackingView)
     sound = part.sound;
     shows = part.shows;
     header = part.header;
+    length = part.length;
     covers = covers_from (cluster_size old.file.header.fields) (pow_pos old.file.header.fields.cluster_bits) from to old.file.header.fields (known_in view old.file) new.file.header.fields (known_in view new.file) whole part.covers;
   }
 
@@ -218,6 +226,7 @@ module _ {S F : Type 0} (view : S → StorageView) (backing : F → BackingView)
         sound = part.sound;
         shows = part.shows;
         header = part.header;
+        length = part.length;
         covers = record {
           beside = part.covers.beside;
           zeros = λ g t at. part.covers.zeros g t (omega arith);

@@ -77,6 +77,7 @@ module _ {S F : Type 0} (view : S → StorageView) (backing : F → BackingView)
     sound = sound;
     shows = ap (λ (e : Disk). with_disk (guest_of (abstract_of view backing old out)) e) (subst (λ (x : PreallocateMode). d ≡ filled_to (cluster_size old.file.header.fields) d size x) (sym none) refl);
     header = refl;
+    length = λ within. refl;
     covers = record { filled = λ hides. absurd (let no : true ≡ false = sym (ap shows_old none) ∙ hides in cc); same = λ _ g. refl };
   }
 
@@ -95,6 +96,7 @@ module _ {S F : Type 0} (view : S → StorageView) (backing : F → BackingView)
         sound = part.sound;
         shows = part.shows ∙ ap (λ (e : Disk). with_disk (guest_of (abstract_of view backing old out)) e) (ap (λ n. zeroed_between d n end) size_is ∙ sym (cond-false (shows_old mode) d (zeroed_between d d.size end) hides));
         header = part.header;
+        length = part.length;
         covers = record {
           filled = λ _. subst (λ f. FilledCovers (cluster_size old.file.header.fields) f (size_of old) end old.file.header.fields (known_in view old.file) new.file.header.fields (known_in view new.file)) begins part.covers;
           same = λ shows. absurd (let no : true ≡ false = sym shows ∙ hides in cc);

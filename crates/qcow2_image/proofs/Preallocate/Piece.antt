@@ -30,6 +30,7 @@ use Rattle.qcow2_image.specs.Ranges.{LetsGo}
 use Rattle.qcow2_image.specs.declared.prepared.Share.TheVariants.{InPlace}
 use Rattle.qcow2_disk.specs.Mappings.{is_copied_data}
 use Rattle.qcow2_image.specs.ImageInvariant.{ImageInvariant, IsPending, IsReadyWith, cluster_of, abstract_of, disk_of, image_abstraction, meaning, pending_in}
+use Rattle.qcow2_image.specs.L1Entries.{ReachesOffset, StaysAsLong}
 use Rattle.qcow2_image.specs.MovedTables.{CoversStay, MovesTables}
 use Rattle.qcow2_image.specs.Preallocation.{FilledCovers, CommitsWhole, FillsPart, FillsSome, InterruptedGiving, gift_of_zeros}
 use Rattle.qcow2_image.specs.Preparing.{IsAnswered}
@@ -37,6 +38,7 @@ use Rattle.qcow2_image.proofs.Call.Slots.{get_set_same, set_set}
 use Rattle.qcow2_image.proofs.Commit.CommitCalls.{all_shown, commit_existing}
 use Rattle.qcow2_image.proofs.Free.{free_places}
 use Rattle.qcow2_image.proofs.Preallocate.Covers.{boundary, covers_own}
+use Rattle.qcow2_image.proofs.Grow.Lengths.{reaches_stays, same_length}
 use Rattle.qcow2_image.proofs.Preallocate.Filled.{given_broken}
 use Rattle.qcow2_image.proofs.Preallocate.Pieces.{filled_shows, filled_sound, filled_works, gone_same, gone_works, none_of}
 use Rattle.qcow2_image.proofs.Preallocate.Zeros.{may_none, zeros_of}
@@ -221,15 +223,16 @@ module _ {S F : Type 0} (view : S → StorageView) (backing : F → BackingView)
 
     -- they are there, and the mapping is committed
     pub piece_filled : (mid2 new : Qcow2 S F) → PutsPart view backing mid mid2 (Some p ∷ out) 0 p 0 (zeros_of p.length) (Ok tt) → CommitsWhole view backing mid2 new (Some p ∷ out) 0 p (None ∷ out) → mid2.file.header ≡ mid.file.header → new.file.header ≡ mid2.file.header
-        → (first : ℕ) → FilledCovers (cluster_size old.file.header.fields) first from (from + p.length) old.file.header.fields (known_in view old.file) new.file.header.fields (known_in view new.file)
+        → StaysAsLong (from + p.length) old.file.header.fields mid.file.header.fields → (first : ℕ) → FilledCovers (cluster_size old.file.header.fields) first from (from + p.length) old.file.header.fields (known_in view old.file) new.file.header.fields (known_in view new.file)
         → FillsPart view backing first from (from + p.length) old new out
-    piece_filled mid2 new put commits header2 header3 first covers =
+    piece_filled mid2 new put commits header2 header3 long first covers =
         let cs = (abstract_of view backing mid2 (Some p ∷ out)).setting.cluster_size in
         record {
           works = filled_works (image_abstraction view backing) (free_places view backing) (λ _. refl) old mid p out (cluster_size old.file.header.fields) from n sound ready.sound ready.works ready.prepared ready.is fits mid2 put.sound put.works put.is new cs commits.sound commits.works commits.shows;
           sound = filled_sound (image_abstraction view backing) (free_places view backing) (λ _. refl) old mid p out (cluster_size old.file.header.fields) from n sound ready.sound ready.works ready.prepared ready.is fits mid2 put.sound put.works put.is new cs commits.sound commits.works commits.shows;
           shows = filled_shows (image_abstraction view backing) (free_places view backing) (λ _. refl) old mid p out (cluster_size old.file.header.fields) from n sound ready.sound ready.works ready.prepared ready.is fits mid2 put.sound put.works put.is new cs commits.sound commits.works commits.shows;
           header = subst (λ (h : HeaderFields). MovesTables old.file.header.fields h) (ap (λ x. x.fields) (sym (header3 ∙ header2))) ready.header;
+          length = λ within. same_length mid.file.header new.file.header (header3 ∙ header2) ∙ long within;
           covers = covers;
         }
 
@@ -336,8 +339,8 @@ module _ {S F : Type 0} (view : S → StorageView) (backing : F → BackingView)
             (subst (λ s. g * s < p.guest + p.length) (sym size3) (subst (λ f. g * cluster_size old.file.header.fields < f + p.length) (sym from_is) up))) first high
 
     pub all_filled : 0 < p.length → (mid2 new : Qcow2 S F) → WritesBytes view mid mid2 p.offset (replicate count 0) (Ok tt) → ((o : List (Option Prepared)) (k : ℕ) → slice_get o k ≡ Some (Some p) → ImageInvariant view backing (pending_in view backing mid2 o) mid2 o → CommitsWhole view backing mid2 new o k p (slice_set o k None))
-        → new.file.header ≡ mid2.file.header → FillsPart view backing to from (from + p.length) old new out
-    all_filled some mid2 new w commits header =
+        → new.file.header ≡ mid2.file.header → ReachesOffset from old.file.header.fields mid.file.header.fields → FillsPart view backing to from (from + p.length) old new out
+    all_filled some mid2 new w commits header reaches =
         let put = all_put mid2 (Ok tt) w in
         let done = commits (Some p ∷ out) 0 refl put.sound in
-        piece_filled out old mid p from n sound ready answered all_fits mid2 new put done (all_header mid2 (Ok tt) w) header to (all_covers some mid2 new w done to all_within)
+        piece_filled out old mid p from n sound ready answered all_fits mid2 new put done (all_header mid2 (Ok tt) w) header (reaches_stays old.file.header.fields mid.file.header.fields from (from + p.length) (omega (arith, some)) reaches) to (all_covers some mid2 new w done to all_within)

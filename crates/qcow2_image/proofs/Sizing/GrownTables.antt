@@ -31,6 +31,7 @@ use Rattle.qcow2_image.specs.declared.prepared.Prepared.{Prepared}
 use Rattle.qcow2_image.specs.Growing.{ReachesSize, SameFormat}
 use Rattle.qcow2_image.specs.Image.{is_failed, number_of, size_of}
 use Rattle.qcow2_image.specs.ImageInvariant.{ImageInvariant, disk_of, pending_in}
+use Rattle.qcow2_image.specs.L1Entries.{ReachesOffset}
 use Rattle.qcow2_image.specs.MovedTables.{CoversStay, MovesTables}
 use Rattle.qcow2_image.specs.Preallocation.{FillsGrown, RefusedGrown}
 use Rattle.qcow2_image.specs.Refusals.{failed_after}
@@ -144,9 +145,9 @@ module _ {S F : Type 0} (view : S → StorageView) (backing : F → BackingView)
 
   -- the size is written last
   pub tables_sized : (old filled new : Qcow2 S F) (marked : Bool) (size : ℕ) (mode : PreallocateMode) (r : Result (Unit {0}) ImageError) → MovesTables old.file.header.fields filled.file.header.fields → IfErr r IsFaultOfTables → OnOk r (new.file.header ≡ with_fields filled.file.header (with_size filled.file.header.fields size))
-      → ReachesSize (with_size filled.file.header.fields size) → OnOk r (Leaves old new size mode) → GrowsTables view backing old (record new { is_failed = marked }) size mode out r
-  tables_sized old filled new marked size mode (Ok x) moves cause header reached covers = record { format = format_sized old.file.header.fields filled.file.header.fields new.file.header.fields size moves (ap (λ (v : HeaderView). v.fields) header); reaches = subst (λ (v : HeaderView). ReachesSize v.fields) (sym header) reached; covers = covers }
-  tables_sized old filled new marked size mode (Err e) moves cause header reached covers = λ is. absurd (elim cause [ inl fault ↦ (let no : I.TablePrepared ≡ I.Storage = sym is ∙ fault in cc) | inr fault ↦ (let no : I.TablePrepared ≡ I.Memory = sym is ∙ fault in cc) ])
+      → ReachesSize (with_size filled.file.header.fields size) → ReachesOffset (size - 1) old.file.header.fields filled.file.header.fields → OnOk r (Leaves old new size mode) → GrowsTables view backing old (record new { is_failed = marked }) size mode out r
+  tables_sized old filled new marked size mode (Ok x) moves cause header reached length covers = record { format = format_sized old.file.header.fields filled.file.header.fields new.file.header.fields size moves (ap (λ (v : HeaderView). v.fields) header); reaches = subst (λ (v : HeaderView). ReachesSize v.fields) (sym header) reached; length = ap (λ (v : HeaderView). v.fields.l1_entries) header ∙ length; covers = covers }
+  tables_sized old filled new marked size mode (Err e) moves cause header reached length covers = λ is. absurd (elim cause [ inl fault ↦ (let no : I.TablePrepared ≡ I.Storage = sym is ∙ fault in cc) | inr fault ↦ (let no : I.TablePrepared ≡ I.Memory = sym is ∙ fault in cc) ])
 
   -- ---- the entries can't tell zeros
   pub refuses_version : (old long filled : Qcow2 S F) (e : ImageError) (marked : Bool) → is_failed old ≡ false → UnseenCall view backing old long out → filled ≡ long → e ≡ I.Version → number_of filled ≡ number_of old → failed_after e (is_failed filled) marked

@@ -12,14 +12,14 @@ use Rattle.qcow2_alloc.proofs.new_refblocks.write_new_block.Goals as goal
 pub returns-clause-others : goal.returns-clause-others
 returns-clause-others g c = λ k other. c.rb_remove.ensures.others k (ne_eqb c.args.cluster k (λ e. other (sym e)))
 
-pub returns-in_err-write-clause-sound : goal.returns-in_err-write-clause-sound
-returns-in_err-write-clause-sound g c = λ p first n a sound may some fits.
+pub returns-in_err-write_new_refblock-clause-sound : goal.returns-in_err-write_new_refblock-clause-sound
+returns-in_err-write_new_refblock-clause-sound g c = λ p first n a sound may some fits.
     let view = g.S.Storage.view in
     let old = c.args.file.now in
     let q = with_run p old.header.fields a.reftable first n in
-    handed_on (WritesTo view q old a (record old { storage = c.write.new.storage; caches = c.rb_remove.new.self }) c.args.cluster c.args.block.now.bytes) c.from_residual.result (of_storage c.in_err-write.field-0.0) c.from_residual.ensures
+    handed_on (WritesTo view q old a (record old { storage = c.write_new_refblock.new.self; caches = c.rb_remove.new.self }) c.args.cluster c.args.block.now.bytes) c.from_residual.result (of_storage c.in_err-write_new_refblock.field-0.0) c.from_residual.ensures
     (block_refused view p first n old a c.rb_remove.new.self c.args.cluster c.rb_remove.result sound may some c.rb_remove.ensures.order c.rb_remove.ensures.tables c.rb_remove.ensures.marks c.rb_remove.ensures.same c.rb_remove.ensures.taken
-    (storage_of c.will_write.new.self) c.write.new.storage c.args.block.now c.write.result fits c.requires.place c.requires.whole.whole c.will_write.ensures.storage c.write.ensures.written c.write.ensures.calls c.in_err-write.field-0.0)
+    (storage_of c.will_write.new.self) c.write_new_refblock.new.self c.args.block.now c.write_new_refblock.result fits c.requires.place c.requires.whole.whole c.will_write.ensures.storage c.write_new_refblock.ensures.written c.write_new_refblock.ensures.calls c.in_err-write_new_refblock.field-0.0)
 
 pub returns-clause-sound : goal.returns-clause-sound
 returns-clause-sound g c = λ p first n a sound may some fits.
@@ -27,5 +27,5 @@ returns-clause-sound g c = λ p first n a sound may some fits.
     let old = c.args.file.now in
     let q = with_run p old.header.fields a.reftable first n in
     block_stands view p first n old a c.rb_remove.new.self c.args.cluster c.rb_remove.result sound may some c.rb_remove.ensures.order c.rb_remove.ensures.tables c.rb_remove.ensures.marks c.rb_remove.ensures.same c.rb_remove.ensures.taken
-    (storage_of c.will_write.new.self) c.write.new.storage c.args.block.now c.write.result fits c.requires.place c.requires.whole.whole c.will_write.ensures.storage c.write.ensures.written c.write.ensures.calls c.in_ok-write.field-0 c.in_ok-write.was
+    (storage_of c.will_write.new.self) c.write_new_refblock.new.self c.args.block.now c.write_new_refblock.result fits c.requires.place c.requires.whole.whole c.will_write.ensures.storage c.write_new_refblock.ensures.written c.write_new_refblock.ensures.calls c.in_ok-write_new_refblock.field-0 c.in_ok-write_new_refblock.was
     (c.rb_remove.ensures.gone old.header.fields q (contents_in view old) sound.sound.caches sound.sound.room)

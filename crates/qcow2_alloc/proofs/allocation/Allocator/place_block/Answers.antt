@@ -113,27 +113,27 @@ module _ {S : Type 0} (view : S → StorageView) (d : Bool) (p : Pending) (range
         stands view p named t' so.0.sound so.1 range (at * cluster_size h) at h.cluster_bits (sym at_place) some refl refl (rw held.1 refl),
       )
 
-pub returns-in_err-write_entry-clause-sound : goal.returns-in_err-write_entry-clause-sound
-returns-in_err-write_entry-clause-sound g c = λ p sound place.
+pub returns-in_err-write_reftable_entry-clause-sound : goal.returns-in_err-write_reftable_entry-clause-sound
+returns-in_err-write_reftable_entry-clause-sound g c = λ p sound place.
     let is = c.in_ok-block.ensures.cluster ∙ ap Some c.new-cluster.ensures in
     let three = c.in_ok-write_block.ensures.sound p c.args.counts_itself c.args.self.now c.args.range c.args.at sound place c.in_ok-block.ensures.format is in
-    handed_on (PlacesBlock g.S.Storage.view (placing c.args.counts_itself p c.args.at) c.args.file.now (record c.args.self.now { reftable = c.enter_refblock.new.self }) (record c.write_block.new.file { storage = c.write_entry.new.storage; caches = c.note_change.new.self }) p c.args.range c.args.at)
-    c.from_residual-in_err-write_entry.result (of_storage c.in_err-write_entry.field-0.0) c.from_residual-in_err-write_entry.ensures
-    (not_placed g.S.Storage.view c.args.counts_itself p c.args.range c.args.at c.args.file.now c.write_block.new.file c.args.self.now c.enter_refblock.new.self c.note_change.new.self c.write_entry.new.storage (storage_of c.will_write.new.self) c.in_ok-block.block c.write_entry.result
+    handed_on (PlacesBlock g.S.Storage.view (placing c.args.counts_itself p c.args.at) c.args.file.now (record c.args.self.now { reftable = c.enter_refblock.new.self }) (record c.write_block.new.file { storage = c.write_reftable_entry.new.self; caches = c.note_change.new.self }) p c.args.range c.args.at)
+    c.from_residual-in_err-write_reftable_entry.result (of_storage c.in_err-write_reftable_entry.field-0.0) c.from_residual-in_err-write_reftable_entry.ensures
+    (not_placed g.S.Storage.view c.args.counts_itself p c.args.range c.args.at c.args.file.now c.write_block.new.file c.args.self.now c.enter_refblock.new.self c.note_change.new.self c.write_reftable_entry.new.self (storage_of c.will_write.new.self) c.in_ok-block.block c.write_reftable_entry.result
     three c.in_ok-write_block.ensures.counted c.in_ok-write_block.ensures.first c.note_change.ensures.same c.note_change.ensures.tables c.note_change.ensures.marks (subst (λ h. HasPlaceFor c.args.counts_itself h c.args.self.now.reftable c.args.range c.args.at) (sym (ap (λ x. x.fields) c.write_block.ensures.header)) place)
     c.requires.within c.enter_refblock.ensures.rest (subst (λ k. ChangesEntry c.args.self.now.reftable.bytes c.enter_refblock.new.self.bytes c.args.range (k * 2 ^ c.args.self.now.reftable.cluster_bits)) c.new-cluster.ensures c.enter_refblock.ensures.entry)
-    (c.enter_refblock.ensures.offset ∙ ap (λ k. k * 2 ^ c.args.self.now.reftable.cluster_bits) c.new-cluster.ensures) c.write_entry.ensures.fits c.in_ok-block.ensures.whole (subst (λ h. IsBlockOf h c.in_ok-block.block) (sym (ap (λ x. x.fields) c.write_block.ensures.header)) c.in_ok-block.ensures.format)
-    c.in_ok-block.ensures.counts c.will_write.ensures.storage c.write_entry.ensures.written c.write_entry.ensures.calls c.note_change.ensures.changed (of_storage c.in_err-write_entry.field-0.0) (fault_of_storage c.in_err-write_entry.field-0.0))
+    (c.enter_refblock.ensures.offset ∙ ap (λ k. k * 2 ^ c.args.self.now.reftable.cluster_bits) c.new-cluster.ensures) c.write_reftable_entry.ensures.fits c.in_ok-block.ensures.whole (subst (λ h. IsBlockOf h c.in_ok-block.block) (sym (ap (λ x. x.fields) c.write_block.ensures.header)) c.in_ok-block.ensures.format)
+    c.in_ok-block.ensures.counts c.will_write.ensures.storage c.write_reftable_entry.ensures.written c.write_reftable_entry.ensures.calls c.note_change.ensures.changed (of_storage c.in_err-write_reftable_entry.field-0.0) (fault_of_storage c.in_err-write_reftable_entry.field-0.0))
 
 pub returns-clause-sound : goal.returns-clause-sound
 returns-clause-sound g c = λ p sound place.
     let is = c.in_ok-block.ensures.cluster ∙ ap Some c.new-cluster.ensures in
     let three = c.in_ok-write_block.ensures.sound p c.args.counts_itself c.args.self.now c.args.range c.args.at sound place c.in_ok-block.ensures.format is in
-    is_placed g.S.Storage.view c.args.counts_itself p c.args.range c.args.at c.args.file.now c.write_block.new.file c.args.self.now c.enter_refblock.new.self c.note_change.new.self c.write_entry.new.storage (storage_of c.will_write.new.self) c.in_ok-block.block c.write_entry.result
+    is_placed g.S.Storage.view c.args.counts_itself p c.args.range c.args.at c.args.file.now c.write_block.new.file c.args.self.now c.enter_refblock.new.self c.note_change.new.self c.write_reftable_entry.new.self (storage_of c.will_write.new.self) c.in_ok-block.block c.write_reftable_entry.result
     three c.in_ok-write_block.ensures.counted c.in_ok-write_block.ensures.first c.note_change.ensures.same c.note_change.ensures.tables c.note_change.ensures.marks (subst (λ h. HasPlaceFor c.args.counts_itself h c.args.self.now.reftable c.args.range c.args.at) (sym (ap (λ x. x.fields) c.write_block.ensures.header)) place)
     c.requires.within c.enter_refblock.ensures.rest (subst (λ k. ChangesEntry c.args.self.now.reftable.bytes c.enter_refblock.new.self.bytes c.args.range (k * 2 ^ c.args.self.now.reftable.cluster_bits)) c.new-cluster.ensures c.enter_refblock.ensures.entry)
-    (c.enter_refblock.ensures.offset ∙ ap (λ k. k * 2 ^ c.args.self.now.reftable.cluster_bits) c.new-cluster.ensures) c.write_entry.ensures.fits c.in_ok-block.ensures.whole (subst (λ h. IsBlockOf h c.in_ok-block.block) (sym (ap (λ x. x.fields) c.write_block.ensures.header)) c.in_ok-block.ensures.format)
-    c.in_ok-block.ensures.counts c.will_write.ensures.storage c.write_entry.ensures.written c.write_entry.ensures.calls c.in_ok-write_entry.field-0 c.in_ok-write_entry.was
+    (c.enter_refblock.ensures.offset ∙ ap (λ k. k * 2 ^ c.args.self.now.reftable.cluster_bits) c.new-cluster.ensures) c.write_reftable_entry.ensures.fits c.in_ok-block.ensures.whole (subst (λ h. IsBlockOf h c.in_ok-block.block) (sym (ap (λ x. x.fields) c.write_block.ensures.header)) c.in_ok-block.ensures.format)
+    c.in_ok-block.ensures.counts c.will_write.ensures.storage c.write_reftable_entry.ensures.written c.write_reftable_entry.ensures.calls c.in_ok-write_reftable_entry.field-0 c.in_ok-write_reftable_entry.was
 
 pub returns-in_err-write_block-clause-marks : goal.returns-in_err-write_block-clause-marks
 returns-in_err-write_block-clause-marks g c = c.write_block.ensures.marks
@@ -162,20 +162,20 @@ returns-in_err-write_block-clause-first g c = refl
 pub returns-in_err-write_block-clause-entries : goal.returns-in_err-write_block-clause-entries
 returns-in_err-write_block-clause-entries g c = entries_none _ c.args.self.now.reftable
 
-pub returns-in_err-write_entry-clause-marks : goal.returns-in_err-write_entry-clause-marks
-returns-in_err-write_entry-clause-marks g c = marks_then _ _ _ c.write_block.ensures.marks c.note_change.ensures.marks
+pub returns-in_err-write_reftable_entry-clause-marks : goal.returns-in_err-write_reftable_entry-clause-marks
+returns-in_err-write_reftable_entry-clause-marks g c = marks_then _ _ _ c.write_block.ensures.marks c.note_change.ensures.marks
 
-pub returns-in_err-write_entry-clause-order : goal.returns-in_err-write_entry-clause-order
-returns-in_err-write_entry-clause-order g c = c.note_change.ensures.tables.order ∙ c.write_block.ensures.order
+pub returns-in_err-write_reftable_entry-clause-order : goal.returns-in_err-write_reftable_entry-clause-order
+returns-in_err-write_reftable_entry-clause-order g c = c.note_change.ensures.tables.order ∙ c.write_block.ensures.order
 
-pub returns-in_err-write_entry-clause-header : goal.returns-in_err-write_entry-clause-header
-returns-in_err-write_entry-clause-header g c = c.write_block.ensures.header
+pub returns-in_err-write_reftable_entry-clause-header : goal.returns-in_err-write_reftable_entry-clause-header
+returns-in_err-write_reftable_entry-clause-header g c = c.write_block.ensures.header
 
-pub returns-in_err-write_entry-clause-list : goal.returns-in_err-write_entry-clause-list
-returns-in_err-write_entry-clause-list g c = c.write_block.ensures.list
+pub returns-in_err-write_reftable_entry-clause-list : goal.returns-in_err-write_reftable_entry-clause-list
+returns-in_err-write_reftable_entry-clause-list g c = c.write_block.ensures.list
 
-pub returns-in_err-write_entry-clause-first : goal.returns-in_err-write_entry-clause-first
-returns-in_err-write_entry-clause-first g c = refl
+pub returns-in_err-write_reftable_entry-clause-first : goal.returns-in_err-write_reftable_entry-clause-first
+returns-in_err-write_reftable_entry-clause-first g c = refl
 
 pub returns-clause-marks : goal.returns-clause-marks
 returns-clause-marks g c = marks_then _ _ _ c.write_block.ensures.marks c.note_change.ensures.marks
@@ -195,8 +195,8 @@ returns-clause-first g c = refl
 pub returns-clause-cause : goal.returns-clause-cause
 returns-clause-cause g c = tt
 
-pub returns-in_err-write_entry-clause-noted : goal.returns-in_err-write_entry-clause-noted
-returns-in_err-write_entry-clause-noted g c = on_no_ok _ c.from_residual-in_err-write_entry.result (of_storage c.in_err-write_entry.field-0.0) c.from_residual-in_err-write_entry.ensures
+pub returns-in_err-write_reftable_entry-clause-noted : goal.returns-in_err-write_reftable_entry-clause-noted
+returns-in_err-write_reftable_entry-clause-noted g c = on_no_ok _ c.from_residual-in_err-write_reftable_entry.result (of_storage c.in_err-write_reftable_entry.field-0.0) c.from_residual-in_err-write_reftable_entry.ensures
 
-pub returns-in_err-write_entry-clause-cause : goal.returns-in_err-write_entry-clause-cause
-returns-in_err-write_entry-clause-cause g c = handed_cause c.from_residual-in_err-write_entry.result (of_storage c.in_err-write_entry.field-0.0) c.from_residual-in_err-write_entry.ensures (storage_of_tables c.in_err-write_entry.field-0.0)
+pub returns-in_err-write_reftable_entry-clause-cause : goal.returns-in_err-write_reftable_entry-clause-cause
+returns-in_err-write_reftable_entry-clause-cause g c = handed_cause c.from_residual-in_err-write_reftable_entry.result (of_storage c.in_err-write_reftable_entry.field-0.0) c.from_residual-in_err-write_reftable_entry.ensures (storage_of_tables c.in_err-write_reftable_entry.field-0.0)

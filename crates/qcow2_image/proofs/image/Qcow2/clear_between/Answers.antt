@@ -2,6 +2,7 @@ use Rattle.std.proofs.Common.{◌≡◌, inl, ◌-◌, ◌/◌, ◌%◌, ◌^◌
 use Rattle.qcow2_alloc.proofs.AllocationSteps.{handed_on}
 use Rattle.qcow2_metadata.specs.Header.{cluster_size, entries_per_cluster}
 use Rattle.qcow2_alloc.specs.CacheMarks.{l2_pins}
+use Rattle.qcow2_image.specs.declared.image.Qcow2.{Qcow2}
 use Rattle.qcow2_image.specs.Clearing.{ClearsOrRefuses, ClearsTable, ReadsAll}
 use Rattle.qcow2_image.specs.Found.{l2_index_of, l1_index_of}
 use Rattle.qcow2_image.proofs.Clear.Between.{clears_between, no_pins, pinned_under, under_pinned, fits_table}
@@ -89,3 +90,6 @@ returns-in_err-dropped-clause-lacks g c = λ out sound whole none.
     let at = subst (λ n. IsEntryAt h (known_in view mid.file) (l1_index_of h from) c.in_ok-table.table (n % entries_per_cluster h)) (sym first) found.1.entry in
     handed_on (λ r. IfErr r (IsFaultOrLacksTable view mid from)) c.from_residual-in_err-dropped.result c.in_err-dropped.field-0.0 c.from_residual-in_err-dropped.ensures
     (inl (c.in_err-dropped.ensures.only_faults (pending_in view below mid out) (l1_index_of h from) found.0.sound.file at (ap (λ n. n / entries_per_cluster h) first) fits found.1.held))
+
+pub returns-clause-reaches : goal.returns-clause-reaches
+returns-clause-reaches g c = λ out sound. ap (λ (i : Qcow2 _ _). i.file.header.fields.l1_entries) c.clear_entries.ensures.clears.rest ∙ c.in_ok-table.ensures.reaches out sound

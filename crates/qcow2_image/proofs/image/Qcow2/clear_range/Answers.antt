@@ -1,5 +1,5 @@
 use Rattle.std.proofs.Common.{◌≡◌, ◌<◌, ◌+◌, ◌-◌, ℕ, min, sym, ap, ◌∙◌, subst, arith, inl, refl}
-use Rattle.std.specs.Prelude.{None, Some, Ok, Err, IfErr, IfOk, IsTrue, Result}
+use Rattle.std.specs.Prelude.{None, Some, Ok, Err, IfErr, IfOk, IsTrue, OnOk, Result}
 use Rattle.qcow2_alloc.specs.declared.error.ImageError.TheVariants.{Memory, TablePrepared}
 use Rattle.qcow2_image.specs.Backings.{HasPrepared}
 use Rattle.qcow2_image.specs.NewTables.{IsFaultOrLacksTable}
@@ -8,8 +8,10 @@ use Rattle.qcow2_image.specs.Clearing.{Clears, ClearsOrRefuses, ClearsPart, IsUn
 use Rattle.qcow2_image.specs.declared.image.Qcow2.{Qcow2}
 use Rattle.qcow2_image.specs.Image.{is_failed}
 use Rattle.qcow2_image.specs.ImageInvariant.{ImageInvariant, pending_in}
+use Rattle.qcow2_image.specs.L1Entries.{ReachesOffset}
 use Rattle.qcow2_image.specs.Refusals.{Marks}
 use Rattle.qcow2_image.proofs.Call.Called.{Quietly}
+use Rattle.qcow2_image.proofs.Grow.Lengths.{reaches_begun, same_length}
 use Rattle.qcow2_image.proofs.Call.Settled.{is_fault, outcome}
 use Rattle.qcow2_image.proofs.Sizing.Shrinking.{fault_of}
 use Rattle.qcow2_image.proofs.Clear.ClearCalls.{begins, clear_broke, clear_covers, clear_done, clear_refused, clear_works, clears_early, clears_nothing, err_is, fault_broke, if_some, not_refused, refused_for, under_after, under_before, ungiven_broke, ungiven_early, ungiven_refused, whole_in}
@@ -283,3 +285,21 @@ returns-clause-faults g c =
     let old = c.args.self.now in
     let cleared = counted_marked view below old c.begin.new.self c.clear_between-cleared.new.self c.mark_failure.new.self c.clear_between-cleared.result c.mark_failure.result c.begin.ensures.faults c.clear_between-cleared.ensures.faults c.mark_failure.ensures.answer c.mark_failure.ensures.rest in
     counted_ok view below old c.end_freeing.new.self _ (fewer_then view below old c.mark_failure.new.self c.end_freeing.new.self cleared.no_fewer c.end_freeing.ensures.faults.no_fewer)
+
+pub returns-clause-reaches : goal.returns-clause-reaches
+returns-clause-reaches g c = λ lt out sound.
+    let view = g.S.Storage.view in
+    let below = g.F.BackingDisk.backing in
+    let old = c.args.self.now in
+    let begun = c.begin.new.self in
+    let entries = c.clear_between-cleared.new.self in
+    let range = not_refused c.check_clear.result _ (refuses_to_clear old c.args.offset c.args.length c.args.how) (c.in_ok-from.from, c.in_ok-from.to) c.check_clear.ensures.refusal c.in_ok-from.was in
+    let from : c.in_ok-from.from ≡ from_in c.args.self.now c.args.offset c.args.length = ap (λ (r : ℕ × ℕ). r.0) range.1 in
+    let done : c.clear_between-cleared.result ≡ Ok c.in_ok-mark_failure.field-0 = sym c.mark_failure.ensures.answer ∙ c.in_ok-mark_failure.was in
+    let works = clear_works old c.args.offset c.args.length c.args.how range.0 in
+    let quiet : (out : _) → _ → Quietly view below out old begun = λ out sound. record { keeps = c.begin.ensures.keeps (pending_in view below old out) out sound; list = c.begin.ensures.list } in
+    let step = c.begin.ensures.keeps (pending_in view below old out) out sound in
+    let began = begins view below old c.args.how c.args.offset c.args.length works begun entries quiet out sound in
+    let reached = subst (λ (r : Result _ _). OnOk r (ReachesOffset c.in_ok-from.from begun.file.header.fields entries.file.header.fields)) done (c.clear_between-cleared.ensures.reaches out began.sound) in
+    same_length entries.file.header c.end_freeing.new.self.file.header (c.end_freeing.ensures.header ∙ ap (λ (i : Qcow2 _ _). i.file.header) c.mark_failure.ensures.rest)
+    ∙ reaches_begun old.file.header.fields begun.file.header.fields entries.file.header.fields (from_in old c.args.offset c.args.length) step.unseen.header (subst (λ n. ReachesOffset n begun.file.header.fields entries.file.header.fields) from reached)

@@ -1,4 +1,4 @@
-use Rattle.std.proofs.Common.{refl, sym, subst}
+use Rattle.std.proofs.Common.{refl, sym, ap, ◌∙◌, subst}
 use Rattle.std.specs.Prelude.{Result}
 use Rattle.qcow2_laws.specs.CrashInvariant.{Pending}
 use Rattle.qcow2_image.specs.declared.image.Qcow2.{Qcow2}
@@ -39,3 +39,6 @@ pub returns-clause-faults : goal.returns-clause-faults
 returns-clause-faults g c =
     counted_marked g.S.Storage.view g.F.BackingDisk.backing c.args.self.now c.args.self.now c.free_listed-freed.new.self c.mark_failure.new.self c.free_listed-freed.result c.mark_failure.result (untouched g.S.Storage.view g.F.BackingDisk.backing c.args.self.now c.args.self.now refl refl)
     c.free_listed-freed.ensures.counts c.mark_failure.ensures.answer c.mark_failure.ensures.rest
+
+pub returns-clause-header : goal.returns-clause-header
+returns-clause-header g c = ap (λ (i : Qcow2 _ _). i.file.header) c.mark_failure.ensures.rest ∙ c.free_listed-freed.ensures.keeps_rest.header

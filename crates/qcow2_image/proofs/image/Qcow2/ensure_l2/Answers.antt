@@ -1,5 +1,6 @@
-use Rattle.std.proofs.Common.{inl}
+use Rattle.std.proofs.Common.{ap, inl}
 use Rattle.qcow2_alloc.proofs.AllocationSteps.{handed_on}
+use Rattle.qcow2_image.specs.declared.image.Qcow2.{Qcow2}
 use Rattle.qcow2_image.specs.UnseenSteps.{Ensures, pending_with_listed}
 use Rattle.qcow2_image.proofs.Map.Loading.{with_caches}
 use Rattle.qcow2_image.proofs.Prepare.Owning.{refused, keeps_loaded, holds_table}
@@ -54,3 +55,12 @@ returns-in_err-l2_get_or_insert-clause-lacks g c = λ p out sound none.
     handed_on (λ r. IfErr r (IsFaultOrLacksTable view loaded c.args.offset)) c.from_residual-in_err-l2_get_or_insert.result e c.from_residual-in_err-l2_get_or_insert.ensures
     (inl (fault_alone view below out q mid owned.0.sound none e
     (c.in_err-l2_get_or_insert.ensures.refusals mid.file.header.fields (named_place mid.file.header.fields (contents_in view mid.file) (l1_index_of old.file.header.fields c.args.offset) c.in_ok-cluster.cluster owned.1.place) q file.honest file.caches file.settled)))
+
+pub returns-in_err-cluster-clause-quiet : goal.returns-in_err-cluster-clause-quiet
+returns-in_err-cluster-clause-quiet g c = λ own. ap (λ (i : Qcow2 _ _). i.file.free_list) (c.own_l2.ensures.quiet own)
+
+pub returns-in_err-l2_get_or_insert-clause-quiet : goal.returns-in_err-l2_get_or_insert-clause-quiet
+returns-in_err-l2_get_or_insert-clause-quiet g c = λ own. ap (λ (i : Qcow2 _ _). i.file.free_list) (c.own_l2.ensures.quiet own)
+
+pub returns-clause-quiet : goal.returns-clause-quiet
+returns-clause-quiet g c = λ own. ap (λ (i : Qcow2 _ _). i.file.free_list) (c.own_l2.ensures.quiet own)

@@ -1,4 +1,4 @@
-use Rattle.std.proofs.Common.{◌≡◌, ◌∙◌, ◌-◌, ◌<◌, sym, ap, subst, arith, refl}
+use Rattle.std.proofs.Common.{◌≡◌, ◌∙◌, ◌+◌, ◌-◌, ◌<◌, max, sym, ap, subst, arith, refl}
 use Rattle.std.specs.Prelude.{Err, IfErr, IsTrue, Ok, OnOk, Result}
 use Rattle.qcow2_metadata.specs.declared.header.HeaderFields.{HeaderFields}
 use Rattle.qcow2_metadata.specs.EntryTable.{entry_count}
@@ -12,11 +12,13 @@ use Rattle.qcow2_image.specs.Growing.{ReachesSize}
 use Rattle.qcow2_image.specs.Image.{is_failed}
 use Rattle.qcow2_image.specs.ImageInvariant.{ImageInvariant, pending_in}
 use Rattle.qcow2_image.specs.LongerTables.{MakesEntry}
+use Rattle.qcow2_image.specs.L1Entries.{ReachesOffset}
 use Rattle.qcow2_image.specs.Preallocation.{FillsGrown, FillsGrownOrRefuses}
 use Rattle.qcow2_image.specs.Refusals.{IsMet, Marks}
 use Rattle.qcow2_image.specs.Resizing.{GrowsTables, GrowsTo, RefusesUnchanged, WritesSizeLast}
 use Rattle.qcow2_image.proofs.Call.Refused.{stays_then}
 use Rattle.qcow2_image.proofs.Clear.ClearCalls.{err_is}
+use Rattle.qcow2_image.proofs.Grow.Lengths.{reaches_begun, reaches_on, reaches_told}
 use Rattle.qcow2_image.proofs.Moved.{moves_then}
 use Rattle.qcow2_image.proofs.Preallocate.Filled.{met_taken}
 use Rattle.qcow2_image.proofs.Preallocate.Turns.{same_version}
@@ -286,15 +288,21 @@ returns-clause-tables g c = λ out sound.
     let stayed = subst (λ (r : Result _ _). Marks r (is_failed filled) (is_failed c.mark_fault.new.self)) put c.mark_fault.ensures.marks in
     let whole : c.mark_fault.new.self ≡ c.fill_grown-filled.new.self = c.mark_fault.ensures.rest ∙ ap (λ f. record filled { is_failed = f }) stayed in
     let fills = subst (FillsGrownOrRefuses view below c.args.size c.args.mode long filled out) put (c.fill_grown-filled.ensures.fills out call.sound) in
-    let reach = subst (λ (r : Result _ _). OnOk r (l1_index_of begun.file.header.fields (c.args.size - 1) < entry_count mid.l1_table)) made c.renew_l1_table-longer.ensures.reaches in
+    let length = subst (λ (r : Result _ _). OnOk r (entry_count mid.l1_table ≡ max (entry_count begun.l1_table) (l1_index_of begun.file.header.fields (c.args.size - 1) + 1))) made c.renew_l1_table-longer.ensures.length in
+    let reach : l1_index_of c.begin.new.self.file.header.fields (c.args.size - 1) < entry_count c.renew_l1_table-longer.new.self.l1_table = omega (arith, length) in
     let lengthened = subst (λ (image : Qcow2 _ _). ReachesSize (with_size image.file.header.fields c.args.size)) (sym same) (reaches_lengthened view below out begun mid c.args.size lengthens reach) in
     let reached = reaches_filled view below out long filled c.args.size call.sound (let l = c.requires.larger in let s = ap (λ (h : HeaderFields). h.size) call.header in omega (arith, l, s)) c.args.mode c.fill_grown-filled.ensures.unfilled lengthened fills in
     let grown = subst (λ (image : Qcow2 _ _). FillsGrown view below c.args.size c.args.mode long image out) (sym whole) fills in
+    let step = c.begin.ensures.keeps (pending_in view below old out) out sound in
+    let told = reaches_begun old.file.header.fields begun.file.header.fields mid.file.header.fields (c.args.size - 1) step.unseen.header
+    (reaches_told view below out (pending_in view below begun out) (pending_in view below mid out) begun mid (c.args.size - 1) begins.sound lengthens.sound length) in
+    let longer = subst (λ (image : Qcow2 _ _). ReachesOffset (c.args.size - 1) old.file.header.fields image.file.header.fields) (sym same) told in
+    let as_long = reaches_on old.file.header.fields long.file.header.fields c.mark_fault.new.self.file.header.fields c.args.size (let l = c.requires.larger in omega (arith, l)) call.header longer grown.length in
     let new = c.write_size-written.new.self in
     subst (λ (image : Qcow2 _ _). GrowsTables view below old image c.args.size c.args.mode out c.mark_fault-2.result) (sym c.mark_fault-2.ensures.rest)
     (subst (λ (r : Result _ _). GrowsTables view below old (record new { is_failed = is_failed c.mark_fault-2.new.self }) c.args.size c.args.mode out r) (sym c.mark_fault-2.ensures.answer)
     (tables_sized view below out old c.mark_fault.new.self new (is_failed c.mark_fault-2.new.self) c.args.size c.args.mode c.write_size-written.result (moves_then old.file.header.fields long.file.header.fields c.mark_fault.new.self.file.header.fields call.header grown.header) c.write_size-written.ensures.cause c.write_size-written.ensures.header
-    (subst (λ (image : Qcow2 _ _). ReachesSize (with_size image.file.header.fields c.args.size)) (sym whole) reached)
+    (subst (λ (image : Qcow2 _ _). ReachesSize (with_size image.file.header.fields c.args.size)) (sym whole) reached) as_long
     (leaves_sized view below out old long c.mark_fault.new.self new c.args.size c.args.mode c.write_size-written.result call grown (c.write_size-written.ensures.writes out grown.sound))))
 
 pub returns-in_err-mark_failure-clause-faults : goal.returns-in_err-mark_failure-clause-faults

@@ -34,5 +34,5 @@ returns-in-Err-clause-lengthens g c = λ p out sound.
     let longer = is_longer g.S.Storage.view g.F.BackingDisk.backing out p old sound c.in_ok-table.table _ c.max-entries.result c.in_ok-table.ensures.table c.in_ok-table.ensures.length enough c.in_ok-table.ensures.entries in
     c.in-Err.ensures.takes p out sound longer
 
-pub returns-in-Ok-clause-reaches : goal.returns-in-Ok-clause-reaches
-returns-in-Ok-clause-reaches g c = omega (arith, c.in-Ok.ensures.entries, c.in_ok-table.ensures.length, c.max-entries.ensures)
+pub returns-in-Ok-clause-length : goal.returns-in-Ok-clause-length
+returns-in-Ok-clause-length g c = omega (arith, c.in-Ok.ensures.entries, c.in_ok-table.ensures.length, c.max-entries.ensures, c.len.ensures.value)

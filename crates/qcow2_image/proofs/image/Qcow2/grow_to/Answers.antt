@@ -2,7 +2,7 @@ use Rattle.qcow2_alloc.proofs.AllocationSteps.{handed_on}
 use Rattle.qcow2_image.specs.declared.image.Qcow2.{Qcow2}
 use Rattle.qcow2_image.specs.Growing.{Resizes}
 use Rattle.qcow2_image.specs.UnseenSteps.{pending_with_listed}
-use Rattle.std.proofs.Common.{[], ap, ◌∙◌, ◌-◌, ◌/◌, ◌^◌}
+use Rattle.std.proofs.Common.{arith, [], ap, ◌∙◌, ◌-◌, ◌/◌, ◌^◌}
 use Rattle.qcow2_image.proofs.Grow.Grown.{extends_moving, lasts_more, lasts_refused, resized_then, resized_reaches}
 use Rattle.qcow2_image.proofs.image.Qcow2.grow_to.Goals as goal
 
@@ -26,4 +26,4 @@ returns-clause-reaches g c = λ p sound.
     let first = extends_moving g.S.Storage.view g.F.BackingDisk.backing p (pending_with_listed p old mid) old mid (c.in_ok-grow_l1_table.ensures.lengthens p [] sound) in
     resized_reaches g.S.Storage.view g.F.BackingDisk.backing p old mid c.write_size.new.self c.args.size c.l1_index.result c.write_size.result
     (resized_then g.S.Storage.view g.F.BackingDisk.backing p old mid c.write_size.new.self c.args.size c.write_size.result first (ap (λ (i : Qcow2 _ _). i.file.free_list) c.write_size.ensures.rest) (c.write_size.ensures.resizes (pending_with_listed p old mid) first.sound))
-    (c.l1_index.ensures ∙ ap (λ m. m / 2 ^ c.cluster_bits-bits.result / (2 ^ c.cluster_bits-bits.result / 8)) c.new.ensures ∙ ap (λ n. (c.args.size - 1) / 2 ^ n / (2 ^ n / 8)) c.cluster_bits-bits.ensures.value) c.in_ok-grow_l1_table.ensures.reaches (ap (λ (i : Qcow2 _ _). i.l1_table) c.write_size.ensures.rest)
+    (c.l1_index.ensures ∙ ap (λ m. m / 2 ^ c.cluster_bits-bits.result / (2 ^ c.cluster_bits-bits.result / 8)) c.new.ensures ∙ ap (λ n. (c.args.size - 1) / 2 ^ n / (2 ^ n / 8)) c.cluster_bits-bits.ensures.value) (let l = c.in_ok-grow_l1_table.ensures.length in omega (arith, l)) (ap (λ (i : Qcow2 _ _). i.l1_table) c.write_size.ensures.rest)

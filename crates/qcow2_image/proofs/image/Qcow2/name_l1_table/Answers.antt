@@ -14,10 +14,10 @@ returns-in_err-write_l1_table_pointer-clause-names g c = λ p out sound noted re
     let t = c.args.table in
     let few : entry_count c.args.table ≤ 4194304 = omega (arith, c.len.ensures.value, c.len.ensures.limit) in
     let at = c.offset-offset.ensures ∙ ap (λ n. c.args.cluster * 2 ^ n) c.cluster_bits.ensures.value in
-    handed_on (NamesTable view g.F.BackingDisk.backing p old (record old { file = record old.file { storage = c.write_l1_table_pointer.new.storage; header = c.set_l1_table.new.self } }) out t c.args.cluster)
+    handed_on (NamesTable view g.F.BackingDisk.backing p old (record old { file = record old.file { storage = c.write_l1_table_pointer.new.self; header = c.set_l1_table.new.self } }) out t c.args.cluster)
     c.from_residual-in_err-write_l1_table_pointer.result (of_storage c.in_err-write_l1_table_pointer.field-0.0) c.from_residual-in_err-write_l1_table_pointer.ensures
     (named_broke view g.F.BackingDisk.backing out p old t c.args.cluster sound ready c.requires few c.offset-offset.result c.len.result c.set_l1_table.new.self at c.len.ensures.value c.in_ok-set_l1_table.ensures.ok c.write_l1_table_pointer.result
-    c.write_l1_table_pointer.new.storage (storage_of c.will_write.new.self) c.will_write.ensures.storage c.write_l1_table_pointer.ensures.written c.write_l1_table_pointer.ensures.calls c.in_err-write_l1_table_pointer.field-0.0 noted)
+    c.write_l1_table_pointer.new.self (storage_of c.will_write.new.self) c.will_write.ensures.storage c.write_l1_table_pointer.ensures.written c.write_l1_table_pointer.ensures.calls c.in_err-write_l1_table_pointer.field-0.0 noted)
 
 pub returns-clause-names : goal.returns-clause-names
 returns-clause-names g c = λ p out sound noted ready.
@@ -27,4 +27,4 @@ returns-clause-names g c = λ p out sound noted ready.
     let few : entry_count c.args.table ≤ 4194304 = omega (arith, c.len.ensures.value, c.len.ensures.limit) in
     let at = c.offset-offset.ensures ∙ ap (λ n. c.args.cluster * 2 ^ n) c.cluster_bits.ensures.value in
     named_so view g.F.BackingDisk.backing out p old t c.args.cluster sound ready c.requires few c.offset-offset.result c.len.result c.set_l1_table.new.self at c.len.ensures.value c.in_ok-set_l1_table.ensures.ok c.write_l1_table_pointer.result
-    c.write_l1_table_pointer.new.storage (storage_of c.will_write.new.self) c.will_write.ensures.storage c.write_l1_table_pointer.ensures.written c.write_l1_table_pointer.ensures.calls c.in_ok-write_l1_table_pointer.field-0 c.in_ok-write_l1_table_pointer.was
+    c.write_l1_table_pointer.new.self (storage_of c.will_write.new.self) c.will_write.ensures.storage c.write_l1_table_pointer.ensures.written c.write_l1_table_pointer.ensures.calls c.in_ok-write_l1_table_pointer.field-0 c.in_ok-write_l1_table_pointer.was

@@ -5,20 +5,20 @@ use Rattle.qcow2_image.specs.NewTables.{NamesNew}
 use Rattle.qcow2_image.proofs.Prepare.Naming.{endures_named, named_so}
 use Rattle.qcow2_image.proofs.image.Qcow2.name_l2.Goals as goal
 
-pub returns-in_err-write_entry-clause-names : goal.returns-in_err-write_entry-clause-names
-returns-in_err-write_entry-clause-names g c = λ p out table sound may noted says whole ready.
+pub returns-in_err-write_l1_entry-clause-names : goal.returns-in_err-write_l1_entry-clause-names
+returns-in_err-write_l1_entry-clause-names g c = λ p out table sound may noted says whole ready.
     let old = c.args.self.now in
-    handed_on (NamesNew g.S.Storage.view g.F.BackingDisk.backing p old (record old { file = record old.file { storage = c.write_entry.new.storage }; l1_table = c.enter_l2_table.new.self }) out c.args.index c.args.cluster)
-    c.from_residual.result (of_storage c.in_err-write_entry.field-0.0) c.from_residual.ensures (record {
-      fault = fault_of_storage c.in_err-write_entry.field-0.0;
+    handed_on (NamesNew g.S.Storage.view g.F.BackingDisk.backing p old (record old { file = record old.file { storage = c.write_l1_entry.new.self }; l1_table = c.enter_l2_table.new.self }) out c.args.index c.args.cluster)
+    c.from_residual.result (of_storage c.in_err-write_l1_entry.field-0.0) c.from_residual.ensures (record {
+      fault = fault_of_storage c.in_err-write_l1_entry.field-0.0;
       noted = λ is. noted;
       since = endures_named g.S.Storage.view g.F.BackingDisk.backing old out p c.args.index c.args.cluster c.enter_l2_table.new.self table sound may says whole ready c.requires.within c.requires.nameable c.enter_l2_table.ensures.rest
-          c.enter_l2_table.ensures.entry c.enter_l2_table.ensures.offset c.enter_l2_table.ensures.copied c.write_entry.ensures.fits c.write_entry.new.storage (storage_of c.will_write.new.self) c.write_entry.result c.will_write.ensures.storage
-          c.write_entry.ensures.written c.write_entry.ensures.calls;
+          c.enter_l2_table.ensures.entry c.enter_l2_table.ensures.offset c.enter_l2_table.ensures.copied c.write_l1_entry.ensures.fits c.write_l1_entry.new.self (storage_of c.will_write.new.self) c.write_l1_entry.result c.will_write.ensures.storage
+          c.write_l1_entry.ensures.written c.write_l1_entry.ensures.calls;
     })
 
 pub returns-clause-names : goal.returns-clause-names
 returns-clause-names g c = λ p out table sound may noted says whole ready.
     named_so g.S.Storage.view g.F.BackingDisk.backing c.args.self.now out p c.args.index c.args.cluster c.enter_l2_table.new.self table sound may says whole ready c.requires.within c.requires.nameable c.enter_l2_table.ensures.rest
-    c.enter_l2_table.ensures.entry c.enter_l2_table.ensures.offset c.enter_l2_table.ensures.copied c.write_entry.ensures.fits c.write_entry.new.storage (storage_of c.will_write.new.self) c.write_entry.result c.will_write.ensures.storage
-    c.write_entry.ensures.written c.write_entry.ensures.calls c.in_ok-write_entry.field-0 c.in_ok-write_entry.was
+    c.enter_l2_table.ensures.entry c.enter_l2_table.ensures.offset c.enter_l2_table.ensures.copied c.write_l1_entry.ensures.fits c.write_l1_entry.new.self (storage_of c.will_write.new.self) c.write_l1_entry.result c.will_write.ensures.storage
+    c.write_l1_entry.ensures.written c.write_l1_entry.ensures.calls c.in_ok-write_l1_entry.field-0 c.in_ok-write_l1_entry.was

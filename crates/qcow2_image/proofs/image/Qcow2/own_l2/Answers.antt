@@ -4,6 +4,7 @@ use Rattle.qcow2_image.specs.Found.{l1_index_of}
 use Rattle.qcow2_image.specs.NewTables.{OwnsTable, MayName}
 use Rattle.qcow2_image.proofs.Prepare.Owning.{refused, left_alone, may_none, says_none, entered_owns, owns_already}
 use Rattle.qcow2_metadata.specs.EntryTable.{entry_count}
+use Rattle.qcow2_metadata.specs.TableBytes.{entry_at}
 use Rattle.qcow2_image.proofs.Prepare.Lacking.{lacks_past, not_within, owns_or_lacks}
 use Rattle.qcow2_image.proofs.image.Qcow2.own_l2.Goals as goal
 
@@ -80,3 +81,17 @@ returns-clause-lacks g c = λ p out sound.
     c.l1_index-index.ensures ∙ ap (λ n. n / 2 ^ c.cluster_bits-bits.result / (2 ^ c.cluster_bits-bits.result / 8)) c.new.ensures ∙ ap (λ b. c.args.offset / 2 ^ b / (2 ^ b / 8)) c.cluster_bits-bits.ensures.value in
     let may : MayName view old c.l1_index-index.result = λ own. absurd (let is = sym own.1 ∙ ap is_copied (sym (sound.l1_table.entries c.l1_index-index.result)) ∙ sym c.in-Some.ensures.copied ∙ c.if-entry.false in cc) in
     owns_or_lacks view below out p old c.replace_l2.new.self sound c.args.offset (subst (MayName view old) idx may) c.replace_l2.result (returns-clause-owns g c p out sound) c.replace_l2.ensures.l1_table
+
+pub returns-in_default-clause-quiet : goal.returns-in_default-clause-quiet
+returns-in_default-clause-quiet g c = λ own.
+    let old = c.args.self.now in
+    let idx : c.l1_index-index.result ≡ l1_index_of old.file.header.fields c.args.offset =
+    c.l1_index-index.ensures ∙ ap (λ n. n / 2 ^ c.cluster_bits-bits.result / (2 ^ c.cluster_bits-bits.result / 8)) c.new.ensures ∙ ap (λ b. c.args.offset / 2 ^ b / (2 ^ b / 8)) c.cluster_bits-bits.ensures.value in
+    absurd (own.0 (ap (λ i. host_offset (entry_at old.l1_table.bytes i)) (sym idx) ∙ c.in_default.ensures.none))
+
+pub returns-clause-quiet : goal.returns-clause-quiet
+returns-clause-quiet g c = λ own.
+    let old = c.args.self.now in
+    let idx : c.l1_index-index.result ≡ l1_index_of old.file.header.fields c.args.offset =
+    c.l1_index-index.ensures ∙ ap (λ n. n / 2 ^ c.cluster_bits-bits.result / (2 ^ c.cluster_bits-bits.result / 8)) c.new.ensures ∙ ap (λ b. c.args.offset / 2 ^ b / (2 ^ b / 8)) c.cluster_bits-bits.ensures.value in
+    absurd (let is = sym own.1 ∙ ap (λ i. is_copied (entry_at old.l1_table.bytes i)) (sym idx) ∙ sym c.in-Some.ensures.copied ∙ c.if-entry.false in cc)

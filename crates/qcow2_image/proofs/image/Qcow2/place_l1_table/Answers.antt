@@ -20,8 +20,8 @@ returns-in_err-flush_rb-clause-places g c = λ p out sound longer.
     c.from_residual.result c.in_err-flush_rb.field-0.0 c.from_residual.ensures
     (caches_moved view below old out q sound c.flush_rb.new.storage c.flush_rb.new.self stay c.flush_rb.ensures.marks.room c.flush_rb.ensures.marks.pins)
 
-pub returns-in_err-write-clause-places : goal.returns-in_err-write-clause-places
-returns-in_err-write-clause-places g c = λ p out sound longer.
+pub returns-in_err-write_l1_table-clause-places : goal.returns-in_err-write_l1_table-clause-places
+returns-in_err-write_l1_table-clause-places g c = λ p out sound longer.
     let view = g.S.Storage.view in
     let below = g.F.BackingDisk.backing in
     let old = c.args.self.now in
@@ -31,12 +31,12 @@ returns-in_err-write-clause-places g c = λ p out sound longer.
     let kept = caches_moved view below old out q sound c.flush_rb.new.storage c.flush_rb.new.self stay c.flush_rb.ensures.marks.room c.flush_rb.ensures.marks.pins in
     let image = with_caches view below old out q sound c.flush_rb.new.storage c.flush_rb.new.self in
     let there : IsLongerL1 image t = record { bits = longer.bits; whole = longer.whole; longer = longer.longer; entries = longer.entries } in
-    let new = record image { file = record image.file { storage = c.write.new.storage } } in
-    handed_on (PlacesTable view below q old new out c.set_cluster.new.self c.args.cluster) c.from_residual-in_err-write.result (of_storage c.in_err-write.field-0.0) c.from_residual-in_err-write.ensures
+    let new = record image { file = record image.file { storage = c.write_l1_table.new.self } } in
+    handed_on (PlacesTable view below q old new out c.set_cluster.new.self c.args.cluster) c.from_residual-in_err-write_l1_table.result (of_storage c.in_err-write_l1_table.field-0.0) c.from_residual-in_err-write_l1_table.ensures
     (keeps_then view below out old image new q q q (λ k some. some) kept
-    (keeps_placed view below out p image t c.args.cluster kept.sound there c.in_ok-flush_rb.ensures.written c.in_ok-flush_rb.ensures.first (storage_of c.will_write.new.self) (storage_of c.write.new.storage) c.write.result c.will_write.ensures.storage
-    (table_write_as view t c.args.cluster old.file.header.fields.cluster_bits c.set_cluster.new.self c.write.result (storage_of c.will_write.new.self) (storage_of c.write.new.storage) c.set_cluster.ensures longer.bits c.write.ensures.written)
-    c.write.ensures.calls c.write.new.storage refl))
+    (keeps_placed view below out p image t c.args.cluster kept.sound there c.in_ok-flush_rb.ensures.written c.in_ok-flush_rb.ensures.first (storage_of c.will_write.new.self) (storage_of c.write_l1_table.new.self) c.write_l1_table.result c.will_write.ensures.storage
+    (table_write_as view t c.args.cluster old.file.header.fields.cluster_bits c.set_cluster.new.self c.write_l1_table.result (storage_of c.will_write.new.self) (storage_of c.write_l1_table.new.self) c.set_cluster.ensures longer.bits c.write_l1_table.ensures.written)
+    c.write_l1_table.ensures.calls c.write_l1_table.new.self refl))
 
 pub returns-clause-places : goal.returns-clause-places
 returns-clause-places g c = λ p out sound longer.
@@ -49,13 +49,13 @@ returns-clause-places g c = λ p out sound longer.
     let kept = caches_moved view below old out q sound c.flush_rb.new.storage c.flush_rb.new.self stay c.flush_rb.ensures.marks.room c.flush_rb.ensures.marks.pins in
     let image = with_caches view below old out q sound c.flush_rb.new.storage c.flush_rb.new.self in
     let there : IsLongerL1 image t = record { bits = longer.bits; whole = longer.whole; longer = longer.longer; entries = longer.entries } in
-    let new = record image { file = record image.file { storage = c.write.new.storage } } in
-    let wrote = table_write_as view t c.args.cluster old.file.header.fields.cluster_bits c.set_cluster.new.self c.write.result (storage_of c.will_write.new.self) (storage_of c.write.new.storage) c.set_cluster.ensures longer.bits c.write.ensures.written in (
+    let new = record image { file = record image.file { storage = c.write_l1_table.new.self } } in
+    let wrote = table_write_as view t c.args.cluster old.file.header.fields.cluster_bits c.set_cluster.new.self c.write_l1_table.result (storage_of c.will_write.new.self) (storage_of c.write_l1_table.new.self) c.set_cluster.ensures longer.bits c.write_l1_table.ensures.written in (
       keeps_then view below out old image new q q q (λ k some. some) kept
-          (keeps_placed view below out p image t c.args.cluster kept.sound there c.in_ok-flush_rb.ensures.written c.in_ok-flush_rb.ensures.first (storage_of c.will_write.new.self) (storage_of c.write.new.storage) c.write.result c.will_write.ensures.storage wrote
-          c.write.ensures.calls c.write.new.storage refl),
-      stands_whole view below out p image t c.args.cluster kept.sound there c.in_ok-flush_rb.ensures.written c.in_ok-flush_rb.ensures.first (storage_of c.will_write.new.self) (storage_of c.write.new.storage) c.write.result c.will_write.ensures.storage wrote
-          c.write.ensures.calls c.write.new.storage refl c.set_cluster.new.self c.set_cluster.ensures c.in_ok-write.field-0 c.in_ok-write.was,
+          (keeps_placed view below out p image t c.args.cluster kept.sound there c.in_ok-flush_rb.ensures.written c.in_ok-flush_rb.ensures.first (storage_of c.will_write.new.self) (storage_of c.write_l1_table.new.self) c.write_l1_table.result c.will_write.ensures.storage wrote
+          c.write_l1_table.ensures.calls c.write_l1_table.new.self refl),
+      stands_whole view below out p image t c.args.cluster kept.sound there c.in_ok-flush_rb.ensures.written c.in_ok-flush_rb.ensures.first (storage_of c.will_write.new.self) (storage_of c.write_l1_table.new.self) c.write_l1_table.result c.will_write.ensures.storage wrote
+          c.write_l1_table.ensures.calls c.write_l1_table.new.self refl c.set_cluster.new.self c.set_cluster.ensures c.in_ok-write_l1_table.field-0 c.in_ok-write_l1_table.was,
     )
 
 pub returns-then-not-is_nameable-clause-places : goal.returns-then-not-is_nameable-clause-places

@@ -12,15 +12,15 @@ use Rattle.qcow2_image.proofs.Map.Loading.{if_ok}
 use Rattle.qcow2_image.proofs.Prepare.Placing.{holds, keeps_placed, keeps_put, keeps_stored, places_when, stands_ready, stands_there}
 use Rattle.qcow2_image.proofs.image.Qcow2.place_l2.Goals as goal
 
-pub returns-in_err-write-clause-places : goal.returns-in_err-write-clause-places
-returns-in_err-write-clause-places g c = λ p out sound some format stored.
+pub returns-in_err-write_new_l2_table-clause-places : goal.returns-in_err-write_new_l2_table-clause-places
+returns-in_err-write_new_l2_table-clause-places g c = λ p out sound some format stored.
     let view = g.S.Storage.view in
     let below = g.F.BackingDisk.backing in
     let old = c.args.self.now in
     let whole = subst (λ (t : L2TableView). length t.bytes ≡ 2 ^ t.cluster_bits) c.table.view_is c.table.invariant.whole in
-    handed_on (PlacesNewTable view below p old (record old { file = record old.file { storage = c.write.new.storage } }) out c.args.cluster c.args.table.bytes) c.from_residual.result (of_storage c.in_err-write.field-0.0) c.from_residual.ensures
-    (keeps_placed view below old out p sound stored c.args.cluster some c.write.new.storage (storage_of c.will_write.new.self) c.args.table c.set_cluster.new.self c.write.result c.will_write.ensures.storage c.set_cluster.ensures format.bits whole
-    c.write.ensures.written c.write.ensures.calls)
+    handed_on (PlacesNewTable view below p old (record old { file = record old.file { storage = c.write_new_l2_table.new.self } }) out c.args.cluster c.args.table.bytes) c.from_residual.result (of_storage c.in_err-write_new_l2_table.field-0.0) c.from_residual.ensures
+    (keeps_placed view below old out p sound stored c.args.cluster some c.write_new_l2_table.new.self (storage_of c.will_write.new.self) c.args.table c.set_cluster.new.self c.write_new_l2_table.result c.will_write.ensures.storage c.set_cluster.ensures format.bits whole
+    c.write_new_l2_table.ensures.written c.write_new_l2_table.ensures.calls)
 
 pub returns-clause-places : goal.returns-clause-places
 returns-clause-places g c = λ p out sound some format stored.
@@ -29,18 +29,18 @@ returns-clause-places g c = λ p out sound some format stored.
     let old = c.args.self.now in
     let h = old.file.header.fields in
     let at = c.args.cluster in
-    let mid = record old { file = record old.file { storage = c.write.new.storage } } in
+    let mid = record old { file = record old.file { storage = c.write_new_l2_table.new.self } } in
     let new = record old { file = record old.file { storage = c.l2_insert.new.storage; caches = c.l2_insert.new.self } } in
     let whole = subst (λ (t : L2TableView). length t.bytes ≡ 2 ^ t.cluster_bits) c.table.view_is c.table.invariant.whole in
     let long = whole ∙ ap (λ n. 2 ^ n) format.bits in
-    let wrote = keeps_placed view below old out p sound stored at some c.write.new.storage (storage_of c.will_write.new.self) c.args.table c.set_cluster.new.self c.write.result c.will_write.ensures.storage c.set_cluster.ensures format.bits whole
-    c.write.ensures.written c.write.ensures.calls in
-    let still = keeps_stored view below old out p sound stored at some c.write.new.storage (storage_of c.will_write.new.self) c.args.table c.set_cluster.new.self c.write.result c.will_write.ensures.storage c.set_cluster.ensures format.bits whole
-    c.write.ensures.written c.write.ensures.calls in
-    let there = stands_there view below old out p sound stored at some c.write.new.storage (storage_of c.will_write.new.self) c.args.table c.set_cluster.new.self c.write.result c.will_write.ensures.storage c.set_cluster.ensures format.bits whole
-    c.write.ensures.written c.write.ensures.calls c.in_ok-write.field-0 c.in_ok-write.was in
+    let wrote = keeps_placed view below old out p sound stored at some c.write_new_l2_table.new.self (storage_of c.will_write.new.self) c.args.table c.set_cluster.new.self c.write_new_l2_table.result c.will_write.ensures.storage c.set_cluster.ensures format.bits whole
+    c.write_new_l2_table.ensures.written c.write_new_l2_table.ensures.calls in
+    let still = keeps_stored view below old out p sound stored at some c.write_new_l2_table.new.self (storage_of c.will_write.new.self) c.args.table c.set_cluster.new.self c.write_new_l2_table.result c.will_write.ensures.storage c.set_cluster.ensures format.bits whole
+    c.write_new_l2_table.ensures.written c.write_new_l2_table.ensures.calls in
+    let there = stands_there view below old out p sound stored at some c.write_new_l2_table.new.self (storage_of c.will_write.new.self) c.args.table c.set_cluster.new.self c.write_new_l2_table.result c.will_write.ensures.storage c.set_cluster.ensures format.bits whole
+    c.write_new_l2_table.ensures.written c.write_new_l2_table.ensures.calls c.in_ok-write_new_l2_table.field-0 c.in_ok-write_new_l2_table.was in
     let is : c.clear_modified.new.self ≡ record c.args.table { cluster = Some at; is_modified = false } = c.clear_modified.ensures ∙ ap (λ (t : L2TableView). record t { is_modified = false }) c.set_cluster.ensures in
-    let puts = subst (λ (t : L2TableView). PutSound view c.write.new.storage old.file.caches c.l2_insert.new.storage c.l2_insert.new.self (λ h. IsTableOf h t) t.cluster t.bytes t.is_modified) is c.l2_insert.ensures.keeps in
+    let puts = subst (λ (t : L2TableView). PutSound view c.write_new_l2_table.new.self old.file.caches c.l2_insert.new.storage c.l2_insert.new.self (λ h. IsTableOf h t) t.cluster t.bytes t.is_modified) is c.l2_insert.ensures.keeps in
     let held = subst (λ (t : L2TableView). OnOk c.l2_insert.result (IfSome t.cluster (λ k. l2_at c.l2_insert.new.self k ≡ Some t))) is c.l2_insert.ensures.held in
     let unmodified = ap (λ (t : L2TableView). t.is_modified) is in
     let stays = puts h p wrote.sound.file.honest wrote.sound.file.caches (record { bits = format.bits; zero_bit = format.zero_bit; external = format.external }) refl (holds view below mid out p wrote.sound still at some c.args.table.bytes long there) in

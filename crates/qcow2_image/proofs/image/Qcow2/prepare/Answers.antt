@@ -28,3 +28,6 @@ returns-in-Err-clause-faults g c =
     let old = c.args.self.now in
     counted_of view below old c.free_after.new.self c.free_after.result
     (c.free_after.ensures.faults old (counted_as view below old old c.prepare_range.new.self c.prepare_range.result c.in-Err.refusal (untouched view below old old refl refl) c.prepare_range.ensures.faults c.in-Err.is))
+
+pub returns-in-Ok-clause-reaches : goal.returns-in-Ok-clause-reaches
+returns-in-Ok-clause-reaches g c = λ out sound. c.in-Ok.ensures.reaches out sound

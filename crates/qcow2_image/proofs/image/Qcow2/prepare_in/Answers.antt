@@ -3,9 +3,10 @@ use Rattle.std.specs.Prelude.{None, Err}
 use Rattle.qcow2_metadata.specs.Cover.{cover}
 use Rattle.qcow2_metadata.specs.Header.{cluster_size}
 use Rattle.qcow2_metadata.specs.declared.header.HeaderFields.{HeaderFields}
-use Rattle.qcow2_alloc.specs.ImageFile.{known_in}
+use Rattle.qcow2_alloc.specs.ImageFile.{KeepsHeader, known_in}
 use Rattle.qcow2_alloc.proofs.AllocationSteps.{handed_on}
 use Rattle.qcow2_alloc.proofs.Following.{header_format, header_then}
+use Rattle.qcow2_image.specs.declared.image.Qcow2.{Qcow2}
 use Rattle.qcow2_image.specs.CallParts.{IsReadied, PreparesRange}
 use Rattle.qcow2_image.proofs.Call.Refused.{back_refused}
 use Rattle.qcow2_image.proofs.Free.{free_places}
@@ -85,3 +86,12 @@ returns-in-Err-clause-faults g c =
     let e = c.in-Err.refusal in
     counted_still view below old c.prepare_rest.new.self c.let_go.new.self (Err e)
     (counted_as view below old c.prepare_first.new.self c.prepare_rest.new.self c.prepare_rest.result e c.prepare_first.ensures.faults.no_fewer c.prepare_rest.ensures.faults c.in-Err.is) c.let_go.ensures.faults
+
+pub returns-in-Ok-clause-header : goal.returns-in-Ok-clause-header
+returns-in-Ok-clause-header g c = header_then c.args.self.now.file.header c.prepare_first.new.self.file.header c.prepare_rest.new.self.file.header c.prepare_first.ensures.header c.prepare_rest.ensures.header
+
+pub returns-in-Err-clause-header : goal.returns-in-Err-clause-header
+returns-in-Err-clause-header g c =
+    let old = c.args.self.now in
+    subst (λ v. KeepsHeader old.file.header v) (sym (ap (λ (i : Qcow2 _ _). i.file.header) c.let_go.ensures.rest.rest))
+    (header_then old.file.header c.prepare_first.new.self.file.header c.prepare_rest.new.self.file.header c.prepare_first.ensures.header c.prepare_rest.ensures.header)

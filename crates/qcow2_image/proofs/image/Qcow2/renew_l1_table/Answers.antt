@@ -1,5 +1,5 @@
-use Rattle.std.proofs.Common.{◌≡◌, ◌<◌, ◌/◌, ◌^◌, sym, ap, ◌∙◌, subst}
-use Rattle.qcow2_metadata.specs.EntryTable.{EntryTableView, entry_count}
+use Rattle.std.proofs.Common.{◌≡◌, ◌+◌, ◌/◌, ◌^◌, max, ap, ◌∙◌, subst}
+use Rattle.qcow2_metadata.specs.EntryTable.{entry_count}
 use Rattle.qcow2_laws.specs.CrashInvariant.{Pending}
 use Rattle.qcow2_alloc.proofs.AllocationSteps.{handed_on}
 use Rattle.qcow2_alloc.proofs.KeptTables.Turning.{always_ok}
@@ -29,10 +29,10 @@ returns-clause-makes g c = λ out sound.
     let listed = subst (λ (x : Pending). ImageInvariant view below x mid out) (all_listed view below mid out) first.sound in
     freed_then view below out old mid c.free_listed.new.self first c.free_listed.result (c.free_listed.ensures.frees (beside view below mid out) out listed)
 
-pub returns-clause-reaches : goal.returns-clause-reaches
-returns-clause-reaches g c =
+pub returns-clause-length : goal.returns-clause-length
+returns-clause-length g c =
     let old = c.args.self.now in
     let idx : c.l1_index-index.result ≡ l1_index_of old.file.header.fields c.args.offset =
     c.l1_index-index.ensures ∙ ap (λ n. n / 2 ^ c.cluster_bits.result / (2 ^ c.cluster_bits.result / 8)) c.new.ensures ∙ ap (λ b. c.args.offset / 2 ^ b / (2 ^ b / 8)) c.cluster_bits.ensures.value in
     always_ok c.free_listed.result
-    (subst (λ i. i < entry_count c.free_listed.new.self.l1_table) idx (subst (λ (t : EntryTableView). c.l1_index-index.result < entry_count t) (sym c.free_listed.ensures.table) c.in_ok-grow_l1_table.ensures.reaches))
+    (ap entry_count c.free_listed.ensures.table ∙ c.in_ok-grow_l1_table.ensures.length ∙ ap (λ i. max (entry_count old.l1_table) (i + 1)) idx)

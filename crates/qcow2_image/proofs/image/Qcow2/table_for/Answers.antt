@@ -1,11 +1,16 @@
-use Rattle.std.proofs.Common.{Err, subst, inl}
+use Rattle.std.proofs.Common.{Err, ◌∙◌, ap, sym, subst, inl, inr}
+use Rattle.qcow2_metadata.specs.Header.{HeaderView}
 use Rattle.qcow2_laws.specs.CrashInvariant.{Pending}
 use Rattle.qcow2_alloc.proofs.AllocationSteps.{handed_on}
 use Rattle.qcow2_image.specs.CallParts.{FindsTable}
 use Rattle.qcow2_image.specs.ImageInvariant.{ImageInvariant, pending_in}
 use Rattle.qcow2_image.proofs.Call.Refused.{finds, finds_after, left_refused, stays_kept}
 use Rattle.qcow2_image.proofs.Flush.Freeing.{all_listed, beside, freed_refused, tidy_stays}
-use Rattle.std.specs.Prelude.{IfErr}
+use Rattle.std.specs.Prelude.{IfErr, IsTrue}
+use Rattle.qcow2_alloc.proofs.KeptTables.Turning.{always_ok}
+use Rattle.qcow2_image.specs.Found.{l1_index_of}
+use Rattle.qcow2_image.specs.UnseenSteps.{pending_with_listed}
+use Rattle.qcow2_image.proofs.Grow.Lengths.{kept_length, own_after, own_reached, reaches_told, same_length}
 use Rattle.qcow2_image.specs.NewTables.{IsFaultOrLacksTable}
 use Rattle.qcow2_image.proofs.image.Qcow2.table_for.Goals as goal
 
@@ -107,3 +112,43 @@ returns-clause-lacks g c = λ out sound none.
     let listed = subst (λ (x : Pending). ImageInvariant view below x mid out) (all_listed view below mid out) first.sound in
     let second = tidy_stays view below mid out freed first.sound (c.in_ok-free_listed.ensures.frees (beside view below mid out) out listed) in
     c.ensure_l2-2.ensures.lacks (pending_in view below freed out) out second.sound none
+
+pub returns-then-has_own_l2-clause-reaches : goal.returns-then-has_own_l2-clause-reaches
+returns-then-has_own_l2-clause-reaches g c = λ out sound.
+    let view = g.S.Storage.view in
+    let below = g.F.BackingDisk.backing in
+    let old = c.args.self.now in
+    let new = c.ensure_l2.new.self in
+    always_ok c.ensure_l2.result
+    (own_reached view below out (pending_in view below old out) old sound c.args.offset new.file.header.fields (c.has_own_l2.ensures c.if-has_own_l2.true) (kept_length old.file.header new.file.header c.ensure_l2.ensures.keeps_rest.header))
+
+pub returns-clause-reaches : goal.returns-clause-reaches
+returns-clause-reaches g c = λ out sound.
+    let view = g.S.Storage.view in
+    let below = g.F.BackingDisk.backing in
+    let old = c.args.self.now in
+    let long = c.reach_entry.new.self in
+    let mid = c.own_l2.new.self in
+    let freed = c.free_listed.new.self in
+    let reached = c.in_ok-reach_entry.ensures.makes out sound in
+    let told = reaches_told view below out (pending_in view below old out) (pending_in view below long out) old long c.args.offset sound reached.sound c.in_ok-reach_entry.ensures.length in
+    always_ok c.ensure_l2-2.result
+    (kept_length freed.file.header c.ensure_l2-2.new.self.file.header c.ensure_l2-2.ensures.keeps_rest.header ∙ same_length mid.file.header freed.file.header c.free_listed.ensures.keeps_rest.header ∙ kept_length long.file.header mid.file.header c.own_l2.ensures.keeps_rest.header ∙ told)
+
+pub returns-then-has_own_l2-clause-freed : goal.returns-then-has_own_l2-clause-freed
+returns-then-has_own_l2-clause-freed g c = λ out sound. always_ok c.ensure_l2.result (inl (c.has_own_l2.ensures c.if-has_own_l2.true))
+
+pub returns-clause-freed : goal.returns-clause-freed
+returns-clause-freed g c = λ out sound.
+    let view = g.S.Storage.view in
+    let below = g.F.BackingDisk.backing in
+    let old = c.args.self.now in
+    let long = c.reach_entry.new.self in
+    let mid = c.own_l2.new.self in
+    let freed = c.free_listed.new.self in
+    let reached = c.in_ok-reach_entry.ensures.makes out sound in
+    let owned = c.in_ok-own_l2.ensures.owns (pending_in view below long out) out reached.sound in
+    let at = ap (λ (v : HeaderView). l1_index_of v.fields c.args.offset) c.own_l2.ensures.keeps_rest.header in
+    let own = own_after view below out (pending_with_listed (pending_in view below long out) long mid) mid freed owned.0.sound c.args.offset (l1_index_of long.file.header.fields c.args.offset) at owned.1.own c.free_listed.ensures.table c.free_listed.ensures.keeps_rest.header in
+    let writable = subst IsTrue (sym (c.own_l2.ensures.stays.image.writable ∙ c.reach_entry.ensures.stays.image.writable)) c.requires.writable in
+    always_ok c.ensure_l2-2.result (inr (c.ensure_l2-2.ensures.quiet own ∙ c.in_ok-free_listed.ensures.emptied writable))

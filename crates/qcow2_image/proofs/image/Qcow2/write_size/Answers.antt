@@ -13,7 +13,7 @@ pub returns-in-Ok-clause-writes : goal.returns-in-Ok-clause-writes
 returns-in-Ok-clause-writes g c = λ out sound.
     let view = g.S.Storage.view in
     let old = c.args.self.now in
-    let after = c.write_size.new.storage in
+    let after = c.write_size.new.self in
     let asked = storage_of c.will_write.new.self in
     let wrote = subst (λ (v : HeaderView). Changes (view asked) (view (storage_of after)) c.write_size.result (size_written v.fields (view asked).contents)) c.set_size.ensures c.write_size.ensures.written in
     size_is_set view g.F.BackingDisk.backing out old sound c.args.size c.ranges.size.fits after c.write_size.result asked c.will_write.ensures.storage wrote c.write_size.ensures.calls c.in-Ok.field-0 c.in-Ok.is _
@@ -23,7 +23,7 @@ pub returns-in-Ok-clause-resizes : goal.returns-in-Ok-clause-resizes
 returns-in-Ok-clause-resizes g c = λ p sound.
     let view = g.S.Storage.view in
     let old = c.args.self.now in
-    let after = c.write_size.new.storage in
+    let after = c.write_size.new.self in
     let asked = storage_of c.will_write.new.self in
     let wrote = subst (λ (v : HeaderView). Changes (view asked) (view (storage_of after)) c.write_size.result (size_written v.fields (view asked).contents)) c.set_size.ensures c.write_size.ensures.written in
     resizes_so view g.F.BackingDisk.backing p old sound c.args.size c.ranges.size.fits after c.write_size.result asked c.will_write.ensures.storage wrote c.write_size.ensures.calls c.in-Ok.field-0 c.in-Ok.is _
@@ -33,7 +33,7 @@ pub returns-in-Err-clause-writes : goal.returns-in-Err-clause-writes
 returns-in-Err-clause-writes g c = λ out sound.
     let view = g.S.Storage.view in
     let old = c.args.self.now in
-    let after = c.write_size.new.storage in
+    let after = c.write_size.new.self in
     let asked = storage_of c.will_write.new.self in
     let wrote = subst (λ (v : HeaderView). Changes (view asked) (view (storage_of after)) c.write_size.result (size_written v.fields (view asked).contents)) c.set_size.ensures c.write_size.ensures.written in
     let header : c.set_size-in-Err.new.self ≡ old.file.header = c.set_size-in-Err.ensures ∙ ap (λ n. with_fields c.set_size.new.self (with_size c.set_size.new.self.fields n)) c.size-old.ensures ∙ ap (λ (v : HeaderView). with_fields v (with_size v.fields old.file.header.fields.size)) c.set_size.ensures in
@@ -46,7 +46,7 @@ pub returns-in-Err-clause-resizes : goal.returns-in-Err-clause-resizes
 returns-in-Err-clause-resizes g c = λ p sound.
     let view = g.S.Storage.view in
     let old = c.args.self.now in
-    let after = c.write_size.new.storage in
+    let after = c.write_size.new.self in
     let asked = storage_of c.will_write.new.self in
     let wrote = subst (λ (v : HeaderView). Changes (view asked) (view (storage_of after)) c.write_size.result (size_written v.fields (view asked).contents)) c.set_size.ensures c.write_size.ensures.written in
     resizes_refused view g.F.BackingDisk.backing p old sound c.args.size c.ranges.size.fits after c.write_size.result asked c.will_write.ensures.storage wrote c.write_size.ensures.calls _ c.in-Err.refusal refl

@@ -59,7 +59,7 @@ returns-in_err-free_listed-clause-fills g c = λ out sound le whole version.
     let rest = c.rest_of_table.ensures.value in
     let is : c.min-next.result ≡ min c.args.to (min (c.args.from + rest_of_table c.args.self.now.file.header.fields c.args.from) (2 ^ 64 - 1)) = c.min-next.ensures ∙ ap (min to) (c.saturating_add.ensures ∙ ap (λ n. min (from + n) (2 ^ 64 - 1)) rest) in
     let high : c.args.to < 2 ^ 64 = search rules in
-    let part = cleared_fills view below out old mid from next whole.0 (c.in_ok-clear_between.ensures.clears out sound (record {
+    let part = cleared_fills view below out old mid from next (let lt = c.if-to-from.false in let some = c.rest_of_table.ensures.some in omega (arith, is, lt, some, rest, high)) (c.in_ok-clear_between.ensures.reaches out sound) whole.0 (c.in_ok-clear_between.ensures.clears out sound (record {
       begins = whole.0;
       ends = next_whole h sizes.some sizes.entries from to next whole.1 is high;
       within = next_within h sizes.some sizes.entries from to next whole.1 is high;
@@ -98,11 +98,11 @@ returns-clause-fills g c = λ out sound le whole version.
     let rest = c.rest_of_table.ensures.value in
     let is : c.min-next.result ≡ min c.args.to (min (c.args.from + rest_of_table c.args.self.now.file.header.fields c.args.from) (2 ^ 64 - 1)) = c.min-next.ensures ∙ ap (min to) (c.saturating_add.ensures ∙ ap (λ n. min (from + n) (2 ^ 64 - 1)) rest) in
     let high : c.args.to < 2 ^ 64 = search rules in
-    let part = cleared_fills view below out old mid from next whole.0 (c.in_ok-clear_between.ensures.clears out sound (record {
+    let part = cleared_fills view below out old mid from next (let lt = c.if-to-from.false in let some = c.rest_of_table.ensures.some in omega (arith, is, lt, some, rest, high)) (c.in_ok-clear_between.ensures.reaches out sound) whole.0 (c.in_ok-clear_between.ensures.clears out sound (record {
       begins = whole.0;
       ends = next_whole h sizes.some sizes.entries from to next whole.1 is high;
       within = next_within h sizes.some sizes.entries from to next whole.1 is high;
       version = λ _. version;
     })) in
     let listed = subst (λ (x : Pending). ImageInvariant view below x mid out) (all_listed view below mid out) part.sound in
-    fills_stays view below out old mid new 0 from next part (tidy_stays view below mid out new part.sound (c.in_ok-free_listed.ensures.frees (beside view below mid out) out listed))
+    fills_stays view below out old mid new 0 from next part (tidy_stays view below mid out new part.sound (c.in_ok-free_listed.ensures.frees (beside view below mid out) out listed)) c.free_listed.ensures.keeps_rest.header

@@ -2,6 +2,7 @@ use Rattle.std.proofs.Common.{ℕ, List, ◌≡◌, ◌≤◌, ◌∙◌, ap, le
 use Rattle.std.proofs.lemmas.List.{take-replicate}
 use Rattle.image_access.specs.Contents.{overwritten}
 use Rattle.image_access.specs.Moments.{ContentsBecome}
+use Rattle.qcow2_alloc.specs.ImageStorage.{storage_of}
 use Rattle.qcow2_image.specs.declared.preallocation.ZeroWrites.{ZeroWrites}
 use Rattle.qcow2_image.specs.Preallocation.{AreZeros, most_of}
 use Rattle.qcow2_image.proofs.preallocation.ZeroWrites.write.Goals as goal
@@ -14,5 +15,5 @@ returns-in-Plain-clause-written g c = λ honest.
     let zeros = c.in-Plain.zeros in
     let few = subst (λ (w : ZeroWrites). c.args.count ≤ most_of w) c.in-Plain.is c.requires.few in
     let are = subst (λ (w : ZeroWrites). AreZeros w) c.in-Plain.is c.requires.zeros in
-    let contents = (g.S.Storage.view c.args.storage.now).contents in
-    subst (λ (bytes : List ℕ). ContentsBecome c.write.result contents (overwritten contents c.args.at bytes) (g.S.Storage.view c.write.new.self).contents) (ap (take c.args.count) c.deref.ensures.value ∙ first_zeros c.args.count zeros.items few are) (c.write.ensures.written honest)
+    let contents = (g.S.Storage.view (storage_of c.args.storage.now)).contents in
+    subst (λ (bytes : List ℕ). ContentsBecome c.write_data.result contents (overwritten contents c.args.at bytes) (g.S.Storage.view (storage_of c.write_data.new.self)).contents) (ap (take c.args.count) c.deref.ensures.value ∙ first_zeros c.args.count zeros.items few are) (c.write_data.ensures.written honest)

@@ -9,9 +9,9 @@ pub returns-in-Err-clause-err : goal.returns-in-Err-clause-err
 returns-in-Err-clause-err g c =
     let modified : c.args.value.now.is_modified ≡ true = sym c.is_modified.ensures.value ∙ c.if-not-is_modified.false in
     let same_bits = sym c.cluster_bits.ensures.value ∙ c.if-cluster_bits.false ∙ c.cluster_bits-2.ensures.value in
-    let written = rw (c.in-Err.is, same_bits) at (c.write_if_modified.ensures.written modified) in
-    let calls = rw c.in-Err.is at c.write_if_modified.ensures.calls in
+    let written = rw (c.in-Err.is, same_bits) at (c.write_refblock.ensures.written modified) in
+    let calls = rw c.in-Err.is at c.write_refblock.ensures.calls in
     write_fails (λ s. g.S.Storage.view (storage_of s)) c.args.self.now.header.fields.cluster_bits (λ (v : RefBlockView). v.bytes) (λ v. v.is_modified) cleared_rb (IsBlockOf c.args.self.now.header.fields)
-    c.args.store.now c.write_if_modified.new.storage c.args.key c.args.value.now c.in-Err.e
+    c.args.store.now c.write_refblock.new.self c.args.key c.args.value.now c.in-Err.e
     (g.S.Storage.view (storage_of c.will_write.new.self)) (ap g.S.Storage.view c.will_write.ensures.storage)
     modified (c.is_modified.ensures.whole.whole ∙ ap (λ n. 2 ^ n) same_bits) written calls

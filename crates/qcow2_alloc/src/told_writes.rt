@@ -1,0 +1,180 @@
+//! The writes to an image's storage. Each demands that the storage was told before what it is for.
+ghost use Rattle.std.specs.Prelude.{◌≡◌, ◌+◌, ◌*◌, ◌^◌, ◌<◌, false, IfSome, IsFalse, IsOk, IsSome, IsTrue, OnErr, OnOk};
+ghost use Rattle.image_access.specs.Contents.{overwritten, zeroed};
+ghost use Rattle.image_access.specs.Moments.{Calls, Changes};
+ghost use Rattle.std.specs.Int.{w64, to_be_bytes};
+ghost use Rattle.qcow2_metadata.specs.HeaderWrite.{l1_table_pointer_written, reftable_pointer_written, size_written};
+ghost use Rattle.qcow2_metadata.specs.TableBytes.{HasPlace, entry_at};
+ghost use Rattle.qcow2_metadata.specs.EntryTable.{entry_count};
+ghost use Rattle.qcow2_alloc.specs.ImageStorage.{storage_of};
+ghost use Rattle.qcow2_alloc.specs.WriteKinds.{IsToldData, IsToldL2Table, IsToldRefBlock, IsToldOther};
+
+use crate::ImageStorage;
+use image_access::{Storage, StorageError};
+use qcow2_metadata::{Header, HostCluster, L1Table, L2Table, RefBlock, RefTable};
+
+impl<S: Storage> ImageStorage<S> {
+    /// Writes a guest's bytes.
+    pub fn write_data(&mut self, at: u64, bytes: &[u8]) -> Result<(), StorageError>
+        requires { IsToldData self.old }
+        ensures written { Changes (S.view (storage_of self.old)) (S.view (storage_of self.new)) result (overwritten (S.view (storage_of self.old)).contents at bytes.now) }
+        ensures calls { Calls (S.view (storage_of self.old)) (S.view (storage_of self.new)) result }
+    {
+        self.write(at, bytes)
+    }
+
+    /// Writes zeros as a guest's bytes. The place that they take may be given back.
+    pub fn write_zero_data(&mut self, at: u64, length: u64) -> Result<(), StorageError>
+        requires { IsToldData self.old }
+        ensures zeroed { Changes (S.view (storage_of self.old)) (S.view (storage_of self.new)) result (zeroed (S.view (storage_of self.old)).contents at length) }
+        ensures calls { Calls (S.view (storage_of self.old)) (S.view (storage_of self.new)) result }
+    {
+        self.write_zeroes(at, length)
+    }
+
+    /// The same, and the place that they take stays taken where it can.
+    pub fn write_allocated_zero_data(&mut self, at: u64, length: u64) -> Result<(), StorageError>
+        requires { IsToldData self.old }
+        ensures zeroed { Changes (S.view (storage_of self.old)) (S.view (storage_of self.new)) result (zeroed (S.view (storage_of self.old)).contents at length) }
+        ensures calls { Calls (S.view (storage_of self.old)) (S.view (storage_of self.new)) result }
+    {
+        self.write_allocated_zeroes(at, length)
+    }
+
+    /// Writes an L2 table of the cache, if it is modified.
+    pub fn write_l2_table(
+        &mut self,
+        table: &mut L2Table,
+        cluster: HostCluster,
+    ) -> Result<(), StorageError>
+        requires place { HasPlace table.old.cluster_bits cluster }
+        requires told { IsToldL2Table self.old }
+        ensures written { IsTrue table.old.is_modified → Changes (S.view (storage_of self.old)) (S.view (storage_of self.new)) result
+            (overwritten (S.view (storage_of self.old)).contents (cluster * 2 ^ table.old.cluster_bits) table.old.bytes) }
+        ensures idle { IsFalse table.old.is_modified → IsOk result × (self.new ≡ self.old) }
+        ensures calls { Calls (S.view (storage_of self.old)) (S.view (storage_of self.new)) result }
+        ensures ok { OnOk result (table.new ≡ record table.old { is_modified = false }) }
+        ensures err { OnErr result (table.new ≡ table.old) }
+    {
+        table.write_if_modified(self, cluster)
+    }
+
+    /// Writes a refblock of the cache, if it is modified.
+    pub fn write_refblock(
+        &mut self,
+        block: &mut RefBlock,
+        cluster: HostCluster,
+    ) -> Result<(), StorageError>
+        requires place { HasPlace block.old.cluster_bits cluster }
+        requires told { IsToldRefBlock self.old }
+        ensures written { IsTrue block.old.is_modified → Changes (S.view (storage_of self.old)) (S.view (storage_of self.new)) result
+            (overwritten (S.view (storage_of self.old)).contents (cluster * 2 ^ block.old.cluster_bits) block.old.bytes) }
+        ensures idle { IsFalse block.old.is_modified → IsOk result × (self.new ≡ self.old) }
+        ensures calls { Calls (S.view (storage_of self.old)) (S.view (storage_of self.new)) result }
+        ensures ok { OnOk result (block.new ≡ record block.old { is_modified = false }) }
+        ensures err { OnErr result (block.new ≡ block.old) }
+    {
+        block.write_if_modified(self, cluster)
+    }
+
+    /// Writes a new L2 table to its cluster.
+    pub fn write_new_l2_table(&mut self, table: &L2Table) -> Result<(), StorageError>
+        requires placed { IsSome table.now.cluster }
+        requires told { IsToldOther self.old }
+        ensures written { IfSome table.now.cluster (λ cluster. Changes (S.view (storage_of self.old)) (S.view (storage_of self.new)) result
+            (overwritten (S.view (storage_of self.old)).contents (cluster * 2 ^ table.now.cluster_bits) table.now.bytes)) }
+        ensures calls { Calls (S.view (storage_of self.old)) (S.view (storage_of self.new)) result }
+    {
+        table.write(self)
+    }
+
+    /// Writes a new refblock to its cluster.
+    pub fn write_new_refblock(&mut self, block: &RefBlock) -> Result<(), StorageError>
+        requires placed { IsSome block.now.cluster }
+        requires told { IsToldOther self.old }
+        ensures written { IfSome block.now.cluster (λ cluster. Changes (S.view (storage_of self.old)) (S.view (storage_of self.new)) result
+            (overwritten (S.view (storage_of self.old)).contents (cluster * 2 ^ block.now.cluster_bits) block.now.bytes)) }
+        ensures calls { Calls (S.view (storage_of self.old)) (S.view (storage_of self.new)) result }
+    {
+        block.write(self)
+    }
+
+    /// Writes an L1 table to its clusters.
+    pub fn write_l1_table(&mut self, table: &L1Table) -> Result<(), StorageError>
+        requires placed { IsSome table.now.cluster }
+        requires told { IsToldOther self.old }
+        ensures written { IfSome table.now.cluster (λ cluster. Changes (S.view (storage_of self.old)) (S.view (storage_of self.new)) result
+            (overwritten (S.view (storage_of self.old)).contents (cluster * 2 ^ table.now.cluster_bits) table.now.bytes)) }
+        ensures calls { Calls (S.view (storage_of self.old)) (S.view (storage_of self.new)) result }
+    {
+        table.write(self)
+    }
+
+    /// Writes an entry of an L1 table.
+    pub fn write_l1_entry(&mut self, table: &L1Table, index: usize) -> Result<(), StorageError>
+        requires placed { IsSome table.now.cluster }
+        requires within { index < entry_count table.now }
+        requires told { IsToldOther self.old }
+        ensures written { IfSome table.now.cluster (λ cluster. Changes (S.view (storage_of self.old)) (S.view (storage_of self.new)) result
+            (overwritten (S.view (storage_of self.old)).contents (cluster * 2 ^ table.now.cluster_bits + 8 * index) (to_be_bytes w64 (entry_at table.now.bytes index)))) }
+        ensures fits { entry_at table.now.bytes index < 2 ^ 64 }
+        ensures calls { Calls (S.view (storage_of self.old)) (S.view (storage_of self.new)) result }
+    {
+        table.write_entry(self, index)
+    }
+
+    /// Writes a reftable to its clusters.
+    pub fn write_reftable(&mut self, table: &RefTable) -> Result<(), StorageError>
+        requires placed { IsSome table.now.cluster }
+        requires told { IsToldOther self.old }
+        ensures written { IfSome table.now.cluster (λ cluster. Changes (S.view (storage_of self.old)) (S.view (storage_of self.new)) result
+            (overwritten (S.view (storage_of self.old)).contents (cluster * 2 ^ table.now.cluster_bits) table.now.bytes)) }
+        ensures calls { Calls (S.view (storage_of self.old)) (S.view (storage_of self.new)) result }
+    {
+        table.write(self)
+    }
+
+    /// Writes an entry of a reftable.
+    pub fn write_reftable_entry(
+        &mut self,
+        table: &RefTable,
+        index: usize,
+    ) -> Result<(), StorageError>
+        requires placed { IsSome table.now.cluster }
+        requires within { index < entry_count table.now }
+        requires told { IsToldOther self.old }
+        ensures written { IfSome table.now.cluster (λ cluster. Changes (S.view (storage_of self.old)) (S.view (storage_of self.new)) result
+            (overwritten (S.view (storage_of self.old)).contents (cluster * 2 ^ table.now.cluster_bits + 8 * index) (to_be_bytes w64 (entry_at table.now.bytes index)))) }
+        ensures fits { entry_at table.now.bytes index < 2 ^ 64 }
+        ensures calls { Calls (S.view (storage_of self.old)) (S.view (storage_of self.new)) result }
+    {
+        table.write_entry(self, index)
+    }
+
+    /// Writes the place and the length of the L1 table.
+    pub fn write_l1_table_pointer(&mut self, header: &Header) -> Result<(), StorageError>
+        requires { IsToldOther self.old }
+        ensures written { Changes (S.view (storage_of self.old)) (S.view (storage_of self.new)) result (l1_table_pointer_written header.now.fields (S.view (storage_of self.old)).contents) }
+        ensures calls { Calls (S.view (storage_of self.old)) (S.view (storage_of self.new)) result }
+    {
+        header.write_l1_table_pointer(self)
+    }
+
+    /// Writes the place and the length of the reftable.
+    pub fn write_reftable_pointer(&mut self, header: &Header) -> Result<(), StorageError>
+        requires { IsToldOther self.old }
+        ensures written { Changes (S.view (storage_of self.old)) (S.view (storage_of self.new)) result (reftable_pointer_written header.now.fields (S.view (storage_of self.old)).contents) }
+        ensures calls { Calls (S.view (storage_of self.old)) (S.view (storage_of self.new)) result }
+    {
+        header.write_reftable_pointer(self)
+    }
+
+    /// Writes the disk's size.
+    pub fn write_size(&mut self, header: &Header) -> Result<(), StorageError>
+        requires { IsToldOther self.old }
+        ensures written { Changes (S.view (storage_of self.old)) (S.view (storage_of self.new)) result (size_written header.now.fields (S.view (storage_of self.old)).contents) }
+        ensures calls { Calls (S.view (storage_of self.old)) (S.view (storage_of self.new)) result }
+    {
+        header.write_size(self)
+    }
+}

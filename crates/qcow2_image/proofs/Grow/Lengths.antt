@@ -1,0 +1,115 @@
+-- How many entries the L1 table has behind the parts of a call.
+use Rattle.std.proofs.Common.{◌≡◌, inl, inr, ℕ, ◌+◌, ◌-◌, ◌*◌, ◌/◌, ◌%◌, ◌<◌, ◌≤◌, List, Option, max, sym, ap, ◌∙◌, subst, arith}
+use Rattle.std.specs.Prelude.{OnOk, Result, Ok, Err}
+use Rattle.std.proofs.Math.Nat.{div-zero}
+use Rattle.std.proofs.lemmas.Bool.{cases_lt}
+use Rattle.std.proofs.lemmas.Nat.{div-add-mod', div-mul-add, mod_below, pow_pos}
+use Rattle.image_access.specs.Backing.{BackingView}
+use Rattle.image_access.specs.Moments.{StorageView}
+use Rattle.qcow2_metadata.specs.declared.header.HeaderFields.{HeaderFields}
+use Rattle.qcow2_metadata.specs.Entries.{host_offset, l1_entry}
+use Rattle.qcow2_metadata.specs.EntryTable.{EntryTableView, entry_count}
+use Rattle.qcow2_metadata.specs.Header.{HeaderView, cluster_size, entries_per_cluster, rounded_up}
+use Rattle.qcow2_metadata.specs.TableBytes.{entry_at}
+use Rattle.qcow2_laws.specs.CrashInvariant.{Pending}
+use Rattle.qcow2_laws.specs.Unseen.{KeepsFormat}
+use Rattle.qcow2_laws.proofs.Places.{div_mono, has_table}
+use Rattle.qcow2_alloc.specs.ImageFile.{KeepsHeader, contents_in}
+use Rattle.qcow2_alloc.specs.declared.error.ImageError.{ImageError}
+use Rattle.qcow2_image.specs.declared.image.Qcow2.{Qcow2}
+use Rattle.qcow2_image.specs.declared.prepared.Prepared.{Prepared}
+use Rattle.qcow2_image.specs.Found.{l1_index_of}
+use Rattle.qcow2_image.specs.ImageInvariant.{ImageInvariant}
+use Rattle.qcow2_image.specs.L1Entries.{ReachesOffset, StaysAsLong, HasOwnTable}
+use Rattle.qcow2_image.specs.MovedTables.{MovesTables}
+use Rattle.qcow2_image.specs.UnseenSteps.{NamesOwn}
+
+-- what an answer implies
+pub on_ok : {A P Q : Type 0} (r : Result A ImageError) → (P → Q) → OnOk r P → OnOk r Q
+on_ok (Ok x) so is = so is
+on_ok (Err e) so is = tt
+
+-- a header of which at most the reftable moved
+pub kept_length : (v v' : HeaderView) → KeepsHeader v v' → v'.fields.l1_entries ≡ v.fields.l1_entries
+kept_length v v' keeps = ap (λ (x : HeaderView). x.fields.l1_entries) keeps
+
+pub same_length : (v v' : HeaderView) → v' ≡ v → v'.fields.l1_entries ≡ v.fields.l1_entries
+same_length v v' same = ap (λ (x : HeaderView). x.fields.l1_entries) same
+
+-- ---- offsets
+pub index_moved : (h h' : HeaderFields) (offset : ℕ) → MovesTables h h' → l1_index_of h' offset ≡ l1_index_of h offset
+index_moved h h' offset moves = ap (λ (x : HeaderFields). l1_index_of x offset) moves
+
+index_rising : (h : HeaderFields) (a b : ℕ) → a ≤ b → l1_index_of h a ≤ l1_index_of h b
+index_rising h a b le = elim (cases_lt 0 (entries_per_cluster h)) [
+  | inl rows ↦ div_mono (a / cluster_size h) (b / cluster_size h) (entries_per_cluster h) rows (div_mono a b (cluster_size h) (pow_pos h.cluster_bits) le)
+  | inr none ↦
+      let no_rows : entries_per_cluster h ≡ 0 = omega (arith, none) in
+      let first : l1_index_of h a ≡ 0 = ap (λ n. a / cluster_size h / n) no_rows ∙ div-zero (a / cluster_size h) in
+      omega (arith, first)
+]
+
+-- the last bytes of a size and of its last cluster lie in one cluster
+last_cluster : (cs n : ℕ) → 0 < cs → 0 < n → (rounded_up cs n - 1) / cs ≡ (n - 1) / cs
+last_cluster cs n some any =
+    let k = (n - 1) / cs in
+    let parts : (n - 1) / cs * cs + (n - 1) % cs ≡ n - 1 = div-add-mod' (n - 1) cs in
+    let below = mod_below (n - 1) cs some in
+    let at : n + cs - 1 ≡ (k + 1) * cs + (n - 1) % cs = omega (arith, parts, any, some) in
+    let up : (n + cs - 1) / cs ≡ (n - 1) / cs + 1 = ap (λ x. x / cs) at ∙ div-mul-add (k + 1) cs ((n - 1) % cs) below in
+    let end : rounded_up cs n - 1 ≡ (n - 1) / cs * cs + (cs - 1) = let e : rounded_up cs n ≡ (k + 1) * cs = ap (λ x. x * cs) up in omega (arith, e, some) in
+    ap (λ x. x / cs) end ∙ div-mul-add k cs (cs - 1) (omega (arith, some))
+
+-- ---- parts, one after another
+pub stays_long_then : (h h' h'' : HeaderFields) (to : ℕ) → MovesTables h h' → StaysAsLong to h h' → StaysAsLong to h' h'' → StaysAsLong to h h''
+stays_long_then h h' h'' to moves first then within =
+    let same = first within in
+    let index = index_moved h h' (to - 1) moves in
+    then (omega (arith, within, same, index)) ∙ same
+
+pub stays_long_shorter : (h h' : HeaderFields) (mid to : ℕ) → mid ≤ to → StaysAsLong mid h h' → StaysAsLong to h h'
+stays_long_shorter h h' mid to le stays within =
+    let rising = index_rising h (mid - 1) (to - 1) (omega (arith, le)) in
+    stays (omega (arith, within, rising))
+
+-- a call that reaches an offset leaves an L1 table that reached further
+pub reaches_stays : (h h' : HeaderFields) (offset to : ℕ) → offset < to → ReachesOffset offset h h' → StaysAsLong to h h'
+reaches_stays h h' offset to lt is within =
+    let rising = index_rising h offset (to - 1) (omega (arith, lt)) in
+    omega (arith, is, within, rising)
+
+-- where a call began, only the reftable may have moved
+pub reaches_begun : (h h' h'' : HeaderFields) (offset : ℕ) → KeepsFormat h h' → ReachesOffset offset h' h'' → ReachesOffset offset h h''
+reaches_begun h h' h'' offset keeps is = is ∙ ap (λ (x : HeaderFields). max x.l1_entries (l1_index_of x offset + 1)) keeps
+
+-- one that reaches the last byte of a size reaches that of its last cluster, and stays
+pub reaches_on : (h h' h'' : HeaderFields) (size : ℕ) → 0 < size → MovesTables h h' → ReachesOffset (size - 1) h h' → StaysAsLong (rounded_up (cluster_size h') size) h' h'' → ReachesOffset (size - 1) h h''
+reaches_on h h' h'' size any moves is stays =
+    let index = index_moved h h' (size - 1) moves in
+    let last : l1_index_of h' (rounded_up (cluster_size h') size - 1) ≡ l1_index_of h' (size - 1) = ap (λ x. x / entries_per_cluster h') (last_cluster (cluster_size h') size (pow_pos h'.cluster_bits) any) in
+    stays (omega (arith, is, index, last)) ∙ is
+
+module _ {S F : Type 0} (view : S → StorageView) (backing : F → BackingView) (out : List (Option Prepared)) where
+  -- what the L1 tables in memory have, the headers tell
+  pub reaches_told : (p p' : Pending) (old new : Qcow2 S F) (offset : ℕ) → ImageInvariant view backing p old out → ImageInvariant view backing p' new out → entry_count new.l1_table ≡ max (entry_count old.l1_table) (l1_index_of old.file.header.fields offset + 1)
+      → ReachesOffset offset old.file.header.fields new.file.header.fields
+  reaches_told p p' old new offset was is length =
+      let a = was.l1_table.count in
+      let b = is.l1_table.count in
+      omega (arith, a, b, length)
+
+  module _ (p : Pending) (image : Qcow2 S F) (sound : ImageInvariant view backing p image out) (offset : ℕ) where
+    -- the L1 table reaches an offset that has an L2 table of its own
+    pub own_reached : (h' : HeaderFields) → HasOwnTable image offset → h'.l1_entries ≡ image.file.header.fields.l1_entries → ReachesOffset offset image.file.header.fields h'
+    own_reached h' own same =
+        let h = image.file.header.fields in
+        let lt = has_table h (contents_in view image.file) (l1_index_of h offset) (λ none. own.0 (ap host_offset (sound.l1_table.entries (l1_index_of h offset)) ∙ none)) in
+        omega (arith, lt, same)
+
+  -- the L2 table that an L1 entry names on the storage, marked copied, is one of its own still once clusters were freed
+  pub own_after : (p : Pending) (mid freed : Qcow2 S F) → ImageInvariant view backing p mid out → (offset index : ℕ) → l1_index_of mid.file.header.fields offset ≡ index → NamesOwn (l1_entry mid.file.header.fields (contents_in view mid.file) index)
+      → freed.l1_table ≡ mid.l1_table → freed.file.header ≡ mid.file.header → HasOwnTable freed offset
+  own_after p mid freed sound offset index at own table header =
+      let here : NamesOwn (entry_at mid.l1_table.bytes index) = subst NamesOwn (sym (sound.l1_table.entries index)) own in
+      let same : l1_index_of freed.file.header.fields offset ≡ index = ap (λ (v : HeaderView). l1_index_of v.fields offset) header ∙ at in
+      subst (λ (t : EntryTableView). NamesOwn (entry_at t.bytes (l1_index_of freed.file.header.fields offset))) (sym table) (subst (λ i. NamesOwn (entry_at mid.l1_table.bytes i)) (sym same) here)

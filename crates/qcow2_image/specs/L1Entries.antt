@@ -1,0 +1,25 @@
+-- How many entries the L1 table has, and whether it names an L2 table of its own for an offset.
+use Rattle.std.specs.Prelude.{ℕ, ◌+◌, ◌-◌, ◌≡◌, ◌⊎◌, ◌<◌, max}
+use Rattle.qcow2_metadata.specs.declared.header.HeaderFields.{HeaderFields}
+use Rattle.qcow2_metadata.specs.TableBytes.{entry_at}
+use Rattle.qcow2_image.specs.declared.image.Qcow2.{Qcow2}
+use Rattle.qcow2_image.specs.Found.{l1_index_of}
+use Rattle.qcow2_image.specs.Image.{HasNothingToFree}
+use Rattle.qcow2_image.specs.UnseenSteps.{NamesOwn}
+
+-- The L1 table has the entries that it had, and those up to that of an offset, and not one more.
+abbrev pub ReachesOffset : ℕ → HeaderFields → HeaderFields → Type 0
+ReachesOffset offset h h' = h'.l1_entries ≡ max h.l1_entries (l1_index_of h offset + 1)
+
+-- An L1 table that has an entry for the last byte before an offset stays as long as it is.
+abbrev pub StaysAsLong : ℕ → HeaderFields → HeaderFields → Type 0
+StaysAsLong to h h' = l1_index_of h (to - 1) < h.l1_entries → h'.l1_entries ≡ h.l1_entries
+
+module _ {S F : Type 0} where
+  -- the L1 table in memory names an L2 table for an offset that is marked copied
+  abbrev pub HasOwnTable : Qcow2 S F → ℕ → Type 0
+  HasOwnTable image offset = NamesOwn (entry_at image.l1_table.bytes (l1_index_of image.file.header.fields offset))
+
+  -- where that wasn't so, all clusters that were to be freed are
+  abbrev pub HadOwnTableOrFrees : Qcow2 S F → Qcow2 S F → ℕ → Type 0
+  HadOwnTableOrFrees old new offset = HasOwnTable old offset ⊎ HasNothingToFree new
