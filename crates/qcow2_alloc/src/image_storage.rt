@@ -24,7 +24,7 @@ pub struct ImageStorage<S: Storage> {
 }
 
 impl<S: Storage> ImageStorage<S> {
-    ghost use Rattle.qcow2_alloc.specs.ImageStorage.{storage_of, kind_of, is_changed_of};
+    ghost use Rattle.qcow2_alloc.specs.ImageStorage.{storage_of, kind_of, is_changed_of, NotesWrite};
     ghost use Rattle.std.specs.Prelude.{true, false};
 
     /// Nothing is written yet.
@@ -82,18 +82,18 @@ impl<S: Storage> ImageStorage<S> {
         self.is_changed
     }
 
-    /// Notes a change that isn't on the storage yet, as of a cached table.
+    /// Notes a change.
     pub fn note_change(&mut self)
-        ensures changed { is_changed_of self.new ≡ true }
-        ensures storage { storage_of self.new ≡ storage_of self.old }
+        ensures { self.new ≡ record self.old { is_changed = true } }
     {
         self.is_changed = true;
     }
 
-    // A change that was made, or may have been.
+    // Notes a change that was made, or may have been. Where memory was refused there was none.
     fn noted(&mut self, done: Result<(), StorageError>) -> Result<(), StorageError>
         ensures answer { result ≡ done }
         ensures storage { storage_of self.new ≡ storage_of self.old }
+        ensures changed { NotesWrite self.old self.new done }
     {
         match done {
             Err(StorageError::Memory) => {}
@@ -104,6 +104,10 @@ impl<S: Storage> ImageStorage<S> {
 }
 
 impl<S: Storage> Storage for ImageStorage<S> {
+    ghost use Rattle.image_access.specs.Contents.{overwritten, resized, zeroed};
+    ghost use Rattle.image_access.specs.Moments.{Calls, Changes};
+    ghost use Rattle.qcow2_alloc.specs.ImageStorage.{storage_of, NotesWrite};
+
     ghost view = { λ s. S.view s.storage };
 
     ghost counts_now = { λ s t h le. S.counts_now s.storage t h le };
@@ -122,22 +126,38 @@ impl<S: Storage> Storage for ImageStorage<S> {
         self.storage.read(at, buf)
     }
 
-    fn write(&mut self, at: u64, bytes: &[u8]) -> Result<(), StorageError> {
+    fn write(&mut self, at: u64, bytes: &[u8]) -> Result<(), StorageError>
+        ensures written { Changes (S.view (storage_of self.old)) (S.view (storage_of self.new)) result (overwritten (S.view (storage_of self.old)).contents at bytes.now) }
+        ensures calls { Calls (S.view (storage_of self.old)) (S.view (storage_of self.new)) result }
+        ensures noted { NotesWrite self.old self.new result }
+    {
         let done = self.storage.write(at, bytes);
         self.noted(done)
     }
 
-    fn write_zeroes(&mut self, at: u64, length: u64) -> Result<(), StorageError> {
+    fn write_zeroes(&mut self, at: u64, length: u64) -> Result<(), StorageError>
+        ensures zeroed { Changes (S.view (storage_of self.old)) (S.view (storage_of self.new)) result (zeroed (S.view (storage_of self.old)).contents at length) }
+        ensures calls { Calls (S.view (storage_of self.old)) (S.view (storage_of self.new)) result }
+        ensures noted { NotesWrite self.old self.new result }
+    {
         let done = self.storage.write_zeroes(at, length);
         self.noted(done)
     }
 
-    fn write_allocated_zeroes(&mut self, at: u64, length: u64) -> Result<(), StorageError> {
+    fn write_allocated_zeroes(&mut self, at: u64, length: u64) -> Result<(), StorageError>
+        ensures zeroed { Changes (S.view (storage_of self.old)) (S.view (storage_of self.new)) result (zeroed (S.view (storage_of self.old)).contents at length) }
+        ensures calls { Calls (S.view (storage_of self.old)) (S.view (storage_of self.new)) result }
+        ensures noted { NotesWrite self.old self.new result }
+    {
         let done = self.storage.write_allocated_zeroes(at, length);
         self.noted(done)
     }
 
-    fn resize(&mut self, size: u64, preallocate: StoragePreallocate) -> Result<(), StorageError> {
+    fn resize(&mut self, size: u64, preallocate: StoragePreallocate) -> Result<(), StorageError>
+        ensures resized { Changes (S.view (storage_of self.old)) (S.view (storage_of self.new)) result (resized (S.view (storage_of self.old)).contents size) }
+        ensures calls { Calls (S.view (storage_of self.old)) (S.view (storage_of self.new)) result }
+        ensures noted { NotesWrite self.old self.new result }
+    {
         let done = self.storage.resize(size, preallocate);
         self.noted(done)
     }

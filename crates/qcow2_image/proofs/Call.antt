@@ -3,6 +3,7 @@ pub mod Called
 pub mod Answers
 pub mod Answered
 pub mod MetErrors
+pub mod Marked
 pub mod Stepped
 pub mod Settled
 pub mod Refused

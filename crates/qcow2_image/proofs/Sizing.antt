@@ -1,4 +1,5 @@
 pub mod SizeWritten
+pub mod Noted
 pub mod Tails
 pub mod Turns
 pub mod Shrinking

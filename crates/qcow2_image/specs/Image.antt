@@ -1,10 +1,10 @@
 -- What a contract sees of an open image.
-use Rattle.std.specs.Prelude.{◌≡◌, ℕ, Bool, [], is_some}
+use Rattle.std.specs.Prelude.{◌≡◌, ◌||◌, ℕ, Bool, [], is_some}
 use Rattle.std.specs.Option.{option_map_or}
 use Rattle.qcow2_metadata.specs.Header.{has_data_file}
 use Rattle.qcow2_alloc.specs.declared.allocation.Allocator.{Allocator}
 use Rattle.qcow2_alloc.specs.ImageFile.{KeepsHeader}
-use Rattle.qcow2_alloc.specs.ImageStorage.{storage_of}
+use Rattle.qcow2_alloc.specs.ImageStorage.{is_changed_of, storage_of}
 use Rattle.qcow2_image.specs.declared.image.Qcow2.{Qcow2}
 
 module _ {S F : Type 0} where
@@ -19,6 +19,14 @@ module _ {S F : Type 0} where
   -- an earlier call marked it as failed
   abbrev pub is_failed : Qcow2 S F → Bool
   is_failed image = image.is_failed
+
+  -- since the call began, a change of a table, of a count or of the storage was noted
+  abbrev pub has_noted_change : Qcow2 S F → Bool
+  has_noted_change image = is_changed_of image.file.storage || image.file.caches.is_changed
+
+  -- the same image, with other marks: whether the storage noted a change, and whether it is failed
+  abbrev pub with_marks : Qcow2 S F → (noted failed : Bool) → Qcow2 S F
+  with_marks image noted failed = record image { is_failed = failed; file = record image.file { storage = record image.file.storage { is_changed = noted } } }
 
   -- the size of the guest's disk
   abbrev pub size_of : Qcow2 S F → ℕ

@@ -1,11 +1,11 @@
 -- When the calls on an image are refused, and what a refusal leaves.
-use Rattle.std.specs.Prelude.{◌≡◌, ◌⊎◌, ℕ, ◌+◌, ◌==◌, ◌&&◌, Bool, true, not, nat_lt, Option, Some, None, Result, Ok, Err, if◌then◌else◌}
+use Rattle.std.specs.Prelude.{◌≡◌, ◌⊎◌, ℕ, ◌+◌, ◌==◌, ◌&&◌, ◌||◌, Bool, true, not, nat_lt, Option, Some, None, Result, Ok, Err, if◌then◌else◌}
 use Rattle.std.specs.Option.{option_or}
 use Rattle.qcow2_alloc.specs.ImageError.{IsFault}
 use Rattle.qcow2_alloc.specs.declared.error.ImageError.{ImageError}
 use Rattle.qcow2_alloc.specs.declared.error.ImageError.TheVariants as I
 use Rattle.qcow2_image.specs.declared.image.Qcow2.{Qcow2}
-use Rattle.qcow2_image.specs.Image.{HasNothingToFree, is_failed, is_external, is_writable, size_of, number_of}
+use Rattle.qcow2_image.specs.Image.{HasNothingToFree, has_noted_change, is_failed, is_external, is_writable, size_of, number_of}
 
 -- a refusal, where a test says so
 abbrev pub refuse_if : Bool → ImageError → Option ImageError
@@ -65,12 +65,21 @@ IsMetPreparing e = IsMet e ⊎ (e ≡ I.TablePrepared)
 abbrev pub FreesRefused : {S F : Type 0} → Qcow2 S F → ImageError → Type 0
 FreesRefused new e = IsFault e ⊎ ((e ≡ I.TablePrepared) ⊎ HasNothingToFree new)
 
--- a failing storage marks the image as failed, want of memory may, and nothing else does
-abbrev pub failed_after : ImageError → Bool → Bool → Type 0
-failed_after I.Storage before now = now ≡ true
-failed_after I.Memory before now = (now ≡ before) ⊎ (now ≡ true)
-failed_after e before now = now ≡ before
+-- A failing storage marks the image as failed, and so does want of memory where a change was noted. Nothing else does.
+abbrev pub failed_after : ImageError → (before noted now : Bool) → Type 0
+failed_after I.Storage before noted now = now ≡ true
+failed_after I.Memory before noted now = now ≡ (before || noted)
+failed_after e before noted now = now ≡ before
 
-abbrev pub Marks : {A : Type 0} → Result A ImageError → Bool → Bool → Type 0
-Marks (Ok _) before now = now ≡ before
-Marks (Err e) before now = failed_after e before now
+abbrev pub failed_by : {A : Type 0} → Result A ImageError → (before noted now : Bool) → Type 0
+failed_by (Ok _) before noted now = now ≡ before
+failed_by (Err e) before noted now = failed_after e before noted now
+
+module _ {S F : Type 0} (old new : Qcow2 S F) where
+  -- a call marks the image as failed exactly so, by what was noted in it
+  abbrev pub Marks : {A : Type 0} → Result A ImageError → Type 0
+  Marks result = failed_by result (is_failed old) (has_noted_change new) (is_failed new)
+
+  -- so does one that is refused
+  abbrev pub MarksRefused : ImageError → Type 0
+  MarksRefused e = failed_after e (is_failed old) (has_noted_change new) (is_failed new)

@@ -112,7 +112,7 @@ impl<S: Storage, F: WrappedFormat<S>> Qcow2<S, F> {
         ensures early { IfSome (refuses_to_clear self.old offset length Clearance.Uncovered) (λ e. (result ≡ Err e) × (self.new ≡ self.old)) }
         ensures late { refuses_to_clear self.old offset length Clearance.Uncovered ≡ None → IfErr result IsMetPreparing }
         ensures nothing { refuses_to_clear self.old offset length Clearance.Uncovered ≡ None → to_in self.old offset length ≤ from_in self.old offset length → (result ≡ Ok (from_in self.old offset length, 0)) × (self.new ≡ self.old) }
-        ensures marks { Marks result (is_failed self.old) (is_failed self.new) }
+        ensures marks { Marks self.old self.new result }
         ensures image { IsSameImage self.old self.new }
         ensures under { refuses_to_clear self.old offset length Clearance.Uncovered ≡ None → from_in self.old offset length < to_in self.old offset length → (out : List (Option Prepared)) → (abstract_of S.view F.backing self.old out).is_sound
             → IfErr result (λ e. e ≡ TablePrepared → IsUnderMapping self.old.file.header.fields (from_in self.old offset length) out) × IfOk result (λ range. IsUnderMapping self.old.file.header.fields (from_in self.old offset length) out → ⊥) }
@@ -136,7 +136,7 @@ impl<S: Storage, F: WrappedFormat<S>> Qcow2<S, F> {
         ensures early { IfSome (refuses_to_clear self.old offset length Clearance.Zeros) (λ e. (result ≡ Err e) × (self.new ≡ self.old)) }
         ensures late { refuses_to_clear self.old offset length Clearance.Zeros ≡ None → IfErr result IsMetPreparing }
         ensures nothing { refuses_to_clear self.old offset length Clearance.Zeros ≡ None → to_in self.old offset length ≤ from_in self.old offset length → (result ≡ Ok (from_in self.old offset length, 0)) × (self.new ≡ self.old) }
-        ensures marks { Marks result (is_failed self.old) (is_failed self.new) }
+        ensures marks { Marks self.old self.new result }
         ensures image { IsSameImage self.old self.new }
         ensures under { refuses_to_clear self.old offset length Clearance.Zeros ≡ None → from_in self.old offset length < to_in self.old offset length → (out : List (Option Prepared)) → (abstract_of S.view F.backing self.old out).is_sound
             → IfErr result (λ e. e ≡ TablePrepared → IsUnderMapping self.old.file.header.fields (from_in self.old offset length) out) × IfOk result (λ range. IsUnderMapping self.old.file.header.fields (from_in self.old offset length) out → ⊥) }
@@ -160,7 +160,7 @@ impl<S: Storage, F: WrappedFormat<S>> Qcow2<S, F> {
         ensures early { IfSome (refuses_to_clear self.old offset length Clearance.Zeros) (λ e. (result ≡ Err e) × (self.new ≡ self.old)) }
         ensures late { refuses_to_clear self.old offset length Clearance.Zeros ≡ None → IfErr result IsMetPreparing }
         ensures nothing { refuses_to_clear self.old offset length Clearance.Zeros ≡ None → to_in self.old offset length ≤ from_in self.old offset length → (result ≡ Ok (from_in self.old offset length, 0)) × (self.new ≡ self.old) }
-        ensures marks { Marks result (is_failed self.old) (is_failed self.new) }
+        ensures marks { Marks self.old self.new result }
         ensures image { IsSameImage self.old self.new }
         ensures under { refuses_to_clear self.old offset length Clearance.Zeros ≡ None → from_in self.old offset length < to_in self.old offset length → (out : List (Option Prepared)) → (abstract_of S.view F.backing self.old out).is_sound
             → IfErr result (λ e. e ≡ TablePrepared → IsUnderMapping self.old.file.header.fields (from_in self.old offset length) out) × IfOk result (λ range. IsUnderMapping self.old.file.header.fields (from_in self.old offset length) out → ⊥) }
@@ -184,7 +184,7 @@ impl<S: Storage, F: WrappedFormat<S>> Qcow2<S, F> {
         ensures early { IfSome (refuses_to_clear self.old offset length Clearance.KeptZeros) (λ e. (result ≡ Err e) × (self.new ≡ self.old)) }
         ensures late { refuses_to_clear self.old offset length Clearance.KeptZeros ≡ None → IfErr result IsMetPreparing }
         ensures nothing { refuses_to_clear self.old offset length Clearance.KeptZeros ≡ None → to_in self.old offset length ≤ from_in self.old offset length → (result ≡ Ok (from_in self.old offset length, 0)) × (self.new ≡ self.old) }
-        ensures marks { Marks result (is_failed self.old) (is_failed self.new) }
+        ensures marks { Marks self.old self.new result }
         ensures image { IsSameImage self.old self.new }
         ensures under { refuses_to_clear self.old offset length Clearance.KeptZeros ≡ None → from_in self.old offset length < to_in self.old offset length → (out : List (Option Prepared)) → (abstract_of S.view F.backing self.old out).is_sound
             → IfErr result (λ e. e ≡ TablePrepared → IsUnderMapping self.old.file.header.fields (from_in self.old offset length) out) × IfOk result (λ range. IsUnderMapping self.old.file.header.fields (from_in self.old offset length) out → ⊥) }
@@ -209,7 +209,7 @@ impl<S: Storage, F: WrappedFormat<S>> Qcow2<S, F> {
         ensures early { IfSome (refuses_to_clear self.old offset length how) (λ e. (result ≡ Err e) × (self.new ≡ self.old)) }
         ensures late { refuses_to_clear self.old offset length how ≡ None → IfErr result IsMetPreparing }
         ensures nothing { refuses_to_clear self.old offset length how ≡ None → to_in self.old offset length ≤ from_in self.old offset length → (result ≡ Ok (from_in self.old offset length, 0)) × (self.new ≡ self.old) }
-        ensures image { IsSameImage self.old self.new × Marks result (is_failed self.old) (is_failed self.new) }
+        ensures image { IsSameImage self.old self.new × Marks self.old self.new result }
         ensures under { refuses_to_clear self.old offset length how ≡ None → from_in self.old offset length < to_in self.old offset length → (out : List (Option Prepared)) → (abstract_of S.view F.backing self.old out).is_sound
             → IfErr result (λ e. e ≡ TablePrepared → IsUnderMapping self.old.file.header.fields (from_in self.old offset length) out) × IfOk result (λ range. IsUnderMapping self.old.file.header.fields (from_in self.old offset length) out → ⊥) }
         ensures sees { Clears S.view F.backing how self.old self.new offset length result }

@@ -53,11 +53,11 @@ impl<S: Storage, F: WrappedFormat<S>> Qcow2<S, F> {
     ghost use Rattle.std.specs.Prelude.{◌≡◌, ◌≤◌, [], IfOk, IfErr, OnOk, IsTrue, MatchOption, Ok, Err, Some, None, false, nat_le, option_map, if◌then◌else◌};
     ghost use Rattle.std.specs.String.{string_bytes};
     ghost use Rattle.qcow2_metadata.specs.Header.{header, cluster_size};
-    ghost use Rattle.qcow2_alloc.specs.declared.error.ImageError.TheVariants.{Dependency, Failed, Memory};
+    ghost use Rattle.qcow2_alloc.specs.declared.error.ImageError.TheVariants.{Dependency, Failed};
     ghost use Rattle.qcow2_alloc.specs.Faults.{FaultsTold};
     ghost use Rattle.qcow2_image.specs.CountedOpening.{OpeningCounts};
     ghost use Rattle.qcow2_image.specs.Faults.{CountsImageFaults, NoFewerFaults};
-    ghost use Rattle.qcow2_image.specs.Image.{storage_of_image, HasNothingToFree, ImageStays, KeepsRest, IsSameImage, is_failed, is_writable, is_external, leaked_in, number_of, size_of};
+    ghost use Rattle.qcow2_image.specs.Image.{storage_of_image, HasNothingToFree, ImageStays, KeepsRest, IsSameImage, is_failed, is_writable, is_external, has_noted_change, leaked_in, number_of, size_of};
     ghost use Rattle.std.specs.Prelude.{List, Option};
     ghost use Rattle.qcow2_disk.specs.AbstractImages.{guest_of};
     ghost use Rattle.qcow2_image.specs.declared.prepared.Prepared.{Prepared};
@@ -70,7 +70,7 @@ impl<S: Storage, F: WrappedFormat<S>> Qcow2<S, F> {
     ghost use Rattle.qcow2_image.specs.UnseenSteps.{UnseenStep, FreesListed};
     ghost use Rattle.qcow2_alloc.specs.FreeList.{with_listed};
     ghost use Rattle.qcow2_alloc.specs.ImageStorage.{storage_of};
-    ghost use Rattle.qcow2_image.specs.Refusals.{unusable, IsMet, Marks, failed_after};
+    ghost use Rattle.qcow2_image.specs.Refusals.{unusable, IsMet, Marks, MarksRefused};
     ghost use Rattle.image_access.specs.Moments.{ContentsStay, Passing};
     ghost use Rattle.qcow2_metadata.specs.Bytes.{byte_at};
     ghost use Rattle.qcow2_metadata.specs.Consistent.{IsConsistent};
@@ -371,7 +371,7 @@ impl<S: Storage, F: WrappedFormat<S>> Qcow2<S, F> {
     pub fn flush(&mut self) -> Result<(), ImageError>
         ensures early { IsTrue (is_failed self.old) → (result ≡ Err Failed) × (self.new ≡ self.old) }
         ensures late { is_failed self.old ≡ false → IfErr result IsMet }
-        ensures marks { Marks result (is_failed self.old) (is_failed self.new) }
+        ensures marks { Marks self.old self.new result }
         ensures image { IsSameImage self.old self.new }
         ensures sees { FlushesImage S.view F.backing self.old self.new result }
         ensures emptied { IsTrue (is_writable self.old) → OnOk result (HasNothingToFree self.new) }
@@ -425,7 +425,7 @@ impl<S: Storage, F: WrappedFormat<S>> Qcow2<S, F> {
     pub(crate) fn end_freeing(&mut self) -> Result<(), ImageError>
         ensures image { IsSameImage self.old self.new }
         ensures cause { IfErr result IsMet }
-        ensures marks { Marks result (is_failed self.old) (is_failed self.new) }
+        ensures marks { Marks self.old self.new result }
         ensures emptied { IsTrue (is_writable self.old) → OnOk result (HasNothingToFree self.new) }
         ensures frees { (out : List (Option Prepared)) → ImageInvariant S.view F.backing (pending_in S.view F.backing self.old out) self.old out
             → EndsFreeing S.view F.backing self.old self.new out result }
@@ -442,6 +442,7 @@ impl<S: Storage, F: WrappedFormat<S>> Qcow2<S, F> {
 
     // From here on it is noted anew whether anything changes.
     pub(crate) fn begin(&mut self)
+        ensures unnoted { has_noted_change self.new ≡ false }
         ensures stays { ImageStays self.old self.new }
         ensures list { self.new.file.free_list ≡ self.old.file.free_list }
         ensures faults { NoFewerFaults S.view F.backing self.old self.new }
@@ -469,9 +470,8 @@ impl<S: Storage, F: WrappedFormat<S>> Qcow2<S, F> {
     // A failure marks the image, and so does want of memory after the call's first change.
     pub(crate) fn note(&mut self, refusal: &ImageError)
         ensures image { IsSameImage self.old self.new }
-        ensures marks { failed_after refusal.now (is_failed self.old) (is_failed self.new) }
+        ensures marks { MarksRefused self.old self.new refusal.now }
         ensures rest { self.new ≡ record self.old { is_failed = is_failed self.new } }
-        ensures memory { refusal.now ≡ Memory → IsTrue self.old.file.caches.is_changed → IsTrue (is_failed self.new) }
     {
         match refusal {
             ImageError::Storage => self.is_failed = true,
@@ -487,9 +487,8 @@ impl<S: Storage, F: WrappedFormat<S>> Qcow2<S, F> {
     pub(crate) fn mark_failure<T>(&mut self, done: Result<T, ImageError>) -> Result<T, ImageError>
         ensures answer { result ≡ done }
         ensures image { IsSameImage self.old self.new }
-        ensures marks { Marks done (is_failed self.old) (is_failed self.new) }
+        ensures marks { Marks self.old self.new done }
         ensures rest { self.new ≡ record self.old { is_failed = is_failed self.new } }
-        ensures memory { IfErr done (λ e. e ≡ Memory → IsTrue self.old.file.caches.is_changed → IsTrue (is_failed self.new)) }
     {
         if let Err(refusal) = &done {
             self.note(refusal);

@@ -1,5 +1,5 @@
 //! What a guest range is mapped to, and making it writable.
-ghost use Rattle.std.specs.Prelude.{◌↔◌, ℕ, List, Option, is_some, ◌≡◌, ◌⊎◌, ◌≢◌, ◌+◌, ◌*◌, ◌-◌, ◌/◌, ◌%◌, true, Some, ◌^◌, ◌<◌, ◌≤◌, [], ◌∷◌, ◌++◌, length, slice_get, IfOk, IfErr, IfSome, OnOk, IsOk, IsNone, IsSome, IsTrue, IsFalse, MatchOption, Ok, Err, None, false};
+ghost use Rattle.std.specs.Prelude.{◌↔◌, ℕ, List, Option, is_some, ◌≡◌, ◌⊎◌, ◌≢◌, ◌+◌, ◌*◌, ◌-◌, ◌/◌, ◌%◌, true, Some, ◌^◌, ◌<◌, ◌≤◌, [], ◌∷◌, ◌++◌, length, slice_get, IfOk, IfErr, IfSome, OnOk, IsOk, IsNone, IsSome, IsTrue, IsFalse, MatchOption, MatchResult, Ok, Err, None, false};
 ghost use Rattle.qcow2_metadata.specs.L2Mapping.{IsInReach, greatest_offset, named_run};
 ghost use Rattle.qcow2_disk.specs.Mappings.{is_copied_data};
 ghost use Rattle.qcow2_image.specs.Image.{HasNothingToFree, ImageStays, IsSameImage, is_failed, is_writable, number_of, size_of};
@@ -28,7 +28,7 @@ ghost use Rattle.qcow2_metadata.specs.Header.{cluster_size, entries_per_cluster}
 ghost use Rattle.qcow2_metadata.specs.Cover.{cover};
 ghost use Rattle.qcow2_image.specs.declared.mapping.Place.TheVariants.{Image};
 ghost use Rattle.qcow2_image.specs.declared.mapping.MappingKind.TheVariants.{Eof};
-ghost use Rattle.qcow2_image.specs.Refusals.{FreesRefused, unusable, refuses_to_prepare, passes as passes_size, IsMet, IsMetPreparing, Marks};
+ghost use Rattle.qcow2_image.specs.Refusals.{FreesRefused, unusable, refuses_to_prepare, passes as passes_size, IsMet, IsMetPreparing, Marks, MarksRefused};
 ghost use Rattle.qcow2_image.specs.declared.prepared.CommitRefused.TheVariants.{Kept, Spent};
 ghost use Rattle.qcow2_image.specs.declared.prepared.Share.TheVariants.{InPlace};
 ghost use Rattle.qcow2_alloc.specs.declared.error.ImageError.TheVariants.{Failed, ForeignState, TablePrepared};
@@ -155,7 +155,7 @@ impl<S: Storage, F: WrappedFormat<S>> Qcow2<S, F> {
     pub fn get_mapping(&mut self, offset: u64, max: u64) -> Result<(Mapping, u64), ImageError>
         ensures early { IfSome (unusable self.old) (λ e. (result ≡ Err e) × (self.new ≡ self.old)) }
         ensures late { unusable self.old ≡ None → IfErr result IsMet }
-        ensures marks { Marks result (is_failed self.old) (is_failed self.new) }
+        ensures marks { Marks self.old self.new result }
         ensures image { IsSameImage self.old self.new }
         ensures own { IfOk result (λ (mapping, n). (mapping.image ≡ number_of self.old) × (mapping.offset ≡ offset) × (mapping.length ≡ n)) }
         ensures within { IfOk result (λ (mapping, n). n ≤ max) }
@@ -347,7 +347,7 @@ impl<S: Storage, F: WrappedFormat<S>> Qcow2<S, F> {
         ensures early { IfSome (refuses_to_prepare self.old offset length) (λ e. (result ≡ Err e) × (self.new ≡ self.old)) }
         ensures late { refuses_to_prepare self.old offset length ≡ None → IfErr result IsMetPreparing }
         ensures nothing { refuses_to_prepare self.old offset 0 ≡ None → length ≡ 0 → IsOk result × IfOk result IsOfNothing × (self.new ≡ self.old) }
-        ensures marks { Marks result (is_failed self.old) (is_failed self.new) }
+        ensures marks { Marks self.old self.new result }
         ensures image { IsSameImage self.old self.new }
         ensures taken { refuses_to_prepare self.old offset length ≡ None → (out : List (Option Prepared)) → (abstract_of S.view F.backing self.old out).is_sound
             → IfErr result (λ e. e ≡ TablePrepared → IsTaken self.old.file.header.fields (known_in S.view self.old.file) offset length out) }
@@ -580,6 +580,7 @@ impl<S: Storage, F: WrappedFormat<S>> Qcow2<S, F> {
         ensures failed { image_of prepared ≡ number_of self.old → IsTrue (is_failed self.old) → (result ≡ Err (Kept Failed prepared)) × (self.new ≡ self.old) }
         ensures kept { IfErr result (IsHandedBackBy prepared) }
         ensures late { image_of prepared ≡ number_of self.old → is_failed self.old ≡ false → IfErr result (λ r. IsMet (reason_of r)) }
+        ensures marks { MatchResult result (λ done. is_failed self.new ≡ is_failed self.old) (λ r. MarksRefused self.old self.new (reason_of r)) }
         ensures existing { image_of prepared ≡ number_of self.old → is_failed self.old ≡ false → IsNone (table_of prepared) → (result ≡ Ok tt) × LetsGo S.view self.old self.new }
         ensures image { IsSameImage self.old self.new }
         ensures sees { Commits S.view F.backing self.old self.new prepared result }

@@ -9,13 +9,14 @@ ghost use Rattle.qcow2_laws.specs.CrashInvariant.{Pending};
 ghost use Rattle.qcow2_alloc.specs.declared.error.ImageError.TheVariants.{MappingPrepared, Preallocation};
 ghost use Rattle.qcow2_alloc.specs.ImageError.{IsFault};
 ghost use Rattle.qcow2_alloc.specs.ImageFile.{view_in};
+ghost use Rattle.qcow2_alloc.specs.ImageStorage.{is_changed_of};
 ghost use Rattle.qcow2_image.specs.Backings.{HasPrepared};
 ghost use Rattle.qcow2_image.specs.declared.prepared.Prepared.{Prepared};
 ghost use Rattle.qcow2_image.specs.Growing.{Resizes};
-ghost use Rattle.qcow2_image.specs.Image.{IsSameImage, ImageStays, is_failed, is_writable, size_of};
+ghost use Rattle.qcow2_image.specs.Image.{IsSameImage, ImageStays, has_noted_change, is_failed, is_writable, size_of, with_marks};
 ghost use Rattle.qcow2_image.specs.ImageInvariant.{ImageInvariant, abstract_of, pending_in};
 ghost use Rattle.qcow2_image.specs.LongerTables.{MakesEntry};
-ghost use Rattle.qcow2_image.specs.Refusals.{IsMet, IsMetPreparing, Marks, failed_after};
+ghost use Rattle.qcow2_image.specs.Refusals.{IsMet, IsMetPreparing, Marks, MarksRefused};
 ghost use Rattle.qcow2_image.specs.Resizing.{CantUncover, GrowsTables, GrowsTo, IsFaultOrCantUncover, IsMetShrinking, IsResized, LacksZeros, RefusesUnchanged, Shrinks, UncoversNext, UncoversTail, WritesSize, WritesSizeLast, refuses_to_resize, size_after, takes_over};
 ghost use Rattle.qcow2_image.specs.Faults.{CountsImageFaults, NoFewerFaults, TellsFault};
 
@@ -45,7 +46,7 @@ impl<S: Storage, F: WrappedFormat<S>> Qcow2<S, F> {
         ensures no_smaller { refuses_to_resize self.old ≡ None → size_of self.old ≤ size → (result ≡ Ok (size_of self.old)) × (self.new ≡ self.old) }
         ensures prepared { refuses_to_resize self.old ≡ None → size < size_of self.old → (out : List (Option Prepared)) → (abstract_of S.view F.backing self.old out).is_sound → HasPrepared out → (result ≡ Err MappingPrepared) × (self.new ≡ self.old) }
         ensures late { refuses_to_resize self.old ≡ None → IfErr result (IsMetShrinking S.view F.backing self.old self.new) }
-        ensures marks { Marks result (is_failed self.old) (is_failed self.new) }
+        ensures marks { Marks self.old self.new result }
         ensures image { size < size_of self.old → IsResized (size_after result (size_of self.old) size) self.old self.new }
         ensures sees { Shrinks S.view F.backing self.old self.new size result }
         ensures stops { (out : List (Option Prepared)) → (abstract_of S.view F.backing self.old out).is_sound → IfOk result (λ answer. answer < size_of self.old → CantUncover S.view (size_of self.old) self.new answer) }
@@ -78,7 +79,7 @@ impl<S: Storage, F: WrappedFormat<S>> Qcow2<S, F> {
         requires usable { is_failed self.old ≡ false }
         requires smaller { size < size_of self.old }
         ensures cause { IfErr result IsFault }
-        ensures marks { Marks result (is_failed self.old) (is_failed self.new) }
+        ensures marks { Marks self.old self.new result }
         ensures image { IsResized (size_after result (size_of self.old) size) self.old self.new }
         ensures sees { Shrinks S.view F.backing self.old self.new size result }
         ensures stops { refuses_to_resize self.old ≡ None → (out : List (Option Prepared)) → (abstract_of S.view F.backing self.old out).is_sound → (HasPrepared out → ⊥)
@@ -104,7 +105,7 @@ impl<S: Storage, F: WrappedFormat<S>> Qcow2<S, F> {
         requires smaller { size < size_of self.old }
         ensures image { IsSameImage self.old self.new }
         ensures cause { IfSome result.1 IsFault }
-        ensures marks { MatchOption result.1 (is_failed self.new ≡ is_failed self.old) (λ e. Marks {A = Unit {0}} (Err e) (is_failed self.old) (is_failed self.new)) }
+        ensures marks { MatchOption result.1 (is_failed self.new ≡ is_failed self.old) (MarksRefused self.old self.new) }
         ensures uncovers { (out : List (Option Prepared)) → ImageInvariant S.view F.backing (pending_in S.view F.backing self.old out) self.old out → UncoversTail S.view F.backing self.old self.new size result.0 result.1 out }
         ensures stops { refuses_to_resize self.old ≡ None → (out : List (Option Prepared)) → (abstract_of S.view F.backing self.old out).is_sound → (HasPrepared out → ⊥)
             → result.1 ≡ None → result.0 < size_of self.old → CantUncover S.view (size_of self.old) self.new result.0 }
@@ -127,7 +128,7 @@ impl<S: Storage, F: WrappedFormat<S>> Qcow2<S, F> {
         requires inside { at < size_of self.old }
         ensures on { IfOk result (λ next. (at < next) × (next ≤ size_of self.old)) }
         ensures image { IsSameImage self.old self.new }
-        ensures marks { Marks result (is_failed self.old) (is_failed self.new) }
+        ensures marks { Marks self.old self.new result }
         ensures uncovers { UncoversNext S.view F.backing self.old self.new at result }
         ensures stops { refuses_to_resize self.old ≡ None → (out : List (Option Prepared)) → (abstract_of S.view F.backing self.old out).is_sound → (HasPrepared out → ⊥)
             → IfErr result (IsFaultOrCantUncover S.view (size_of self.old) self.new at) }
@@ -160,7 +161,7 @@ impl<S: Storage, F: WrappedFormat<S>> Qcow2<S, F> {
         ensures no_larger { refuses_to_resize self.old ≡ None → size ≤ size_of self.old → (result ≡ Ok tt) × (self.new ≡ self.old) }
         ensures preallocation { refuses_to_resize self.old ≡ None → size_of self.old < size → IsTrue (takes_over self.old mode) → (result ≡ Err Preallocation) × (self.new ≡ self.old) }
         ensures late { refuses_to_resize self.old ≡ None → IfErr result (λ e. IsMetPreparing e ⊎ ((e ≡ Preallocation) × IsTrue (takes_over self.old mode))) }
-        ensures marks { Marks result (is_failed self.old) (is_failed self.new) }
+        ensures marks { Marks self.old self.new result }
         ensures image { size_of self.old < size → IsResized (size_after result (size_of self.old) size) self.old self.new }
         ensures sees { GrowsTo S.view F.backing self.old self.new size mode result }
         ensures last { (out : List (Option Prepared)) → (abstract_of S.view F.backing self.old out).is_sound → WritesSizeLast S.view F.backing self.old self.new }
@@ -197,7 +198,7 @@ impl<S: Storage, F: WrappedFormat<S>> Qcow2<S, F> {
         requires writable { IsTrue (is_writable self.old) }
         requires larger { size_of self.old < size }
         ensures cause { IfErr result IsMetPreparing }
-        ensures marks { Marks result (is_failed self.old) (is_failed self.new) }
+        ensures marks { Marks self.old self.new result }
         ensures image { IsResized (size_after result (size_of self.old) size) self.old self.new }
         ensures sees { GrowsTo S.view F.backing self.old self.new size mode result }
         ensures last { (out : List (Option Prepared)) → (abstract_of S.view F.backing self.old out).is_sound → WritesSizeLast S.view F.backing self.old self.new }
@@ -215,18 +216,19 @@ impl<S: Storage, F: WrappedFormat<S>> Qcow2<S, F> {
         self.mark_fault(written)
     }
 
-    // Behind the first change of a call, a fault or want of memory marks the image as failed.
+    // Behind the first change of a call, which is noted, a fault or want of memory marks the image as failed.
     fn mark_fault(&mut self, done: Result<(), ImageError>) -> Result<(), ImageError>
         ensures answer { result ≡ done }
         ensures image { IsSameImage self.old self.new }
-        ensures marks { Marks done (is_failed self.old) (is_failed self.new) }
-        ensures rest { self.new ≡ record self.old { is_failed = is_failed self.new } }
+        ensures marks { Marks self.old self.new done }
+        ensures rest { self.new ≡ with_marks self.old (is_changed_of self.new.file.storage) (is_failed self.new) }
+        ensures same { OnOk done (self.new ≡ self.old) }
         ensures fault { IfErr done (λ e. IsFault e → IsTrue (is_failed self.new)) }
     {
-        if let Err(ImageError::Storage | ImageError::Memory) = &done {
-            self.is_failed = true;
+        if let Err(ImageError::Memory) = &done {
+            self.file.storage.note_change();
         }
-        done
+        self.mark_failure(done)
     }
 
     // Makes a new L1 table that has an entry for an offset, with all old entries. The clusters of the old one are freed then.
@@ -243,18 +245,19 @@ impl<S: Storage, F: WrappedFormat<S>> Qcow2<S, F> {
         self.free_listed()
     }
 
-    // A fault or want of memory refused a call. It marks the image as failed, where the storage failed or anything changed before.
+    // A fault or want of memory refused a call. It marks the image as failed, where the storage failed or anything changed before, which is noted.
     fn mark_refused(&mut self, refusal: &ImageError, changed: bool)
         requires { IsFault refusal.now }
         ensures image { IsSameImage self.old self.new }
-        ensures marks { failed_after refusal.now (is_failed self.old) (is_failed self.new) }
-        ensures rest { self.new ≡ record self.old { is_failed = is_failed self.new } }
+        ensures marks { MarksRefused self.old self.new refusal.now }
+        ensures rest { self.new ≡ with_marks self.old (is_changed_of self.new.file.storage) (is_failed self.new) }
+        ensures noted { IsTrue (has_noted_change self.old) → IsTrue (has_noted_change self.new) }
         ensures changed { IsTrue changed → IsTrue (is_failed self.new) }
     {
-        self.note(refusal);
         if changed {
-            self.is_failed = true;
+            self.file.storage.note_change();
         }
+        self.note(refusal);
     }
 
     // Writes the size, as the last write of a call. Refused, the size in memory is the old one again.

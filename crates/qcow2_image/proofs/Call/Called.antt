@@ -19,7 +19,7 @@ use Rattle.qcow2_image.specs.declared.image.Qcow2.{Qcow2}
 use Rattle.qcow2_image.specs.declared.prepared.Prepared.{Prepared}
 use Rattle.qcow2_image.specs.Calls.{refusal_of, AnswersCall}
 use Rattle.qcow2_image.specs.Image.{number_of, is_failed}
-use Rattle.qcow2_image.specs.Refusals.{failed_after, Marks}
+use Rattle.qcow2_image.proofs.Call.Marked.{MayMark, MayMarkBy}
 use Rattle.qcow2_image.specs.ImageInvariant.{of_data, of_tables, to_free, ImageInvariant, pending_in, abstract_of}
 use Rattle.qcow2_image.specs.UnseenSteps.{NamesOwn, KeepsCopied, pending_with_listed, UnseenStep}
 use Rattle.qcow2_image.proofs.Call.Answered.{works_now, sound_now, same_now}
@@ -96,7 +96,7 @@ module _ {S F : Type 0} (view : S → StorageView) (backing : F → BackingView)
       quiet_does number works = settled_does view backing old new out out [] quiet_works quiet_sound number works quiet_same
 
       -- it was refused, and the image is marked as failed now or as before
-      pub quiet_refuses : (marked : Bool) (e : ImageError) → failed_after e (is_failed new) marked → number_of new ≡ number_of old → is_failed old ≡ false
+      pub quiet_refuses : (marked : Bool) (e : ImageError) → MayMark e (is_failed new) marked → number_of new ≡ number_of old → is_failed old ≡ false
           → Refuses (abstract_of view backing old out) (abstract_of view backing (record new { is_failed = marked }) out) [] [] (refusal_of e) (IsSame (abstract_of view backing old out) (abstract_of view backing (record new { is_failed = marked }) out))
       quiet_refuses marked e marks number works = settled_refuses view backing old new out out [] quiet_works quiet_sound number works marked e marks (λ sound. inl (quiet_same sound))
 
@@ -122,7 +122,7 @@ module _ {S F : Type 0} (view : S → StorageView) (backing : F → BackingView)
 
   module _ (old new : Qcow2 S F) (quiet : (out : List (Option Prepared)) → ImageInvariant view backing (pending_in view backing old out) old out → Quietly view backing out old new) (marked : Bool) where
     -- it gives its answer, or is refused
-    pub tells_quietly : {A : Type 0} (Done : A → AbstractImage → AbstractImage → Type 0) (done : Result A ImageError) → Marks done (is_failed new) marked → number_of new ≡ number_of old → is_failed old ≡ false
+    pub tells_quietly : {A : Type 0} (Done : A → AbstractImage → AbstractImage → Type 0) (done : Result A ImageError) → MayMarkBy done (is_failed new) marked → number_of new ≡ number_of old → is_failed old ≡ false
         → ((out : List (Option Prepared)) → ImageInvariant view backing (pending_in view backing old out) old out → IsSame (abstract_of view backing old out) (abstract_of view backing new out)
         → IfOk done (λ a. Done a (abstract_of view backing old out) (abstract_of view backing new out)))
         → Tells old (record new { is_failed = marked }) Done done

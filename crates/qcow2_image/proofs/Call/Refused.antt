@@ -19,7 +19,7 @@ use Rattle.qcow2_image.specs.declared.image.Qcow2.{Qcow2}
 use Rattle.qcow2_image.specs.declared.prepared.Prepared.{Prepared}
 use Rattle.qcow2_image.specs.Calls.{refusal_of}
 use Rattle.qcow2_image.specs.Image.{number_of, is_failed, KeepsRestOn}
-use Rattle.qcow2_image.specs.Refusals.{failed_after}
+use Rattle.qcow2_image.proofs.Call.Marked.{MayMark}
 use Rattle.qcow2_image.specs.CallParts.{UnseenCall, InterruptedCall, RefusedCall, FindsTable, IsReadied, PreparesRange}
 use Rattle.qcow2_image.specs.UnseenSteps.{InterruptedStep, Ensures, UnseenFillingStep, RefusedFillingStep, UnseenStep, RefusedStep, pending_with_listed}
 use Rattle.qcow2_image.specs.ImageInvariant.{of_data, of_tables, to_free, pending_in, abstract_of, meaning, below_of, ImageInvariant}
@@ -30,9 +30,9 @@ use Rattle.qcow2_image.proofs.Call.Settled.{is_fault, outcome, settled_refuses}
 use Rattle.qcow2_image.proofs.Call.Stepped.{Steps, stepped_sound, stepped_works}
 
 -- a fault, or want of memory that was noted, marks the image
-pub marks_fault : (e : ImageError) (before marked noted : Bool) → FaultOfTables e → (e ≡ I.Memory → IsTrue noted) → failed_after e before marked → (e ≡ I.Memory → IsTrue noted → IsTrue marked) → IsTrue marked × IsRefusalByFault (refusal_of e)
+pub marks_fault : (e : ImageError) (before marked noted : Bool) → FaultOfTables e → (e ≡ I.Memory → IsTrue noted) → MayMark e before marked → (e ≡ I.Memory → IsTrue noted → IsTrue marked) → IsTrue marked × IsRefusalByFault (refusal_of e)
 marks_fault e before marked noted fault is marks memory = ⊎_elim
-    (λ (failed : e ≡ I.Storage). (subst (λ (x : ImageError). failed_after x before marked) failed marks, subst (λ (x : ImageError). IsRefusalByFault (refusal_of x)) (sym failed) tt))
+    (λ (failed : e ≡ I.Storage). (subst (λ (x : ImageError). MayMark x before marked) failed marks, subst (λ (x : ImageError). IsRefusalByFault (refusal_of x)) (sym failed) tt))
     (λ (want : e ≡ I.Memory). (memory want (is want), subst (λ (x : ImageError). IsRefusalByFault (refusal_of x)) (sym want) tt)) fault
 
 module _ {S F : Type 0} (view : S → StorageView) (backing : F → BackingView) (out : List (Option Prepared)) where
@@ -148,7 +148,7 @@ module _ {S F : Type 0} (view : S → StorageView) (backing : F → BackingView)
   ]
 
   -- ---- a whole call
-  module _ (old : Qcow2 S F) (usable : is_failed old ≡ false) (new : Qcow2 S F) (marked : Bool) (number : number_of new ≡ number_of old) (e : ImageError) (marks : failed_after e (is_failed new) marked) where
+  module _ (old : Qcow2 S F) (usable : is_failed old ≡ false) (new : Qcow2 S F) (marked : Bool) (number : number_of new ≡ number_of old) (e : ImageError) (marks : MayMark e (is_failed new) marked) where
     abbrev failed_now : Qcow2 S F
     failed_now = record new { is_failed = marked }
 

@@ -11,7 +11,7 @@ use Rattle.qcow2_image.specs.declared.image.Qcow2.{Qcow2}
 use Rattle.qcow2_image.specs.declared.prepared.Prepared.{Prepared}
 use Rattle.qcow2_image.specs.Calls.{refusal_of}
 use Rattle.qcow2_image.specs.Image.{number_of, is_failed}
-use Rattle.qcow2_image.specs.Refusals.{failed_after}
+use Rattle.qcow2_image.proofs.Call.Marked.{MayMark}
 use Rattle.qcow2_image.specs.ImageInvariant.{ImageInvariant, pending_in, abstract_of}
 use Rattle.qcow2_disk.proofs.Compose.{stops_as}
 
@@ -23,7 +23,7 @@ memory_outcome : (before now : Bool) → (now ≡ before) ⊎ (now ≡ true) →
 memory_outcome before now (inl same) = inr (inr (same, λ is. absurd cc))
 memory_outcome before now (inr marked) = inr (inl (refl, marked))
 
-pub outcome : (e : ImageError) (before now : Bool) → failed_after e before now → IsOutcome e before now
+pub outcome : (e : ImageError) (before now : Bool) → MayMark e before now → IsOutcome e before now
 outcome I.ReadOnly before now m = inr (inr (m, λ is. absurd cc))
 outcome I.BeyondSize before now m = inr (inr (m, λ is. absurd cc))
 outcome I.Version before now m = inr (inr (m, λ is. absurd cc))
@@ -82,7 +82,7 @@ module _ {S F : Type 0} (view : S → StorageView) (backing : F → BackingView)
     answer_of e (inr (inr kept)) (inl same) sound = inl (still_sound kept.0 (still sound), same)
     answer_of e (inr (inr kept)) (inr fault) sound = absurd (kept.1 (ap refusal_of fault))
 
-    pub settled_refuses : (e : ImageError) → failed_after e (is_failed new) marked → (ImageInvariant view backing (pending_in view backing old out) old out → IsSame (abstract_of view backing old out) (abstract_of view backing new out') ⊎ (e ≡ I.Storage))
+    pub settled_refuses : (e : ImageError) → MayMark e (is_failed new) marked → (ImageInvariant view backing (pending_in view backing old out) old out → IsSame (abstract_of view backing old out) (abstract_of view backing new out') ⊎ (e ≡ I.Storage))
         → Refuses (abstract_of view backing old out) (abstract_of view backing (record new { is_failed = marked }) out') given [] (refusal_of e) (IsSame (abstract_of view backing old out) (abstract_of view backing (record new { is_failed = marked }) out'))
     settled_refuses e marks is = record {
       acts = record { number = number; works = still_works; rests = λ failed. absurd (let f : true ≡ false = sym failed ∙ usable in cc) };

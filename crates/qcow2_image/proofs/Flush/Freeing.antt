@@ -26,7 +26,7 @@ use Rattle.qcow2_image.specs.CallParts.{EndsFreeing, RefusedCall, UnseenCall}
 use Rattle.qcow2_image.specs.UnseenSteps.{UnseenStep, UnseenFreeingStep, FreesListed}
 use Rattle.qcow2_image.specs.Calls.{FlushesImage, refusal_of}
 use Rattle.qcow2_image.specs.Image.{number_of, is_failed}
-use Rattle.qcow2_image.specs.Refusals.{Marks}
+use Rattle.qcow2_image.proofs.Call.Marked.{MayMarkBy}
 use Rattle.qcow2_image.specs.ImageInvariant.{ImageInvariant, pending_in, abstract_of}
 use Rattle.qcow2_image.proofs.Call.Answered.{tidies_kept, still_seen}
 use Rattle.qcow2_image.proofs.Call.Called.{copied_then}
@@ -124,7 +124,7 @@ module _ {S F : Type 0} (view : S → StorageView) (backing : F → BackingView)
 
 module _ {S F : Type 0} (view : S → StorageView) (backing : F → BackingView) (old : Qcow2 S F) (usable : is_failed old ≡ false) (new : Qcow2 S F) (marked : Bool) (number : number_of new ≡ number_of old) where
   -- all that is known is written, and nothing is left of it; or it was refused
-  pub flushes_settled : (r : Result (Unit {0}) ImageError) → Marks r (is_failed new) marked → IfErr r (λ e. e ≡ I.Memory → IsTrue new.file.caches.is_changed → IsTrue marked)
+  pub flushes_settled : (r : Result (Unit {0}) ImageError) → MayMarkBy r (is_failed new) marked → IfErr r (λ e. e ≡ I.Memory → IsTrue new.file.caches.is_changed → IsTrue marked)
       → ((out : List (Option Prepared)) → ImageInvariant view backing (pending_in view backing old out) old out → FreesListed view backing (beside view backing old out) old new out r)
       → IfOk r (λ done. known_in view new.file ≡ contents_in view new.file) → FlushesImage view backing old (record new { is_failed = marked }) r
   flushes_settled (Ok done) marks memory frees written = λ out.
@@ -135,7 +135,7 @@ module _ {S F : Type 0} (view : S → StorageView) (backing : F → BackingView)
 
   -- at the end of a call
   module _ (out : List (Option Prepared)) (sound : ImageInvariant view backing (pending_in view backing old out) old out) where
-    pub ends_freeing : (r : Result (Unit {0}) ImageError) → Marks r (is_failed new) marked → IfErr r (λ e. e ≡ I.Memory → IsTrue new.file.caches.is_changed → IsTrue marked) → (IsTrue old.file.caches.is_changed → IsTrue new.file.caches.is_changed)
+    pub ends_freeing : (r : Result (Unit {0}) ImageError) → MayMarkBy r (is_failed new) marked → IfErr r (λ e. e ≡ I.Memory → IsTrue new.file.caches.is_changed → IsTrue marked) → (IsTrue old.file.caches.is_changed → IsTrue new.file.caches.is_changed)
         → IfErr r FaultOfTables → FreesListed view backing (beside view backing old out) old new out r → EndsFreeing view backing old (record new { is_failed = marked }) out r
     ends_freeing (Ok done) marks memory noted fault frees =
         subst (λ (f : Bool). EndsFreeing view backing old (record new { is_failed = f }) out (Ok done)) (sym marks) (let stays = tidy_stays view backing old out new sound frees in record { works = stays.works; sound = stays.sound; same = stays.same; header = stays.header; covers = stays.covers })

@@ -20,7 +20,7 @@ use Rattle.qcow2_image.specs.declared.image.Qcow2.{Qcow2}
 use Rattle.qcow2_image.specs.LongerTables.{RefusedMove, UnseenMove}
 use Rattle.qcow2_image.specs.Growing.{Lasts, Extends, Resizes, GrowsDisk, WritesBack, ReachesSize, GrowsWhole}
 use Rattle.qcow2_image.specs.Image.{size_of, is_failed}
-use Rattle.qcow2_image.specs.Refusals.{Marks}
+use Rattle.qcow2_image.proofs.Call.Marked.{MayMarkBy}
 use Rattle.qcow2_alloc.specs.FreeList.{with_listed}
 use Rattle.qcow2_image.proofs.Flush.Freeing.{all_listed, beside}
 use Rattle.qcow2_image.specs.UnseenSteps.{UnseenFreeingStep, FreesListed, UnseenStep, ListGrows, pending_with_listed}
@@ -111,7 +111,7 @@ module _ {S F : Type 0} (view : S → StorageView) (backing : F → BackingView)
       dropped = λ k. let more = ap (λ l. to_free of_data l k) grows.is ∙ free_more of_data mid.file.free_list grows.more k in let e = ap (λ l. to_free of_data l k) same in omega (arith, more, e);
     }
 
-    grown : (r : Result (Unit {0}) ImageError) (failed : Bool) → Resizes view backing p mid big size r → OnOk r (ListGrows mid big) → OnOk r (ReachesSize big.file.header.fields) → Marks r (is_failed big) failed
+    grown : (r : Result (Unit {0}) ImageError) (failed : Bool) → Resizes view backing p mid big size r → OnOk r (ListGrows mid big) → OnOk r (ReachesSize big.file.header.fields) → MayMarkBy r (is_failed big) failed
         → GrowsDisk view backing old (record big { is_failed = failed }) size r
     grown (Ok x) failed resizes grows reaches marks =
         let q = pending_with_listed p mid big in
@@ -120,7 +120,7 @@ module _ {S F : Type 0} (view : S → StorageView) (backing : F → BackingView)
         (subst (λ (r : Pending). Extends view backing p r old big (size ∷ [])) (pending_is view backing big [] q all.leads.sound (nothing_else grows)) all, resizes.1 ∙ sym (omega (arith, larger)), λ _. reaches)
     grown (Err e) failed lasts grows reaches marks = lasts_then p p old mid big [] (size ∷ []) (extends_keeping p p old mid begun) lasts
 
-    pub grown_so : (new : Qcow2 S F) (done r : Result (Unit {0}) ImageError) → r ≡ done → new ≡ record big { is_failed = is_failed new } → Marks done (is_failed big) (is_failed new) → Resizes view backing p mid big size done → OnOk done (ListGrows mid big)
+    pub grown_so : (new : Qcow2 S F) (done r : Result (Unit {0}) ImageError) → r ≡ done → new ≡ record big { is_failed = is_failed new } → MayMarkBy done (is_failed big) (is_failed new) → Resizes view backing p mid big size done → OnOk done (ListGrows mid big)
         → OnOk done (ReachesSize big.file.header.fields) → GrowsDisk view backing old new size r
     grown_so new done r answer rest marks resizes grows reaches =
         subst (λ (s : Result (Unit {0}) ImageError). GrowsDisk view backing old new size s) (sym answer)
@@ -135,12 +135,12 @@ module _ {S F : Type 0} (view : S → StorageView) (backing : F → BackingView)
     format = subst (λ (h : HeaderFields). h ≡ with_places a.file.header.fields (places_of h)) (sym tidies.unseen.header) refl;
   }
 
-  pub written_back : (p : Pending) (old big new : Qcow2 S F) (done r : Result (Unit {0}) ImageError) → FreesListed view backing p old big [] done → r ≡ done → new ≡ record big { is_failed = is_failed new } → Marks done (is_failed big) (is_failed new)
+  pub written_back : (p : Pending) (old big new : Qcow2 S F) (done r : Result (Unit {0}) ImageError) → FreesListed view backing p old big [] done → r ≡ done → new ≡ record big { is_failed = is_failed new } → MayMarkBy done (is_failed big) (is_failed new)
       → WritesBack view backing p old new r
   written_back p old big new done r frees answer rest marks =
       subst (λ (s : Result (Unit {0}) ImageError). WritesBack view backing p old new s) (sym answer) (subst (λ (i : Qcow2 S F). WritesBack view backing p old i done) (sym rest) (back done (is_failed new) marks frees))
     where
-      back : (s : Result (Unit {0}) ImageError) (failed : Bool) → Marks s (is_failed big) failed → FreesListed view backing p old big [] s → WritesBack view backing p old (record big { is_failed = failed }) s
+      back : (s : Result (Unit {0}) ImageError) (failed : Bool) → MayMarkBy s (is_failed big) failed → FreesListed view backing p old big [] s → WritesBack view backing p old (record big { is_failed = failed }) s
       back (Ok x) failed marks tidies =
           subst (λ (f : Bool). WritesBack view backing p old (record big { is_failed = f }) (Ok x)) (sym marks)
           (extends_tidying (with_listed p old.file.free_list) (with_listed p big.file.free_list) old big tidies, tidies.unseen.header, format_stay old.file.header.fields big.file.header.fields (known_in view old.file) (known_in view big.file) tidies.unseen.header tidies.unseen.covers)

@@ -13,7 +13,7 @@ use Rattle.qcow2_image.specs.declared.prepared.Prepared.{Prepared}
 use Rattle.qcow2_image.specs.Calls.{Prepares}
 use Rattle.qcow2_image.specs.Image.{number_of, is_failed}
 use Rattle.qcow2_image.specs.CallParts.{IsExisting, IsReadied, PreparesRange}
-use Rattle.qcow2_image.specs.Refusals.{Marks}
+use Rattle.qcow2_image.proofs.Call.Marked.{MayMarkBy}
 use Rattle.qcow2_image.specs.ImageInvariant.{pending_in, abstract_of, meaning, ImageInvariant}
 use Rattle.qcow2_image.proofs.Prepare.Preparing.{readied_existing}
 use Rattle.qcow2_image.proofs.Call.Settled.{settled_does}
@@ -30,7 +30,7 @@ module _ {S F : Type 0} (view : S → StorageView) (backing : F → BackingView)
     abbrev failed_now : Qcow2 S F
     failed_now = record new { is_failed = marked }
 
-    pub prepares_settled : (offset n : ℕ) (overwrite : Bool) (r : Result Prepared ImageError) → Marks r (is_failed new) marked → IfErr r (λ e. e ≡ I.Memory → IsTrue new.file.caches.is_changed → IsTrue marked)
+    pub prepares_settled : (offset n : ℕ) (overwrite : Bool) (r : Result Prepared ImageError) → MayMarkBy r (is_failed new) marked → IfErr r (λ e. e ≡ I.Memory → IsTrue new.file.caches.is_changed → IsTrue marked)
         → ((out : List (Option Prepared)) → ImageInvariant view backing (pending_in view backing old out) old out → PreparesRange view backing old new out offset n overwrite r) → Prepares view backing old failed_now offset n overwrite r
     prepares_settled offset n overwrite (Ok p) marks memory readies = λ out k free.
         let ready : ImageInvariant view backing (pending_in view backing old out) old out → IsReadied view backing old new out k offset n overwrite p = λ sound. readies out sound k free in

@@ -31,7 +31,7 @@ use Rattle.qcow2_image.specs.Growing.{ReachesSize}
 use Rattle.qcow2_image.specs.Image.{is_failed, number_of, size_of}
 use Rattle.qcow2_image.specs.ImageInvariant.{ImageInvariant, abstract_of, disk_of, pending_in}
 use Rattle.qcow2_image.specs.Preallocation.{FillsGrown, RefusedGrown, filled_to, gifts_of_growing}
-use Rattle.qcow2_image.specs.Refusals.{Marks, failed_after}
+use Rattle.qcow2_image.proofs.Call.Marked.{MayMark, MayMarkBy}
 use Rattle.qcow2_image.specs.Resizing.{GrowsTo, RefusesUnchanged, SetsSize, WritesSize, WritesSizeLast, gifts_of_grow}
 use Rattle.qcow2_image.proofs.Call.Refused.{refused_then, refuses_left}
 use Rattle.qcow2_image.proofs.Call.Settled.{is_fault, outcome}
@@ -66,11 +66,11 @@ module _ {S F : Type 0} (view : S → StorageView) (backing : F → BackingView)
   -- ---- the L1 table was refused
   module _ (begun mid : Qcow2 S F) (e : ImageError) (marked : Bool) (first : (out : List (Option Prepared)) → ImageInvariant view backing (pending_in view backing old out) old out → UnseenCall view backing old begun out)
       (left : (out : List (Option Prepared)) → ImageInvariant view backing (pending_in view backing begun out) begun out → RefusedCall view backing begun mid out e) where
-    pub unchanged_not : number_of mid ≡ number_of old → failed_after e (is_failed mid) marked → (e ≡ I.Memory → IsTrue mid.file.caches.is_changed → IsTrue marked) → (out : List (Option Prepared)) → RefusesUnchanged view backing old (record mid { is_failed = marked }) out (Err e)
+    pub unchanged_not : number_of mid ≡ number_of old → MayMark e (is_failed mid) marked → (e ≡ I.Memory → IsTrue mid.file.caches.is_changed → IsTrue marked) → (out : List (Option Prepared)) → RefusesUnchanged view backing old (record mid { is_failed = marked }) out (Err e)
     unchanged_not number marks memory out =
         refuses_left view backing out old usable mid marked number e marks memory (λ sound. let call = first out sound in refused_then view backing out old begun mid call e (left out call.sound))
 
-    pub grows_not : number_of mid ≡ number_of old → failed_after e (is_failed mid) marked → (e ≡ I.Memory → IsTrue mid.file.caches.is_changed → IsTrue marked) → GrowsTo view backing old (record mid { is_failed = marked }) size mode (Err e)
+    pub grows_not : number_of mid ≡ number_of old → MayMark e (is_failed mid) marked → (e ≡ I.Memory → IsTrue mid.file.caches.is_changed → IsTrue marked) → GrowsTo view backing old (record mid { is_failed = marked }) size mode (Err e)
     grows_not number marks memory out = grows_same (record mid { is_failed = marked }) e out (unchanged_not number marks memory out)
 
     pub last_not : (out : List (Option Prepared)) → ImageInvariant view backing (pending_in view backing old out) old out → WritesSizeLast view backing old (record mid { is_failed = marked })
@@ -113,7 +113,7 @@ module _ {S F : Type 0} (view : S → StorageView) (backing : F → BackingView)
           ∙ ap (λ d. with_disk (guest_of (abstract_of view backing old out)) (filled_to (cluster_size old.file.header.fields) d size mode)) disk_is
 
     -- that was refused
-    module _ (filled : Qcow2 S F) (e : ImageError) (marked : Bool) (marks : failed_after e (is_failed filled) marked) (fault : IsFaultOfTables e → IsTrue marked)
+    module _ (filled : Qcow2 S F) (e : ImageError) (marked : Bool) (marks : MayMark e (is_failed filled) marked) (fault : IsFaultOfTables e → IsTrue marked)
         (left : (out : List (Option Prepared)) → ImageInvariant view backing (pending_in view backing mid out) mid out → RefusedGrown view backing size mode mid filled out e) where
       abbrev final : Qcow2 S F
       final = record filled { is_failed = marked }
@@ -229,7 +229,7 @@ module _ {S F : Type 0} (view : S → StorageView) (backing : F → BackingView)
                       (works_then v l (abstract_of view backing (record new { is_failed = true }) out) gifts (size ∷ []) (fills_sound out sound) first (works_less l (abstract_of view backing (record new { is_failed = true }) out) [] gifts (size ∷ []) (λ o x never. absurd never) stands.works))
                 ]
 
-        pub grows_sized : (r : Result (Unit {0}) ImageError) (marked : Bool) → Marks r (is_failed new) marked → IfErr r IsFaultOfTables → IfErr r (λ e. IsFaultOfTables e → IsTrue marked)
+        pub grows_sized : (r : Result (Unit {0}) ImageError) (marked : Bool) → MayMarkBy r (is_failed new) marked → IfErr r IsFaultOfTables → IfErr r (λ e. IsFaultOfTables e → IsTrue marked)
             → ((out : List (Option Prepared)) → ImageInvariant view backing (pending_in view backing filled out) filled out → WritesSize view backing filled new out size r) → GrowsTo view backing old (record new { is_failed = marked }) size mode r
         grows_sized (Ok x) marked marks cause fault writes = done marked marks writes
         grows_sized (Err e) marked marks cause fault writes = undone e marked cause (fault cause) writes

@@ -34,7 +34,7 @@ use Rattle.qcow2_image.specs.ImageInvariant.{ImageInvariant, disk_of, pending_in
 use Rattle.qcow2_image.specs.L1Entries.{ReachesOffset}
 use Rattle.qcow2_image.specs.MovedTables.{CoversStay, MovesTables}
 use Rattle.qcow2_image.specs.Preallocation.{FillsGrown, RefusedGrown}
-use Rattle.qcow2_image.specs.Refusals.{failed_after}
+use Rattle.qcow2_image.proofs.Call.Marked.{MayMark}
 use Rattle.qcow2_image.specs.Resizing.{GrowsTables, RefusesUnchanged, WritesSize, boundary_in}
 use Rattle.qcow2_image.proofs.Call.Refused.{refuses_left}
 use Rattle.qcow2_image.proofs.Preallocate.Covers.{covers_stay, stay_covers}
@@ -150,7 +150,7 @@ module _ {S F : Type 0} (view : S → StorageView) (backing : F → BackingView)
   tables_sized old filled new marked size mode (Err e) moves cause header reached length covers = λ is. absurd (elim cause [ inl fault ↦ (let no : I.TablePrepared ≡ I.Storage = sym is ∙ fault in cc) | inr fault ↦ (let no : I.TablePrepared ≡ I.Memory = sym is ∙ fault in cc) ])
 
   -- ---- the entries can't tell zeros
-  pub refuses_version : (old long filled : Qcow2 S F) (e : ImageError) (marked : Bool) → is_failed old ≡ false → UnseenCall view backing old long out → filled ≡ long → e ≡ I.Version → number_of filled ≡ number_of old → failed_after e (is_failed filled) marked
+  pub refuses_version : (old long filled : Qcow2 S F) (e : ImageError) (marked : Bool) → is_failed old ≡ false → UnseenCall view backing old long out → filled ≡ long → e ≡ I.Version → number_of filled ≡ number_of old → MayMark e (is_failed filled) marked
       → RefusesUnchanged view backing old (record filled { is_failed = marked }) out (Err e)
   refuses_version old long filled e marked usable call same is number marks =
       refuses_left view backing out old usable filled marked number e marks (λ want. absurd (let no : I.Version ≡ I.Memory = sym is ∙ want in cc)) (λ sound. inl (subst (λ (image : Qcow2 S F). UnseenCall view backing old image out) (sym same) call))

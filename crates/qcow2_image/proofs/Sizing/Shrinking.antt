@@ -30,7 +30,8 @@ use Rattle.qcow2_image.specs.Found.{l1_index_of}
 use Rattle.qcow2_image.specs.Image.{IsSameImage, is_external, is_failed, is_writable, number_of, size_of}
 use Rattle.qcow2_image.specs.ImageInvariant.{ImageInvariant, abstract_of, disk_of, pending_in}
 use Rattle.qcow2_image.specs.NewTables.{MayName}
-use Rattle.qcow2_image.specs.Refusals.{failed_after, refuse_if}
+use Rattle.qcow2_image.specs.Refusals.{refuse_if}
+use Rattle.qcow2_image.proofs.Call.Marked.{MayMark}
 use Rattle.qcow2_image.specs.Resizing.{CantUncover, IsFaultOrCantUncover, IsTurnEnd, SetsSize, ShowsBelow, Shrinks, UncoversNext, UncoversPart, UncoversTail, WritesSize, WritesSizeLast, boundary_in, gifts_of_shrink, gifts_of_shrunk, refuses_to_resize}
 use Rattle.qcow2_image.proofs.Call.Called.{Quietly, listed}
 use Rattle.qcow2_image.proofs.Call.Refused.{stays_kept}
@@ -69,7 +70,7 @@ of_fault e (inl is) = subst (λ (x : ImageError). IsRefusalByFault (refusal_of x
 of_fault e (inr is) = subst (λ (x : ImageError). IsRefusalByFault (refusal_of x)) (sym is) tt
 
 -- one that is no fault marks nothing
-pub marks_nothing : (e : ImageError) (before now : Bool) → (IsFaultOfTables e → ⊥) → failed_after e before now → now ≡ before
+pub marks_nothing : (e : ImageError) (before now : Bool) → (IsFaultOfTables e → ⊥) → MayMark e before now → now ≡ before
 marks_nothing e before now none marks = elim (outcome e before now marks) [
   | inl failed ↦ absurd (none (inl failed.0))
   | inr rest ↦ elim rest [ inl want ↦ absurd (none (inr want.0)) | inr kept ↦ kept.0 ]
@@ -286,7 +287,7 @@ module _ {S F : Type 0} (view : S → StorageView) (backing : F → BackingView)
     }
 
     -- ---- it was refused
-    module _ (new : Qcow2 S F) (e : ImageError) (marked : Bool) (number : number_of new ≡ number_of old) (fault : IsFaultOfTables e) (marks : failed_after e (is_failed new) marked) (changed : nat_lt (rounded_up (cluster_size new.file.header.fields) size) at ≡ true → marked ≡ true) where
+    module _ (new : Qcow2 S F) (e : ImageError) (marked : Bool) (number : number_of new ≡ number_of old) (fault : IsFaultOfTables e) (marks : MayMark e (is_failed new) marked) (changed : nat_lt (rounded_up (cluster_size new.file.header.fields) size) at ≡ true → marked ≡ true) where
       abbrev final : Qcow2 S F
       final = record new { is_failed = marked }
 
@@ -337,7 +338,7 @@ module _ {S F : Type 0} (view : S → StorageView) (backing : F → BackingView)
       ]
 
     -- a turn was refused by a fault
-    module _ (e : ImageError) (marked : Bool) (number : number_of mid ≡ number_of old) (fault : IsFaultOfTables e) (marks : failed_after e (is_failed mid) marked) (changed : nat_lt (rounded_up (cluster_size mid.file.header.fields) size) at ≡ true → marked ≡ true)
+    module _ (e : ImageError) (marked : Bool) (number : number_of mid ≡ number_of old) (fault : IsFaultOfTables e) (marks : MayMark e (is_failed mid) marked) (changed : nat_lt (rounded_up (cluster_size mid.file.header.fields) size) at ≡ true → marked ≡ true)
         (tail : (out : List (Option Prepared)) → ImageInvariant view backing (pending_in view backing old out) old out → UncoversTail view backing old mid size at (Some e) out) where
       tail_left : (out : List (Option Prepared)) → ImageInvariant view backing (pending_in view backing old out) old out → Left mid e marked number fault marks changed out
       tail_left out sound =
@@ -356,7 +357,7 @@ module _ {S F : Type 0} (view : S → StorageView) (backing : F → BackingView)
       shrinks_stopped = shrinks_refused mid e marked number fault marks changed tail_left
 
     -- the size was refused
-    module _ (new : Qcow2 S F) (e : ImageError) (marked : Bool) (number : number_of new ≡ number_of old) (fault : IsFaultOfTables e) (marks : failed_after e (is_failed new) marked) (changed : nat_lt (rounded_up (cluster_size new.file.header.fields) size) at ≡ true → marked ≡ true)
+    module _ (new : Qcow2 S F) (e : ImageError) (marked : Bool) (number : number_of new ≡ number_of old) (fault : IsFaultOfTables e) (marks : MayMark e (is_failed new) marked) (changed : nat_lt (rounded_up (cluster_size new.file.header.fields) size) at ≡ true → marked ≡ true)
         (tail : (out : List (Option Prepared)) → ImageInvariant view backing (pending_in view backing old out) old out → UncoversTail view backing old mid size at None out)
         (writes : (out : List (Option Prepared)) → ImageInvariant view backing (pending_in view backing mid out) mid out → WritesSize view backing mid new out size (Err e)) where
       size_left : (out : List (Option Prepared)) → ImageInvariant view backing (pending_in view backing old out) old out → Left new e marked number fault marks changed out

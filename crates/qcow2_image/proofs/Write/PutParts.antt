@@ -37,7 +37,7 @@ use Rattle.qcow2_image.proofs.Call.Answered.{same_guest}
 use Rattle.qcow2_disk.proofs.RunSteps.{acts_none}
 use Rattle.qcow2_image.specs.Calls.{Puts, gifts_of_put, refusal_of}
 use Rattle.qcow2_image.specs.Image.{number_of, is_failed}
-use Rattle.qcow2_image.specs.Refusals.{Marks}
+use Rattle.qcow2_image.proofs.Call.Marked.{MayMarkBy}
 use Rattle.qcow2_image.proofs.Map.Loading.{still_moved}
 use Rattle.std.proofs.lemmas.Bool.{cases_lt, cases_eq, cond-true, cond-false, eq-eqb, ne_eqb}
 use Rattle.qcow2_metadata.specs.Bytes.{byte_at, laid_over}
@@ -199,7 +199,7 @@ module _ {S F : Type 0} (view : S → StorageView) (backing : F → BackingView)
       record { acts = acts_none v (gifts_of_put view backing old old v p at bytes) []; answer = λ sound. inl (sound, refl); fault = λ is. absurd (other is) }
 
   module _ (new : Qcow2 S F) (marked : Bool) (number : number_of new ≡ number_of old) where
-    pub puts_settled : (r : Result (Unit {0}) ImageError) → Marks r (is_failed new) marked
+    pub puts_settled : (r : Result (Unit {0}) ImageError) → MayMarkBy r (is_failed new) marked
         → ((out : List (Option Prepared)) (k : ℕ) → slice_get out k ≡ Some (Some p) → ImageInvariant view backing (pending_in view backing old out) old out → PutsPart view backing old new out k p at bytes r)
         → Puts view backing old (record new { is_failed = marked }) p at bytes r
     puts_settled (Ok done) marks part = λ out k placed.

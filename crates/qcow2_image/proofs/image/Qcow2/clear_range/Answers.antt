@@ -9,7 +9,7 @@ use Rattle.qcow2_image.specs.declared.image.Qcow2.{Qcow2}
 use Rattle.qcow2_image.specs.Image.{is_failed}
 use Rattle.qcow2_image.specs.ImageInvariant.{ImageInvariant, pending_in}
 use Rattle.qcow2_image.specs.L1Entries.{ReachesOffset}
-use Rattle.qcow2_image.specs.Refusals.{Marks}
+use Rattle.qcow2_image.proofs.Call.Marked.{MayMarkBy, marks_memory, may_mark, may_mark_refused}
 use Rattle.qcow2_image.proofs.Call.Called.{Quietly}
 use Rattle.qcow2_image.proofs.Grow.Lengths.{reaches_begun, same_length}
 use Rattle.qcow2_image.proofs.Call.Settled.{is_fault, outcome}
@@ -77,7 +77,7 @@ returns-in_err-mark_failure-clause-sees g c =
     subst (λ (r : Result _ _). Clears view below c.args.how old c.mark_failure.new.self c.args.offset c.args.length r) (sym (err_is c.from_residual-in_err-mark_failure.result c.from_residual-in_err-mark_failure.ensures))
     (subst (λ (image : Qcow2 _ _). Clears view below c.args.how old image c.args.offset c.args.length (Err e)) (sym c.mark_failure.ensures.rest)
     (clear_refused view below old c.args.how c.args.offset c.args.length works begun entries quiet e marked (c.clear_between-cleared.ensures.stays.image.number ∙ c.begin.ensures.stays.image.number)
-    (subst (λ (r : Result _ _). Marks r (is_failed entries) marked) done c.mark_failure.ensures.marks) (subst (λ (r : Result _ _). IfErr r (λ x. x ≡ Memory → IsTrue entries.file.caches.is_changed → IsTrue marked)) done c.mark_failure.ensures.memory)
+    (subst (λ (r : Result _ _). MayMarkBy r (is_failed entries) marked) done (may_mark c.clear_between-cleared.new.self c.mark_failure.new.self c.clear_between-cleared.result c.mark_failure.ensures.marks)) (subst (λ (r : Result _ _). IfErr r (λ x. x ≡ Memory → IsTrue entries.file.caches.is_changed → IsTrue marked)) done (marks_memory c.clear_between-cleared.new.self c.mark_failure.new.self c.clear_between-cleared.new.self c.clear_between-cleared.result c.mark_failure.ensures.marks (ap (λ (i : Qcow2 _ _). i.file) c.mark_failure.ensures.rest)))
     (λ out call. subst (ClearsOrRefuses view below c.args.how c.in_ok-from.from c.in_ok-from.to begun entries out) done (c.clear_between-cleared.ensures.clears out call.sound
     (subst (λ n. IsClearable begun.file.header.fields c.args.how n c.in_ok-from.to) (sym from) (subst (λ n. IsClearable begun.file.header.fields c.args.how (from_in old c.args.offset c.args.length) n) (sym to)
     (whole_in view below old c.args.how c.args.offset c.args.length works begun entries quiet out call c.in_ok-from.ensures.version)))))))
@@ -99,7 +99,7 @@ returns-in_err-end_freeing-clause-sees g c =
     let works = clear_works old c.args.offset c.args.length c.args.how range.0 in
     let quiet : (out : _) → _ → Quietly view below out old begun = λ out sound. record { keeps = c.begin.ensures.keeps (pending_in view below old out) out sound; list = c.begin.ensures.list } in
     let done : c.clear_between-cleared.result ≡ Ok c.in_ok-mark_failure.field-0 = sym c.mark_failure.ensures.answer ∙ c.in_ok-mark_failure.was in
-    let marks = subst (λ (r : Result _ _). Marks r (is_failed entries) (is_failed c.mark_failure.new.self)) done c.mark_failure.ensures.marks in
+    let marks = subst (λ (r : Result _ _). MayMarkBy r (is_failed entries) (is_failed c.mark_failure.new.self)) done (may_mark c.clear_between-cleared.new.self c.mark_failure.new.self c.clear_between-cleared.result c.mark_failure.ensures.marks) in
     let same : c.mark_failure.new.self ≡ c.clear_between-cleared.new.self = c.mark_failure.ensures.rest ∙ ap (λ f. record entries { is_failed = f }) marks in
     let parts : (out : _) → UnseenCall view below old begun out → ClearsPart view below how (from_in old offset n) (to_in old offset n) begun entries out = λ out call. subst (λ k. ClearsPart view below how k (to_in old offset n) begun entries out) from (subst (λ k. ClearsPart view below how c.in_ok-from.from k begun entries out) to
     (subst (ClearsOrRefuses view below how c.in_ok-from.from c.in_ok-from.to begun entries out) done (c.clear_between-cleared.ensures.clears out call.sound
@@ -110,7 +110,7 @@ returns-in_err-end_freeing-clause-sees g c =
     let x = c.in_err-end_freeing.field-0.0 in
     subst (λ (r : Result _ _). Clears view below how old freed offset n r) (sym (err_is c.from_residual-in_err-end_freeing.result c.from_residual-in_err-end_freeing.ensures))
     (clear_broke view below old how offset n works begun entries quiet parts freed c.end_freeing.result ends number x c.in_err-end_freeing.was
-    (is_fault x (is_failed c.mark_failure.new.self) (is_failed freed) (outcome x (is_failed c.mark_failure.new.self) (is_failed freed) c.in_err-end_freeing.ensures.marks)))
+    (is_fault x (is_failed c.mark_failure.new.self) (is_failed freed) (outcome x (is_failed c.mark_failure.new.self) (is_failed freed) (may_mark_refused c.mark_failure.new.self c.end_freeing.new.self x c.in_err-end_freeing.ensures.marks))))
 
 pub returns-clause-under : goal.returns-clause-under
 returns-clause-under g c = λ none some out sound.
@@ -150,7 +150,7 @@ returns-clause-sees g c =
     let works = clear_works old c.args.offset c.args.length c.args.how range.0 in
     let quiet : (out : _) → _ → Quietly view below out old begun = λ out sound. record { keeps = c.begin.ensures.keeps (pending_in view below old out) out sound; list = c.begin.ensures.list } in
     let done : c.clear_between-cleared.result ≡ Ok c.in_ok-mark_failure.field-0 = sym c.mark_failure.ensures.answer ∙ c.in_ok-mark_failure.was in
-    let marks = subst (λ (r : Result _ _). Marks r (is_failed entries) (is_failed c.mark_failure.new.self)) done c.mark_failure.ensures.marks in
+    let marks = subst (λ (r : Result _ _). MayMarkBy r (is_failed entries) (is_failed c.mark_failure.new.self)) done (may_mark c.clear_between-cleared.new.self c.mark_failure.new.self c.clear_between-cleared.result c.mark_failure.ensures.marks) in
     let same : c.mark_failure.new.self ≡ c.clear_between-cleared.new.self = c.mark_failure.ensures.rest ∙ ap (λ f. record entries { is_failed = f }) marks in
     let parts : (out : _) → UnseenCall view below old begun out → ClearsPart view below how (from_in old offset n) (to_in old offset n) begun entries out = λ out call. subst (λ k. ClearsPart view below how k (to_in old offset n) begun entries out) from (subst (λ k. ClearsPart view below how c.in_ok-from.from k begun entries out) to
     (subst (ClearsOrRefuses view below how c.in_ok-from.from c.in_ok-from.to begun entries out) done (c.clear_between-cleared.ensures.clears out call.sound
@@ -182,7 +182,7 @@ returns-clause-covers g c = λ out sound.
     let works = clear_works old c.args.offset c.args.length c.args.how range.0 in
     let quiet : (out : _) → _ → Quietly view below out old begun = λ out sound. record { keeps = c.begin.ensures.keeps (pending_in view below old out) out sound; list = c.begin.ensures.list } in
     let done : c.clear_between-cleared.result ≡ Ok c.in_ok-mark_failure.field-0 = sym c.mark_failure.ensures.answer ∙ c.in_ok-mark_failure.was in
-    let marks = subst (λ (r : Result _ _). Marks r (is_failed entries) (is_failed c.mark_failure.new.self)) done c.mark_failure.ensures.marks in
+    let marks = subst (λ (r : Result _ _). MayMarkBy r (is_failed entries) (is_failed c.mark_failure.new.self)) done (may_mark c.clear_between-cleared.new.self c.mark_failure.new.self c.clear_between-cleared.result c.mark_failure.ensures.marks) in
     let same : c.mark_failure.new.self ≡ c.clear_between-cleared.new.self = c.mark_failure.ensures.rest ∙ ap (λ f. record entries { is_failed = f }) marks in
     let parts : (out : _) → UnseenCall view below old begun out → ClearsPart view below how (from_in old offset n) (to_in old offset n) begun entries out = λ out call. subst (λ k. ClearsPart view below how k (to_in old offset n) begun entries out) from (subst (λ k. ClearsPart view below how c.in_ok-from.from k begun entries out) to
     (subst (ClearsOrRefuses view below how c.in_ok-from.from c.in_ok-from.to begun entries out) done (c.clear_between-cleared.ensures.clears out call.sound
@@ -225,7 +225,7 @@ returns-in_err-mark_failure-clause-refused g c =
       lacks = λ none out sound unprepared. subst (λ n. IsFaultOrLacksTable view entries n e) from (lacking out sound unprepared);
       ungiven =
           ungiven_refused view below old c.args.how c.args.offset c.args.length works begun entries quiet e marked (c.clear_between-cleared.ensures.stays.image.number ∙ c.begin.ensures.stays.image.number)
-          (subst (λ (r : Result _ _). Marks r (is_failed entries) marked) done c.mark_failure.ensures.marks) (subst (λ (r : Result _ _). IfErr r (λ x. x ≡ Memory → IsTrue entries.file.caches.is_changed → IsTrue marked)) done c.mark_failure.ensures.memory)
+          (subst (λ (r : Result _ _). MayMarkBy r (is_failed entries) marked) done (may_mark c.clear_between-cleared.new.self c.mark_failure.new.self c.clear_between-cleared.result c.mark_failure.ensures.marks)) (subst (λ (r : Result _ _). IfErr r (λ x. x ≡ Memory → IsTrue entries.file.caches.is_changed → IsTrue marked)) done (marks_memory c.clear_between-cleared.new.self c.mark_failure.new.self c.clear_between-cleared.new.self c.clear_between-cleared.result c.mark_failure.ensures.marks (ap (λ (i : Qcow2 _ _). i.file) c.mark_failure.ensures.rest)))
           (λ out call. subst (ClearsOrRefuses view below c.args.how c.in_ok-from.from c.in_ok-from.to begun entries out) done (c.clear_between-cleared.ensures.clears out call.sound
           (whole out call)));
     }))
@@ -247,7 +247,7 @@ returns-in_err-end_freeing-clause-refused g c =
     let works = clear_works old c.args.offset c.args.length c.args.how range.0 in
     let quiet : (out : _) → _ → Quietly view below out old begun = λ out sound. record { keeps = c.begin.ensures.keeps (pending_in view below old out) out sound; list = c.begin.ensures.list } in
     let done : c.clear_between-cleared.result ≡ Ok c.in_ok-mark_failure.field-0 = sym c.mark_failure.ensures.answer ∙ c.in_ok-mark_failure.was in
-    let marks = subst (λ (r : Result _ _). Marks r (is_failed entries) (is_failed c.mark_failure.new.self)) done c.mark_failure.ensures.marks in
+    let marks = subst (λ (r : Result _ _). MayMarkBy r (is_failed entries) (is_failed c.mark_failure.new.self)) done (may_mark c.clear_between-cleared.new.self c.mark_failure.new.self c.clear_between-cleared.result c.mark_failure.ensures.marks) in
     let same : c.mark_failure.new.self ≡ c.clear_between-cleared.new.self = c.mark_failure.ensures.rest ∙ ap (λ f. record entries { is_failed = f }) marks in
     let parts : (out : _) → UnseenCall view below old begun out → ClearsPart view below how (from_in old offset n) (to_in old offset n) begun entries out = λ out call. subst (λ k. ClearsPart view below how k (to_in old offset n) begun entries out) from (subst (λ k. ClearsPart view below how c.in_ok-from.from k begun entries out) to
     (subst (ClearsOrRefuses view below how c.in_ok-from.from c.in_ok-from.to begun entries out) done (c.clear_between-cleared.ensures.clears out call.sound

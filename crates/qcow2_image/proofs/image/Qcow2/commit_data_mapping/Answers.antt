@@ -8,6 +8,7 @@ use Rattle.qcow2_image.specs.declared.prepared.CommitRefused.TheVariants.{Kept}
 use Rattle.qcow2_image.specs.Calls.{Commits, refusal_of}
 use Rattle.qcow2_image.specs.Image.{is_failed}
 use Rattle.qcow2_image.specs.ImageInvariant.{abstract_of, pending_in}
+use Rattle.qcow2_image.proofs.Call.Marked.{may_mark_refused}
 use Rattle.qcow2_image.proofs.Call.Settled.{is_fault, outcome}
 use Rattle.qcow2_image.proofs.Commit.CommitCalls.{commit_broke, commit_broke_off, commit_done, commit_existing, commit_kept, refuses_unsound, true_or_false}
 use Rattle.qcow2_image.proofs.Call.FaultCounts.{counted_as, fewer_then}
@@ -52,7 +53,7 @@ returns-after-entered-clause-sees g c =
     let some : IsSome c.args.prepared.table = search rules in
     let number = c.end_freeing.ensures.image.number ∙ c.enter_shares-entered.ensures.stays.image.number ∙ c.begin.ensures.stays.image.number in
     let marked : refusal_of c.in-Err.refusal ≡ storage → IsTrue (is_failed c.end_freeing.new.self) =
-    is_fault x (is_failed entered) (is_failed freed) (outcome x (is_failed entered) (is_failed freed) c.in-Err.ensures.marks) in
+    is_fault x (is_failed entered) (is_failed freed) (outcome x (is_failed entered) (is_failed freed) (may_mark_refused entered freed x c.in-Err.ensures.marks)) in
     elim c.if-entered.branch [
       | then-entered w ↦
           subst (λ (r : CommitRefused). Commits view below old freed p (Err r)) (sym (c.refused_commit.ensures.spent (w.refused_commit-is ∙ w.if-entered.true)))

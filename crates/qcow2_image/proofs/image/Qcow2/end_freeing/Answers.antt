@@ -11,6 +11,7 @@ use Rattle.qcow2_image.proofs.Prepare.Filling.{goes_none}
 use Rattle.qcow2_image.proofs.Prepare.Gaining.{following_same}
 use Rattle.qcow2_image.proofs.Flush.Freeing.{all_listed, beside, ends_freeing}
 use Rattle.qcow2_image.proofs.Call.FaultCounts.{counted_marked, untouched}
+use Rattle.qcow2_image.proofs.Call.Marked.{marks_memory, may_mark}
 use Rattle.qcow2_image.proofs.image.Qcow2.end_freeing.Goals as goal
 
 pub returns-clause-frees : goal.returns-clause-frees
@@ -24,7 +25,7 @@ returns-clause-frees g c = λ out sound.
     let listed = subst (λ (x : Pending). ImageInvariant view below x old out) (all_listed view below old out) sound in
     subst (λ (image : Qcow2 _ _). EndsFreeing view below old image out c.mark_failure.result) (sym c.mark_failure.ensures.rest)
     (subst (λ (x : Result _ _). EndsFreeing view below old (record new { is_failed = is_failed c.mark_failure.new.self }) out x) (sym c.mark_failure.ensures.answer)
-    (ends_freeing view below old sound.works new (is_failed c.mark_failure.new.self) c.free_listed-freed.ensures.stays.image.number out sound r c.mark_failure.ensures.marks c.mark_failure.ensures.memory c.free_listed-freed.ensures.noted
+    (ends_freeing view below old sound.works new (is_failed c.mark_failure.new.self) c.free_listed-freed.ensures.stays.image.number out sound r (may_mark c.free_listed-freed.new.self c.mark_failure.new.self c.free_listed-freed.result c.mark_failure.ensures.marks) (marks_memory c.free_listed-freed.new.self c.mark_failure.new.self c.free_listed-freed.new.self c.free_listed-freed.result c.mark_failure.ensures.marks (ap (λ (i : Qcow2 _ _). i.file) c.mark_failure.ensures.rest)) c.free_listed-freed.ensures.noted
     (c.free_listed-freed.ensures.faults p out listed) (c.free_listed-freed.ensures.frees p out listed)))
 
 pub returns-then-is_empty-clause-frees : goal.returns-then-is_empty-clause-frees

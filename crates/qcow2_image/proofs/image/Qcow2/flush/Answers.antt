@@ -1,4 +1,4 @@
-use Rattle.std.proofs.Common.{[], sym, ◌∙◌, subst}
+use Rattle.std.proofs.Common.{[], sym, ◌∙◌, subst, ap}
 use Rattle.std.specs.Prelude.{Result}
 use Rattle.qcow2_laws.specs.CrashInvariant.{Pending}
 use Rattle.qcow2_alloc.specs.FreeList.{with_listed}
@@ -10,6 +10,7 @@ use Rattle.qcow2_image.proofs.Grow.Grown.{written_back}
 use Rattle.qcow2_image.proofs.Flush.Freeing.{all_listed, beside, flushes_settled, frees_on}
 use Rattle.qcow2_image.proofs.Call.FaultCounts.{counted_marked}
 use Rattle.qcow2_image.proofs.Map.Unmodified.{read_call}
+use Rattle.qcow2_image.proofs.Call.Marked.{marks_memory, may_mark}
 use Rattle.qcow2_image.proofs.image.Qcow2.flush.Goals as goal
 
 pub returns-clause-sees : goal.returns-clause-sees
@@ -22,7 +23,7 @@ returns-clause-sees g c =
     let r = c.write_back-done.result in
     subst (λ (image : Qcow2 _ _). FlushesImage view below old image c.mark_failure.result) (sym c.mark_failure.ensures.rest)
     (subst (λ (x : Result _ _). FlushesImage view below old (record new { is_failed = is_failed c.mark_failure.new.self }) x) (sym c.mark_failure.ensures.answer)
-    (flushes_settled view below old c.if-self.false new (is_failed c.mark_failure.new.self) (c.write_back-done.ensures.stays.image.number ∙ c.begin.ensures.stays.image.number) r c.mark_failure.ensures.marks c.mark_failure.ensures.memory
+    (flushes_settled view below old c.if-self.false new (is_failed c.mark_failure.new.self) (c.write_back-done.ensures.stays.image.number ∙ c.begin.ensures.stays.image.number) r (may_mark c.write_back-done.new.self c.mark_failure.new.self c.write_back-done.result c.mark_failure.ensures.marks) (marks_memory c.write_back-done.new.self c.mark_failure.new.self c.write_back-done.new.self c.write_back-done.result c.mark_failure.ensures.marks (ap (λ (i : Qcow2 _ _). i.file) c.mark_failure.ensures.rest))
     (λ out sound.
     let p : Pending = beside view below old out in
     let q : Pending = with_listed p old.file.free_list in
@@ -41,7 +42,7 @@ returns-clause-writes g c = λ p sound.
     let first = c.begin.ensures.keeps (with_listed p old.file.free_list) [] sound in
     written_back view below p old new c.mark_failure.new.self c.write_back-done.result c.mark_failure.result
     (frees_on view below [] old mid new p c.write_back-done.result c.begin.ensures.list first (c.write_back-done.ensures.frees p [] (subst (λ l. ImageInvariant view below (with_listed p l) mid []) (sym c.begin.ensures.list) first.sound)))
-    c.mark_failure.ensures.answer c.mark_failure.ensures.rest c.mark_failure.ensures.marks
+    c.mark_failure.ensures.answer c.mark_failure.ensures.rest (may_mark c.write_back-done.new.self c.mark_failure.new.self c.write_back-done.result c.mark_failure.ensures.marks)
 
 pub returns-clause-faults : goal.returns-clause-faults
 returns-clause-faults g c =

@@ -7,7 +7,7 @@ use Rattle.qcow2_laws.proofs.Unseen.{known_header}
 use Rattle.qcow2_alloc.specs.ImageFile.{known_in, state_in}
 use Rattle.qcow2_image.specs.Found.{IsFoundInImage, found_kind}
 use Rattle.qcow2_image.specs.Image.{is_failed}
-use Rattle.qcow2_image.specs.Refusals.{Marks}
+use Rattle.qcow2_image.proofs.Call.Marked.{MayMarkBy, may_mark}
 use Rattle.qcow2_image.specs.ImageInvariant.{abstract_of, pending_in}
 use Rattle.qcow2_image.specs.Calls.{refusal_of}
 use Rattle.qcow2_image.proofs.Call.Answers.{answers_err, usable_works}
@@ -22,7 +22,7 @@ returns-in_err-kind-clause-sees g c =
     let old = c.args.self.now in
     let new = c.look_up-found.new.self in
     let e = c.in_err-kind.field-0.0 in
-    let marks = subst (λ r. Marks r (is_failed new) (is_failed c.mark_failure.new.self)) (sym c.mark_failure.ensures.answer ∙ c.in_err-kind.was) c.mark_failure.ensures.marks in
+    let marks = subst (λ r. MayMarkBy r (is_failed new) (is_failed c.mark_failure.new.self)) (sym c.mark_failure.ensures.answer ∙ c.in_err-kind.was) (may_mark c.look_up-found.new.self c.mark_failure.new.self c.look_up-found.result c.mark_failure.ensures.marks) in
     answers_err view below old c.mark_failure.new.self [] (λ found was is. is ≡ was) c.from_residual-in_err-kind.result e c.from_residual-in_err-kind.ensures
     (λ out.
     let quiet = quietly_then view below out old c.begin.new.self new c.begin.ensures.keeps c.begin.ensures.list c.look_up-found.ensures.keeps c.look_up-found.ensures.list in
@@ -37,7 +37,7 @@ returns-clause-sees g c = λ out.
     let old = c.args.self.now in
     let new = c.look_up-found.new.self in
     let quiet = quietly_then view below out old c.begin.new.self new c.begin.ensures.keeps c.begin.ensures.list c.look_up-found.ensures.keeps c.look_up-found.ensures.list in
-    let marks = subst (λ r. Marks r (is_failed new) (is_failed c.mark_failure.new.self)) (sym c.mark_failure.ensures.answer ∙ c.in_ok-kind.was) c.mark_failure.ensures.marks in
+    let marks = subst (λ r. MayMarkBy r (is_failed new) (is_failed c.mark_failure.new.self)) (sym c.mark_failure.ensures.answer ∙ c.in_ok-kind.was) (may_mark c.look_up-found.new.self c.mark_failure.new.self c.look_up-found.result c.mark_failure.ensures.marks) in
     let same : c.mark_failure.new.self ≡ new = c.mark_failure.ensures.rest ∙ ap (λ f. record new { is_failed = f }) marks in
     subst (λ (image : Qcow2 _ _). Does (abstract_of view below old out) (abstract_of view below image out) [] [] (guest_of (abstract_of view below image out) ≡ guest_of (abstract_of view below old out))) (sym same)
     (quiet_does view below out old new quiet (c.look_up-found.ensures.stays.image.number ∙ c.begin.ensures.stays.image.number) (usable_works old c.check_usable.result c.in_ok-check_usable.was c.check_usable.ensures))
@@ -48,7 +48,7 @@ returns-clause-run g c = λ out sound.
     let below = g.F.BackingDisk.backing in
     let new = c.look_up-found.new.self in
     let p = pending_in view below c.args.self.now out in
-    let marks = subst (λ r. Marks r (is_failed new) (is_failed c.mark_failure.new.self)) (sym c.mark_failure.ensures.answer ∙ c.in_ok-kind.was) c.mark_failure.ensures.marks in
+    let marks = subst (λ r. MayMarkBy r (is_failed new) (is_failed c.mark_failure.new.self)) (sym c.mark_failure.ensures.answer ∙ c.in_ok-kind.was) (may_mark c.look_up-found.new.self c.mark_failure.new.self c.look_up-found.result c.mark_failure.ensures.marks) in
     let same : c.mark_failure.new.self ≡ new = c.mark_failure.ensures.rest ∙ ap (λ f. record new { is_failed = f }) marks in
     let begun = (c.begin.ensures.keeps p out sound).sound in
     let guarded = (c.look_up-found.ensures.keeps p out begun).sound.file.caches.kept.kept.guarded in

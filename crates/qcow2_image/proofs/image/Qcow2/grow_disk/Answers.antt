@@ -5,16 +5,18 @@ use Rattle.qcow2_metadata.specs.EntryTable.{entry_count}
 use Rattle.qcow2_metadata.specs.Header.{with_size}
 use Rattle.qcow2_alloc.specs.declared.error.ImageError.TheVariants.{Memory, Version}
 use Rattle.qcow2_alloc.specs.ImageError.{IsFault}
+use Rattle.qcow2_alloc.specs.ImageStorage.{is_changed_of}
 use Rattle.qcow2_image.specs.CallParts.{UnseenCall}
 use Rattle.qcow2_image.specs.declared.image.Qcow2.{Qcow2}
 use Rattle.qcow2_image.specs.Found.{l1_index_of}
 use Rattle.qcow2_image.specs.Growing.{ReachesSize}
-use Rattle.qcow2_image.specs.Image.{is_failed}
+use Rattle.qcow2_image.specs.Image.{is_failed, with_marks}
 use Rattle.qcow2_image.specs.ImageInvariant.{ImageInvariant, pending_in}
 use Rattle.qcow2_image.specs.LongerTables.{MakesEntry}
 use Rattle.qcow2_image.specs.L1Entries.{ReachesOffset}
 use Rattle.qcow2_image.specs.Preallocation.{FillsGrown, FillsGrownOrRefuses}
-use Rattle.qcow2_image.specs.Refusals.{IsMet, Marks}
+use Rattle.qcow2_image.specs.Refusals.{IsMet}
+use Rattle.qcow2_image.proofs.Call.Marked.{MayMarkBy, marks_memory, may_mark}
 use Rattle.qcow2_image.specs.Resizing.{GrowsTables, GrowsTo, RefusesUnchanged, WritesSizeLast}
 use Rattle.qcow2_image.proofs.Call.Refused.{stays_then}
 use Rattle.qcow2_image.proofs.Clear.ClearCalls.{err_is}
@@ -24,6 +26,7 @@ use Rattle.qcow2_image.proofs.Preallocate.Filled.{met_taken}
 use Rattle.qcow2_image.proofs.Preallocate.Turns.{same_version}
 use Rattle.qcow2_image.proofs.Sizing.Growing.{grows_in_part, grows_not, grows_sized, last_in_part, last_not, last_sized, reaches_lengthened, unchanged_not}
 use Rattle.qcow2_image.proofs.Sizing.GrownTables.{leaves_sized, reaches_filled, refuses_version, tables_sized, taken_behind}
+use Rattle.qcow2_image.proofs.Sizing.Noted.{counted_noted, grows_noted, tables_noted, unchanged_noted}
 use Rattle.qcow2_image.proofs.Sizing.Shrinking.{begun_call}
 use Rattle.qcow2_image.proofs.Call.FaultCounts.{counted_marked, counted_on, untouched}
 use Rattle.qcow2_image.proofs.image.Qcow2.grow_disk.Goals as goal
@@ -44,8 +47,8 @@ returns-in_err-mark_failure-clause-sees g c =
     (grows_not view below old c.args.size c.args.mode c.requires.usable c.requires.larger begun mid e marked first
     (λ out sound. subst (MakesEntry view below begun mid out) done (c.renew_l1_table-longer.ensures.makes out sound))
     (c.renew_l1_table-longer.ensures.stays.image.number ∙ c.begin.ensures.stays.image.number)
-    (subst (λ (r : Result _ _). Marks r (is_failed mid) marked) done c.mark_failure.ensures.marks)
-    (subst (λ (r : Result _ _). IfErr r (λ x. x ≡ Memory → IsTrue mid.file.caches.is_changed → IsTrue marked)) done c.mark_failure.ensures.memory)))
+    (subst (λ (r : Result _ _). MayMarkBy r (is_failed mid) marked) done (may_mark c.renew_l1_table-longer.new.self c.mark_failure.new.self c.renew_l1_table-longer.result c.mark_failure.ensures.marks))
+    (subst (λ (r : Result _ _). IfErr r (λ x. x ≡ Memory → IsTrue mid.file.caches.is_changed → IsTrue marked)) done (marks_memory c.renew_l1_table-longer.new.self c.mark_failure.new.self c.renew_l1_table-longer.new.self c.renew_l1_table-longer.result c.mark_failure.ensures.marks (ap (λ (i : Qcow2 _ _). i.file) c.mark_failure.ensures.rest)))))
 
 pub returns-in_err-mark_failure-clause-last : goal.returns-in_err-mark_failure-clause-last
 returns-in_err-mark_failure-clause-last g c = λ out sound.
@@ -71,7 +74,7 @@ returns-in_err-mark_fault-clause-sees g c =
     let first = begun_call view below old begun (λ out sound. record { keeps = c.begin.ensures.keeps (pending_in view below old out) out sound; list = c.begin.ensures.list }) in
     let long = c.mark_failure.new.self in
     let made : c.renew_l1_table-longer.result ≡ Ok c.in_ok-mark_failure.field-0 = sym c.mark_failure.ensures.answer ∙ c.in_ok-mark_failure.was in
-    let kept = subst (λ (r : Result _ _). Marks r (is_failed mid) (is_failed long)) made c.mark_failure.ensures.marks in
+    let kept = subst (λ (r : Result _ _). MayMarkBy r (is_failed mid) (is_failed long)) made (may_mark c.renew_l1_table-longer.new.self c.mark_failure.new.self c.renew_l1_table-longer.result c.mark_failure.ensures.marks) in
     let same : c.mark_failure.new.self ≡ c.renew_l1_table-longer.new.self = c.mark_failure.ensures.rest ∙ ap (λ f. record mid { is_failed = f }) kept in
     let longer : (out : _) → ImageInvariant view below (pending_in view below old out) old out → UnseenCall view below old c.mark_failure.new.self out = λ out sound.
     let call = first out sound in
@@ -83,11 +86,11 @@ returns-in_err-mark_fault-clause-sees g c =
     let done : c.fill_grown-filled.result ≡ Err c.in_err-mark_fault.field-0.0 = sym c.mark_fault.ensures.answer ∙ c.in_err-mark_fault.was in
     subst (λ (r : Result _ _). GrowsTo view below old c.mark_fault.new.self c.args.size c.args.mode r) (sym (err_is c.from_residual-in_err-mark_fault.result c.from_residual-in_err-mark_fault.ensures))
     (subst (λ (image : Qcow2 _ _). GrowsTo view below old image c.args.size c.args.mode (Err e)) (sym c.mark_fault.ensures.rest)
-    (grows_in_part view below old c.args.size c.args.mode c.requires.usable c.requires.larger long longer filled e marked
-    (subst (λ (r : Result _ _). Marks r (is_failed filled) marked) done c.mark_fault.ensures.marks)
+    (grows_noted view below old (record filled { is_failed = marked }) (is_changed_of c.mark_fault.new.self.file.storage) c.args.size c.args.mode (Err e) (grows_in_part view below old c.args.size c.args.mode c.requires.usable c.requires.larger long longer filled e marked
+    (subst (λ (r : Result _ _). MayMarkBy r (is_failed filled) marked) done (may_mark c.fill_grown-filled.new.self c.mark_fault.new.self c.fill_grown-filled.result c.mark_fault.ensures.marks))
     (subst (λ (r : Result _ _). IfErr r (λ x. IsFault x → IsTrue marked)) done c.mark_fault.ensures.fault)
     (λ out sound. subst (FillsGrownOrRefuses view below c.args.size c.args.mode long filled out) done (c.fill_grown-filled.ensures.fills out sound))
-    (c.fill_grown-filled.ensures.stays.image.number ∙ numbered)))
+    (c.fill_grown-filled.ensures.stays.image.number ∙ numbered))))
 
 pub returns-in_err-mark_fault-clause-last : goal.returns-in_err-mark_fault-clause-last
 returns-in_err-mark_fault-clause-last g c = λ out sound.
@@ -99,7 +102,7 @@ returns-in_err-mark_fault-clause-last g c = λ out sound.
     let first = begun_call view below old begun (λ out sound. record { keeps = c.begin.ensures.keeps (pending_in view below old out) out sound; list = c.begin.ensures.list }) in
     let long = c.mark_failure.new.self in
     let made : c.renew_l1_table-longer.result ≡ Ok c.in_ok-mark_failure.field-0 = sym c.mark_failure.ensures.answer ∙ c.in_ok-mark_failure.was in
-    let kept = subst (λ (r : Result _ _). Marks r (is_failed mid) (is_failed long)) made c.mark_failure.ensures.marks in
+    let kept = subst (λ (r : Result _ _). MayMarkBy r (is_failed mid) (is_failed long)) made (may_mark c.renew_l1_table-longer.new.self c.mark_failure.new.self c.renew_l1_table-longer.result c.mark_failure.ensures.marks) in
     let same : c.mark_failure.new.self ≡ c.renew_l1_table-longer.new.self = c.mark_failure.ensures.rest ∙ ap (λ f. record mid { is_failed = f }) kept in
     let longer : (out : _) → ImageInvariant view below (pending_in view below old out) old out → UnseenCall view below old c.mark_failure.new.self out = λ out sound.
     let call = first out sound in
@@ -111,7 +114,7 @@ returns-in_err-mark_fault-clause-last g c = λ out sound.
     let done : c.fill_grown-filled.result ≡ Err c.in_err-mark_fault.field-0.0 = sym c.mark_fault.ensures.answer ∙ c.in_err-mark_fault.was in
     subst (λ (image : Qcow2 _ _). WritesSizeLast view below old image) (sym c.mark_fault.ensures.rest)
     (last_in_part view below old c.args.size c.args.mode c.requires.usable c.requires.larger long longer filled e marked
-    (subst (λ (r : Result _ _). Marks r (is_failed filled) marked) done c.mark_fault.ensures.marks)
+    (subst (λ (r : Result _ _). MayMarkBy r (is_failed filled) marked) done (may_mark c.fill_grown-filled.new.self c.mark_fault.new.self c.fill_grown-filled.result c.mark_fault.ensures.marks))
     (subst (λ (r : Result _ _). IfErr r (λ x. IsFault x → IsTrue marked)) done c.mark_fault.ensures.fault)
     (λ out sound. subst (FillsGrownOrRefuses view below c.args.size c.args.mode long filled out) done (c.fill_grown-filled.ensures.fills out sound)) out sound)
 
@@ -125,7 +128,7 @@ returns-clause-sees g c =
     let first = begun_call view below old begun (λ out sound. record { keeps = c.begin.ensures.keeps (pending_in view below old out) out sound; list = c.begin.ensures.list }) in
     let long = c.mark_failure.new.self in
     let made : c.renew_l1_table-longer.result ≡ Ok c.in_ok-mark_failure.field-0 = sym c.mark_failure.ensures.answer ∙ c.in_ok-mark_failure.was in
-    let kept = subst (λ (r : Result _ _). Marks r (is_failed mid) (is_failed long)) made c.mark_failure.ensures.marks in
+    let kept = subst (λ (r : Result _ _). MayMarkBy r (is_failed mid) (is_failed long)) made (may_mark c.renew_l1_table-longer.new.self c.mark_failure.new.self c.renew_l1_table-longer.result c.mark_failure.ensures.marks) in
     let same : c.mark_failure.new.self ≡ c.renew_l1_table-longer.new.self = c.mark_failure.ensures.rest ∙ ap (λ f. record mid { is_failed = f }) kept in
     let longer : (out : _) → ImageInvariant view below (pending_in view below old out) old out → UnseenCall view below old c.mark_failure.new.self out = λ out sound.
     let call = first out sound in
@@ -133,17 +136,16 @@ returns-clause-sees g c =
     let numbered = c.mark_failure.ensures.image.number ∙ c.renew_l1_table-longer.ensures.stays.image.number ∙ c.begin.ensures.stays.image.number in
     let filled = c.fill_grown-filled.new.self in
     let put : c.fill_grown-filled.result ≡ Ok c.in_ok-mark_fault.field-0 = sym c.mark_fault.ensures.answer ∙ c.in_ok-mark_fault.was in
-    let stayed = subst (λ (r : Result _ _). Marks r (is_failed filled) (is_failed c.mark_fault.new.self)) put c.mark_fault.ensures.marks in
-    let whole : c.mark_fault.new.self ≡ c.fill_grown-filled.new.self = c.mark_fault.ensures.rest ∙ ap (λ f. record filled { is_failed = f }) stayed in
+    let whole : c.mark_fault.new.self ≡ c.fill_grown-filled.new.self = subst (λ (r : Result _ _). OnOk r (c.mark_fault.new.self ≡ c.fill_grown-filled.new.self)) put c.mark_fault.ensures.same in
     let fills : (out : _) → ImageInvariant view below (pending_in view below long out) long out → FillsGrown view below c.args.size c.args.mode long c.mark_fault.new.self out = λ out sound.
     subst (λ (image : Qcow2 _ _). FillsGrown view below c.args.size c.args.mode long image out) (sym whole)
     (subst (FillsGrownOrRefuses view below c.args.size c.args.mode long filled out) put (c.fill_grown-filled.ensures.fills out sound)) in
     let new = c.write_size-written.new.self in
     subst (λ (image : Qcow2 _ _). GrowsTo view below old image c.args.size c.args.mode c.mark_fault-2.result) (sym c.mark_fault-2.ensures.rest)
-    (subst (λ (r : Result _ _). GrowsTo view below old (record new { is_failed = is_failed c.mark_fault-2.new.self }) c.args.size c.args.mode r) (sym c.mark_fault-2.ensures.answer)
-    (grows_sized view below old c.args.size c.args.mode c.requires.usable c.requires.larger long longer c.mark_fault.new.self fills new
+    (subst (λ (r : Result _ _). GrowsTo view below old (with_marks new (is_changed_of c.mark_fault-2.new.self.file.storage) (is_failed c.mark_fault-2.new.self)) c.args.size c.args.mode r) (sym c.mark_fault-2.ensures.answer)
+    (grows_noted view below old (record new { is_failed = is_failed c.mark_fault-2.new.self }) (is_changed_of c.mark_fault-2.new.self.file.storage) c.args.size c.args.mode c.write_size-written.result (grows_sized view below old c.args.size c.args.mode c.requires.usable c.requires.larger long longer c.mark_fault.new.self fills new
     (ap (λ (i : Qcow2 _ _). i.number) c.write_size-written.ensures.rest ∙ c.mark_fault.ensures.image.number ∙ c.fill_grown-filled.ensures.stays.image.number ∙ numbered)
-    c.write_size-written.result (is_failed c.mark_fault-2.new.self) c.mark_fault-2.ensures.marks c.write_size-written.ensures.cause c.mark_fault-2.ensures.fault c.write_size-written.ensures.writes))
+    c.write_size-written.result (is_failed c.mark_fault-2.new.self) (may_mark c.write_size-written.new.self c.mark_fault-2.new.self c.write_size-written.result c.mark_fault-2.ensures.marks) c.write_size-written.ensures.cause c.mark_fault-2.ensures.fault c.write_size-written.ensures.writes)))
 
 pub returns-clause-last : goal.returns-clause-last
 returns-clause-last g c = λ out sound.
@@ -155,7 +157,7 @@ returns-clause-last g c = λ out sound.
     let first = begun_call view below old begun (λ out sound. record { keeps = c.begin.ensures.keeps (pending_in view below old out) out sound; list = c.begin.ensures.list }) in
     let long = c.mark_failure.new.self in
     let made : c.renew_l1_table-longer.result ≡ Ok c.in_ok-mark_failure.field-0 = sym c.mark_failure.ensures.answer ∙ c.in_ok-mark_failure.was in
-    let kept = subst (λ (r : Result _ _). Marks r (is_failed mid) (is_failed long)) made c.mark_failure.ensures.marks in
+    let kept = subst (λ (r : Result _ _). MayMarkBy r (is_failed mid) (is_failed long)) made (may_mark c.renew_l1_table-longer.new.self c.mark_failure.new.self c.renew_l1_table-longer.result c.mark_failure.ensures.marks) in
     let same : c.mark_failure.new.self ≡ c.renew_l1_table-longer.new.self = c.mark_failure.ensures.rest ∙ ap (λ f. record mid { is_failed = f }) kept in
     let longer : (out : _) → ImageInvariant view below (pending_in view below old out) old out → UnseenCall view below old c.mark_failure.new.self out = λ out sound.
     let call = first out sound in
@@ -163,8 +165,7 @@ returns-clause-last g c = λ out sound.
     let numbered = c.mark_failure.ensures.image.number ∙ c.renew_l1_table-longer.ensures.stays.image.number ∙ c.begin.ensures.stays.image.number in
     let filled = c.fill_grown-filled.new.self in
     let put : c.fill_grown-filled.result ≡ Ok c.in_ok-mark_fault.field-0 = sym c.mark_fault.ensures.answer ∙ c.in_ok-mark_fault.was in
-    let stayed = subst (λ (r : Result _ _). Marks r (is_failed filled) (is_failed c.mark_fault.new.self)) put c.mark_fault.ensures.marks in
-    let whole : c.mark_fault.new.self ≡ c.fill_grown-filled.new.self = c.mark_fault.ensures.rest ∙ ap (λ f. record filled { is_failed = f }) stayed in
+    let whole : c.mark_fault.new.self ≡ c.fill_grown-filled.new.self = subst (λ (r : Result _ _). OnOk r (c.mark_fault.new.self ≡ c.fill_grown-filled.new.self)) put c.mark_fault.ensures.same in
     let fills : (out : _) → ImageInvariant view below (pending_in view below long out) long out → FillsGrown view below c.args.size c.args.mode long c.mark_fault.new.self out = λ out sound.
     subst (λ (image : Qcow2 _ _). FillsGrown view below c.args.size c.args.mode long image out) (sym whole)
     (subst (FillsGrownOrRefuses view below c.args.size c.args.mode long filled out) put (c.fill_grown-filled.ensures.fills out sound)) in
@@ -190,8 +191,8 @@ returns-in_err-mark_failure-clause-version g c = λ zero lacks out sound.
     (unchanged_not view below old c.args.size c.args.mode c.requires.usable c.requires.larger begun mid e marked first
     (λ list still. subst (MakesEntry view below begun mid list) done (c.renew_l1_table-longer.ensures.makes list still))
     (c.renew_l1_table-longer.ensures.stays.image.number ∙ c.begin.ensures.stays.image.number)
-    (subst (λ (r : Result _ _). Marks r (is_failed mid) marked) done c.mark_failure.ensures.marks)
-    (subst (λ (r : Result _ _). IfErr r (λ x. x ≡ Memory → IsTrue mid.file.caches.is_changed → IsTrue marked)) done c.mark_failure.ensures.memory) out))
+    (subst (λ (r : Result _ _). MayMarkBy r (is_failed mid) marked) done (may_mark c.renew_l1_table-longer.new.self c.mark_failure.new.self c.renew_l1_table-longer.result c.mark_failure.ensures.marks))
+    (subst (λ (r : Result _ _). IfErr r (λ x. x ≡ Memory → IsTrue mid.file.caches.is_changed → IsTrue marked)) done (marks_memory c.renew_l1_table-longer.new.self c.mark_failure.new.self c.renew_l1_table-longer.new.self c.renew_l1_table-longer.result c.mark_failure.ensures.marks (ap (λ (i : Qcow2 _ _). i.file) c.mark_failure.ensures.rest))) out))
 
 pub returns-in_err-mark_failure-clause-tables : goal.returns-in_err-mark_failure-clause-tables
 returns-in_err-mark_failure-clause-tables g c = λ out sound.
@@ -210,7 +211,7 @@ returns-in_err-mark_fault-clause-version g c = λ zero lacks out sound.
     let first = begun_call view below old begun (λ out sound. record { keeps = c.begin.ensures.keeps (pending_in view below old out) out sound; list = c.begin.ensures.list }) in
     let long = c.mark_failure.new.self in
     let made : c.renew_l1_table-longer.result ≡ Ok c.in_ok-mark_failure.field-0 = sym c.mark_failure.ensures.answer ∙ c.in_ok-mark_failure.was in
-    let kept = subst (λ (r : Result _ _). Marks r (is_failed mid) (is_failed long)) made c.mark_failure.ensures.marks in
+    let kept = subst (λ (r : Result _ _). MayMarkBy r (is_failed mid) (is_failed long)) made (may_mark c.renew_l1_table-longer.new.self c.mark_failure.new.self c.renew_l1_table-longer.result c.mark_failure.ensures.marks) in
     let same : c.mark_failure.new.self ≡ c.renew_l1_table-longer.new.self = c.mark_failure.ensures.rest ∙ ap (λ f. record mid { is_failed = f }) kept in
     let begins = first out sound in
     let lengthens = subst (MakesEntry view below begun mid out) made (c.renew_l1_table-longer.ensures.makes out begins.sound) in
@@ -223,9 +224,9 @@ returns-in_err-mark_fault-clause-version g c = λ zero lacks out sound.
     let fault : Err e ≡ Err Version = sym done ∙ refused.0 in
     subst (λ (r : Result _ _). RefusesUnchanged view below old c.mark_fault.new.self out r) (sym (err_is c.from_residual-in_err-mark_fault.result c.from_residual-in_err-mark_fault.ensures))
     (subst (λ (image : Qcow2 _ _). RefusesUnchanged view below old image out (Err e)) (sym c.mark_fault.ensures.rest)
-    (refuses_version view below out old long filled e marked c.requires.usable call refused.1 (let is : e ≡ Version = cc in is)
+    (unchanged_noted view below old (record filled { is_failed = marked }) (is_changed_of c.mark_fault.new.self.file.storage) c.args.size out (Err e) (refuses_version view below out old long filled e marked c.requires.usable call refused.1 (let is : e ≡ Version = cc in is)
     (c.fill_grown-filled.ensures.stays.image.number ∙ c.mark_failure.ensures.image.number ∙ c.renew_l1_table-longer.ensures.stays.image.number ∙ c.begin.ensures.stays.image.number)
-    (subst (λ (r : Result _ _). Marks r (is_failed filled) marked) done c.mark_fault.ensures.marks)))
+    (subst (λ (r : Result _ _). MayMarkBy r (is_failed filled) marked) done (may_mark c.fill_grown-filled.new.self c.mark_fault.new.self c.fill_grown-filled.result c.mark_fault.ensures.marks)))))
 
 pub returns-in_err-mark_fault-clause-tables : goal.returns-in_err-mark_fault-clause-tables
 returns-in_err-mark_fault-clause-tables g c = λ out sound.
@@ -237,7 +238,7 @@ returns-in_err-mark_fault-clause-tables g c = λ out sound.
     let first = begun_call view below old begun (λ out sound. record { keeps = c.begin.ensures.keeps (pending_in view below old out) out sound; list = c.begin.ensures.list }) in
     let long = c.mark_failure.new.self in
     let made : c.renew_l1_table-longer.result ≡ Ok c.in_ok-mark_failure.field-0 = sym c.mark_failure.ensures.answer ∙ c.in_ok-mark_failure.was in
-    let kept = subst (λ (r : Result _ _). Marks r (is_failed mid) (is_failed long)) made c.mark_failure.ensures.marks in
+    let kept = subst (λ (r : Result _ _). MayMarkBy r (is_failed mid) (is_failed long)) made (may_mark c.renew_l1_table-longer.new.self c.mark_failure.new.self c.renew_l1_table-longer.result c.mark_failure.ensures.marks) in
     let same : c.mark_failure.new.self ≡ c.renew_l1_table-longer.new.self = c.mark_failure.ensures.rest ∙ ap (λ f. record mid { is_failed = f }) kept in
     let begins = first out sound in
     let lengthens = subst (MakesEntry view below begun mid out) made (c.renew_l1_table-longer.ensures.makes out begins.sound) in
@@ -259,7 +260,7 @@ returns-clause-version g c = λ zero lacks out sound.
     let first = begun_call view below old begun (λ out sound. record { keeps = c.begin.ensures.keeps (pending_in view below old out) out sound; list = c.begin.ensures.list }) in
     let long = c.mark_failure.new.self in
     let made : c.renew_l1_table-longer.result ≡ Ok c.in_ok-mark_failure.field-0 = sym c.mark_failure.ensures.answer ∙ c.in_ok-mark_failure.was in
-    let kept = subst (λ (r : Result _ _). Marks r (is_failed mid) (is_failed long)) made c.mark_failure.ensures.marks in
+    let kept = subst (λ (r : Result _ _). MayMarkBy r (is_failed mid) (is_failed long)) made (may_mark c.renew_l1_table-longer.new.self c.mark_failure.new.self c.renew_l1_table-longer.result c.mark_failure.ensures.marks) in
     let same : c.mark_failure.new.self ≡ c.renew_l1_table-longer.new.self = c.mark_failure.ensures.rest ∙ ap (λ f. record mid { is_failed = f }) kept in
     let begins = first out sound in
     let lengthens = subst (MakesEntry view below begun mid out) made (c.renew_l1_table-longer.ensures.makes out begins.sound) in
@@ -278,15 +279,14 @@ returns-clause-tables g c = λ out sound.
     let first = begun_call view below old begun (λ out sound. record { keeps = c.begin.ensures.keeps (pending_in view below old out) out sound; list = c.begin.ensures.list }) in
     let long = c.mark_failure.new.self in
     let made : c.renew_l1_table-longer.result ≡ Ok c.in_ok-mark_failure.field-0 = sym c.mark_failure.ensures.answer ∙ c.in_ok-mark_failure.was in
-    let kept = subst (λ (r : Result _ _). Marks r (is_failed mid) (is_failed long)) made c.mark_failure.ensures.marks in
+    let kept = subst (λ (r : Result _ _). MayMarkBy r (is_failed mid) (is_failed long)) made (may_mark c.renew_l1_table-longer.new.self c.mark_failure.new.self c.renew_l1_table-longer.result c.mark_failure.ensures.marks) in
     let same : c.mark_failure.new.self ≡ c.renew_l1_table-longer.new.self = c.mark_failure.ensures.rest ∙ ap (λ f. record mid { is_failed = f }) kept in
     let begins = first out sound in
     let lengthens = subst (MakesEntry view below begun mid out) made (c.renew_l1_table-longer.ensures.makes out begins.sound) in
     let call : UnseenCall view below old c.mark_failure.new.self out = subst (λ (image : Qcow2 _ _). UnseenCall view below old image out) (sym same) (stays_then view below out old begun mid begins lengthens) in
     let filled = c.fill_grown-filled.new.self in
     let put : c.fill_grown-filled.result ≡ Ok c.in_ok-mark_fault.field-0 = sym c.mark_fault.ensures.answer ∙ c.in_ok-mark_fault.was in
-    let stayed = subst (λ (r : Result _ _). Marks r (is_failed filled) (is_failed c.mark_fault.new.self)) put c.mark_fault.ensures.marks in
-    let whole : c.mark_fault.new.self ≡ c.fill_grown-filled.new.self = c.mark_fault.ensures.rest ∙ ap (λ f. record filled { is_failed = f }) stayed in
+    let whole : c.mark_fault.new.self ≡ c.fill_grown-filled.new.self = subst (λ (r : Result _ _). OnOk r (c.mark_fault.new.self ≡ c.fill_grown-filled.new.self)) put c.mark_fault.ensures.same in
     let fills = subst (FillsGrownOrRefuses view below c.args.size c.args.mode long filled out) put (c.fill_grown-filled.ensures.fills out call.sound) in
     let length = subst (λ (r : Result _ _). OnOk r (entry_count mid.l1_table ≡ max (entry_count begun.l1_table) (l1_index_of begun.file.header.fields (c.args.size - 1) + 1))) made c.renew_l1_table-longer.ensures.length in
     let reach : l1_index_of c.begin.new.self.file.header.fields (c.args.size - 1) < entry_count c.renew_l1_table-longer.new.self.l1_table = omega (arith, length) in
@@ -300,10 +300,10 @@ returns-clause-tables g c = λ out sound.
     let as_long = reaches_on old.file.header.fields long.file.header.fields c.mark_fault.new.self.file.header.fields c.args.size (let l = c.requires.larger in omega (arith, l)) call.header longer grown.length in
     let new = c.write_size-written.new.self in
     subst (λ (image : Qcow2 _ _). GrowsTables view below old image c.args.size c.args.mode out c.mark_fault-2.result) (sym c.mark_fault-2.ensures.rest)
-    (subst (λ (r : Result _ _). GrowsTables view below old (record new { is_failed = is_failed c.mark_fault-2.new.self }) c.args.size c.args.mode out r) (sym c.mark_fault-2.ensures.answer)
-    (tables_sized view below out old c.mark_fault.new.self new (is_failed c.mark_fault-2.new.self) c.args.size c.args.mode c.write_size-written.result (moves_then old.file.header.fields long.file.header.fields c.mark_fault.new.self.file.header.fields call.header grown.header) c.write_size-written.ensures.cause c.write_size-written.ensures.header
+    (subst (λ (r : Result _ _). GrowsTables view below old (with_marks new (is_changed_of c.mark_fault-2.new.self.file.storage) (is_failed c.mark_fault-2.new.self)) c.args.size c.args.mode out r) (sym c.mark_fault-2.ensures.answer)
+    (tables_noted view below old (record new { is_failed = is_failed c.mark_fault-2.new.self }) (is_changed_of c.mark_fault-2.new.self.file.storage) c.args.size c.args.mode out c.write_size-written.result (tables_sized view below out old c.mark_fault.new.self new (is_failed c.mark_fault-2.new.self) c.args.size c.args.mode c.write_size-written.result (moves_then old.file.header.fields long.file.header.fields c.mark_fault.new.self.file.header.fields call.header grown.header) c.write_size-written.ensures.cause c.write_size-written.ensures.header
     (subst (λ (image : Qcow2 _ _). ReachesSize (with_size image.file.header.fields c.args.size)) (sym whole) reached) as_long
-    (leaves_sized view below out old long c.mark_fault.new.self new c.args.size c.args.mode c.write_size-written.result call grown (c.write_size-written.ensures.writes out grown.sound))))
+    (leaves_sized view below out old long c.mark_fault.new.self new c.args.size c.args.mode c.write_size-written.result call grown (c.write_size-written.ensures.writes out grown.sound)))))
 
 pub returns-in_err-mark_failure-clause-faults : goal.returns-in_err-mark_failure-clause-faults
 returns-in_err-mark_failure-clause-faults g c =
@@ -319,7 +319,7 @@ returns-in_err-mark_fault-clause-faults g c =
     let below = g.F.BackingDisk.backing in
     let old = c.args.self.now in
     let longer = counted_marked view below old c.begin.new.self c.renew_l1_table-longer.new.self c.mark_failure.new.self c.renew_l1_table-longer.result c.mark_failure.result c.begin.ensures.faults c.renew_l1_table-longer.ensures.faults c.mark_failure.ensures.answer c.mark_failure.ensures.rest in
-    let filled = counted_marked view below old c.mark_failure.new.self c.fill_grown-filled.new.self c.mark_fault.new.self c.fill_grown-filled.result c.mark_fault.result longer.no_fewer c.fill_grown-filled.ensures.faults c.mark_fault.ensures.answer c.mark_fault.ensures.rest in
+    let filled = counted_noted view below old c.mark_failure.new.self c.fill_grown-filled.new.self c.mark_fault.new.self c.fill_grown-filled.result c.mark_fault.result longer.no_fewer c.fill_grown-filled.ensures.faults c.mark_fault.ensures.answer c.mark_fault.ensures.rest in
     counted_on view below old old c.mark_fault.new.self c.mark_fault.result c.in_err-mark_fault.field-0.0 c.from_residual-in_err-mark_fault.result (untouched view below old old refl refl) filled c.in_err-mark_fault.was c.from_residual-in_err-mark_fault.ensures
 
 pub returns-clause-faults : goal.returns-clause-faults
@@ -328,5 +328,5 @@ returns-clause-faults g c =
     let below = g.F.BackingDisk.backing in
     let old = c.args.self.now in
     let longer = counted_marked view below old c.begin.new.self c.renew_l1_table-longer.new.self c.mark_failure.new.self c.renew_l1_table-longer.result c.mark_failure.result c.begin.ensures.faults c.renew_l1_table-longer.ensures.faults c.mark_failure.ensures.answer c.mark_failure.ensures.rest in
-    let filled = counted_marked view below old c.mark_failure.new.self c.fill_grown-filled.new.self c.mark_fault.new.self c.fill_grown-filled.result c.mark_fault.result longer.no_fewer c.fill_grown-filled.ensures.faults c.mark_fault.ensures.answer c.mark_fault.ensures.rest in
-    counted_marked view below old c.mark_fault.new.self c.write_size-written.new.self c.mark_fault-2.new.self c.write_size-written.result c.mark_fault-2.result filled.no_fewer c.write_size-written.ensures.faults c.mark_fault-2.ensures.answer c.mark_fault-2.ensures.rest
+    let filled = counted_noted view below old c.mark_failure.new.self c.fill_grown-filled.new.self c.mark_fault.new.self c.fill_grown-filled.result c.mark_fault.result longer.no_fewer c.fill_grown-filled.ensures.faults c.mark_fault.ensures.answer c.mark_fault.ensures.rest in
+    counted_noted view below old c.mark_fault.new.self c.write_size-written.new.self c.mark_fault-2.new.self c.write_size-written.result c.mark_fault-2.result filled.no_fewer c.write_size-written.ensures.faults c.mark_fault-2.ensures.answer c.mark_fault-2.ensures.rest

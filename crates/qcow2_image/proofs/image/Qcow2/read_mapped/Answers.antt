@@ -7,7 +7,7 @@ use Rattle.qcow2_image.specs.declared.image.Qcow2.{Qcow2}
 use Rattle.qcow2_alloc.specs.declared.error.ImageError.TheVariants.{OutdatedMapping}
 use Rattle.qcow2_image.specs.Found.{IsFoundWhole, further_by}
 use Rattle.qcow2_image.specs.Image.{is_failed}
-use Rattle.qcow2_image.specs.Refusals.{Marks}
+use Rattle.qcow2_image.proofs.Call.Marked.{MayMarkBy, may_mark}
 use Rattle.qcow2_image.specs.ImageInvariant.{pending_in}
 use Rattle.qcow2_image.proofs.Call.Answers.{usable_works}
 use Rattle.qcow2_image.proofs.Call.Called.{told_answers, tells_quietly, quietly_then}
@@ -29,7 +29,7 @@ returns-clause-sees g c =
     (subst (λ (r : Result _ _). AnswersCall view below old (record new { is_failed = is_failed c.mark_failure.new.self }) [] (λ done was is. (is ≡ was) × Shows was.disk place shown) r) (sym c.mark_failure.ensures.answer)
     (told_answers view below old (record new { is_failed = is_failed c.mark_failure.new.self }) (λ done was is. (is ≡ was) × Shows was.disk place shown) c.read_current-done.result
     (tells_quietly view below old new (λ out. quietly_then view below out old c.begin.new.self new c.begin.ensures.keeps c.begin.ensures.list c.read_current-done.ensures.keeps c.read_current-done.ensures.list)
-    (is_failed c.mark_failure.new.self) (λ done v w. IsSame v w × Shows (guest_of v).disk place shown) c.read_current-done.result c.mark_failure.ensures.marks (c.read_current-done.ensures.stays.image.number ∙ c.begin.ensures.stays.image.number)
+    (is_failed c.mark_failure.new.self) (λ done v w. IsSame v w × Shows (guest_of v).disk place shown) c.read_current-done.result (may_mark c.read_current-done.new.self c.mark_failure.new.self c.read_current-done.result c.mark_failure.ensures.marks) (c.read_current-done.ensures.stays.image.number ∙ c.begin.ensures.stays.image.number)
     (usable_works old c.check_usable.result c.in_ok-check_usable.was c.check_usable.ensures)
     (λ out sound same. if_ok c.read_current-done.result (λ done shows. (same, subst (λ g. Shows g.disk place shown) same shows))
     (c.read_current-done.ensures.shows some (pending_in view below old out) out (c.begin.ensures.keeps (pending_in view below old out) out sound).sound)))))
@@ -41,7 +41,7 @@ returns-clause-outdated g c = λ out sound is whole.
     let new = c.read_current-done.new.self in
     let some : 0 < length c.args.bytes.now = search rules in
     let answer : c.read_current-done.result ≡ Err OutdatedMapping = sym c.mark_failure.ensures.answer ∙ is in
-    let marks : is_failed c.mark_failure.new.self ≡ is_failed new = subst (λ r. Marks r (is_failed new) (is_failed c.mark_failure.new.self)) answer c.mark_failure.ensures.marks in
+    let marks : is_failed c.mark_failure.new.self ≡ is_failed new = subst (λ r. MayMarkBy r (is_failed new) (is_failed c.mark_failure.new.self)) answer (may_mark c.read_current-done.new.self c.mark_failure.new.self c.read_current-done.result c.mark_failure.ensures.marks) in
     let same : c.mark_failure.new.self ≡ new = c.mark_failure.ensures.rest ∙ ap (λ f. record new { is_failed = f }) marks in
     c.read_current-done.ensures.outdated some p out (c.begin.ensures.keeps p out sound).sound answer
     (subst (λ (image : Qcow2 _ _). IsFoundWhole view image (c.args.mapping.now.offset + c.args.at) (further_by c.args.at c.args.mapping.now.kind) (length c.args.bytes.now)) same whole)

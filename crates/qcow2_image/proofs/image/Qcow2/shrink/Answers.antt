@@ -1,14 +1,18 @@
-use Rattle.std.proofs.Common.{◌∙◌, sym, ap, subst}
-use Rattle.std.specs.Prelude.{Err, IfSome, nat_lt}
+use Rattle.std.proofs.Common.{◌≡◌, ◌∙◌, sym, ap, subst}
+use Rattle.std.specs.Prelude.{Err, IfSome, MatchOption, nat_lt}
 use Rattle.image_access.proofs.Passing.{passes_none}
 use Rattle.qcow2_metadata.specs.Header.{HeaderView, cluster_size, rounded_up}
 use Rattle.qcow2_alloc.specs.ImageError.{IsFault}
 use Rattle.qcow2_alloc.specs.ImageFile.{view_in}
+use Rattle.qcow2_alloc.specs.ImageStorage.{is_changed_of}
 use Rattle.qcow2_image.specs.declared.image.Qcow2.{Qcow2}
 use Rattle.qcow2_image.specs.Image.{is_failed, size_of}
+use Rattle.qcow2_image.specs.Refusals.{MarksRefused}
 use Rattle.qcow2_image.specs.Resizing.{Shrinks, UncoversTail, WritesSizeLast}
+use Rattle.qcow2_image.proofs.Sizing.Noted.{fewer_noted, shrinks_noted}
 use Rattle.qcow2_image.proofs.Sizing.Shrinking.{shrinks_done, shrinks_stopped, shrinks_unwritten, size_is_last, written_stops}
-use Rattle.qcow2_image.proofs.Call.FaultCounts.{counted_as, marked_after}
+use Rattle.qcow2_image.proofs.Call.Marked.{may_mark_refused, refused_on, refused_since}
+use Rattle.qcow2_image.proofs.Call.FaultCounts.{counted_as, counted_still}
 use Rattle.qcow2_image.specs.Faults.{TellsFault}
 use Rattle.qcow2_image.proofs.image.Qcow2.shrink.Goals as goal
 
@@ -22,9 +26,9 @@ returns-in-Some-clause-sees g c =
     let at = c.uncover_tail-end.result.0 in
     let e = c.in-Some.refusal in
     subst (λ (image : Qcow2 _ _). Shrinks view below old image size (Err e)) (sym c.mark_refused.ensures.rest)
-    (shrinks_stopped view below old mid size at c.requires.usable c.requires.smaller e (is_failed c.mark_refused.new.self) c.uncover_tail-end.ensures.image.number
-    (subst (λ r. IfSome r IsFault) c.in-Some.is c.uncover_tail-end.ensures.cause) c.mark_refused.ensures.marks (λ any. c.mark_refused.ensures.changed (c.lies_between-any.ensures ∙ any))
-    (λ out sound. subst (λ r. UncoversTail view below old mid size at r out) c.in-Some.is (c.uncover_tail-end.ensures.uncovers out sound)))
+    (shrinks_noted view below old (record mid { is_failed = is_failed c.mark_refused.new.self }) (is_changed_of c.mark_refused.new.self.file.storage) size (Err e) (shrinks_stopped view below old mid size at c.requires.usable c.requires.smaller e (is_failed c.mark_refused.new.self) c.uncover_tail-end.ensures.image.number
+    (subst (λ r. IfSome r IsFault) c.in-Some.is c.uncover_tail-end.ensures.cause) (may_mark_refused mid c.mark_refused.new.self e c.mark_refused.ensures.marks) (λ any. c.mark_refused.ensures.changed (c.lies_between-any.ensures ∙ any))
+    (λ out sound. subst (λ r. UncoversTail view below old mid size at r out) c.in-Some.is (c.uncover_tail-end.ensures.uncovers out sound))))
 
 pub returns-in-Some-clause-last : goal.returns-in-Some-clause-last
 returns-in-Some-clause-last g c = λ out sound.
@@ -45,10 +49,10 @@ returns-in-Err-clause-sees g c =
     let at = c.uncover_tail-end.result.0 in
     let e = c.in-Err.refusal in
     subst (λ (image : Qcow2 _ _). Shrinks view below old image size (Err e)) (sym c.mark_refused-in-Err.ensures.rest)
-    (shrinks_unwritten view below old mid size at c.requires.usable c.requires.smaller new e (is_failed c.mark_refused-in-Err.new.self) (ap (λ (i : Qcow2 _ _). i.number) c.write_size.ensures.rest ∙ c.uncover_tail-end.ensures.image.number)
-    c.in-Err.ensures.cause c.mark_refused-in-Err.ensures.marks
+    (shrinks_noted view below old (record new { is_failed = is_failed c.mark_refused-in-Err.new.self }) (is_changed_of c.mark_refused-in-Err.new.self.file.storage) size (Err e) (shrinks_unwritten view below old mid size at c.requires.usable c.requires.smaller new e (is_failed c.mark_refused-in-Err.new.self) (ap (λ (i : Qcow2 _ _). i.number) c.write_size.ensures.rest ∙ c.uncover_tail-end.ensures.image.number)
+    c.in-Err.ensures.cause (may_mark_refused new c.mark_refused-in-Err.new.self e c.mark_refused-in-Err.ensures.marks)
     (λ any. c.mark_refused-in-Err.ensures.changed (c.lies_between-any.ensures ∙ ap (λ (v : HeaderView). nat_lt (rounded_up (cluster_size v.fields) size) at) (sym c.in-Err.ensures.restored) ∙ any))
-    (λ out sound. subst (λ r. UncoversTail view below old mid size at r out) c.in_default.is (c.uncover_tail-end.ensures.uncovers out sound)) c.in-Err.ensures.writes)
+    (λ out sound. subst (λ r. UncoversTail view below old mid size at r out) c.in_default.is (c.uncover_tail-end.ensures.uncovers out sound)) c.in-Err.ensures.writes))
 
 pub returns-in-Err-clause-last : goal.returns-in-Err-clause-last
 returns-in-Err-clause-last g c = λ out sound.
@@ -94,7 +98,7 @@ returns-in-Some-clause-faults g c =
     let old = c.args.self.now in
     let mid = c.uncover_tail-end.new.self in
     let tail = c.uncover_tail-end.ensures.faults in
-    marked_after view below old mid c.mark_refused.new.self (Err c.in-Some.refusal) (record { no_fewer = tail.0; rose = subst (λ r. IfSome r (TellsFault view below old mid)) c.in-Some.is tail.1 }) c.mark_refused.ensures.rest
+    counted_still view below old mid c.mark_refused.new.self (Err c.in-Some.refusal) (record { no_fewer = tail.0; rose = subst (λ r. IfSome r (TellsFault view below old mid)) c.in-Some.is tail.1 }) (fewer_noted view below mid c.mark_refused.new.self _ _ c.mark_refused.ensures.rest)
 
 pub returns-in-Err-clause-faults : goal.returns-in-Err-clause-faults
 returns-in-Err-clause-faults g c =
@@ -102,5 +106,16 @@ returns-in-Err-clause-faults g c =
     let below = g.F.BackingDisk.backing in
     let old = c.args.self.now in
     let e = c.in-Err.refusal in
-    marked_after view below old c.write_size.new.self c.mark_refused-in-Err.new.self (Err e)
-    (counted_as view below old c.uncover_tail-end.new.self c.write_size.new.self c.write_size.result e c.uncover_tail-end.ensures.faults.0 c.write_size.ensures.faults c.in-Err.is) c.mark_refused-in-Err.ensures.rest
+    counted_still view below old c.write_size.new.self c.mark_refused-in-Err.new.self (Err e)
+    (counted_as view below old c.uncover_tail-end.new.self c.write_size.new.self c.write_size.result e c.uncover_tail-end.ensures.faults.0 c.write_size.ensures.faults c.in-Err.is) (fewer_noted view below c.write_size.new.self c.mark_refused-in-Err.new.self _ _ c.mark_refused-in-Err.ensures.rest)
+
+pub returns-in-Some-clause-marks : goal.returns-in-Some-clause-marks
+returns-in-Some-clause-marks g c =
+    refused_on c.args.self.now c.uncover_tail-end.new.self c.mark_refused.new.self c.mark_refused.ensures.noted c.in-Some.refusal
+    (subst (λ r. MatchOption r (is_failed c.uncover_tail-end.new.self ≡ is_failed c.args.self.now) (MarksRefused c.args.self.now c.uncover_tail-end.new.self)) c.in-Some.is c.uncover_tail-end.ensures.marks) c.mark_refused.ensures.marks
+
+pub returns-in-Err-clause-marks : goal.returns-in-Err-clause-marks
+returns-in-Err-clause-marks g c =
+    refused_since c.args.self.now c.write_size.new.self c.mark_refused-in-Err.new.self
+    (ap (λ (i : Qcow2 _ _). i.is_failed) c.write_size.ensures.rest ∙ subst (λ r. MatchOption r (is_failed c.uncover_tail-end.new.self ≡ is_failed c.args.self.now) (MarksRefused c.args.self.now c.uncover_tail-end.new.self)) c.in_default.is c.uncover_tail-end.ensures.marks)
+    c.in-Err.refusal c.mark_refused-in-Err.ensures.marks

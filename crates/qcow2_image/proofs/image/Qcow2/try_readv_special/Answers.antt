@@ -12,6 +12,7 @@ use Rattle.qcow2_image.proofs.Call.Called.{told_answers, tells_quietly, quietly_
 use Rattle.qcow2_image.proofs.Map.Loading.{if_ok}
 use Rattle.qcow2_image.proofs.Call.FaultCounts.{counted_marked}
 use Rattle.qcow2_image.proofs.Map.Unmodified.{read_call}
+use Rattle.qcow2_image.proofs.Call.Marked.{may_mark}
 use Rattle.qcow2_image.proofs.image.Qcow2.try_readv_special.Goals as goal
 
 pub returns-clause-sees : goal.returns-clause-sees
@@ -24,7 +25,7 @@ returns-clause-sees g c =
     (subst (λ (r : Result _ _). AnswersCall view below old (record new { is_failed = is_failed c.mark_failure.new.self }) [] (λ at was is. is ≡ was) r) (sym c.mark_failure.ensures.answer)
     (told_answers view below old (record new { is_failed = is_failed c.mark_failure.new.self }) (λ at was is. is ≡ was) c.plain_at-plain.result
     (tells_quietly view below old new (λ out. quietly_then view below out old c.begin.new.self new c.begin.ensures.keeps c.begin.ensures.list c.plain_at-plain.ensures.keeps c.plain_at-plain.ensures.list)
-    (is_failed c.mark_failure.new.self) (λ at v w. IsSame v w) c.plain_at-plain.result c.mark_failure.ensures.marks (c.plain_at-plain.ensures.stays.image.number ∙ c.begin.ensures.stays.image.number)
+    (is_failed c.mark_failure.new.self) (λ at v w. IsSame v w) c.plain_at-plain.result (may_mark c.plain_at-plain.new.self c.mark_failure.new.self c.plain_at-plain.result c.mark_failure.ensures.marks) (c.plain_at-plain.ensures.stays.image.number ∙ c.begin.ensures.stays.image.number)
     (usable_works old c.check_usable.result c.in_ok-check_usable.was c.check_usable.ensures)
     (λ out sound same. if_ok c.plain_at-plain.result (λ at is. same) c.plain_at-plain.ensures.answer))))
 

@@ -8,7 +8,7 @@ use Rattle.qcow2_image.specs.declared.mapping.MappingKind.TheVariants.{Raw}
 use Rattle.qcow2_image.specs.declared.mapping.Place.TheVariants.{Image}
 use Rattle.qcow2_image.specs.Found.{IsFoundWhole}
 use Rattle.qcow2_image.specs.Image.{is_failed}
-use Rattle.qcow2_image.specs.Refusals.{Marks}
+use Rattle.qcow2_image.proofs.Call.Marked.{MayMarkBy, may_mark}
 use Rattle.qcow2_image.specs.ImageInvariant.{pending_in}
 use Rattle.qcow2_image.proofs.Call.Answers.{usable_works}
 use Rattle.qcow2_image.proofs.Call.Called.{Quietly, quiet_sound}
@@ -35,7 +35,7 @@ returns-clause-sees g c =
     subst (λ (image : Qcow2 _ _). Puts view below old image p c.args.at bytes c.mark_failure.result) (sym c.mark_failure.ensures.rest)
     (subst (λ (x : Result _ _). Puts view below old (record new { is_failed = is_failed c.mark_failure.new.self }) p c.args.at bytes x) (sym c.mark_failure.ensures.answer)
     (puts_settled view below old p c.args.at bytes (usable_works old c.check_usable.result c.in_ok-check_usable.was c.check_usable.ensures) new (is_failed c.mark_failure.new.self)
-    (c.write_current-done.ensures.stays.image.number ∙ c.begin.ensures.stays.image.number) r c.mark_failure.ensures.marks
+    (c.write_current-done.ensures.stays.image.number ∙ c.begin.ensures.stays.image.number) r (may_mark c.write_current-done.new.self c.mark_failure.new.self c.write_current-done.result c.mark_failure.ensures.marks)
     (λ out k placed sound. puts_then view below out k p c.args.at bytes placed old c.begin.new.self new r (quiet out sound) sound
     (c.write_current-done.ensures.puts some c.requires out k placed (quiet_sound view below out old c.begin.new.self (quiet out) sound)))))
 
@@ -46,7 +46,7 @@ returns-clause-outdated g c = λ none out sound is whole.
     let new = c.write_current-done.new.self in
     let some : 0 < length c.args.bytes.now = search rules in
     let answer : c.write_current-done.result ≡ Err OutdatedMapping = sym c.mark_failure.ensures.answer ∙ is in
-    let marks : is_failed c.mark_failure.new.self ≡ is_failed new = subst (λ r. Marks r (is_failed new) (is_failed c.mark_failure.new.self)) answer c.mark_failure.ensures.marks in
+    let marks : is_failed c.mark_failure.new.self ≡ is_failed new = subst (λ r. MayMarkBy r (is_failed new) (is_failed c.mark_failure.new.self)) answer (may_mark c.write_current-done.new.self c.mark_failure.new.self c.write_current-done.result c.mark_failure.ensures.marks) in
     let same : c.mark_failure.new.self ≡ new = c.mark_failure.ensures.rest ∙ ap (λ f. record new { is_failed = f }) marks in
     c.write_current-done.ensures.outdated some none p out (c.begin.ensures.keeps p out sound).sound answer
     (subst (λ (image : Qcow2 _ _). IsFoundWhole view image (c.args.prepared.now.guest + c.args.at) (Raw Image (c.args.prepared.now.offset + c.args.at) true) (length c.args.bytes.now)) same whole)
