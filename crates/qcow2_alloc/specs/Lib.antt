@@ -23,4 +23,5 @@ pub mod Leaks
 pub mod GrownTables
 pub mod Rooms
 pub mod Limits
+pub mod LoadedTables
 pub mod Faults
