@@ -18,14 +18,14 @@ pub record HeaderSuits (contents : List ℕ) (writable alone : Bool) : Type 0 wh
   pub needs_none : IsTrue alone → ¬ NeedsAnother contents
 
 -- the L1 table reads and, where the image is to be written, the reftable
-pub record TablesRead (h : HeaderFields) (b : Bytes) (writable : Bool) : Type 0 where
+pub record NeededTablesRead (h : HeaderFields) (b : Bytes) (writable : Bool) : Type 0 where
   pub l1_table : L1TableReads h b
   pub reftable : IsTrue writable → ReftableReads h b
 
 -- the contents are as opening asks for
 pub record IsReadable (contents : List ℕ) (writable alone : Bool) : Type 0 where
   pub by_header : HeaderSuits contents writable alone
-  pub tables : TablesRead (header (byte_at contents)) (byte_at contents) writable
+  pub tables : NeededTablesRead (header (byte_at contents)) (byte_at contents) writable
 
 -- Why the tables aren't loaded: for the L1 table; or, where that reads and the image is to be written, for the reftable.
 abbrev pub IsReasonAgainstTables : HeaderFields → Bytes → Bool → ImageError → Type 0

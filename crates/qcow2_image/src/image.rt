@@ -57,7 +57,7 @@ impl<S: Storage, F: WrappedFormat<S>> Qcow2<S, F> {
     ghost use Rattle.qcow2_alloc.specs.Faults.{FaultsTold};
     ghost use Rattle.qcow2_alloc.specs.LoadedTables.{IsReasonAgainstL1Table, IsReasonAgainstReftable, L1TableReads, ReftableReads};
     ghost use Rattle.qcow2_image.specs.CountedOpening.{OpeningCounts};
-    ghost use Rattle.qcow2_image.specs.Readable.{IsReasonAgainstTables, OpensRightly, TablesRead};
+    ghost use Rattle.qcow2_image.specs.Readable.{IsReasonAgainstTables, OpensRightly, NeededTablesRead};
     ghost use Rattle.qcow2_image.specs.Faults.{CountsImageFaults, NoFewerFaults};
     ghost use Rattle.qcow2_image.specs.Image.{storage_of_image, HasNothingToFree, ImageStays, KeepsRest, IsSameImage, is_failed, is_writable, is_external, leaked_in, number_of, size_of};
     ghost use Rattle.std.specs.Prelude.{List, Option};
@@ -254,7 +254,7 @@ impl<S: Storage, F: WrappedFormat<S>> Qcow2<S, F> {
         ensures since { (p : Pending) → IsFresh S.view F.backing p file.old → IsKeptSince (view_in S.view file.old) (view_in S.view file.new) }
         ensures loaded { (p : Pending) → IsFresh S.view F.backing p file.old → IfOk result (λ tables. IsLoaded S.view F.backing p file.new tables.l1_table tables.allocator) }
         ensures cause { IfErr result IsMet }
-        ensures why { (view_in S.view file.old).is_honest → MatchResult result (λ tables. TablesRead file.old.header.fields (contents_in S.view file.old) writable) (IsReasonAgainstTables file.old.header.fields (contents_in S.view file.old) writable) }
+        ensures why { (view_in S.view file.old).is_honest → MatchResult result (λ tables. NeededTablesRead file.old.header.fields (contents_in S.view file.old) writable) (IsReasonAgainstTables file.old.header.fields (contents_in S.view file.old) writable) }
     {
         let l1_table = Self::load_l1_table(file)?;
         if !writable {

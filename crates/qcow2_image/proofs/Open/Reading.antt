@@ -18,7 +18,7 @@ use Rattle.qcow2_alloc.specs.ImageFile.{contents_in, view_in}
 use Rattle.qcow2_alloc.specs.declared.image_file.ImageFile.{ImageFile}
 use Rattle.qcow2_alloc.specs.LoadedTables.{IsReasonAgainstReftable, L1TableReads}
 use Rattle.qcow2_image.specs.Opened.{needs_another}
-use Rattle.qcow2_image.specs.Readable.{HeaderSuits, IsReadable, IsReasonAgainstTables, IsRefusedRightly, TablesRead}
+use Rattle.qcow2_image.specs.Readable.{HeaderSuits, IsReadable, IsReasonAgainstTables, IsRefusedRightly, NeededTablesRead}
 use Rattle.qcow2_image.proofs.Open.SameHeaders.{not_both, not_needed}
 
 -- an L1 table without entries
@@ -58,11 +58,11 @@ module _ {S T : Type 0} (view : S → StorageView) (old mid last : S) (same : mi
     needs_none = λ so. not_needed v (view mid).contents is (not_both alone (needs_another v) none so);
   }
 
-  pub opened_rightly : (alone && needs_another v) ≡ false → ((view last).is_honest → TablesRead v.fields (byte_at (view last).contents) writable) → (view old).is_honest → IsReadable (view old).contents writable alone
+  pub opened_rightly : (alone && needs_another v) ≡ false → ((view last).is_honest → NeededTablesRead v.fields (byte_at (view last).contents) writable) → (view old).is_honest → IsReadable (view old).contents writable alone
   opened_rightly none reads = subst (λ s. (view s).is_honest → IsReadable (view s).contents writable alone) same (λ honest. record {
     by_header = suits_so none honest;
-    tables = subst (λ (c : List ℕ). TablesRead (header (byte_at (view mid).contents)) (byte_at c) writable) (read.same honest)
-        (subst (λ h. TablesRead h (byte_at (view last).contents) writable) (there honest).fields (reads (read.honest honest)));
+    tables = subst (λ (c : List ℕ). NeededTablesRead (header (byte_at (view mid).contents)) (byte_at c) writable) (read.same honest)
+        (subst (λ h. NeededTablesRead h (byte_at (view last).contents) writable) (there honest).fields (reads (read.honest honest)));
   })
 
   pub refused_rightly : (e : ImageError) → (alone && needs_another v) ≡ false → ((view last).is_honest → IsReasonAgainstTables v.fields (byte_at (view last).contents) writable e) → (view old).is_honest → IsRefusedRightly (view old).contents writable alone e

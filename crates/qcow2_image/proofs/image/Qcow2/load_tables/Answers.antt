@@ -4,7 +4,7 @@ use Rattle.qcow2_alloc.specs.declared.error.ImageError.{ImageError}
 use Rattle.qcow2_alloc.specs.ImageFile.{contents_in}
 use Rattle.qcow2_alloc.specs.LoadedTables.{IsReasonAgainstReftable, ReftableReads}
 use Rattle.qcow2_alloc.proofs.AllocationSteps.{handed_on}
-use Rattle.qcow2_image.specs.Readable.{IsReasonAgainstTables, TablesRead}
+use Rattle.qcow2_image.specs.Readable.{IsReasonAgainstTables, NeededTablesRead}
 use Rattle.qcow2_image.proofs.Open.Reading.{so_before}
 use Rattle.qcow2_image.proofs.Open.Opening.{fresh_then, kept_read, kept_then}
 use Rattle.qcow2_image.proofs.image.Qcow2.load_tables.Goals as goal
@@ -48,7 +48,7 @@ pub returns-in_err-l1_table-clause-why : goal.returns-in_err-l1_table-clause-why
 returns-in_err-l1_table-clause-why g c = λ honest.
     let h = c.args.file.now.header.fields in
     let b = contents_in g.S.Storage.view c.args.file.now in
-    handed_on (λ (r : Result _ ImageError). MatchResult r (λ t. TablesRead h b c.args.writable) (IsReasonAgainstTables h b c.args.writable)) c.from_residual.result c.in_err-l1_table.field-0.0 c.from_residual.ensures
+    handed_on (λ (r : Result _ ImageError). MatchResult r (λ t. NeededTablesRead h b c.args.writable) (IsReasonAgainstTables h b c.args.writable)) c.from_residual.result c.in_err-l1_table.field-0.0 c.from_residual.ensures
     (inl (c.in_err-l1_table.ensures.why honest))
 
 pub returns-then-not-writable-clause-why : goal.returns-then-not-writable-clause-why
@@ -62,7 +62,7 @@ returns-in_err-allocator-clause-why g c = λ honest.
     let b = contents_in g.S.Storage.view c.args.file.now in
     let l1 = c.load_l1_table.ensures in
     let e = c.in_err-allocator.field-0.0 in
-    handed_on (λ (r : Result _ ImageError). MatchResult r (λ t. TablesRead h b c.args.writable) (IsReasonAgainstTables h b c.args.writable)) c.from_residual-in_err-allocator.result e c.from_residual-in_err-allocator.ensures
+    handed_on (λ (r : Result _ ImageError). MatchResult r (λ t. NeededTablesRead h b c.args.writable) (IsReasonAgainstTables h b c.args.writable)) c.from_residual-in_err-allocator.result e c.from_residual-in_err-allocator.ensures
     (inr (
       c.if-not-writable.false,
       c.in_ok-l1_table.ensures.why honest,
