@@ -32,3 +32,4 @@ pub mod RoomTables
 pub mod GrownReftables
 pub mod FormerReftables
 pub mod Limits
+pub mod LoadedTables

@@ -23,5 +23,6 @@ pub mod Leaks
 pub mod GrownTables
 pub mod Rooms
 pub mod Limits
+pub mod LoadedTables
 pub mod Faults
 pub mod WriteKinds

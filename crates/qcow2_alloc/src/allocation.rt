@@ -1,6 +1,5 @@
 //! Taking clusters of the image's file.
-ghost use Rattle.std.specs.Prelude.{◌≡◌, ◌≢◌, false, ◌+◌, ◌*◌, ◌/◌, ◌^◌, ◌<◌, ◌≤◌, ◌⊎◌, Bool, IsNone, IfOk, IfErr, OnOk, IsErrOf, IsSome, IsTrue};
-ghost use Rattle.image_access.specs.Contents.{bytes_at};
+ghost use Rattle.std.specs.Prelude.{◌≡◌, ◌≢◌, false, ◌+◌, ◌*◌, ◌/◌, ◌^◌, ◌<◌, ◌≤◌, ◌⊎◌, Bool, IsNone, IfOk, IfErr, OnOk, IsErrOf, IsSome, IsTrue, MatchResult};
 ghost use Rattle.image_access.specs.Moments.{ContentsStay, Passing};
 ghost use Rattle.qcow2_laws.specs.Clusters.{L2DependsOnRb};
 ghost use Rattle.qcow2_laws.specs.CrashInvariant.{Pending};
@@ -11,11 +10,10 @@ ghost use Rattle.qcow2_alloc.specs.Faults.{CountsFaults};
 ghost use Rattle.qcow2_alloc.specs.Limits.{IsFaultOr, HasNoPlace, CantCount, CantCountRun, nameable_clusters};
 ghost use Rattle.qcow2_alloc.specs.LowestRuns.{NoFreeBelowHint, IsLowestRun, IsUsed, KeepsNoFreeBelowHint, KeepsUsed};
 ghost use Rattle.qcow2_alloc.specs.ImageError.{IsOfTables, IsFault};
-ghost use Rattle.qcow2_alloc.specs.ImageFile.{view_in, HasReftable, AllocatorInvariant, KeepsHeader};
+ghost use Rattle.qcow2_alloc.specs.ImageFile.{view_in, contents_in, HasReftable, AllocatorInvariant, KeepsHeader};
+ghost use Rattle.qcow2_alloc.specs.LoadedTables.{IsReasonAgainstReftable, ReftableReads};
 ghost use Rattle.qcow2_alloc.specs.MetadataCaches.{order_of};
-ghost use Rattle.qcow2_metadata.specs.Header.{reftable_entries, counts_per_block, IsAligned};
-ghost use Rattle.qcow2_metadata.specs.EntryTable.{SomeUnread};
-ghost use Rattle.qcow2_metadata.specs.Entries.{ReftableEntryReads};
+ghost use Rattle.qcow2_metadata.specs.Header.{counts_per_block};
 ghost use Rattle.qcow2_metadata.specs.L2Mapping.{IsHostCluster};
 
 use crate::{
@@ -49,9 +47,7 @@ impl Allocator {
     pub fn new<S: Storage>(file: &mut ImageFile<S>) -> Result<Allocator, ImageError>
         ensures cause { IfErr result IsOfTables }
         ensures storage_faults { CountsFaults S.view file.old.storage file.new.storage result }
-        ensures why { (view_in S.view file.old).is_honest → IfErr result (λ e. IsFault e ⊎ ((e ≡ ImageError.UnalignedTable) × (IsAligned file.old.header.fields file.old.header.fields.reftable_offset → ⊥))
-            ⊎ ((e ≡ ImageError.Limit) × (2 ^ 64 ≤ file.old.header.fields.reftable_offset + 8 * reftable_entries file.old.header.fields))
-            ⊎ ((e ≡ ImageError.Metadata) × SomeUnread ReftableEntryReads (bytes_at (view_in S.view file.old).contents file.old.header.fields.reftable_offset (8 * reftable_entries file.old.header.fields)))) }
+        ensures why { (view_in S.view file.old).is_honest → MatchResult result (λ allocator. ReftableReads file.old.header.fields (contents_in S.view file.old)) (IsReasonAgainstReftable file.old.header.fields (contents_in S.view file.old)) }
         ensures rest { file.new ≡ record file.old { storage = file.new.storage } }
         ensures honest { (view_in S.view file.old).is_honest → (view_in S.view file.new).is_honest }
         ensures same { ContentsStay (view_in S.view file.old) (view_in S.view file.new) }

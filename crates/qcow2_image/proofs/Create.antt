@@ -4,4 +4,5 @@ pub mod FirstImage
 pub mod NewDisks
 pub mod ThreeWrites
 pub mod Creating
+pub mod Causes
 pub mod TakingPlace

@@ -1,5 +1,6 @@
 pub mod Opening
 pub mod SameHeaders
+pub mod Reading
 pub mod Clearing
 pub mod HeaderKept
 pub mod Probing

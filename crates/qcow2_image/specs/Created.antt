@@ -20,11 +20,13 @@ use Rattle.qcow2_disk.specs.Disk.{disk}
 use Rattle.qcow2_disk.specs.Mappings.{is_copied_data}
 use Rattle.qcow2_laws.specs.NewImages.{IsNewImage}
 use Rattle.qcow2_alloc.specs.declared.error.ImageError.{ImageError}
+use Rattle.qcow2_alloc.specs.declared.error.ImageError.TheVariants as I
 use Rattle.qcow2_image.specs.Growing.{GrowsDisk, SameFormat, ReachesSize}
 use Rattle.qcow2_image.specs.declared.builder.Qcow2CreateBuilder.{Qcow2CreateBuilder}
 use Rattle.qcow2_image.specs.declared.image.Qcow2.{Qcow2}
 use Rattle.qcow2_image.specs.Image.{size_of}
 use Rattle.qcow2_image.specs.ImageInvariant.{abstract_of}
+use Rattle.qcow2_image.specs.Refusals.{IsMetPreparing}
 use Rattle.qcow2_image.specs.Resizing.{GrowsTables, GrowsTo, IsResized, refuses_to_resize, size_after}
 
 -- the first eight bytes are the magic, and version 2 or 3
@@ -82,6 +84,11 @@ module _ {S : Type 0} where
     pub no_smaller : 9 ≤ cluster_bits
     pub no_larger : cluster_bits ≤ 21
     pub no_wider : refcount_order ≤ 6
+
+  -- Why an image isn't created: 5 only for an option that images don't have, and else what the work meets.
+  abbrev pub IsReasonNotToCreate : Qcow2CreateBuilder S → ImageError → Type 0
+  IsReasonNotToCreate builder I.InvalidOption = ¬ IsAllowed builder
+  IsReasonNotToCreate builder e = IsMetPreparing e
 
   -- the image that was asked for stands on an honest storage
   pub record IsCreated (builder : Qcow2CreateBuilder S) (storage : StorageView) : Type 0 where

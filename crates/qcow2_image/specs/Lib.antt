@@ -10,6 +10,7 @@ pub mod Faults
 pub mod Found
 pub mod CallParts
 pub mod Opened
+pub mod Readable
 pub mod CountedOpening
 pub mod Preparing
 pub mod Created

@@ -1,11 +1,16 @@
 //! Making a new image.
-ghost use Rattle.std.specs.Prelude.{◌≡◌, ◌^◌, [], IfSome, IfOk, OnOk, IsSome, IsTrue, is_some, false};
+ghost use Rattle.std.specs.Prelude.{ℕ, ◌≡◌, ◌≢◌, ◌^◌, ◌<◌, [], None, IfSome, IfNone, IfOk, IfErr, OnOk, IsSome, IsTrue, is_some, false};
 ghost use Rattle.image_access.specs.Moments.{Passing};
 ghost use Rattle.qcow2_metadata.specs.Bytes.{byte_at};
 ghost use Rattle.qcow2_alloc.specs.ImageStorage.{storage_of};
 ghost use Rattle.qcow2_alloc.specs.ImageFile.{view_in};
 ghost use Rattle.qcow2_disk.specs.AbstractImages.{IsOpened};
-ghost use Rattle.qcow2_image.specs.Image.{is_writable};
+ghost use Rattle.qcow2_alloc.specs.Faults.{CountsFaults, FaultsTold};
+ghost use Rattle.qcow2_image.specs.CountedOpening.{OpeningCounts};
+ghost use Rattle.qcow2_image.specs.Faults.{CountsImageFaults, IsNotOfStorage};
+ghost use Rattle.qcow2_image.specs.Image.{is_failed, is_writable};
+ghost use Rattle.qcow2_image.specs.Refusals.{IsMet, IsMetPreparing, Marks};
+ghost use Rattle.qcow2_image.specs.Resizing.{refuses_to_resize};
 ghost use Rattle.qcow2_image.specs.ImageInvariant.{abstract_of};
 ghost use Rattle.qcow2_image.specs.Created.{IsUnwritten, IsNewHeader, CountsThree, NamesOne, WritesThree, Enlarges, GrowsBy};
 
@@ -58,7 +63,8 @@ impl<S> WrappedFormat<S> for NoBacking {
 
 // The binary logarithm of a power of two.
 fn power_of_two(number: u64) -> Option<u32>
-    ensures { IfSome result (λ bits. number ≡ 2 ^ bits) }
+    ensures some { IfSome result (λ bits. number ≡ 2 ^ bits) }
+    ensures none { IfNone result ((bits : ℕ) → bits < 64 → number ≢ 2 ^ bits) }
 {
     let bits = number.trailing_zeros();
     if bits < 64 && 1 << bits == number {
@@ -71,9 +77,9 @@ fn power_of_two(number: u64) -> Option<u32>
 impl<S: Storage> Qcow2CreateBuilder<S> {
     ghost use Rattle.std.specs.Prelude.{Err};
     ghost use Rattle.qcow2_alloc.specs.declared.error.ImageError.TheVariants.{InvalidOption};
-    ghost use Rattle.qcow2_image.specs.Created.{StopsCreating, IsCreated, IsAllowed, IsNewDisk};
+    ghost use Rattle.qcow2_image.specs.Created.{StopsCreating, IsCreated, IsAllowed, IsNewDisk, IsReasonNotToCreate};
     ghost use Rattle.std.specs.Prelude.{true, false};
-    ghost use Rattle.qcow2_image.specs.Image.{number_of, is_failed};
+    ghost use Rattle.qcow2_image.specs.Image.{number_of};
 
     /// A disk of no bytes for which no place is taken, clusters of 65,536 bytes and counts of 16 bits.
     pub fn new(image: S) -> Qcow2CreateBuilder<S>
@@ -140,6 +146,8 @@ impl<S: Storage> Qcow2CreateBuilder<S> {
         ensures stops { (S.view self.image).is_honest → StopsCreating self.preallocate self.size (S.view self.image) (S.view result.0) }
         ensures created { (S.view self.image).is_honest → IfOk result.1 (λ done. IsCreated self (S.view result.0)) }
         ensures refused { ¬ IsAllowed self → (result.1 ≡ Err InvalidOption) × (result.0 ≡ self.image) }
+        ensures cause { (S.view self.image).is_honest → IfErr result.1 (IsReasonNotToCreate self) }
+        ensures faults { FaultsTold (S.view self.image).faults (S.view result.0).faults result.1 }
     {
         let Qcow2CreateBuilder {
             image,
@@ -175,6 +183,8 @@ impl<S: Storage> Qcow2CreateBuilder<S> {
         ensures new_disk { (S.view self.image).is_honest → IfOk result (λ image. IsNewDisk self.preallocate self.size (abstract_of S.view F.backing image []).known) }
         ensures ok { IfOk result (λ image. (number_of image ≡ number) × (is_failed image ≡ false) × (is_writable image ≡ true)) }
         ensures below { IfOk result (λ image. is_some image.backing ≡ false) }
+        ensures cause { (S.view self.image).is_honest → IfErr result (λ refused. IsReasonNotToCreate self refused.1) }
+        ensures faults { OpeningCounts S.view (S.view self.image).faults result }
     {
         let (storage, done) = self.create(alloc);
         if let Err(refusal) = done {
@@ -185,10 +195,13 @@ impl<S: Storage> Qcow2CreateBuilder<S> {
 }
 
 // Nothing stands on the storage any more.
+#[tactic(auto, using(crate::proofs::Call::MetErrors::storage_met, crate::proofs::Call::MetErrors::metadata_met))]
 fn clear<S: Storage>(storage: &mut ImageStorage<S>) -> Result<(), ImageError>
     ensures honest { (S.view (storage_of storage.old)).is_honest → (S.view (storage_of storage.new)).is_honest }
     ensures time { (S.view (storage_of storage.old)).is_honest → Passing (S.view (storage_of storage.old)) (S.view (storage_of storage.new)) (λ c. c ≡ []) }
     ensures cleared { (S.view (storage_of storage.old)).is_honest → OnOk result ((S.view (storage_of storage.new)).contents ≡ []) }
+    ensures cause { IfErr result IsMet }
+    ensures faults { CountsFaults S.view storage.old storage.new result }
 {
     if storage.size()? == 0 {
         return Ok(());
@@ -198,8 +211,11 @@ fn clear<S: Storage>(storage: &mut ImageStorage<S>) -> Result<(), ImageError>
 }
 
 // The refblock of a new image, which counts its three clusters.
+#[tactic(auto, using(crate::proofs::Call::MetErrors::storage_met, crate::proofs::Call::MetErrors::metadata_met))]
 fn first_refblock(alloc: Global, header: &Header) -> Result<RefBlock, ImageError>
-    ensures { IfOk result (CountsThree header.now.fields) }
+    ensures counts { IfOk result (CountsThree header.now.fields) }
+    ensures cause { IfErr result IsMet }
+    ensures faults { IfErr result IsNotOfStorage }
 {
     let mut block = RefBlock::new_cleared(alloc, header)?;
     for index in 0..3 {
@@ -212,8 +228,11 @@ fn first_refblock(alloc: Global, header: &Header) -> Result<RefBlock, ImageError
 }
 
 // The reftable of a new image, which names that refblock.
+#[tactic(auto, using(crate::proofs::Call::MetErrors::storage_met, crate::proofs::Call::MetErrors::metadata_met))]
 fn first_reftable(alloc: Global, header: &Header) -> Result<RefTable, ImageError>
-    ensures { IfOk result (NamesOne header.now.fields) }
+    ensures names { IfOk result (NamesOne header.now.fields) }
+    ensures cause { IfErr result IsMet }
+    ensures faults { IfErr result IsNotOfStorage }
 {
     let mut reftable = RefTable::new_cleared(alloc, header, header.l2_entries())?;
     reftable.set_cluster(HostCluster::new(1));
@@ -222,6 +241,7 @@ fn first_reftable(alloc: Global, header: &Header) -> Result<RefTable, ImageError
 }
 
 // The header is cluster 0, the reftable 1, the refblock 2. The header is written last: before it, this is no image.
+#[tactic(auto, using(crate::proofs::Call::MetErrors::storage_met, crate::proofs::Call::MetErrors::metadata_met))]
 fn write_three<S: Storage>(
     alloc: Global,
     storage: &mut ImageStorage<S>,
@@ -231,8 +251,10 @@ fn write_three<S: Storage>(
 ) -> Result<(), ImageError>
     requires block { IsSome block.now.cluster }
     requires reftable { IsSome reftable.now.cluster }
-    ensures { (S.view (storage_of storage.old)).is_honest → (S.view (storage_of storage.old)).contents ≡ [] → IsNewHeader header.now → CountsThree header.now.fields block.now → NamesOne header.now.fields reftable.now
+    ensures writes { (S.view (storage_of storage.old)).is_honest → (S.view (storage_of storage.old)).contents ≡ [] → IsNewHeader header.now → CountsThree header.now.fields block.now → NamesOne header.now.fields reftable.now
         → WritesThree header.now.fields (S.view (storage_of storage.old)) (S.view (storage_of storage.new)) result }
+    ensures cause { IfErr result IsMet }
+    ensures faults { CountsFaults S.view storage.old storage.new result }
 {
     storage.will_write(WriteKind::Other);
     block.write(storage)?;
@@ -241,12 +263,15 @@ fn write_three<S: Storage>(
     Ok(())
 }
 
+#[tactic(auto, using(crate::proofs::Call::MetErrors::storage_met, crate::proofs::Call::MetErrors::metadata_met))]
 fn write_new_image<S: Storage>(
     alloc: Global,
     storage: &mut ImageStorage<S>,
     header: &Header,
 ) -> Result<(), ImageError>
-    ensures { (S.view (storage_of storage.old)).is_honest → IsNewHeader header.now → WritesThree header.now.fields (S.view (storage_of storage.old)) (S.view (storage_of storage.new)) result }
+    ensures writes { (S.view (storage_of storage.old)).is_honest → IsNewHeader header.now → WritesThree header.now.fields (S.view (storage_of storage.old)) (S.view (storage_of storage.new)) result }
+    ensures cause { IfErr result IsMet }
+    ensures faults { CountsFaults S.view storage.old storage.new result }
 {
     clear(storage)?;
     let block = first_refblock(alloc, header)?;
@@ -260,7 +285,9 @@ fn grow_new_image<S: Storage, F: WrappedFormat<S>>(
     size: u64,
     mode: PreallocateMode,
 ) -> (S, Result<(), ImageError>)
-    ensures { (S.view storage).is_honest → IsUnwritten 0 (byte_at (S.view storage).contents) → Enlarges mode size (S.view storage) (S.view result.0) result.1 }
+    ensures enlarges { (S.view storage).is_honest → IsUnwritten 0 (byte_at (S.view storage).contents) → Enlarges mode size (S.view storage) (S.view result.0) result.1 }
+    ensures cause { (S.view storage).is_honest → IsUnwritten 0 (byte_at (S.view storage).contents) → IfErr result.1 IsMetPreparing }
+    ensures faults { ((below : F) → (F.backing below).faults ≡ 0) → FaultsTold (S.view storage).faults (S.view result.0).faults result.1 }
 {
     match Qcow2::<S, F>::open_image(alloc, storage, true, 0) {
         Err((storage, refusal)) => (storage, Err(refusal)),
@@ -276,8 +303,10 @@ fn grow_and_flush<S: Storage, F: WrappedFormat<S>>(
     size: u64,
     mode: PreallocateMode,
 ) -> Result<(), ImageError>
-    ensures { IsOpened (abstract_of S.view F.backing image.old []) → IsTrue (is_writable image.old) → is_some image.old.backing ≡ false → IsUnwritten 0 (byte_at (view_in S.view image.old.file).contents)
+    ensures enlarges { IsOpened (abstract_of S.view F.backing image.old []) → IsTrue (is_writable image.old) → is_some image.old.backing ≡ false → IsUnwritten 0 (byte_at (view_in S.view image.old.file).contents)
         → Enlarges mode size (view_in S.view image.old.file) (view_in S.view image.new.file) result }
+    ensures cause { refuses_to_resize image.old ≡ None → IsTrue (is_writable image.old) → is_some image.old.backing ≡ false → IfErr result IsMetPreparing }
+    ensures faults { CountsImageFaults S.view F.backing image.old image.new result }
 {
     grow_by(image, size, mode)?;
     image.flush()
@@ -289,7 +318,10 @@ fn grow_by<S: Storage, F: WrappedFormat<S>>(
     size: u64,
     mode: PreallocateMode,
 ) -> Result<(), ImageError>
-    ensures { GrowsBy S.view F.backing mode image.old image.new size result }
+    ensures grows { GrowsBy S.view F.backing mode image.old image.new size result }
+    ensures cause { refuses_to_resize image.old ≡ None → IsTrue (is_writable image.old) → is_some image.old.backing ≡ false → IfErr result IsMetPreparing }
+    ensures marks { Marks image.old image.new result }
+    ensures faults { CountsImageFaults S.view F.backing image.old image.new result }
 {
     match mode {
         PreallocateMode::None => image.grow(size),

@@ -50,12 +50,14 @@ fn lacks_another(alone: bool, header: &Header) -> bool
 
 #[tactic(auto, using(crate::proofs::Call::MetErrors::tables_met, crate::proofs::Call::MetErrors::storage_met, crate::proofs::Call::MetErrors::metadata_met))]
 impl<S: Storage, F: WrappedFormat<S>> Qcow2<S, F> {
-    ghost use Rattle.std.specs.Prelude.{◌≡◌, ◌≤◌, [], IfOk, IfErr, OnOk, IsTrue, MatchOption, Ok, Err, Some, None, false, nat_le, option_map, if◌then◌else◌};
+    ghost use Rattle.std.specs.Prelude.{◌≡◌, ◌≤◌, [], IfOk, IfErr, OnOk, IsTrue, MatchOption, MatchResult, true, Ok, Err, Some, None, false, nat_le, option_map, if◌then◌else◌};
     ghost use Rattle.std.specs.String.{string_bytes};
     ghost use Rattle.qcow2_metadata.specs.Header.{header, cluster_size};
-    ghost use Rattle.qcow2_alloc.specs.declared.error.ImageError.TheVariants.{Dependency, Failed};
+    ghost use Rattle.qcow2_alloc.specs.declared.error.ImageError.TheVariants.{Failed};
     ghost use Rattle.qcow2_alloc.specs.Faults.{FaultsTold};
+    ghost use Rattle.qcow2_alloc.specs.LoadedTables.{IsReasonAgainstL1Table, IsReasonAgainstReftable, L1TableReads, ReftableReads};
     ghost use Rattle.qcow2_image.specs.CountedOpening.{OpeningCounts};
+    ghost use Rattle.qcow2_image.specs.Readable.{IsReasonAgainstTables, OpensRightly, NeededTablesRead};
     ghost use Rattle.qcow2_image.specs.Faults.{CountsImageFaults, NoFewerFaults};
     ghost use Rattle.qcow2_image.specs.Image.{storage_of_image, HasNothingToFree, ImageStays, KeepsRest, IsSameImage, is_failed, is_writable, is_external, has_noted_change, leaked_in, number_of, size_of};
     ghost use Rattle.std.specs.Prelude.{List, Option};
@@ -114,7 +116,7 @@ impl<S: Storage, F: WrappedFormat<S>> Qcow2<S, F> {
         ensures below { IfOk result (λ image. is_some image.backing ≡ false) }
         ensures names { (S.view metadata).is_honest → IfOk result (λ image. HasNamesIn image.file.header (S.view metadata).contents) }
         ensures reading { writable ≡ false → ContentsStay (S.view metadata) (S.view (storage_after result)) }
-        ensures unasked { IfErr result (λ refused. refused.1 ≡ Dependency → ⊥) }
+        ensures cause { OpensRightly (S.view metadata) writable false result }
     {
         Self::open(alloc, metadata, writable, number, false)
     }
@@ -136,7 +138,7 @@ impl<S: Storage, F: WrappedFormat<S>> Qcow2<S, F> {
         ensures names { (S.view metadata).is_honest → IfOk result (λ image. HasNamesIn image.file.header (S.view metadata).contents) }
         ensures reading { writable ≡ false → ContentsStay (S.view metadata) (S.view (storage_after result)) }
         ensures another { (S.view metadata).is_honest → NeedsAnother (S.view metadata).contents → IsRefusedAlone result × ContentsStay (S.view metadata) (S.view (storage_after result)) }
-        ensures dependency { IfErr result (λ refused. refused.1 ≡ Dependency → (S.view metadata).is_honest → NeedsAnother (S.view metadata).contents) }
+        ensures cause { OpensRightly (S.view metadata) writable true result }
     {
         Self::open(alloc, metadata, writable, number, true)
     }
@@ -158,7 +160,7 @@ impl<S: Storage, F: WrappedFormat<S>> Qcow2<S, F> {
         ensures names { (S.view metadata).is_honest → IfOk result (λ image. HasNamesIn image.file.header (S.view metadata).contents) }
         ensures reading { writable ≡ false → ContentsStay (S.view metadata) (S.view (storage_after result)) }
         ensures another { IsTrue alone → (S.view metadata).is_honest → NeedsAnother (S.view metadata).contents → IsRefusedAlone result × ContentsStay (S.view metadata) (S.view (storage_after result)) }
-        ensures dependency { IfErr result (λ refused. refused.1 ≡ Dependency → IsTrue alone × ((S.view metadata).is_honest → NeedsAnother (S.view metadata).contents)) }
+        ensures cause { OpensRightly (S.view metadata) writable alone result }
     {
         let mut storage = ImageStorage::new(metadata);
         let header = match Header::load(alloc, &mut storage, writable) {
@@ -206,6 +208,7 @@ impl<S: Storage, F: WrappedFormat<S>> Qcow2<S, F> {
         ensures time { Passing (view_in S.view file.old) (view_in S.view file.new) (λ c. c ≡ (view_in S.view file.new).contents) }
         ensures table { (view_in S.view file.old).is_honest → IfOk result (HasL1Table S.view F.backing file.new) }
         ensures cause { IfErr result IsMet }
+        ensures why { (view_in S.view file.old).is_honest → MatchResult result (λ table. L1TableReads file.old.header.fields (contents_in S.view file.old)) (IsReasonAgainstL1Table file.old.header.fields (contents_in S.view file.old)) }
     {
         let bits = file.header.cluster_bits();
         let Some(cluster) = file.header.l1_table_offset().checked_cluster(bits) else {
@@ -233,6 +236,7 @@ impl<S: Storage, F: WrappedFormat<S>> Qcow2<S, F> {
         ensures since { (p : Pending) → IsFresh S.view F.backing p file.old → IsKeptSince (view_in S.view file.old) (view_in S.view file.new) }
         ensures loaded { (p : Pending) → IsFresh S.view F.backing p file.old → IfOk result (λ allocator. StaysFresh S.view F.backing p file.old file.new × HasReftable S.view file.new allocator.reftable) }
         ensures cause { IfErr result IsMet }
+        ensures why { (view_in S.view file.old).is_honest → MatchResult result (λ allocator. ReftableReads file.old.header.fields (contents_in S.view file.old)) (IsReasonAgainstReftable file.old.header.fields (contents_in S.view file.old)) }
     {
         let allocator = Allocator::new(file)?;
         file.storage.will_write(WriteKind::Other);
@@ -250,6 +254,7 @@ impl<S: Storage, F: WrappedFormat<S>> Qcow2<S, F> {
         ensures since { (p : Pending) → IsFresh S.view F.backing p file.old → IsKeptSince (view_in S.view file.old) (view_in S.view file.new) }
         ensures loaded { (p : Pending) → IsFresh S.view F.backing p file.old → IfOk result (λ tables. IsLoaded S.view F.backing p file.new tables.l1_table tables.allocator) }
         ensures cause { IfErr result IsMet }
+        ensures why { (view_in S.view file.old).is_honest → MatchResult result (λ tables. NeededTablesRead file.old.header.fields (contents_in S.view file.old) writable) (IsReasonAgainstTables file.old.header.fields (contents_in S.view file.old) writable) }
     {
         let l1_table = Self::load_l1_table(file)?;
         if !writable {

@@ -1,5 +1,8 @@
 //! A larger disk.
-ghost use Rattle.std.specs.Prelude.{◌≡◌, ◌<◌, [], OnOk};
+ghost use Rattle.std.specs.Prelude.{◌≡◌, ◌<◌, [], false, IfErr, IsTrue, OnOk};
+ghost use Rattle.qcow2_image.specs.Faults.{CountsImageFaults};
+ghost use Rattle.qcow2_image.specs.Image.{is_failed, is_writable};
+ghost use Rattle.qcow2_image.specs.Refusals.{IsMet, Marks};
 ghost use Rattle.qcow2_laws.specs.CrashInvariant.{Pending};
 ghost use Rattle.qcow2_image.specs.Growing.{Resizes, GrowsDisk, ReachesSize};
 ghost use Rattle.qcow2_image.specs.UnseenSteps.{ListGrows};
@@ -14,6 +17,9 @@ impl<S: Storage, F: WrappedFormat<S>> Qcow2<S, F> {
     // Makes the disk larger: a new L1 table, then the size. A size that isn't larger changes nothing.
     pub(crate) fn grow(&mut self, size: u64) -> Result<(), ImageError>
         ensures grows { (abstract_of S.view F.backing self.old []).is_sound → GrowsDisk S.view F.backing self.old self.new size result }
+        ensures cause { is_failed self.old ≡ false → IsTrue (is_writable self.old) → IfErr result IsMet }
+        ensures marks { Marks self.old self.new result }
+        ensures faults { CountsImageFaults S.view F.backing self.old self.new result }
     {
         if self.is_failed {
             return Err(ImageError::Failed);
@@ -31,6 +37,9 @@ impl<S: Storage, F: WrappedFormat<S>> Qcow2<S, F> {
         ensures resizes { (p : Pending) → ImageInvariant S.view F.backing p self.old [] → Resizes S.view F.backing p self.old self.new size result }
         ensures list { OnOk result (ListGrows self.old self.new) }
         ensures reaches { (p : Pending) → ImageInvariant S.view F.backing p self.old [] → OnOk result (ReachesSize self.new.file.header.fields) }
+        ensures cause { IsTrue (is_writable self.old) → IfErr result IsMet }
+        ensures failed { is_failed self.new ≡ is_failed self.old }
+        ensures faults { CountsImageFaults S.view F.backing self.old self.new result }
     {
         let bits = self.file.header.cluster_bits();
         self.grow_l1_table(GuestOffset::new(size - 1).l1_index(bits))?;

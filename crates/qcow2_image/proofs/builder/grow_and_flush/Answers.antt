@@ -1,24 +1,45 @@
-use Rattle.std.proofs.Common.{subst}
+use Rattle.std.proofs.Common.{◌∙◌, Result, refl, subst}
+use Rattle.std.specs.Prelude.{IfErr}
+use Rattle.qcow2_image.specs.Refusals.{IsMetPreparing}
+use Rattle.qcow2_image.proofs.Call.FaultCounts.{counted_on, counted_since, untouched}
+use Rattle.qcow2_image.proofs.Create.Causes.{met_preparing}
+use Rattle.qcow2_image.proofs.Sizing.ShrinkCalls.{resize_works}
 use Rattle.qcow2_alloc.specs.ImageFile.{view_in}
 use Rattle.qcow2_alloc.proofs.AllocationSteps.{handed_on}
 use Rattle.qcow2_image.specs.Created.{Enlarges, GrowsBy}
 use Rattle.qcow2_image.proofs.Create.TakingPlace.{grown_by, refused_by}
 use Rattle.qcow2_image.proofs.builder.grow_and_flush.Goals as goal
 
-pub returns-in_err-grow_by : goal.returns-in_err-grow_by
-returns-in_err-grow_by g c = λ opened writable alone unwritten.
+pub returns-in_err-grow_by-clause-enlarges : goal.returns-in_err-grow_by-clause-enlarges
+returns-in_err-grow_by-clause-enlarges g c = λ opened writable alone unwritten.
     let view = g.S.Storage.view in
     let below = g.F.BackingDisk.backing in
     let old = c.args.image.now in
     let mid = c.grow_by.new.image in
     handed_on (Enlarges c.args.mode c.args.size (view_in view old.file) (view_in view mid.file)) c.from_residual.result c.in_err-grow_by.field-0.0 c.from_residual.ensures
-    (refused_by view below c.args.size old mid opened writable alone unwritten c.args.mode c.in_err-grow_by.field-0.0 (subst (GrowsBy view below c.args.mode old mid c.args.size) c.in_err-grow_by.was c.grow_by.ensures))
+    (refused_by view below c.args.size old mid opened writable alone unwritten c.args.mode c.in_err-grow_by.field-0.0 (subst (GrowsBy view below c.args.mode old mid c.args.size) c.in_err-grow_by.was c.grow_by.ensures.grows))
 
-pub returns : goal.returns
-returns g c = λ opened writable alone unwritten.
+pub returns-clause-enlarges : goal.returns-clause-enlarges
+returns-clause-enlarges g c = λ opened writable alone unwritten.
     let view = g.S.Storage.view in
     let below = g.F.BackingDisk.backing in
     let old = c.args.image.now in
     let mid = c.grow_by.new.image in
-    grown_by view below c.args.size old mid opened writable alone unwritten c.args.mode c.in_ok-grow_by.field-0 (subst (GrowsBy view below c.args.mode old mid c.args.size) c.in_ok-grow_by.was c.grow_by.ensures)
+    grown_by view below c.args.size old mid opened writable alone unwritten c.args.mode c.in_ok-grow_by.field-0 (subst (GrowsBy view below c.args.mode old mid c.args.size) c.in_ok-grow_by.was c.grow_by.ensures.grows)
     c.flush.new.self c.flush.result c.flush.ensures.image.size c.flush.ensures.sees c.flush.ensures.writes
+
+pub returns-in_err-grow_by-clause-cause : goal.returns-in_err-grow_by-clause-cause
+returns-in_err-grow_by-clause-cause g c = λ usable writable alone.
+    handed_on (λ (r : Result _ _). IfErr r IsMetPreparing) c.from_residual.result c.in_err-grow_by.field-0.0 c.from_residual.ensures (c.in_err-grow_by.ensures.cause usable writable alone)
+
+pub returns-clause-cause : goal.returns-clause-cause
+returns-clause-cause g c = λ usable writable alone. met_preparing c.flush.result (c.flush.ensures.late (c.in_ok-grow_by.ensures.marks ∙ resize_works c.args.image.now usable))
+
+pub returns-in_err-grow_by-clause-faults : goal.returns-in_err-grow_by-clause-faults
+returns-in_err-grow_by-clause-faults g c =
+    let old = c.args.image.now in
+    counted_on g.S.Storage.view g.F.BackingDisk.backing old old c.grow_by.new.image c.grow_by.result c.in_err-grow_by.field-0.0 c.from_residual.result (untouched g.S.Storage.view g.F.BackingDisk.backing old old refl refl)
+    c.grow_by.ensures.faults c.in_err-grow_by.was c.from_residual.ensures
+
+pub returns-clause-faults : goal.returns-clause-faults
+returns-clause-faults g c = counted_since g.S.Storage.view g.F.BackingDisk.backing c.args.image.now c.grow_by.new.image c.flush.new.self c.flush.result c.grow_by.ensures.faults.no_fewer c.flush.ensures.faults

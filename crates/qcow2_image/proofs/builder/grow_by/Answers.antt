@@ -1,13 +1,15 @@
 use Rattle.std.proofs.Common.{[], sym, subst}
 use Rattle.qcow2_image.specs.Created.{GrowsBy}
+use Rattle.qcow2_image.proofs.Create.Causes.{grown_alone, met_preparing}
+use Rattle.qcow2_image.proofs.Sizing.ShrinkCalls.{resize_works}
 use Rattle.qcow2_image.proofs.Create.TakingPlace.{takes_by}
 use Rattle.qcow2_image.proofs.builder.grow_by.Goals as goal
 
-pub returns-in-None : goal.returns-in-None
-returns-in-None g c = subst (λ mode. GrowsBy g.S.Storage.view g.F.BackingDisk.backing mode c.args.image.now c.grow.new.self c.args.size c.grow.result) (sym c.in-None.is) c.grow.ensures.grows
+pub returns-in-None-clause-grows : goal.returns-in-None-clause-grows
+returns-in-None-clause-grows g c = subst (λ mode. GrowsBy g.S.Storage.view g.F.BackingDisk.backing mode c.args.image.now c.grow.new.self c.args.size c.grow.result) (sym c.in-None.is) c.grow.ensures.grows
 
-pub returns-in_default : goal.returns-in_default
-returns-in_default g c =
+pub returns-in_default-clause-grows : goal.returns-in_default-clause-grows
+returns-in_default-clause-grows g c =
     let does = c.resize_grow.ensures in
     takes_by g.S.Storage.view g.F.BackingDisk.backing c.args.mode c.args.image.now c.resize_grow.new.self c.args.size c.resize_grow.result c.in_default.not-None (record {
       no_larger = λ usable le. (does.no_larger usable le).1;
@@ -15,3 +17,9 @@ returns-in_default g c =
       sees = does.sees;
       tables = λ usable lt sound. does.tables usable lt [] sound;
     })
+
+pub returns-in-None-clause-cause : goal.returns-in-None-clause-cause
+returns-in-None-clause-cause g c = λ usable writable alone. met_preparing c.grow.result (c.grow.ensures.cause (resize_works c.args.image.now usable) writable)
+
+pub returns-in_default-clause-cause : goal.returns-in_default-clause-cause
+returns-in_default-clause-cause g c = λ usable writable alone. grown_alone c.args.image.now c.args.mode c.resize_grow.result alone (c.resize_grow.ensures.late usable)

@@ -1,11 +1,13 @@
+use Rattle.std.proofs.Common.{inl, true}
+use Rattle.qcow2_image.proofs.Create.Causes.{opening_met, told_closed, told_opening, usable_opened}
 use Rattle.qcow2_image.proofs.Create.Creating.{opening_stops, enlarged_so, unwritten_mid}
 use Rattle.qcow2_image.proofs.builder.grow_new_image.Goals as goal
 
-pub returns-in-Err : goal.returns-in-Err
-returns-in-Err g c = λ honest unwritten. opening_stops c.args.mode c.args.size (g.S.Storage.view c.args.storage) (g.S.Storage.view c.in-Err.storage) unwritten (c.in-Err.ensures.since honest unwritten.consistent)
+pub returns-in-Err-clause-enlarges : goal.returns-in-Err-clause-enlarges
+returns-in-Err-clause-enlarges g c = λ honest unwritten. opening_stops c.args.mode c.args.size (g.S.Storage.view c.args.storage) (g.S.Storage.view c.in-Err.storage) unwritten (c.in-Err.ensures.since honest unwritten.consistent)
 
-pub returns-in-Ok : goal.returns-in-Ok
-returns-in-Ok g c = λ honest unwritten.
+pub returns-in-Ok-clause-enlarges : goal.returns-in-Ok-clause-enlarges
+returns-in-Ok-clause-enlarges g c = λ honest unwritten.
     let view = g.S.Storage.view in
     let below = g.F.BackingDisk.backing in
     let opened = (c.in-Ok.ensures.opens honest unwritten.consistent).opened in
@@ -13,4 +15,20 @@ returns-in-Ok g c = λ honest unwritten.
     let format = c.in-Ok.ensures.format honest in
     let mid = unwritten_mid view below c.args.mode c.args.size c.args.storage c.in-Ok.image unwritten since opened format in
     enlarged_so view below c.args.mode c.args.size c.args.storage c.in-Ok.image unwritten since opened format c.grow_and_flush-done.new.image c.into_storage.result c.grow_and_flush-done.result
-    c.into_storage.ensures (c.grow_and_flush-done.ensures opened c.in-Ok.ensures.ok.2 c.in-Ok.ensures.below mid)
+    c.into_storage.ensures (c.grow_and_flush-done.ensures.enlarges opened c.in-Ok.ensures.ok.2 c.in-Ok.ensures.below mid)
+
+pub returns-in-Err-clause-cause : goal.returns-in-Err-clause-cause
+returns-in-Err-clause-cause g c = λ honest unwritten. inl (opening_met (g.S.Storage.view c.args.storage).contents true c.in-Err.refusal (c.in-Err.ensures.cause.1 honest))
+
+pub returns-in-Err-clause-faults : goal.returns-in-Err-clause-faults
+returns-in-Err-clause-faults g c = λ none. told_opening g.S.Storage.view (g.S.Storage.view c.args.storage).faults c.in-Err.storage c.in-Err.refusal c.in-Err.ensures.faults
+
+pub returns-in-Ok-clause-cause : goal.returns-in-Ok-clause-cause
+returns-in-Ok-clause-cause g c = λ honest unwritten.
+    let opened = (c.in-Ok.ensures.opens honest unwritten.consistent).opened in
+    c.grow_and_flush-done.ensures.cause (usable_opened g.S.Storage.view g.F.BackingDisk.backing c.in-Ok.image opened c.in-Ok.ensures.ok.2) c.in-Ok.ensures.ok.2 c.in-Ok.ensures.below
+
+pub returns-in-Ok-clause-faults : goal.returns-in-Ok-clause-faults
+returns-in-Ok-clause-faults g c = λ none.
+    told_closed g.S.Storage.view g.F.BackingDisk.backing none (g.S.Storage.view c.args.storage).faults c.in-Ok.image c.grow_and_flush-done.new.image c.into_storage.result c.grow_and_flush-done.result c.in-Ok.ensures.faults.no_fewer
+    c.grow_and_flush-done.ensures.faults c.into_storage.ensures

@@ -4,32 +4,32 @@ use Rattle.qcow2_image.specs.Created.{WritesThree}
 use Rattle.qcow2_image.proofs.Create.ThreeWrites.{stops_cleared, writes_then}
 use Rattle.qcow2_image.proofs.builder.write_new_image.Goals as goal
 
-pub returns-in_err-clear : goal.returns-in_err-clear
-returns-in_err-clear g c = λ honest new.
+pub returns-in_err-clear-clause-writes : goal.returns-in_err-clear-clause-writes
+returns-in_err-clear-clause-writes g c = λ honest new.
     let view = g.S.Storage.view in
     let old = view (storage_of c.args.storage.now) in
     let mid = view (storage_of c.clear.new.storage) in
     handed_on (WritesThree c.args.header.now.fields old mid) c.from_residual.result c.in_err-clear.field-0.0 c.from_residual.ensures (stops_cleared 0 old mid (c.clear.ensures.honest honest) (c.clear.ensures.time honest))
 
-pub returns-in_err-block : goal.returns-in_err-block
-returns-in_err-block g c = λ honest new.
+pub returns-in_err-block-clause-writes : goal.returns-in_err-block-clause-writes
+returns-in_err-block-clause-writes g c = λ honest new.
     let view = g.S.Storage.view in
     let old = view (storage_of c.args.storage.now) in
     let mid = view (storage_of c.clear.new.storage) in
     handed_on (WritesThree c.args.header.now.fields old mid) c.from_residual-in_err-block.result c.in_err-block.field-0.0 c.from_residual-in_err-block.ensures (stops_cleared 0 old mid (c.clear.ensures.honest honest) (c.clear.ensures.time honest))
 
-pub returns-in_err-reftable : goal.returns-in_err-reftable
-returns-in_err-reftable g c = λ honest new.
+pub returns-in_err-reftable-clause-writes : goal.returns-in_err-reftable-clause-writes
+returns-in_err-reftable-clause-writes g c = λ honest new.
     let view = g.S.Storage.view in
     let old = view (storage_of c.args.storage.now) in
     let mid = view (storage_of c.clear.new.storage) in
     handed_on (WritesThree c.args.header.now.fields old mid) c.from_residual-in_err-reftable.result c.in_err-reftable.field-0.0 c.from_residual-in_err-reftable.ensures (stops_cleared 0 old mid (c.clear.ensures.honest honest) (c.clear.ensures.time honest))
 
-pub returns : goal.returns
-returns g c = λ honest new.
+pub returns-clause-writes : goal.returns-clause-writes
+returns-clause-writes g c = λ honest new.
     let view = g.S.Storage.view in
     let old = view (storage_of c.args.storage.now) in
     let mid = view (storage_of c.clear.new.storage) in
     let still = c.clear.ensures.honest honest in
     writes_then c.args.header.now.fields old mid (view (storage_of c.write_three.new.storage)) c.write_three.result (stops_cleared 0 old mid still (c.clear.ensures.time honest))
-    (c.write_three.ensures still (c.in_ok-clear.ensures.cleared honest) new c.in_ok-block.ensures c.in_ok-reftable.ensures)
+    (c.write_three.ensures.writes still (c.in_ok-clear.ensures.cleared honest) new c.in_ok-block.ensures.counts c.in_ok-reftable.ensures.names)

@@ -1,4 +1,5 @@
-use Rattle.std.proofs.Common.{Ok, sym, subst}
+use Rattle.std.proofs.Common.{◌≡◌, ◌∙◌, Ok, true, false, sym, subst}
+use Rattle.qcow2_image.proofs.Create.Causes.{no_such_header, reasons_met}
 use Rattle.qcow2_alloc.specs.ImageStorage.{storage_of}
 use Rattle.qcow2_image.specs.Created.{WritesThree}
 use Rattle.qcow2_image.proofs.Create.Creating.{new_header_is, unwritten, creating_stops, created_so}
@@ -12,11 +13,11 @@ returns-clause-stops g c = λ honest.
     let order = c.in-Some-power_of_two.refcount_order in
     let v = c.new-header.result in
     let start = storage_of c.new-storage.result in
-    let three = c.in_default-write_new_image.ensures (subst (λ s. (view s).is_honest) (sym c.new-storage.ensures.storage) honest) (new_header_is v bits order c.new-header.ensures.value c.new-header.ensures.names) in
+    let three = c.in_default-write_new_image.ensures.writes (subst (λ s. (view s).is_honest) (sym c.new-storage.ensures.storage) honest) (new_header_is v bits order c.new-header.ensures.value c.new-header.ensures.names) in
     let mid = c.into_inner-2.result in
     let there = subst (λ s. WritesThree v.fields (view start) (view s) (Ok c.in_default-write_new_image.field-0)) (sym c.into_inner-2.ensures) three in
     let none = unwritten view builder bits order v c.new-header.ensures.value start mid c.grow_new_image.result.0 c.new-storage.ensures.storage there in
-    creating_stops view builder bits order v c.new-header.ensures.value start mid c.grow_new_image.result.0 c.new-storage.ensures.storage there c.grow_new_image.result.1 (c.grow_new_image.ensures there.0.honest none)
+    creating_stops view builder bits order v c.new-header.ensures.value start mid c.grow_new_image.result.0 c.new-storage.ensures.storage there c.grow_new_image.result.1 (c.grow_new_image.ensures.enlarges there.0.honest none)
 
 pub returns-clause-created : goal.returns-clause-created
 returns-clause-created g c = λ honest.
@@ -26,9 +27,28 @@ returns-clause-created g c = λ honest.
     let order = c.in-Some-power_of_two.refcount_order in
     let v = c.new-header.result in
     let start = storage_of c.new-storage.result in
-    let three = c.in_default-write_new_image.ensures (subst (λ s. (view s).is_honest) (sym c.new-storage.ensures.storage) honest) (new_header_is v bits order c.new-header.ensures.value c.new-header.ensures.names) in
+    let three = c.in_default-write_new_image.ensures.writes (subst (λ s. (view s).is_honest) (sym c.new-storage.ensures.storage) honest) (new_header_is v bits order c.new-header.ensures.value c.new-header.ensures.names) in
     let mid = c.into_inner-2.result in
     let there = subst (λ s. WritesThree v.fields (view start) (view s) (Ok c.in_default-write_new_image.field-0)) (sym c.into_inner-2.ensures) three in
     let none = unwritten view builder bits order v c.new-header.ensures.value start mid c.grow_new_image.result.0 c.new-storage.ensures.storage there in
-    created_so view builder bits order v c.new-header.ensures.value start mid c.grow_new_image.result.0 c.new-storage.ensures.storage there c.in-Some.ensures c.in-Some-power_of_two.ensures c.grow_new_image.result.1
-    (c.grow_new_image.ensures there.0.honest none)
+    created_so view builder bits order v c.new-header.ensures.value start mid c.grow_new_image.result.0 c.new-storage.ensures.storage there c.in-Some.ensures.some c.in-Some-power_of_two.ensures.some c.grow_new_image.result.1
+    (c.grow_new_image.ensures.enlarges there.0.honest none)
+
+pub returns-then-not-fits-clause-cause : goal.returns-then-not-fits-clause-cause
+returns-then-not-fits-clause-cause g c = λ honest.
+    no_such_header c.args.self c.in-Some.cluster_bits c.in-Some-power_of_two.refcount_order c.in-Some.ensures.some c.in-Some-power_of_two.ensures.some
+    (λ can. absurd (let so = c.fits.ensures.1 can in let bad : true ≡ false = sym so ∙ c.if-not-fits.true in cc))
+
+pub returns-clause-cause : goal.returns-clause-cause
+returns-clause-cause g c = λ honest.
+    let view = g.S.Storage.view in
+    let builder = c.args.self in
+    let bits = c.in-Some.cluster_bits in
+    let order = c.in-Some-power_of_two.refcount_order in
+    let v = c.new-header.result in
+    let start = storage_of c.new-storage.result in
+    let three = c.in_default-write_new_image.ensures.writes (subst (λ s. (view s).is_honest) (sym c.new-storage.ensures.storage) honest) (new_header_is v bits order c.new-header.ensures.value c.new-header.ensures.names) in
+    let mid = c.into_inner-2.result in
+    let there = subst (λ s. WritesThree v.fields (view start) (view s) (Ok c.in_default-write_new_image.field-0)) (sym c.into_inner-2.ensures) three in
+    let none = unwritten view builder bits order v c.new-header.ensures.value start mid c.grow_new_image.result.0 c.new-storage.ensures.storage there in
+    reasons_met builder c.grow_new_image.result.1 (c.grow_new_image.ensures.cause there.0.honest none)

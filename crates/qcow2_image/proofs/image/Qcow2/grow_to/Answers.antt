@@ -2,7 +2,10 @@ use Rattle.qcow2_alloc.proofs.AllocationSteps.{handed_on}
 use Rattle.qcow2_image.specs.declared.image.Qcow2.{Qcow2}
 use Rattle.qcow2_image.specs.Growing.{Resizes}
 use Rattle.qcow2_image.specs.UnseenSteps.{pending_with_listed}
-use Rattle.std.proofs.Common.{arith, [], ap, ◌∙◌, ◌-◌, ◌/◌, ◌^◌}
+use Rattle.std.proofs.Common.{arith, [], refl, ap, ◌∙◌, ◌-◌, ◌/◌, ◌^◌}
+use Rattle.qcow2_image.specs.Image.{is_failed}
+use Rattle.qcow2_image.proofs.Call.FaultCounts.{counted_on, counted_since, untouched}
+use Rattle.qcow2_image.proofs.Create.Causes.{faults_met}
 use Rattle.qcow2_image.proofs.Grow.Grown.{extends_moving, lasts_more, lasts_refused, resized_then, resized_reaches}
 use Rattle.qcow2_image.proofs.image.Qcow2.grow_to.Goals as goal
 
@@ -27,3 +30,18 @@ returns-clause-reaches g c = λ p sound.
     resized_reaches g.S.Storage.view g.F.BackingDisk.backing p old mid c.write_size.new.self c.args.size c.l1_index.result c.write_size.result
     (resized_then g.S.Storage.view g.F.BackingDisk.backing p old mid c.write_size.new.self c.args.size c.write_size.result first (ap (λ (i : Qcow2 _ _). i.file.free_list) c.write_size.ensures.rest) (c.write_size.ensures.resizes (pending_with_listed p old mid) first.sound))
     (c.l1_index.ensures ∙ ap (λ m. m / 2 ^ c.cluster_bits-bits.result / (2 ^ c.cluster_bits-bits.result / 8)) c.new.ensures ∙ ap (λ n. (c.args.size - 1) / 2 ^ n / (2 ^ n / 8)) c.cluster_bits-bits.ensures.value) (let l = c.in_ok-grow_l1_table.ensures.length in omega (arith, l)) (ap (λ (i : Qcow2 _ _). i.l1_table) c.write_size.ensures.rest)
+
+pub returns-in_err-grow_l1_table-clause-faults : goal.returns-in_err-grow_l1_table-clause-faults
+returns-in_err-grow_l1_table-clause-faults g c =
+    let old = c.args.self.now in
+    counted_on g.S.Storage.view g.F.BackingDisk.backing old old c.grow_l1_table.new.self c.grow_l1_table.result c.in_err-grow_l1_table.field-0.0 c.from_residual.result (untouched g.S.Storage.view g.F.BackingDisk.backing old old refl refl)
+    c.grow_l1_table.ensures.faults c.in_err-grow_l1_table.was c.from_residual.ensures
+
+pub returns-clause-faults : goal.returns-clause-faults
+returns-clause-faults g c = counted_since g.S.Storage.view g.F.BackingDisk.backing c.args.self.now c.grow_l1_table.new.self c.write_size.new.self c.write_size.result c.grow_l1_table.ensures.faults.no_fewer c.write_size.ensures.faults
+
+pub returns-clause-cause : goal.returns-clause-cause
+returns-clause-cause g c = λ writable. faults_met c.write_size.result c.write_size.ensures.cause
+
+pub returns-clause-failed : goal.returns-clause-failed
+returns-clause-failed g c = ap is_failed c.write_size.ensures.rest ∙ c.grow_l1_table.ensures.stays.failed

@@ -1,5 +1,12 @@
-use Rattle.std.proofs.Common.{sym, ap, subst}
-use Rattle.qcow2_image.proofs.Open.Opening.{fresh_read, fresh_then, stays_then, told_fresh, kept_then}
+use Rattle.std.proofs.Common.{Result, sym, ap, subst}
+use Rattle.std.specs.Prelude.{MatchResult}
+use Rattle.qcow2_alloc.specs.declared.error.ImageError.{ImageError}
+use Rattle.qcow2_alloc.specs.ImageError.{of_storage}
+use Rattle.qcow2_alloc.specs.ImageFile.{contents_in}
+use Rattle.qcow2_alloc.specs.LoadedTables.{IsReasonAgainstReftable, ReftableReads}
+use Rattle.qcow2_alloc.proofs.AllocationSteps.{handed_on}
+use Rattle.qcow2_image.proofs.Open.Reading.{against_storage}
+use Rattle.qcow2_image.proofs.Open.Opening.{fresh_read, fresh_then, kept_read, stays_then, told_fresh, kept_then}
 use Rattle.qcow2_image.proofs.Open.Clearing.{stays_after, kept_after}
 use Rattle.qcow2_image.proofs.image.Qcow2.load_allocator.Goals as goal
 
@@ -40,3 +47,15 @@ returns-in_err-clear_autoclear-clause-since g c = λ p fresh.
     let told = told_fresh view below p old file c.will_write.new.self fresh c.new.ensures.rest c.new.ensures.honest c.new.ensures.same c.new.ensures.time c.will_write.ensures.storage in
     kept_then (view old.storage.storage) (view c.will_write.new.self.storage) (view c.clear_autoclear.new.storage.storage) told.1
     (kept_after view below p (record file { storage = c.will_write.new.self }) told.0 c.clear_autoclear.result c.clear_autoclear.new.storage cleared.written (λ none. (cleared.untouched none).1) cleared.calls cleared.fields cleared.reads)
+
+pub returns-in_err-clear_autoclear-clause-why : goal.returns-in_err-clear_autoclear-clause-why
+returns-in_err-clear_autoclear-clause-why g c = λ honest.
+    let h = c.args.file.now.header.fields in
+    let b = contents_in g.S.Storage.view c.args.file.now in
+    handed_on (λ (r : Result _ ImageError). MatchResult r (λ a. ReftableReads h b) (IsReasonAgainstReftable h b)) c.from_residual-in_err-clear_autoclear.result (of_storage c.in_err-clear_autoclear.field-0.0) c.from_residual-in_err-clear_autoclear.ensures
+    (against_storage h b c.in_err-clear_autoclear.field-0.0)
+
+pub returns-in_err-allocator-clause-since : goal.returns-in_err-allocator-clause-since
+returns-in_err-allocator-clause-since g c = λ p fresh.
+    let view = g.S.Storage.view in
+    kept_read (view c.args.file.now.storage.storage) (view c.new.new.file.storage.storage) c.new.ensures.time (c.new.ensures.same fresh.sound.honest)

@@ -1,3 +1,11 @@
+use Rattle.std.proofs.Common.{◌≡◌, ◌∙◌, Result, true, false, inl, inr, sym}
+use Rattle.std.specs.Prelude.{MatchResult}
+use Rattle.qcow2_alloc.specs.declared.error.ImageError.{ImageError}
+use Rattle.qcow2_alloc.specs.ImageFile.{contents_in}
+use Rattle.qcow2_alloc.specs.LoadedTables.{IsReasonAgainstReftable, ReftableReads}
+use Rattle.qcow2_alloc.proofs.AllocationSteps.{handed_on}
+use Rattle.qcow2_image.specs.Readable.{IsReasonAgainstTables, NeededTablesRead}
+use Rattle.qcow2_image.proofs.Open.Reading.{so_before}
 use Rattle.qcow2_image.proofs.Open.Opening.{fresh_then, kept_read, kept_then}
 use Rattle.qcow2_image.proofs.image.Qcow2.load_tables.Goals as goal
 
@@ -35,3 +43,39 @@ returns-in_err-allocator-clause-since g c = λ p fresh.
     let read = fresh_then view below p old mid fresh l1.rest l1.honest l1.same in
     kept_then (view old.storage.storage) (view mid.storage.storage) (view c.load_allocator.new.file.storage.storage)
     (kept_read (view old.storage.storage) (view mid.storage.storage) l1.time (l1.same fresh.sound.honest)) (c.load_allocator.ensures.since p read.fresh)
+
+pub returns-in_err-l1_table-clause-why : goal.returns-in_err-l1_table-clause-why
+returns-in_err-l1_table-clause-why g c = λ honest.
+    let h = c.args.file.now.header.fields in
+    let b = contents_in g.S.Storage.view c.args.file.now in
+    handed_on (λ (r : Result _ ImageError). MatchResult r (λ t. NeededTablesRead h b c.args.writable) (IsReasonAgainstTables h b c.args.writable)) c.from_residual.result c.in_err-l1_table.field-0.0 c.from_residual.ensures
+    (inl (c.in_err-l1_table.ensures.why honest))
+
+pub returns-then-not-writable-clause-why : goal.returns-then-not-writable-clause-why
+returns-then-not-writable-clause-why g c = λ honest. record { l1_table = c.in_ok-l1_table.ensures.why honest; reftable = λ so. absurd (let bad : true ≡ false = sym so ∙ c.if-not-writable.true in cc) }
+
+pub returns-in_err-allocator-clause-why : goal.returns-in_err-allocator-clause-why
+returns-in_err-allocator-clause-why g c = λ honest.
+    let view = g.S.Storage.view in
+    let old = c.args.file.now in
+    let h = c.args.file.now.header.fields in
+    let b = contents_in g.S.Storage.view c.args.file.now in
+    let l1 = c.load_l1_table.ensures in
+    let e = c.in_err-allocator.field-0.0 in
+    handed_on (λ (r : Result _ ImageError). MatchResult r (λ t. NeededTablesRead h b c.args.writable) (IsReasonAgainstTables h b c.args.writable)) c.from_residual-in_err-allocator.result e c.from_residual-in_err-allocator.ensures
+    (inr (
+      c.if-not-writable.false,
+      c.in_ok-l1_table.ensures.why honest,
+      so_before view (λ h b. IsReasonAgainstReftable h b e) old c.load_l1_table.new.file l1.rest (l1.same honest) (c.in_err-allocator.ensures.why (l1.honest honest)),
+    ))
+
+pub returns-clause-why : goal.returns-clause-why
+returns-clause-why g c = λ honest.
+    let l1 = c.load_l1_table.ensures in
+    record { l1_table = c.in_ok-l1_table.ensures.why honest; reftable = λ so. so_before g.S.Storage.view ReftableReads c.args.file.now c.load_l1_table.new.file l1.rest (l1.same honest) (c.in_ok-allocator.ensures.why (l1.honest honest)) }
+
+pub returns-in_err-l1_table-clause-since : goal.returns-in_err-l1_table-clause-since
+returns-in_err-l1_table-clause-since g c = λ p fresh.
+    let view = g.S.Storage.view in
+    let l1 = c.load_l1_table.ensures in
+    kept_read (view c.args.file.now.storage.storage) (view c.load_l1_table.new.file.storage.storage) l1.time (l1.same fresh.sound.honest)

@@ -10,8 +10,11 @@ use Rattle.qcow2_metadata.specs.HeaderLoad.{IsHeaderIn, IsReasonToRefuse}
 use Rattle.qcow2_metadata.specs.Header.{HeaderReads, header}
 use Rattle.qcow2_alloc.specs.declared.error.ImageError.{ImageError}
 use Rattle.qcow2_alloc.specs.declared.error.ImageError.TheVariants.{Dependency, UnalignedTable}
+use Rattle.qcow2_alloc.specs.declared.error.ImageError.TheVariants as I
 use Rattle.qcow2_alloc.specs.ImageError.{of_metadata, IsFault}
 use Rattle.qcow2_image.proofs.Call.MetErrors.{metadata_met}
+use Rattle.qcow2_image.specs.Readable.{IsRefusedRightly}
+use Rattle.qcow2_image.proofs.Open.Reading.{header_refused, needs_so, opened_rightly, refused_rightly}
 use Rattle.qcow2_image.proofs.Open.SameHeaders.{both, not_both, not_missing, not_needed, refused_before, stays_so}
 use Rattle.qcow2_image.proofs.image.Qcow2.open.Goals as goal
 
@@ -81,9 +84,6 @@ returns-in-Err-clause-another g c = λ alone honest needs.
     let why = subst (λ s. (view s).is_honest → IsReasonToRefuse (header (byte_at (view s).contents)) (byte_at (view s).contents) c.args.writable c.in-Err.e) c.new-storage.ensures.storage c.in-Err.ensures.refused honest in
     (subst (λ (e : ImageError). (e ≡ Dependency) ⊎ (e ≡ UnalignedTable) ⊎ IsFault e) (sym c.from.ensures) (inr (refused_before _ _ c.args.writable c.in-Err.e reads why)), stays_so view c.args.metadata c.new-storage.result.storage c.load.new.storage.storage _ c.new-storage.ensures.storage c.into_inner.ensures c.load.ensures.reads.same)
 
-pub returns-in-Err-clause-dependency : goal.returns-in-Err-clause-dependency
-returns-in-Err-clause-dependency g c = λ is. absurd (not_missing (of_metadata c.in-Err.e) (metadata_met c.in-Err.e) (sym c.from.ensures ∙ is))
-
 pub returns-then-lacks_another-clause-since : goal.returns-then-lacks_another-clause-since
 returns-then-lacks_another-clause-since g c = λ honest consistent.
     let view = g.S.Storage.view in
@@ -94,12 +94,6 @@ pub returns-then-lacks_another-clause-another : goal.returns-then-lacks_another-
 returns-then-lacks_another-clause-another g c = λ alone honest needs.
     let view = g.S.Storage.view in
     (inl refl, stays_so view c.args.metadata c.new-storage.result.storage c.load.new.storage.storage _ c.new-storage.ensures.storage c.into_inner-then-lacks_another.ensures c.load.ensures.reads.same)
-
-pub returns-then-lacks_another-clause-dependency : goal.returns-then-lacks_another-clause-dependency
-returns-then-lacks_another-clause-dependency g c = λ is.
-    let view = g.S.Storage.view in
-    let so = both c.args.alone _ (sym c.lacks_another.ensures ∙ c.if-lacks_another.true) in
-    (so.0, λ honest. record { header = c.in-Ok.header; stands = subst (λ s. (view s).is_honest → IsHeaderIn c.in-Ok.header (view s).contents) c.new-storage.ensures.storage c.in-Ok.ensures.ok honest; needs = so.1 })
 
 pub returns-in-Err-new-clause-another : goal.returns-in-Err-new-clause-another
 returns-in-Err-new-clause-another g c = λ alone honest needs.
@@ -119,5 +113,34 @@ returns-in-Err-load_tables-clause-another g c = λ alone honest needs.
     let stands = subst (λ s. (view s).is_honest → IsHeaderIn c.in-Ok.header (view s).contents) c.new-storage.ensures.storage c.in-Ok.ensures.ok honest in
     absurd (not_needed c.in-Ok.header (view c.args.metadata).contents stands (not_both c.args.alone _ (sym c.lacks_another.ensures ∙ c.if-lacks_another.false) alone) needs)
 
-pub returns-in-Err-load_tables-clause-dependency : goal.returns-in-Err-load_tables-clause-dependency
-returns-in-Err-load_tables-clause-dependency g c = λ is. absurd (not_missing _ c.in-Err-load_tables.ensures.cause is)
+pub returns-in-Err-clause-cause : goal.returns-in-Err-clause-cause
+returns-in-Err-clause-cause g c = (
+  λ is. absurd (not_missing (of_metadata c.in-Err.e) (metadata_met c.in-Err.e) (sym c.from.ensures ∙ is)),
+  λ honest.
+      let view = g.S.Storage.view in
+      let why = subst (λ s. (view s).is_honest → IsReasonToRefuse (header (byte_at (view s).contents)) (byte_at (view s).contents) c.args.writable c.in-Err.e) c.new-storage.ensures.storage c.in-Err.ensures.refused honest in
+      subst (IsRefusedRightly (view c.args.metadata).contents c.args.writable c.args.alone) (sym c.from.ensures) (header_refused (view c.args.metadata).contents c.args.writable c.args.alone c.in-Err.e why),
+)
+
+pub returns-then-lacks_another-clause-cause : goal.returns-then-lacks_another-clause-cause
+returns-then-lacks_another-clause-cause g c =
+    let so = both c.args.alone _ (sym c.lacks_another.ensures ∙ c.if-lacks_another.true) in
+    (λ is. so.0, needs_so g.S.Storage.view c.args.metadata c.new-storage.result.storage c.load.new.storage.storage c.new-storage.ensures.storage c.args.writable c.args.alone c.load.result c.load.ensures.reads c.in-Ok.header c.in-Ok.ensures.ok c.in-Ok.ensures.aligned so.0 so.1)
+
+pub returns-in-Err-new-clause-cause : goal.returns-in-Err-new-clause-cause
+returns-in-Err-new-clause-cause g c = (
+  λ is. absurd (let bad : I.Memory ≡ Dependency = sym c.from-in-Err-new.ensures ∙ is in cc),
+  λ honest. subst (IsRefusedRightly (g.S.Storage.view c.args.metadata).contents c.args.writable c.args.alone) (sym c.from-in-Err-new.ensures) tt,
+)
+
+pub returns-in-Ok-load_tables-clause-cause : goal.returns-in-Ok-load_tables-clause-cause
+returns-in-Ok-load_tables-clause-cause g c =
+    opened_rightly g.S.Storage.view c.args.metadata c.new-storage.result.storage c.load.new.storage.storage c.new-storage.ensures.storage c.args.writable c.args.alone c.load.result c.load.ensures.reads c.in-Ok.header c.in-Ok.ensures.ok c.in-Ok.ensures.aligned
+    (sym c.lacks_another.ensures ∙ c.if-lacks_another.false) c.in-Ok-load_tables.ensures.why
+
+pub returns-in-Err-load_tables-clause-cause : goal.returns-in-Err-load_tables-clause-cause
+returns-in-Err-load_tables-clause-cause g c = (
+  λ is. absurd (not_missing _ c.in-Err-load_tables.ensures.cause is),
+  refused_rightly g.S.Storage.view c.args.metadata c.new-storage.result.storage c.load.new.storage.storage c.new-storage.ensures.storage c.args.writable c.args.alone c.load.result c.load.ensures.reads c.in-Ok.header c.in-Ok.ensures.ok c.in-Ok.ensures.aligned
+      c.in-Err-load_tables.e (sym c.lacks_another.ensures ∙ c.if-lacks_another.false) c.in-Err-load_tables.ensures.why,
+)

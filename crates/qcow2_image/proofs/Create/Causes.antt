@@ -1,0 +1,172 @@
+-- Why an image isn't created: what its parts meet, and when a storage's failure is told.
+use Rattle.std.proofs.Common.{[], ◌≡◌, ◌⊎◌, ◌≢◌, inl, inr, ℕ, ◌+◌, ◌^◌, ◌<◌, ◌≤◌, Bool, true, false, Option, Some, None, Result, Ok, Err, refl, sym, ap, ◌∙◌, subst, arith}
+use Rattle.std.specs.Prelude.{IfErr, IsTrue, is_some, not}
+use Rattle.std.specs.Option.{option_or}
+use Rattle.std.specs.Int.{bit_at, trailing_zeros, w64}
+use Rattle.std.proofs.lemmas.Bool.{cases_eq}
+use Rattle.std.proofs.lemmas.Nat.{pow-add, pow_pos}
+use Rattle.std.proofs.lemmas.Nat.Bits.{bit_at-pow_other, bit_at-pow_same, bit_at-trailing_zeros}
+use Rattle.std.proofs.Math.Pow.{pow_mono}
+use Rattle.image_access.specs.Backing.{BackingView}
+use Rattle.image_access.specs.Moments.{StorageView}
+use Rattle.image_access.specs.declared.storage.PreallocateMode.{PreallocateMode}
+use Rattle.image_access.specs.declared.storage.PreallocateMode.TheVariants as Mode
+use Rattle.image_access.proofs.Passing.{rose_since}
+use Rattle.qcow2_alloc.specs.declared.error.ImageError.{ImageError}
+use Rattle.qcow2_alloc.specs.declared.error.ImageError.TheVariants as I
+use Rattle.qcow2_metadata.specs.HeaderWrite.{CanBeNew}
+use Rattle.qcow2_disk.specs.AbstractImages.{IsOpened}
+use Rattle.qcow2_alloc.specs.Faults.{FaultsTold}
+use Rattle.qcow2_alloc.proofs.Faults.{told_since}
+use Rattle.qcow2_image.proofs.Sizes.{sound_is_usable}
+use Rattle.qcow2_alloc.specs.ImageError.{IsFault}
+use Rattle.qcow2_image.specs.declared.image.Qcow2.{Qcow2}
+use Rattle.qcow2_image.specs.CountedOpening.{OpeningCounts}
+use Rattle.qcow2_image.specs.Faults.{CountsImageFaults, IsNotOfStorage}
+use Rattle.qcow2_image.specs.Image.{is_writable, storage_of_image}
+use Rattle.qcow2_image.specs.ImageInvariant.{abstract_of, faults_below}
+use Rattle.qcow2_image.specs.Created.{IsAllowed, IsReasonNotToCreate}
+use Rattle.qcow2_image.specs.declared.builder.Qcow2CreateBuilder.{Qcow2CreateBuilder}
+use Rattle.qcow2_image.specs.Readable.{IsRefusedRightly, OpensRightly}
+use Rattle.qcow2_image.specs.Refusals.{IsMet, IsMetPreparing, refuse_if}
+use Rattle.qcow2_image.specs.Resizing.{refuses_to_resize, takes_over}
+
+fault_met : (e : ImageError) → IsFault e → IsMet e
+fault_met e fault = elim fault [ inl storage ↦ subst IsMet (sym storage) tt | inr memory ↦ subst IsMet (sym memory) tt ]
+
+pub faults_met : {T : Type 0} (r : Result T ImageError) → IfErr r IsFault → IfErr r IsMet
+faults_met (Ok x) fault = tt
+faults_met (Err e) fault = fault_met e fault
+
+pub met_preparing : {T : Type 0} (r : Result T ImageError) → IfErr r IsMet → IfErr r IsMetPreparing
+met_preparing (Ok x) met = tt
+met_preparing (Err e) met = inl met
+
+-- what an opening is refused for is met
+pub opening_met : (contents : _) (writable : Bool) (e : ImageError) → IsRefusedRightly contents writable false e → IsMet e
+opening_met contents writable I.Metadata why = tt
+opening_met contents writable I.Limit why = tt
+opening_met contents writable I.UnalignedTable why = tt
+opening_met contents writable I.Memory why = tt
+opening_met contents writable I.Storage why = tt
+opening_met contents writable I.Dependency why = absurd (let bad : false ≡ true = why.0 in cc)
+opening_met contents writable e why = absurd why
+
+-- no mode takes clusters over a disk below that isn't there
+takes_none : {S F : Type 0} (image : Qcow2 S F) (mode : PreallocateMode) → is_some image.backing ≡ false → IsTrue (takes_over image mode) → ⊥
+takes_none image Mode.None alone takes = absurd (let bad : false ≡ true = takes in cc)
+takes_none image Mode.Zero alone takes = absurd (let bad : false ≡ true = takes in cc)
+takes_none image Mode.FormatAllocate alone takes = absurd (let bad : false ≡ true = sym alone ∙ takes in cc)
+takes_none image Mode.FullAllocate alone takes = absurd (let bad : false ≡ true = sym alone ∙ takes in cc)
+takes_none image Mode.WriteData alone takes = absurd (let bad : false ≡ true = sym alone ∙ takes in cc)
+
+pub grown_alone : {S F T : Type 0} (image : Qcow2 S F) (mode : PreallocateMode) (r : Result T ImageError) → is_some image.backing ≡ false → IfErr r (λ e. IsMetPreparing e ⊎ ((e ≡ I.Preallocation) × IsTrue (takes_over image mode))) → IfErr r IsMetPreparing
+grown_alone image mode (Ok x) alone late = tt
+grown_alone image mode (Err e) alone late = elim late [ inl met ↦ met | inr over ↦ absurd (takes_none image mode alone over.1) ]
+
+-- ---- failures of the storage
+
+-- a step that asks no storage
+pub told_other : {T : Type 0} (before : ℕ) (e : ImageError) → IsNotOfStorage e → FaultsTold {T = T} before before (Err e)
+told_other before e other = record { no_fewer = omega arith; rose = λ is. absurd (other (cc is)) }
+
+module _ {S F : Type 0} (view : S → StorageView) where
+  -- an opening that is refused, and what it is told as
+  pub told_opening : {T : Type 0} (before : ℕ) (storage : S) (e : ImageError) → OpeningCounts {F = F} view before (Err (storage, e)) → FaultsTold {T = T} before (view storage).faults (Err e)
+  told_opening before storage e counts = record { no_fewer = counts.no_fewer; rose = λ is. counts.rose (cc is) }
+
+  -- an image that is opened, changed and closed, with no disk below that fails
+  pub told_closed : {T : Type 0} (backing : F → BackingView) → ((b : F) → (backing b).faults ≡ 0) → (before : ℕ) (old new : Qcow2 S F) (last : S) (r : Result T ImageError) → before ≤ (view (storage_of_image old)).faults → CountsImageFaults view backing old new r
+      → last ≡ storage_of_image new → FaultsTold before (view last).faults r
+  told_closed {T} backing none before old new last r first counts is = subst (λ (s : S). FaultsTold before (view s).faults r) (sym is) (by r counts) where
+    below : (disk : Option F) → faults_below view backing disk ≡ 0
+    below None = refl
+    below (Some b) = none b
+
+    by : (r : Result T ImageError) → CountsImageFaults view backing old new r → FaultsTold before (view (storage_of_image new)).faults r
+    by (Ok x) counts = record { no_fewer = omega (arith, first, counts.no_fewer.storage); rose = λ is. absurd (cc is) }
+    by (Err e) counts = record {
+      no_fewer = omega (arith, first, counts.no_fewer.storage);
+      rose = λ is. elim (counts.rose (cc is)) [
+        | inl rose ↦ rose_since before (view (storage_of_image old)).faults (view (storage_of_image new)).faults first rose
+        | inr rose ↦ absurd (omega (arith, rose, below old.backing, below new.backing))
+      ];
+    }
+
+-- ---- the whole call
+
+-- an opened image that is writable isn't refused another size
+pub usable_opened : {S F : Type 0} (view : S → StorageView) (backing : F → BackingView) (image : Qcow2 S F) → IsOpened (abstract_of view backing image []) → IsTrue (is_writable image) → refuses_to_resize image ≡ None
+usable_opened view backing image opened writable =
+    let may : is_writable image ≡ true = writable in
+    ap (λ r. option_or r (refuse_if (not (is_writable image)) I.ReadOnly)) (sound_is_usable view backing image [] opened.sound) ∙ ap (λ b. refuse_if (not b) I.ReadOnly) may
+
+-- a power of two is that of one number alone
+same_power : (a b : ℕ) → 2 ^ a ≡ 2 ^ b → a ≡ b
+same_power a b same = elim (cases_eq a b) [
+  | inl is ↦ is
+  | inr apart ↦ absurd (let one = bit_at-pow_same a in let none = bit_at-pow_other b a apart in let bad : 1 ≡ 0 = sym one ∙ ap (λ n. bit_at n a) same ∙ none in omega (arith, bad))
+]
+
+-- the lowest bit of a power of two is its own
+pub no_power : (n : ℕ) → (trailing_zeros w64 n < 64 → 2 ^ trailing_zeros w64 n ≡ n → ⊥) → (bits : ℕ) → bits < 64 → n ≢ 2 ^ bits
+no_power n other bits lt is =
+    let some : 0 < n = (let p = pow_pos bits in omega (arith, is, p)) in
+    let fits : n < 2 ^ 64 = (let p : 2 ^ (bits + 1) ≤ 2 ^ 64 = pow_mono {j = 64} (let le : bits + 1 ≤ 64 = omega (arith, lt) in le) in let q = pow_pos bits in let e = pow-add 2 bits 1 in omega (arith, is, p, q, e)) in
+    let low = bit_at-trailing_zeros w64 n some fits in
+    elim (cases_eq (trailing_zeros w64 n) bits) [
+      | inl same ↦ other low.0 (ap (λ k. 2 ^ k) same ∙ sym is)
+      | inr apart ↦ absurd (let bad : 1 ≡ 0 = sym low.1 ∙ ap (λ m. bit_at m (trailing_zeros w64 n)) is ∙ bit_at-pow_other bits (trailing_zeros w64 n) apart in omega (arith, bad))
+    ]
+
+module _ {S : Type 0} (builder : Qcow2CreateBuilder S) where
+  pub no_such_clusters : ((bits : ℕ) → bits < 64 → builder.cluster_size ≢ 2 ^ bits) → ¬ IsAllowed builder
+  no_such_clusters none allowed = none allowed.cluster_bits (let high = allowed.no_larger in omega (arith, high)) allowed.cluster_size_is
+
+  pub no_such_counts : ((bits : ℕ) → bits < 64 → builder.refcount_width ≢ 2 ^ bits) → ¬ IsAllowed builder
+  no_such_counts none allowed = none allowed.refcount_order (let high = allowed.no_wider in omega (arith, high)) allowed.refcount_width_is
+
+  pub no_such_header : (bits order : ℕ) → builder.cluster_size ≡ 2 ^ bits → builder.refcount_width ≡ 2 ^ order → ¬ CanBeNew bits order None None None → ¬ IsAllowed builder
+  no_such_header bits order clusters counts none allowed =
+      let same : allowed.cluster_bits ≡ bits = same_power allowed.cluster_bits bits (sym allowed.cluster_size_is ∙ clusters) in
+      let same_order : allowed.refcount_order ≡ order = same_power allowed.refcount_order order (sym allowed.refcount_width_is ∙ counts) in
+      let low : 9 ≤ bits = (let l = allowed.no_smaller in omega (arith, l, same)) in
+      let long : 2 ^ 9 ≤ 2 ^ bits = pow_mono low in
+      none (record {
+        low = low;
+        high = (let h = allowed.no_larger in omega (arith, h, same));
+        order = (let o = allowed.no_wider in omega (arith, o, same_order));
+        room = omega (arith, long);
+      })
+
+  pub reason_met : (e : ImageError) → IsMetPreparing e → IsReasonNotToCreate builder e
+  reason_met I.InvalidOption met = elim met [ inl none ↦ absurd none | inr is ↦ absurd (cc is) ]
+  reason_met e met = met
+
+  pub reasons_met : {T : Type 0} (r : Result T ImageError) → IfErr r IsMetPreparing → IfErr r (IsReasonNotToCreate builder)
+  reasons_met (Ok x) met = tt
+  reasons_met (Err e) met = reason_met e met
+
+  -- the image that was made is opened
+  pub opening_reasons : {F : Type 0} (storage : StorageView) (r : Result (Qcow2 S F) (S × ImageError)) → storage.is_honest → OpensRightly storage true false r → IfErr r (λ refused. IsReasonNotToCreate builder refused.1)
+  opening_reasons storage (Ok image) honest rightly = tt
+  opening_reasons storage (Err refused) honest rightly = reason_met refused.1 (inl (opening_met storage.contents true refused.1 (rightly.1 honest)))
+
+module _ {S : Type 0} (view : S → StorageView) where
+  pub told_created : {T : Type 0} (image start mid wrote last : S) (r : Result T ImageError) → start ≡ image → mid ≡ wrote → (view start).faults ≤ (view wrote).faults → FaultsTold (view mid).faults (view last).faults r → FaultsTold (view image).faults (view last).faults r
+  told_created image start mid wrote last r same is le told =
+      let e : (view start).faults ≡ (view image).faults = ap (λ s. (view s).faults) same in
+      let f : (view mid).faults ≡ (view wrote).faults = ap (λ s. (view s).faults) is in
+      told_since (view image).faults (view mid).faults (view last).faults (omega (arith, le, e, f)) told
+
+  pub told_refused : {T : Type 0} (image start wrote last : S) (e : ImageError) → start ≡ image → last ≡ wrote → FaultsTold {T = T} (view start).faults (view wrote).faults (Err e) → FaultsTold {T = T} (view image).faults (view last).faults (Err e)
+  told_refused {T} image start wrote last e same is told = subst (λ (s : S). FaultsTold {T = T} (view s).faults (view last).faults (Err e)) same (subst (λ (s : S). FaultsTold {T = T} (view start).faults (view s).faults (Err e)) (sym is) told)
+
+  -- an image that is made isn't opened
+  pub counts_refused : {F T : Type 0} (before : ℕ) (storage : S) (e : ImageError) (r : Result T ImageError) → r ≡ Err e → FaultsTold before (view storage).faults r → OpeningCounts {F = F} view before (Err (storage, e))
+  counts_refused before storage e r is told = record { no_fewer = told.no_fewer; rose = λ storage. told.rose (is ∙ ap Err storage) }
+
+  -- it is
+  pub counts_opened : {F : Type 0} (before mid : ℕ) (r : Result (Qcow2 S F) (S × ImageError)) → before ≤ mid → OpeningCounts view mid r → OpeningCounts view before r
+  counts_opened before mid (Ok image) le counts = record { no_fewer = omega (arith, le, counts.no_fewer); rose = tt }
+  counts_opened before mid (Err refused) le counts = record { no_fewer = omega (arith, le, counts.no_fewer); rose = λ is. rose_since before mid (view refused.0).faults le (counts.rose is) }

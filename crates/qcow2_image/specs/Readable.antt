@@ -1,0 +1,52 @@
+-- When an image opens, and why one is refused: by its contents alone, by whether it is to be written, and by whether it is to be opened alone.
+use Rattle.std.specs.Prelude.{ℕ, ◌≡◌, ◌⊎◌, Bool, IsTrue, List, Result, Ok, Err}
+use Rattle.image_access.specs.Moments.{StorageView}
+use Rattle.qcow2_metadata.specs.Bytes.{Bytes, byte_at}
+use Rattle.qcow2_metadata.specs.Header.{header, HeaderReads, IsWellFormed, IsWithinLimits}
+use Rattle.qcow2_metadata.specs.declared.header.HeaderFields.{HeaderFields}
+use Rattle.qcow2_metadata.specs.HeaderLoad.{HasAlignedTables}
+use Rattle.qcow2_alloc.specs.declared.error.ImageError.{ImageError}
+use Rattle.qcow2_alloc.specs.declared.error.ImageError.TheVariants as I
+use Rattle.qcow2_alloc.specs.LoadedTables.{IsReasonAgainstL1Table, IsReasonAgainstReftable, L1TableReads, ReftableReads}
+use Rattle.qcow2_image.specs.declared.image.Qcow2.{Qcow2}
+use Rattle.qcow2_image.specs.Opened.{NeedsAnother}
+
+-- The header is as opening asks for: it reads, its tables begin on clusters, and no other file is needed where the image is to be opened alone.
+pub record HeaderSuits (contents : List ℕ) (writable alone : Bool) : Type 0 where
+  pub reads : HeaderReads (header (byte_at contents)) (byte_at contents)
+  pub on_clusters : HasAlignedTables (header (byte_at contents)) writable
+  pub needs_none : IsTrue alone → ¬ NeedsAnother contents
+
+-- the L1 table reads and, where the image is to be written, the reftable
+pub record NeededTablesRead (h : HeaderFields) (b : Bytes) (writable : Bool) : Type 0 where
+  pub l1_table : L1TableReads h b
+  pub reftable : IsTrue writable → ReftableReads h b
+
+-- the contents are as opening asks for
+pub record IsReadable (contents : List ℕ) (writable alone : Bool) : Type 0 where
+  pub by_header : HeaderSuits contents writable alone
+  pub tables : NeededTablesRead (header (byte_at contents)) (byte_at contents) writable
+
+-- Why the tables aren't loaded: for the L1 table; or, where that reads and the image is to be written, for the reftable.
+abbrev pub IsReasonAgainstTables : HeaderFields → Bytes → Bool → ImageError → Type 0
+IsReasonAgainstTables h b writable e = IsReasonAgainstL1Table h b e ⊎ (IsTrue writable × L1TableReads h b × IsReasonAgainstReftable h b e)
+
+-- the header suits, and a table is refused
+abbrev pub IsTableRefused : List ℕ → Bool → Bool → ImageError → Type 0
+IsTableRefused contents writable alone e = HeaderSuits contents writable alone × IsReasonAgainstTables (header (byte_at contents)) (byte_at contents) writable e
+
+-- Why opening is refused, in this order: a header that doesn't read, a limit, an offset of a table, another file that is needed, and then the tables. A fault and want of memory come as they are met.
+abbrev pub IsRefusedRightly : List ℕ → Bool → Bool → ImageError → Type 0
+IsRefusedRightly contents writable alone I.Metadata = ¬ IsWellFormed (header (byte_at contents)) (byte_at contents) ⊎ IsTableRefused contents writable alone I.Metadata
+IsRefusedRightly contents writable alone I.Limit =
+    (IsWellFormed (header (byte_at contents)) (byte_at contents) × ¬ IsWithinLimits (header (byte_at contents))) ⊎ IsTableRefused contents writable alone I.Limit
+IsRefusedRightly contents writable alone I.UnalignedTable = HeaderReads (header (byte_at contents)) (byte_at contents) × ¬ HasAlignedTables (header (byte_at contents)) writable
+IsRefusedRightly contents writable alone I.Dependency = IsTrue alone × HasAlignedTables (header (byte_at contents)) writable × NeedsAnother contents
+IsRefusedRightly contents writable alone I.Memory = Unit {0}
+IsRefusedRightly contents writable alone I.Storage = Unit {0}
+IsRefusedRightly contents writable alone e = ⊥
+
+-- Opened only where the contents read, and refused only for one of these reasons. Another file is asked for only of an image that is to be opened alone, on any storage.
+abbrev pub OpensRightly : {S F : Type 0} → StorageView → Bool → Bool → Result (Qcow2 S F) (S × ImageError) → Type 0
+OpensRightly storage writable alone (Ok image) = storage.is_honest → IsReadable storage.contents writable alone
+OpensRightly storage writable alone (Err refused) = (refused.1 ≡ I.Dependency → IsTrue alone) × (storage.is_honest → IsRefusedRightly storage.contents writable alone refused.1)
