@@ -103,10 +103,7 @@ fn is_last(refusal: &ImageError) -> bool
     ensures fault { IsFault refusal.now → IsTrue result }
     ensures last { IsTrue result → IsFault refusal.now ⊎ (refusal.now ≡ TablePrepared) }
 {
-    matches!(
-        refusal,
-        ImageError::Memory | ImageError::Storage | ImageError::TablePrepared
-    )
+    refusal.is_fault() || matches!(refusal, ImageError::TablePrepared)
 }
 
 // Where copied data stand.

@@ -25,17 +25,6 @@ use image_access::{PreallocateMode, Storage, WrappedFormat};
 use qcow2_alloc::{ImageError, WriteKind};
 use qcow2_metadata::GuestOffset;
 
-// A fault or want of memory ends a call, and any other refusal of a part doesn't.
-fn ends_call(refusal: ImageError) -> Option<ImageError>
-    ensures some { IfSome result (λ e. (e ≡ refusal) × IsFault e) }
-    ensures none { result ≡ None → IsFault refusal → ⊥ }
-{
-    match refusal {
-        ImageError::Storage | ImageError::Memory => Some(refusal),
-        _ => None,
-    }
-}
-
 impl<S: Storage, F: WrappedFormat<S>> Qcow2<S, F> {
     /// Makes the disk smaller, and drops the whole clusters behind its new end, so that the disk below shows there should it grow again.
     /// Answers the offset up to which that was done, which is less than the old size only where dropping the next cluster is refused. A size
@@ -116,7 +105,12 @@ impl<S: Storage, F: WrappedFormat<S>> Qcow2<S, F> {
         while at < end {
             match self.uncover_from(at) {
                 Ok(next) => at = next,
-                Err(refusal) => return (at, ends_call(refusal)),
+                Err(refusal) => {
+                    if refusal.is_fault() {
+                        return (at, Some(refusal));
+                    }
+                    return (at, None);
+                }
             }
         }
         (at, None)
@@ -223,8 +217,10 @@ impl<S: Storage, F: WrappedFormat<S>> Qcow2<S, F> {
         ensures rest { self.new ≡ record self.old { is_failed = is_failed self.new } }
         ensures fault { IfErr done (λ e. IsFault e → IsTrue (is_failed self.new)) }
     {
-        if let Err(ImageError::Storage | ImageError::Memory) = &done {
-            self.is_failed = true;
+        if let Err(refusal) = &done {
+            if refusal.is_fault() {
+                self.is_failed = true;
+            }
         }
         done
     }

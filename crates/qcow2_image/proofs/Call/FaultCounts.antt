@@ -96,11 +96,6 @@ module _ {S F : Type 0} (view : S → StorageView) (backing : F → BackingView)
   pub marked_after : {T : Type 0} (old last new : Qcow2 S F) (result : Result T ImageError) → CountsImageFaults view backing old last result → new ≡ record last { is_failed = new.is_failed } → CountsImageFaults view backing old new result
   marked_after old last new result told rest = counted_still old last new result told (untouched last new (ap (λ (i : Qcow2 S F). i.file.storage) rest) (ap (λ (i : Qcow2 S F). i.backing) rest))
 
-  -- what ended a call's turns, where anything did
-  pub stopped_tells : (old new : Qcow2 S F) (e : ImageError) (stopped : Option ImageError) → TellsFault view backing old new e → IfSome stopped (λ x. (x ≡ e) × IsFault x) → IfSome stopped (TellsFault view backing old new)
-  stopped_tells old new e None tells is = tt
-  stopped_tells old new e (Some x) tells is = λ storage. tells (sym is.0 ∙ storage)
-
   -- what a call told, of one that begins earlier
   pub tells_since : (old mid new : Qcow2 S F) (refusal : Option ImageError) → NoFewerFaults view backing old mid → IfSome refusal (TellsFault view backing mid new) → IfSome refusal (TellsFault view backing old new)
   tells_since old mid new None first told = tt
