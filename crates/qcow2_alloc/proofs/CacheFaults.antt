@@ -51,10 +51,6 @@ module _ {S K V E : Type 0} (steps : Steps S K V E) (faults : S → ℕ) (IsFaul
     one_entry s t e None d h = counts.flushed s t e.0 e.1.value d.value h.0
     one_entry s t e (Some x) d h = counts.flush_failed s t e.0 e.1.value x h.0
 
-    no_fewer_one : (s t : S) (o : Option E) → AnswersOne s o t → faults s ≤ faults t
-    no_fewer_one s t None h = h
-    no_fewer_one s t (Some x) h = h.no_fewer
-
     first_of : (s r t : S) (x y : Option E) → AnswersOne s x r → AnswersOne r y t → AnswersOne s (option_or x y) t
     first_of s r t None None f g = omega (arith, f, g)
     first_of s r t None (Some y) f g = fails_after s r t y f g

@@ -40,9 +40,6 @@ module _ {S : Type 0} where
     changed = λ is. is;
   }
 
-  pub marks_turned : (a b : MetadataCaches S) (d : _) → KeepsMarks a b → KeepsMarks a (record b { direction = d })
-  marks_turned a b d keeps = record { pins = keeps.pins; room = λ r. let s = keeps.room r in record { tables = s.tables; some = s.some; free = s.free }; changed = keeps.changed }
-
   pub marks_noted : (a b : MetadataCaches S) → KeepsMarks a b → KeepsMarks a (record b { is_changed = true })
   marks_noted a b keeps = record { pins = keeps.pins; room = λ r. let s = keeps.room r in record { tables = s.tables; some = s.some; free = s.free }; changed = λ _. refl }
 
@@ -209,16 +206,3 @@ module _ {S : Type 0} (c : MetadataCaches S) (k : ℕ) (l2 : Cache (L2CacheBacke
 
     pub unpin_sets : IsTrue b → SetsPins c (record c { l2 = l2 }) k (l2_pins c k - 1)
     unpin_sets = unpin_of (lookup (eqb k) c.l2.entries) b refl told is
-
--- ---- the mark of a change
-module _ {S : Type 0} (c : MetadataCaches S) (m : Bool) where
-  pub tables_marked : SameTables c (record c { is_changed = m })
-  tables_marked = record {
-    sound = λ h p on_storage sound. record { l2_format = sound.l2_format; rb_format = sound.rb_format; l2_fit = sound.l2_fit; rb_fit = sound.rb_fit; kept = sound.kept };
-    known = λ h on_storage. refl;
-    l2_tables = refl;
-    refblocks = refl;
-    l2_at = λ cluster. refl;
-    order = refl;
-    room = λ r. record { tables = r.tables; some = r.some; free = r.free };
-  }

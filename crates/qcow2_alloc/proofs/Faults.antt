@@ -3,7 +3,7 @@ use Rattle.std.proofs.Common.{◌≡◌, ℕ, ◌≤◌, Bool, true, false, eqb,
 use Rattle.std.specs.Option.{IfSome, IsNone}
 use Rattle.std.specs.Map.{lookup, lookup_entry, remove_entry}
 use Rattle.lru.specs.LruCache.{promoted}
-use Rattle.image_access.specs.Moments.{StorageView, Rose, HasCause}
+use Rattle.image_access.specs.Moments.{StorageView, Rose}
 use Rattle.image_access.specs.declared.error.StorageError.{StorageError}
 use Rattle.image_access.specs.declared.error.StorageError.TheVariants as S
 use Rattle.image_access.proofs.Passing.{rose_since}
@@ -62,16 +62,6 @@ metadata_fault A M.Version is = absurd (cc)
 metadata_fault A M.Unaligned is = absurd (cc)
 metadata_fault A M.Limit is = absurd (cc)
 metadata_fault A M.Format is = absurd (cc)
-
--- a storage's own call
-pub storage_told : {T A : Type 0} (before now : ℕ) (answer : Result A StorageError) (e : StorageError) (result : Result T ImageError) → HasCause before now answer → answer ≡ Err e → IsErr result × IsErrAnd result (λ x. x ≡ of_storage e) → FaultsTold before now result
-storage_told before now answer e result cause = handed_on of_storage before now answer (answer ≡ Err S.Fault) (λ x is storage. is ∙ ap Err (storage_fault x storage)) cause.no_fewer cause.fault e result
-
--- a table's or the header's
-pub metadata_told : {T A : Type 0} (before now : ℕ) (answer : Result A MetadataError) (e : MetadataError) (result : Result T ImageError) → HasCause before now (storage_result answer) → answer ≡ Err e → IsErr result × IsErrAnd result (λ x. x ≡ of_metadata e)
-    → FaultsTold before now result
-metadata_told {A = A} before now answer e result cause =
-    handed_on of_metadata before now answer (storage_result answer ≡ Err S.Fault) (λ x is storage. ap storage_result is ∙ metadata_fault A x storage) cause.no_fewer cause.fault e result
 
 -- what a cache's answer says of them
 pub record CacheTells {A : Type 0} (before now : ℕ) (answer : Result A (CacheError ℕ MetadataError)) : Type 0 where

@@ -1,5 +1,5 @@
 -- What a longer reftable changes beside itself: the header says where it stands, and what the old one needed is listed. And what follows one such step after another.
-use Rattle.std.proofs.Common.{◌≡◌, ℕ, ◌+◌, ◌<◌, ◌≤◌, Bool, true, false, List, [], ◌++◌, append_assoc, append-nil, Result, Ok, Err, IsTrue, inl, inr, refl, sym, ap, ◌∙◌, subst, arith}
+use Rattle.std.proofs.Common.{◌≡◌, ℕ, ◌+◌, ◌<◌, Bool, true, false, List, [], ◌++◌, append_assoc, append-nil, Result, Ok, Err, IsTrue, inl, inr, refl, sym, ap, ◌∙◌, subst, arith}
 use Rattle.qcow2_metadata.specs.Header.{HeaderView, counts_per_block, with_fields, with_reftable}
 use Rattle.qcow2_laws.specs.Changes.{one_at}
 use Rattle.qcow2_laws.specs.CrashInvariant.{Pending}
@@ -13,7 +13,7 @@ use Rattle.qcow2_alloc.specs.declared.image_file.ImageFile.{ImageFile}
 use Rattle.image_access.specs.Moments.{StorageView}
 use Rattle.qcow2_alloc.specs.Allocation.{run_at, taken_as, UnseenAllocatorGrowth, GetsBlock, GrowsTable, RefusedGrowth}
 use Rattle.qcow2_alloc.specs.FreeList.{of_data, of_tables, to_free, pending_then, but, ListsTables}
-use Rattle.qcow2_alloc.specs.ImageFile.{KeepsHeader, IsFault, InterruptedFileStep, pending_at}
+use Rattle.qcow2_alloc.specs.ImageFile.{KeepsHeader, IsFault, InterruptedFileStep}
 use Rattle.qcow2_alloc.proofs.AllocationSteps.{on_of, becomes_on, leaves_as, leaves_on}
 use Rattle.qcow2_alloc.proofs.FileSteps.{pending_same, endures_then}
 use Rattle.qcow2_alloc.proofs.Runs.{held_more, taken_last}
@@ -64,9 +64,6 @@ following_then p a b c first then =
     (λ k. let one = listed_on of_tables a b first k in let two = listed_on of_tables b c then k in omega arith)
     (λ k. let one = listed_on of_data a b first k in let two = listed_on of_data b c then k in omega arith)
     (λ k. refl)
-
-pub following_more : (p : Pending) (old new : List ClustersToFreeEntry) (k : ℕ) → pending_at p k ≤ pending_at (pending_then p old new) k
-following_more p old new k = omega arith
 
 -- it is listed beside what was taken
 taken_following : (d : Bool) (p : Pending) (old new : List ClustersToFreeEntry) (n : ℕ → ℕ) → pending_then (taken_as d p n) old new ≡ taken_as d (pending_then p old new) n

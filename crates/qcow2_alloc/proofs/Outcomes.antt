@@ -47,10 +47,6 @@ told_after before mid now answer e result le told is on = told_since before mid 
 pub told_still : {T : Type 0} (before mid now : ℕ) (result : Result T ImageError) → FaultsTold before mid result → mid ≤ now → FaultsTold before now result
 told_still before mid now result told le = record { no_fewer = le_trans told.no_fewer le; rose = λ is. rose_still before mid now (told.rose is) le }
 
--- the last of two and of three calls
-pub told_second : {T A : Type 0} (before mid now : ℕ) (one : Result A ImageError) (two : Result T ImageError) → FaultsTold before mid one → FaultsTold mid now two → FaultsTold before now two
-told_second before mid now one two first then = told_since before mid now first.no_fewer then
-
 pub told_third : {T A B : Type 0} (before mid late now : ℕ) (one : Result A ImageError) (two : Result B ImageError) (three : Result T ImageError) → FaultsTold before mid one → FaultsTold mid late two
     → FaultsTold late now three → FaultsTold before now three
 told_third before mid late now one two three first then last = told_since before late now (le_trans first.no_fewer then.no_fewer) last

@@ -1,10 +1,10 @@
 -- Refblocks whose counts are those of a run.
-use Rattle.std.proofs.Common.{◌≡◌, ◌⊎◌, inl, inr, ℕ, zero, suc, ◌+◌, ◌-◌, ◌^◌, ◌<◌, ◌≤◌, max, min, Bool, true, false, IsTrue, IsFalse, refl, sym, ap, ◌∙◌, subst, arith}
-use Rattle.std.proofs.lemmas.Bool.{cases_eq, cases_lt}
+use Rattle.std.proofs.Common.{◌≡◌, inl, inr, ℕ, zero, suc, ◌+◌, ◌-◌, ◌^◌, ◌<◌, ◌≤◌, Bool, true, false, IsTrue, IsFalse, refl, sym, ap, ◌∙◌, subst, arith}
+use Rattle.std.proofs.lemmas.Bool.{cases_eq}
 use Rattle.std.proofs.lemmas.Nat.{pow_pos}
 use Rattle.qcow2_metadata.specs.RefBlock.{RefBlockView, IsRefBlock, ChangesCount, count_at, count_limit}
 use Rattle.qcow2_alloc.specs.Allocation.{run_at}
-use Rattle.qcow2_alloc.proofs.Runs.{run_in, run_before, run_after, run_last, none_there}
+use Rattle.qcow2_alloc.proofs.Runs.{run_in, run_after, run_last, none_there}
 
 -- the greatest count is above 0
 pub limit_above : (n : ℕ) → 0 < n → 2 ≤ 2 ^ n
@@ -47,32 +47,3 @@ counts_next old new true low begin at low_le begin_le before full counted same i
           let apart = none_there (low + (at - low)) (begin + i) (λ e. other (omega arith)) in
           order ∙ changed.others i other ∙ before i ∙ (let same_run = ap (λ n. run_at low n (begin + i)) more in omega (arith, last, apart, same_run))
     ]
-
--- at the end all clusters of the run that lie in the range are counted
-pub counts_end : (first end begin per low high at i : ℕ) → low ≡ max first begin → high ≡ min end (begin + per) → (at ≤ high) ⊎ (at ≡ low) → high ≤ at → low ≤ at → i < per → run_at low (at - low) (begin + i) ≡ run_at first (end - first) (begin + i)
-counts_end first end begin per low high at i is_low is_high few past above within =
-    let low_first : first ≤ low = omega (arith, is_low) in
-    let low_begin : begin ≤ low = omega (arith, is_low) in
-    let which : (low ≡ first) ⊎ (low ≡ begin) = max_is first begin low is_low in
-    elim (cases_lt (begin + i) first) [
-      | inl below ↦ run_before low (at - low) (begin + i) (omega (arith, low_first, below)) ∙ sym (run_before first (end - first) (begin + i) below)
-      | inr from ↦ elim (cases_lt (begin + i) end) [
-        | inl inside ↦
-            let low_le : low ≤ begin + i = elim which [ inl e ↦ omega (arith, e, from) | inr e ↦ omega (arith, e) ] in
-            let lt : begin + i < high = omega (arith, is_high, inside, within) in
-            run_in low (at - low) (begin + i) low_le (omega (arith, lt, past, above)) ∙ sym (run_in first (end - first) (begin + i) from (omega (arith, from, inside)))
-        | inr behind ↦
-            let le : high ≤ end = omega (arith, is_high) in
-            let out : low + (at - low) ≤ begin + i = elim few [
-              | inl le_high ↦ omega (arith, le_high, le, behind, above)
-              | inr none ↦ elim (cases_lt low (begin + i + 1)) [ inl here ↦ omega (arith, none, here) | inr after ↦ absurd (elim which [ inl e ↦ omega (arith, e, after, from) | inr e ↦ omega (arith, e, after) ]) ]
-            ] in
-            run_after low (at - low) (begin + i) out ∙ sym (run_after first (end - first) (begin + i) (past_end first end (begin + i) from behind))
-      ]
-    ]
-  where
-    max_is : (a b m : ℕ) → m ≡ max a b → (m ≡ a) ⊎ (m ≡ b)
-    max_is a b m is = elim (cases_lt a b) [ inl lt ↦ inr (omega (arith, is, lt)) | inr le ↦ inl (omega (arith, is, le)) ]
-
-    past_end : (first end k : ℕ) → first ≤ k → end ≤ k → first + (end - first) ≤ k
-    past_end first end k from behind = omega arith

@@ -30,17 +30,6 @@ pub struct Allocator {
     pub(crate) leaked_clusters: u64,
 }
 
-// What stops an allocation: a failure, or want of memory. After any other refusal the search may go on.
-pub(crate) fn ends_call(refusal: &ImageError) -> bool
-    ensures ends { IsFault refusal.now → IsTrue result }
-    ensures fault { IsTrue result → IsFault refusal.now }
-{
-    match refusal {
-        ImageError::Memory | ImageError::Storage => true,
-        _ => false,
-    }
-}
-
 #[tactic(auto, using(crate::proofs::TableErrors::storage_of_tables, crate::proofs::TableErrors::metadata_of_tables, crate::proofs::TableErrors::cache_of_tables))]
 impl Allocator {
     /// Loads the reftable.
@@ -286,7 +275,7 @@ impl Allocator {
                     return Ok(taken);
                 }
                 Err(refusal) => {
-                    if !ends_call(&refusal) {
+                    if !refusal.is_fault() {
                         self.give_back(file, first, taken)?;
                     }
                     return Err(refusal);

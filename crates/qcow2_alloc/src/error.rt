@@ -1,4 +1,4 @@
-ghost use Rattle.std.specs.Prelude.{◌≡◌};
+ghost use Rattle.std.specs.Prelude.{◌≡◌, ◌↔◌, IsTrue};
 
 use crate::async_lru_cache::CacheError;
 use image_access::StorageError;
@@ -76,7 +76,7 @@ pub enum ImageError {
 }
 
 impl ImageError {
-    ghost use Rattle.qcow2_alloc.specs.ImageError.{error_number_of, error_kind_of};
+    ghost use Rattle.qcow2_alloc.specs.ImageError.{IsFault, error_number_of, error_kind_of};
 
     /// The refusal's number, from 1 to 21.
     pub fn number(&self) -> u8
@@ -105,6 +105,13 @@ impl ImageError {
             ImageError::Overflow => 20,
             ImageError::StillInUse { tables: _ } => 21,
         }
+    }
+
+    /// Whether a storage failed, or memory was refused.
+    pub fn is_fault(&self) -> bool
+        ensures { IsTrue result ↔ IsFault self.now }
+    {
+        matches!(self, ImageError::Storage | ImageError::Memory)
     }
 
     /// The kind of the operating system's errors that it is like.

@@ -13,7 +13,6 @@ ghost use Rattle.qcow2_alloc.specs.LowestRuns.{NoFreeBelowHint, IsUsed};
 ghost use Rattle.qcow2_alloc.specs.MetadataCaches.{order_of};
 ghost use Rattle.qcow2_alloc.specs.Rooms.{lacks, opens, opened, room_length, TakesFree, ReachesRoom, TakesRoom};
 
-use crate::allocation::ends_call;
 use crate::{Allocator, ImageError, ImageFile};
 use image_access::Storage;
 
@@ -141,7 +140,7 @@ impl Allocator {
         match self.raise(file, cluster) {
             Ok(taken) => Ok(taken),
             Err(refusal) => {
-                if ends_call(&refusal) {
+                if refusal.is_fault() {
                     return Err(refusal);
                 }
                 Ok(false)

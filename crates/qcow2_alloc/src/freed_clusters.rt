@@ -12,7 +12,6 @@ ghost use Rattle.qcow2_alloc.specs.ImageError.{IsOfTables};
 ghost use Rattle.qcow2_alloc.specs.ImageFile.{AllocatorInvariant};
 ghost use Rattle.qcow2_alloc.specs.MetadataCaches.{order_of};
 
-use crate::allocation::ends_call;
 use crate::{Allocator, ClusterKind, ImageError, ImageFile, PendingClusters, TakenClusters};
 use image_access::Storage;
 use qcow2_metadata::HostCluster;
@@ -72,7 +71,7 @@ impl Allocator {
             Ok(true) => return Ok(()),
             Ok(false) => {}
             Err(refusal) => {
-                if ends_call(&refusal) {
+                if refusal.is_fault() {
                     return Err(refusal);
                 }
             }

@@ -18,7 +18,6 @@ ghost use Rattle.qcow2_metadata.specs.RefBlock.{count_at, IsRefBlock};
 ghost use Rattle.qcow2_metadata.specs.TableBytes.{HasPlace};
 ghost use Rattle.qcow2_alloc.specs.TableCaches.{IsBlockOf};
 
-use crate::allocation::ends_call;
 use crate::{Allocator, ImageError, ImageFile, WriteKind};
 use image_access::Storage;
 use qcow2_metadata::{Header, HostCluster, RefBlock};
@@ -207,7 +206,7 @@ impl Allocator {
             Ok(Some(at)) => self.place_block(file, range, at, false),
             Ok(None) => self.cover_range(file, range),
             Err(refusal) => {
-                if ends_call(&refusal) {
+                if refusal.is_fault() {
                     return Err(refusal);
                 }
                 self.cover_range(file, range)

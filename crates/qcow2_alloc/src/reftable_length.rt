@@ -1,5 +1,5 @@
 //! How long a reftable becomes.
-ghost use Rattle.std.specs.Prelude.{ℕ, ◌+◌, ◌-◌, ◌*◌, ◌^◌, ◌<◌, ◌≤◌, ◌↔◌, IsTrue, IfSome, IfNone};
+ghost use Rattle.std.specs.Prelude.{ℕ, ◌^◌, ◌<◌, ◌≤◌, IfSome, IfNone};
 ghost use Rattle.qcow2_alloc.specs.Growing.{IsLongEnough, IsLeastLength};
 
 use qcow2_metadata::MAX_REFTABLE_ENTRIES;
@@ -15,22 +15,25 @@ pub(crate) fn grown_length(old: u64, index: u64, per_cluster: u64, per_block: u6
     ensures none { IfNone result ((length : ℕ) → length ≤ 2 ^ 20 → IsLongEnough old index per_cluster per_block length → ⊥) }
 {
     let most = MAX_REFTABLE_ENTRIES as u64;
-    'lengths: for clusters in index / per_cluster + 1..most / per_cluster + 1 {
-        let length = clusters * per_cluster;
-        if has_room(old, index, clusters, length, per_block) {
-            return Some(length);
-        }
+    let counts = per_block - 1;
+    if most < per_cluster {
+        return None;
     }
-    None
-}
-
-// Whether a length is at least the old one, and leaves room above the index for so many clusters.
-fn has_room(old: u64, index: u64, clusters: u64, length: u64, per_block: u64) -> bool
-    requires above { index < length }
-    requires counts { 0 < per_block }
-    requires small_block { per_block ≤ 2 ^ 24 }
-    requires small { length ≤ 2 ^ 20 }
-    ensures { IsTrue result ↔ (old ≤ length × (clusters ≤ (length - index) * (per_block - 1))) }
-{
-    old <= length && clusters <= (length - index) * (per_block - 1)
+    if counts == 0 {
+        return None;
+    }
+    // The clusters that one cluster of entries lets be counted, beside itself. Where there are none, only index 0 has room above it.
+    let more = per_cluster * counts - 1;
+    if more < index.min(1) {
+        return None;
+    }
+    // So many clusters reach above the index, so many are as long as the old ones, and so many count themselves above the index.
+    let above = index / per_cluster + 1;
+    let longer = old.div_ceil(per_cluster);
+    let counted = (index * counts).div_ceil(more.max(1));
+    let clusters = above.max(longer).max(counted);
+    if most / per_cluster < clusters {
+        return None;
+    }
+    Some(clusters * per_cluster)
 }

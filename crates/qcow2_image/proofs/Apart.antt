@@ -2,7 +2,7 @@
 use Rattle.std.proofs.Common.{◌≡◌, ℕ, ◌+◌, ◌*◌, ◌/◌, ◌%◌, ◌<◌, List, Option, Some, refl, sym, ap, ◌∙◌, arith}
 use Rattle.std.specs.Prelude.{length, slice_get, ◌==◌}
 use Rattle.std.proofs.lemmas.Bool.{cond-true, eq-eqb}
-use Rattle.std.proofs.lemmas.Nat.{div-add-mod', div-mul-add, mod-mul-add, pow_pos}
+use Rattle.std.proofs.lemmas.Nat.{div-add-mod', div-mul-add, pow_pos}
 use Rattle.image_access.specs.Backing.{BackingView}
 use Rattle.image_access.specs.Moments.{StorageView}
 use Rattle.qcow2_metadata.specs.Bytes.{Bytes}
@@ -29,9 +29,6 @@ module _ (h : HeaderFields) (known on_storage : Bytes) (p : Prepared) (t : ℕ) 
 
   pub same_row : (cluster_of h p + i) / entries_per_cluster h ≡ cluster_of h p / entries_per_cluster h
   same_row = ap (λ n. n / row) cluster_is ∙ div-mul-add (cluster_of h p / row) row (cluster_of h p % row + i) column
-
-  pub same_column : (cluster_of h p + i) % entries_per_cluster h ≡ cluster_of h p % entries_per_cluster h + i
-  same_column = ap (λ n. n % row) cluster_is ∙ mod-mul-add (cluster_of h p / row) row (cluster_of h p % row + i) column
 
 pub pins_own : (q : Prepared) (t : ℕ) → q.table ≡ Some t → pins_by q t ≡ 1
 pins_own q t is = ap (λ x. pins_of x t) is ∙ cond-true {A = ℕ} (t == t) 1 0 (eq-eqb t t refl)

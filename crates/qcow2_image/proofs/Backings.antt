@@ -10,8 +10,8 @@ use Rattle.qcow2_alloc.specs.ImageFile.{l2_pins}
 use Rattle.qcow2_image.specs.declared.image.Qcow2.{Qcow2}
 use Rattle.qcow2_image.specs.declared.prepared.Prepared.{Prepared}
 use Rattle.qcow2_image.specs.Prepared.{table_of}
-use Rattle.qcow2_image.specs.ImageInvariant.{pins_by, pins_of, over_all, abstract_of, IsHonestBacking}
-use Rattle.qcow2_image.specs.Backings.{HasPrepared, IsOver}
+use Rattle.qcow2_image.specs.ImageInvariant.{pins_by, pins_of, over_all, abstract_of}
+use Rattle.qcow2_image.specs.Backings.{HasPrepared}
 
 -- ---- pins
 
@@ -55,25 +55,6 @@ module _ {S F : Type 0} (view : S → StorageView) (backing : F → BackingView)
 
   pub some_prepared : (t : ℕ) → 0 < l2_pins image.file.caches t → HasPrepared out
   some_prepared t some = pinned_by out t (subst (λ n. 0 < n) (sound.pinned t) some)
-
-  -- another disk below
-  pub over : (below : Option F) → IsHonestBacking view backing below → IsOver view backing below image (record image { backing = below }) out
-  over below honest = record {
-    sound = record {
-      works = sound.works;
-      file = sound.file;
-      l1_table = sound.l1_table;
-      reftable = sound.reftable;
-      below = honest;
-      ready = λ k q e. let r = sound.ready k q e in record { own = r.own; mapped = r.mapped };
-      pinned = sound.pinned;
-      once = sound.once;
-    };
-    guest = refl;
-    known = refl;
-    contents = refl;
-    surplus = refl;
-  }
 
 -- what the search for a pinned table found
 pub found_pinned : (pins : ℕ → ℕ) (r : Option ℕ) → IfSome r (λ t. 0 < pins t) → is_some r ≡ true → (t : ℕ) × (0 < pins t)

@@ -2,6 +2,5 @@ pub mod Looked
 pub mod Aligned
 pub mod Loading
 pub mod Reading
-pub mod Near
 pub mod Special
 pub mod Unmodified

@@ -20,8 +20,6 @@ use Rattle.qcow2_image.specs.ImageInvariant.{cluster_of, listed_run, IsReadyWith
 use Rattle.qcow2_image.specs.MovedTables.{MovesTables, CoversStay}
 
 -- ---- the header
-pub moves_none : (h : HeaderFields) → MovesTables h h
-moves_none h = refl
 
 pub moves_then : (a b c : HeaderFields) → MovesTables a b → MovesTables b c → MovesTables a c
 moves_then a b c first then = then ∙ ap (λ (k : HeaderFields). with_tables_of k c) first

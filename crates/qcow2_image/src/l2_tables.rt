@@ -1,5 +1,5 @@
 //! The L2 table of a range: found, made, or put in the place of one that others may name too.
-ghost use Rattle.std.specs.Prelude.{ℕ, List, Option, is_some, ◌≡◌, ◌≢◌, ◌-◌, ◌/◌, Some, ◌^◌, ◌<◌, IfErr, OnOk, IsSome, IsTrue, Ok, Err, length};
+ghost use Rattle.std.specs.Prelude.{ℕ, List, Option, is_some, ◌≡◌, ◌≢◌, ◌-◌, ◌/◌, Some, ◌^◌, ◌<◌, IfOk, IfErr, OnOk, IsSome, IsTrue, Ok, Err, length};
 ghost use Rattle.qcow2_metadata.specs.L2Mapping.{IsHostCluster};
 ghost use Rattle.qcow2_metadata.specs.EntryTable.{entry_count};
 ghost use Rattle.qcow2_alloc.specs.ImageError.{IsFault};
@@ -7,7 +7,7 @@ ghost use Rattle.qcow2_image.specs.Backings.{HasPrepared};
 ghost use Rattle.qcow2_image.specs.Image.{ImageStays, KeepsRest, KeepsRestOn, is_writable};
 ghost use Rattle.qcow2_laws.specs.CrashInvariant.{Pending};
 ghost use Rattle.qcow2_alloc.specs.ImageFile.{known_in};
-ghost use Rattle.qcow2_alloc.specs.MetadataCaches.{order_of};
+ghost use Rattle.qcow2_alloc.specs.MetadataCaches.{l2_at, order_of};
 ghost use Rattle.qcow2_laws.specs.Clusters.{RbDependsOnL2};
 ghost use Rattle.qcow2_image.specs.declared.prepared.Prepared.{Prepared};
 ghost use Rattle.qcow2_image.specs.CallParts.{FindsTable};
@@ -37,6 +37,7 @@ impl<S: Storage, F: WrappedFormat<S>> Qcow2<S, F> {
         ensures stays { ImageStays self.old self.new }
         ensures cause { IfErr result IsMet }
         ensures lacks { (out : List (Option Prepared)) → ImageInvariant S.view F.backing (pending_in S.view F.backing self.old out) self.old out → (HasPrepared out → ⊥) → IfErr result (IsFaultOrLacksTable S.view self.new offset) }
+        ensures held { IfOk result (λ table. IsSome (l2_at self.new.file.caches table)) }
         ensures finds { (out : List (Option Prepared)) → ImageInvariant S.view F.backing (pending_in S.view F.backing self.old out) self.old out → FindsTable S.view F.backing self.old self.new out offset result }
         ensures reaches { (out : List (Option Prepared)) → ImageInvariant S.view F.backing (pending_in S.view F.backing self.old out) self.old out → OnOk result (ReachesOffset offset self.old.file.header.fields self.new.file.header.fields) }
         ensures freed { (out : List (Option Prepared)) → ImageInvariant S.view F.backing (pending_in S.view F.backing self.old out) self.old out → OnOk result (HadOwnTableOrFrees self.old self.new offset) }
@@ -69,6 +70,7 @@ impl<S: Storage, F: WrappedFormat<S>> Qcow2<S, F> {
         ensures keeps_rest { KeepsRestOn self.old self.new }
         ensures cause { IfErr result IsMet }
         ensures lacks { (p : Pending) (out : List (Option Prepared)) → ImageInvariant S.view F.backing p self.old out → (HasPrepared out → ⊥) → IfErr result (IsFaultOrLacksTable S.view self.new offset) }
+        ensures held { IfOk result (λ table. IsSome (l2_at self.new.file.caches table)) }
         ensures ready { (p : Pending) (out : List (Option Prepared)) → ImageInvariant S.view F.backing p self.old out → Ensures S.view F.backing p self.old self.new out offset result }
         ensures quiet { HasOwnTable self.old offset → self.new.file.free_list ≡ self.old.file.free_list }
         ensures faults { CountsImageFaults S.view F.backing self.old self.new result }
@@ -123,7 +125,7 @@ impl<S: Storage, F: WrappedFormat<S>> Qcow2<S, F> {
             .caches
             .l2_get_or_insert(&mut self.file.storage, old)?;
         let Some(held) = self.file.caches.l2_peek(old) else {
-            return Err(ImageError::InUse);
+            unreachable!();
         };
         let table = held.clone()?;
         self.swap_l2(index, old, table)

@@ -104,10 +104,7 @@ fn is_last(refusal: &ImageError) -> bool
     ensures fault { IsFault refusal.now → IsTrue result }
     ensures last { IsTrue result → IsFault refusal.now ⊎ (refusal.now ≡ TablePrepared) }
 {
-    matches!(
-        refusal,
-        ImageError::Memory | ImageError::Storage | ImageError::TablePrepared
-    )
+    refusal.is_fault() || matches!(refusal, ImageError::TablePrepared)
 }
 
 // Where copied data stand.
@@ -248,14 +245,15 @@ impl<S: Storage, F: WrappedFormat<S>> Qcow2<S, F> {
         }
     }
 
-    // The run of alike clusters from an offset on, in the cached table that covers it.
+    // The run of alike clusters from an offset on, in the held table that covers it.
     fn run_in_table(
         &self,
         table: HostCluster,
         offset: u64,
         max: u64,
     ) -> Result<(MappingKind, u64), ImageError>
-        requires { max ≤ 2 ^ 40 }
+        requires near { max ≤ 2 ^ 40 }
+        requires held { IsSome (l2_at self.now.file.caches table) }
         ensures cause { IfErr result IsOfTables }
         ensures within { IfOk result (λ (kind, n). n ≤ max) }
         ensures some { IfOk result (λ (kind, n). 0 < max → 0 < n) }
@@ -266,7 +264,7 @@ impl<S: Storage, F: WrappedFormat<S>> Qcow2<S, F> {
     {
         let bits = self.file.header.cluster_bits();
         let Some(table) = self.file.caches.l2_peek(table) else {
-            return Err(ImageError::InUse);
+            unreachable!();
         };
         let guest = GuestOffset::new(offset);
         let first = table.get_mapping(guest.cluster(bits))?;
@@ -479,13 +477,14 @@ impl<S: Storage, F: WrappedFormat<S>> Qcow2<S, F> {
         }
     }
 
-    // Where the whole range is copied data that stands in a row: its place.
+    // Where the whole range is copied data that stands in a row, in the held table that covers it: its place.
     fn existing_host(
         &self,
         table: HostCluster,
         offset: u64,
         length: u64,
     ) -> Result<Option<u64>, ImageError>
+        requires held { IsSome (l2_at self.now.file.caches table) }
         ensures cause { IfErr result IsMet }
         ensures place { (p : Pending) → FileInvariant S.view p self.now.file
             → IsEntryAt self.now.file.header.fields (known_in S.view self.now.file) (l1_index_of self.now.file.header.fields offset) table (l2_index_of self.now.file.header.fields offset)

@@ -26,17 +26,6 @@ use image_access::{PreallocateMode, Storage, WrappedFormat};
 use qcow2_alloc::{ImageError, WriteKind};
 use qcow2_metadata::GuestOffset;
 
-// A fault or want of memory ends a call, and any other refusal of a part doesn't.
-fn ends_call(refusal: ImageError) -> Option<ImageError>
-    ensures some { IfSome result (λ e. (e ≡ refusal) × IsFault e) }
-    ensures none { result ≡ None → IsFault refusal → ⊥ }
-{
-    match refusal {
-        ImageError::Storage | ImageError::Memory => Some(refusal),
-        _ => None,
-    }
-}
-
 impl<S: Storage, F: WrappedFormat<S>> Qcow2<S, F> {
     /// Makes the disk smaller, and drops the whole clusters behind its new end, so that the disk below shows there should it grow again.
     /// Answers the offset up to which that was done, which is less than the old size only where dropping the next cluster is refused. A size
@@ -117,7 +106,12 @@ impl<S: Storage, F: WrappedFormat<S>> Qcow2<S, F> {
         while at < end {
             match self.uncover_from(at) {
                 Ok(next) => at = next,
-                Err(refusal) => return (at, ends_call(refusal)),
+                Err(refusal) => {
+                    if refusal.is_fault() {
+                        return (at, Some(refusal));
+                    }
+                    return (at, None);
+                }
             }
         }
         (at, None)

@@ -59,13 +59,6 @@ module _ {K X : Type 0} (test : K → Bool) where
     | false ↦ λ t. let r = length-remove_found es w (rw t at h) in rw t (omega arith)
   ]) refl
 
-  pub lookup_entry-some : (es : List (K × X)) (w : X) → lookup test es ≡ Some w → (k : K) × (lookup_entry test es ≡ Some (k, w))
-  lookup_entry-some [] w h = cc
-  lookup_entry-some (e ∷ es) w h = (elim (test e.0) as (λ y. test e.0 ≡ y → (k : K) × (lookup_entry test (e ∷ es) ≡ Some (k, w))) [
-    | true ↦ λ t. let h' = rw t at h in let q : e.1 ≡ w = cc in (e.0, rw t (ap (λ x. Some (e.0, x)) q))
-    | false ↦ λ t. let r = lookup_entry-some es w (rw t at h) in (r.0, rw t r.1)
-  ]) refl
-
   -- the entry at the front that passes goes last
   pub demoted_front : (e : K × X) (es : List (K × X)) → test e.0 ≡ true → demoted test (e ∷ es) ≡ es ++ e ∷ []
   demoted_front e es t = rw t refl

@@ -5,7 +5,7 @@ use Rattle.std.specs.List.{slice_get}
 use Rattle.std.specs.Option.{option_map, option_or, IsSome, IfSome}
 use Rattle.std.specs.Map.{lookup, remove_entry, set_value}
 use Rattle.std.proofs.lemmas.Option.{same_Some, none-some}
-use Rattle.std.proofs.lemmas.List.Elements.{All-nil, All-cons}
+use Rattle.std.proofs.lemmas.List.Elements.{All-cons}
 use Rattle.lru.specs.LruCache.{LruCache, lru_cache, demoted}
 use Rattle.qcow2_alloc.specs.declared.async_lru_cache.slot.Slot.{Slot}
 use Rattle.qcow2_alloc.specs.AsyncLruCache.{pinned, is_pinned}
@@ -66,13 +66,6 @@ module _ {K V : Type 0} (all : List (K × Slot V)) (Q : K × Slot V → Type 0) 
   pub record IsEvicting (todo done : List (K × Slot V)) : Type 0 where
     pub kept : pinned all ≡ done ++ pinned todo
     pub passed : All Q todo → All Q all
-
-  pub evicting_begins : IsAround all IsEvicting all 0
-  evicting_begins = record { todo = all; done = []; split = sym (append-nil all); left = omega arith; holds = record { kept = refl; passed = λ h. h } }
-
-  -- once around
-  pub evicted_around : (es : List (K × Slot V)) (turn : ℕ) → IsAround all IsEvicting es turn → length all ≤ turn → (es ≡ pinned all) × All Q all
-  evicted_around es turn a le = let h = around all IsEvicting es turn a le in (sym (h.kept ∙ append-nil es), h.passed (All-nil Q))
 
   -- one turn further
   pub record HasTurned (c n : LruCache K (Slot V)) (turn : ℕ) : Type 0 where

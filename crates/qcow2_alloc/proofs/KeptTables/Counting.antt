@@ -52,9 +52,6 @@ module _ {S : Type 0} (h : HeaderFields) (p : Pending) (on_storage : Bytes) (cac
   entries_is : refblocks caches ≡ list_with v
   entries_is = ap tables there.is ∙ tables_at bits (λ (b : RefBlockView). b.bytes) (λ b. b.is_modified) there.front there.back (key, slot_of v there.pins)
 
-  l2s : List CachedTable
-  l2s = l2_tables caches
-
   kept : AreKept h (order_of caches) p (l2_tables caches) (list_with v) on_storage
   kept = subst (λ ts. AreKept h (order_of caches) p (l2_tables caches) ts on_storage) entries_is sound.kept
 

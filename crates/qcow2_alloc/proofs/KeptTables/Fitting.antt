@@ -8,7 +8,6 @@ use Rattle.qcow2_metadata.specs.declared.error.MetadataError.{MetadataError}
 use Rattle.qcow2_alloc.specs.declared.async_lru_cache.slot.Slot.{Slot}
 use Rattle.qcow2_alloc.specs.declared.async_lru_cache.error.CacheError.{CacheError}
 use Rattle.qcow2_alloc.specs.declared.async_lru_cache.error.CacheError.TheVariants.{InUse, StillInUse, Memory, Backend}
-use Rattle.qcow2_alloc.specs.AsyncLruCache.{value_at}
 use Rattle.qcow2_alloc.specs.TableSteps.{table_steps}
 use Rattle.qcow2_alloc.specs.CacheAnswers.{Unit₀, FlushesEntry, FlushesAll, Flushes, HasRoomForEntry, HasNoRoom, GetsNew, InsertsNew, Replaces}
 use Rattle.qcow2_alloc.specs.KeptTables.{AllValuesFit}
@@ -34,17 +33,6 @@ module _ {V : Type 0} (IsFit : V → Type 0) where
 
   pub fit_promoted : (test : ℕ → Bool) (es : List (ℕ × Slot V)) → AllValuesFit IsFit es → AllValuesFit IsFit (promoted test es)
   fit_promoted test es all = fit_hit test es (lookup_entry test es) refl all
-
-  -- the value that is found
-  pub fit_found : (test : ℕ → Bool) (es : List (ℕ × Slot V)) (v : V) → value_at test es ≡ Some v → AllValuesFit IsFit es → IsFit v
-  fit_found test [] v h all = absurd (cc)
-  fit_found test (e ∷ es) v h all = (elim (test e.0) as (λ b. test e.0 ≡ b → IsFit v) [
-    | true ↦ λ t. let h' = rw t at h in subst IsFit (some_is h') all.0
-    | false ↦ λ t. fit_found test es v (rw t at h) all.1
-  ]) refl
-    where
-      some_is : {A : Type 0} {a b : A} → Some a ≡ Some b → a ≡ b
-      some_is e = cc
 
 module _ {S V : Type 0} (view : S → StorageView) (bits : ℕ) (bytes : V → List ℕ) (is_modified : V → Bool) (cleared : V → V) (IsFit : V → Type 0) (still : (v : V) → IsFit v → IsFit (cleared v)) where
   one_fits : (s t : S) (e : ℕ × Slot V) (x : Option MetadataError) (d : Slot V) → IsFit e.1.value → FlushesEntry (table_steps view bits bytes is_modified cleared IsFit) s e x t d → IsFit d.value

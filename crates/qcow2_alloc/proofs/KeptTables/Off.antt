@@ -382,9 +382,6 @@ module _ {V E : Type 0} (es fs : List (ℕ × Slot V)) where
   left_of (Err InUse) h = absurd h
   left_of (Err (Backend x)) h = absurd h
 
-  pub left_ok : (r : Result Unit₀ (CacheError ℕ E)) (u : Unit₀) → r ≡ Ok u → Invalidates es r fs → (pinned es ≡ []) × (fs ≡ [])
-  left_ok r u is h = rw is at h
-
 err_is : (r : Result Unit₀ ImageError) (e : ImageError) → IsErr r × IsErrAnd r (λ x. x ≡ e) → r ≡ Err e
 err_is (Ok u) e is = absurd (cc)
 err_is (Err x) e is = ap (λ (y : ImageError). Err y) is.1

@@ -58,17 +58,6 @@ pub record Wrote (h : HeaderFields) (d : Direction) (p : Pending) (l2s rbs : Lis
   pub known : known_bytes (cluster_size h) l2s' rbs' on_storage' ≡ known_bytes (cluster_size h) l2s rbs on_storage
   pub safe : IsSafeBetween on_storage (known_bytes (cluster_size h) l2s rbs on_storage) on_storage'
 
-pub wrote_none : (h : HeaderFields) (d : Direction) (p : Pending) (l2s rbs : List CachedTable) (on_storage : Bytes) → AreKept h d p l2s rbs on_storage → Wrote h d p l2s rbs on_storage l2s rbs on_storage
-wrote_none h d p l2s rbs on_storage kept = record { kept = kept; known = refl; safe = λ backing m ok known_ok. ok }
-
-pub wrote_then : (h : HeaderFields) (d : Direction) (p : Pending) (l2s rbs : List CachedTable) (on_storage : Bytes) (l2s' rbs' : List CachedTable) (on_storage' : Bytes) (l2s'' rbs'' : List CachedTable) (on_storage'' : Bytes)
-    → Wrote h d p l2s rbs on_storage l2s' rbs' on_storage' → Wrote h d p l2s' rbs' on_storage' l2s'' rbs'' on_storage'' → Wrote h d p l2s rbs on_storage l2s'' rbs'' on_storage''
-wrote_then h d p l2s rbs on_storage l2s' rbs' on_storage' l2s'' rbs'' on_storage'' first second = record {
-  kept = second.kept;
-  known = second.known ∙ first.known;
-  safe = λ backing m ok known_ok. second.safe backing m (first.safe backing m ok known_ok) (subst (StopOkEverywhere backing m) (sym first.known) known_ok);
-}
-
 pub l2_wrote : (h : HeaderFields) (d : Direction) (p : Pending) (rbs front back : List CachedTable) (t t' : CachedTable) (on_storage on_storage' : Bytes) → AreKept h d p (front ++ t ∷ back) rbs on_storage
     → TablesMayGo d rbs → IsWrittenSo (cluster_size h) t t' on_storage on_storage' → Wrote h d p (front ++ t ∷ back) rbs on_storage (front ++ t' ∷ back) rbs on_storage'
 l2_wrote h d p rbs front back t t' on_storage on_storage' are may so =

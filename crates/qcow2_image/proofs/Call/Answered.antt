@@ -1,6 +1,6 @@
 -- What a call that no guest sees does, from its parts.
 use Rattle.std.proofs.Common.{◌≡◌, ℕ, ◌/◌, ◌<◌, ◌≤◌, Bool, true, false, List, [], refl, sym, ap, ◌∙◌, subst, arith}
-use Rattle.std.specs.Prelude.{Option, Some, None, IsTrue, slice_get, is_some}
+use Rattle.std.specs.Prelude.{Option, Some, None, IsTrue, slice_get}
 use Rattle.std.specs.Option.{option_map_or}
 use Rattle.std.proofs.lemmas.Bool.{cond-true, cond-false}
 use mathlib.Core.Path.{fun_ext}
@@ -39,9 +39,6 @@ same_mapping a b from length private hidden shown =
 
 pub same_setting : (a b : Setting) → a.cluster_size ≡ b.cluster_size → ◌≡◌ {A = Bool × Bytes} (a.is_backed, a.backing) (b.is_backed, b.backing) → a ≡ b
 same_setting a b sizes below = ap (λ n. record a { cluster_size = n }) sizes ∙ ap (λ (f : Bool × Bytes). record b { is_backed = f.0; backing = f.1 }) below
-
-some_of : {X : Type 0} {m : Option X} {n : X} → m ≡ Some n → is_some m ≡ true
-some_of is = cc
 
 -- where the list grows
 pub tidies_kept : {S F : Type 0} (view : S → StorageView) (backing : F → BackingView) (old new : Qcow2 S F) (out : List (Option Prepared)) (p p' : Pending) → UnseenStep view backing p p' old new out → UnseenFreeingStep view backing p p' old new out

@@ -1,5 +1,5 @@
 -- Which calls on an image count a failure of its storage or of the disk below, and how they go together.
-use Rattle.std.proofs.Common.{◌≡◌, ◌≤◌, ◌∙◌, inl, inr, Option, Some, None, Result, Ok, Err, IsErr, IsErrAnd, IfErr, ap, arith, subst, sym}
+use Rattle.std.proofs.Common.{◌≡◌, ◌≤◌, inl, inr, Option, Some, None, Result, Ok, Err, IsErr, IsErrAnd, ap, arith, subst, sym}
 use Rattle.std.specs.Option.{IfSome}
 use Rattle.std.proofs.lemmas.Result.{IfErr-weaker}
 use Rattle.std.proofs.Math.Nat.{le_trans}
@@ -8,10 +8,10 @@ use Rattle.image_access.specs.Moments.{StorageView}
 use Rattle.image_access.proofs.Passing.{rose_since, rose_still}
 use Rattle.qcow2_alloc.specs.declared.error.ImageError.{ImageError}
 use Rattle.qcow2_alloc.specs.ImageError.{IsFault}
-use Rattle.qcow2_alloc.specs.Faults.{FaultsTold, faults_of}
+use Rattle.qcow2_alloc.specs.Faults.{faults_of}
 use Rattle.qcow2_alloc.proofs.AllocationSteps.{handed_on}
 use Rattle.qcow2_image.specs.declared.image.Qcow2.{Qcow2}
-use Rattle.qcow2_image.specs.Faults.{CountsImageFaults, IsNotOfStorage, NoFewerFaults, TellsFault}
+use Rattle.qcow2_image.specs.Faults.{CountsImageFaults, NoFewerFaults, TellsFault}
 use Rattle.qcow2_image.specs.ImageInvariant.{faults_below}
 
 module _ {S F : Type 0} (view : S → StorageView) (backing : F → BackingView) where
@@ -60,10 +60,6 @@ module _ {S F : Type 0} (view : S → StorageView) (backing : F → BackingView)
   pub counted_ok : {T : Type 0} (old new : Qcow2 S F) (x : T) → NoFewerFaults view backing old new → CountsImageFaults view backing old new (Ok x)
   counted_ok old new x no_fewer = record { no_fewer = no_fewer; rose = tt }
 
-  -- a refusal for another cause
-  pub counted_other : {T : Type 0} (old new : Qcow2 S F) (e : ImageError) → NoFewerFaults view backing old new → IsNotOfStorage e → CountsImageFaults view backing {T = T} old new (Err e)
-  counted_other old new e no_fewer other = record { no_fewer = no_fewer; rose = λ is. absurd (other is) }
-
   -- the same refusal, of another call
   pub counted_as : {T A : Type 0} (old mid new : Qcow2 S F) (answer : Result A ImageError) (e : ImageError) → NoFewerFaults view backing old mid → CountsImageFaults view backing mid new answer → answer ≡ Err e → CountsImageFaults view backing {T = T} old new (Err e)
   counted_as old mid new answer e first told is =
@@ -75,19 +71,6 @@ module _ {S F : Type 0} (view : S → StorageView) (backing : F → BackingView)
       → IsErr result × IsErrAnd result (λ x. x ≡ e) → CountsImageFaults view backing old new result
   counted_on old mid new answer e result first told is on = handed_on (λ r. CountsImageFaults view backing old new r) result e on (counted_as old mid new answer e first told is)
 
-  -- a step that asks no storage, refused
-  pub other_on : {T A : Type 0} (old new : Qcow2 S F) (answer : Result A ImageError) (e : ImageError) (result : Result T ImageError) → NoFewerFaults view backing old new → IfErr answer IsNotOfStorage → answer ≡ Err e → IsErr result × IsErrAnd result (λ x. x ≡ e)
-      → CountsImageFaults view backing old new result
-  other_on old new answer e result no_fewer other is on = handed_on (λ r. CountsImageFaults view backing old new r) result e on (counted_other old new e no_fewer (subst (λ r. IfErr r IsNotOfStorage) is other))
-
-  -- a call on the image's file alone
-  pub counted_file : {T : Type 0} (old new : Qcow2 S F) (result : Result T ImageError) → FaultsTold (faults_of view old.file.storage) (faults_of view new.file.storage) result → new.backing ≡ old.backing → CountsImageFaults view backing old new result
-  counted_file old new (Ok x) told below = record { no_fewer = record { storage = told.no_fewer; below = subst (λ b. faults_below view backing old.backing ≤ faults_below view backing b) (sym below) (omega arith) }; rose = tt }
-  counted_file old new (Err e) told below = record {
-    no_fewer = record { storage = told.no_fewer; below = subst (λ b. faults_below view backing old.backing ≤ faults_below view backing b) (sym below) (omega arith) };
-    rose = λ is. inl (told.rose (ap Err is));
-  }
-
   -- one without an answer's type
   pub counted_of : {T A : Type 0} (old new : Qcow2 S F) (e : ImageError) → CountsImageFaults view backing {T = A} old new (Err e) → CountsImageFaults view backing {T = T} old new (Err e)
   counted_of old new e told = record { no_fewer = told.no_fewer; rose = told.rose }
@@ -95,11 +78,6 @@ module _ {S F : Type 0} (view : S → StorageView) (backing : F → BackingView)
   -- a call behind which the image is marked
   pub marked_after : {T : Type 0} (old last new : Qcow2 S F) (result : Result T ImageError) → CountsImageFaults view backing old last result → new ≡ record last { is_failed = new.is_failed } → CountsImageFaults view backing old new result
   marked_after old last new result told rest = counted_still old last new result told (untouched last new (ap (λ (i : Qcow2 S F). i.file.storage) rest) (ap (λ (i : Qcow2 S F). i.backing) rest))
-
-  -- what ended a call's turns, where anything did
-  pub stopped_tells : (old new : Qcow2 S F) (e : ImageError) (stopped : Option ImageError) → TellsFault view backing old new e → IfSome stopped (λ x. (x ≡ e) × IsFault x) → IfSome stopped (TellsFault view backing old new)
-  stopped_tells old new e None tells is = tt
-  stopped_tells old new e (Some x) tells is = λ storage. tells (sym is.0 ∙ storage)
 
   -- what a call told, of one that begins earlier
   pub tells_since : (old mid new : Qcow2 S F) (refusal : Option ImageError) → NoFewerFaults view backing old mid → IfSome refusal (TellsFault view backing mid new) → IfSome refusal (TellsFault view backing old new)

@@ -1,49 +1,12 @@
 -- The range that a call touches: whole clusters within one L2 table.
-use Rattle.std.proofs.Common.{◌≡◌, inl, inr, ℕ, ◌+◌, ◌-◌, ◌*◌, ◌/◌, ◌%◌, ◌^◌, ◌<◌, ◌≤◌, Bool, true, false, Option, Some, None, refl, sym, ap, ◌∙◌, arith, cond, min, mul_assoc}
-use Rattle.std.specs.Prelude.{◌==◌, ◌||◌, ◌&&◌, nat_le, nat_lt}
-use Rattle.std.proofs.lemmas.Bool.{cases_eq, cases_lt, cond-true, cond-false, eq-eqb, ne_eqb, le-leb, lt-leb, lt-ltb}
+use Rattle.std.proofs.Common.{◌≡◌, inl, inr, ℕ, ◌+◌, ◌-◌, ◌*◌, ◌/◌, ◌%◌, ◌<◌, ◌≤◌, Bool, true, false, sym, ap, ◌∙◌, arith, cond, min, mul_assoc}
+use Rattle.std.specs.Prelude.{◌==◌}
+use Rattle.std.proofs.lemmas.Bool.{cases_lt}
 use Rattle.std.proofs.lemmas.Nat.{div-add-mod', mod-mul-add, mod_below}
 use Rattle.qcow2_metadata.specs.declared.header.HeaderFields.{HeaderFields}
 use Rattle.qcow2_metadata.specs.Header.{cluster_size, entries_per_cluster, rounded_up, rounded_down}
 use Rattle.qcow2_disk.specs.Found.{rest_of_table}
 use Rattle.qcow2_disk.specs.Rules.{touched_from, touched_to}
-use Rattle.qcow2_image.specs.Clearing.{rounds_past}
-use Rattle.qcow2_image.specs.Refusals.{passes}
-
--- a range that doesn't pass a size ends within 64 bits
-pub sum_fits : (size offset n : ℕ) → size < 2 ^ 64 → offset < 2 ^ 64 → passes size offset n ≡ false → offset + n < 2 ^ 64
-sum_fits size offset n s o is = elim (cases_lt 0 n) [
-  | inr none ↦ omega (arith, none, o)
-  | inl some ↦ elim (cases_lt size (offset + n)) [
-    | inr within ↦ omega (arith, within, s)
-    | inl past ↦ absurd (let yes : true ≡ false = sym (ap (λ b. b && nat_lt size (offset + n)) (lt-ltb 0 n some) ∙ lt-ltb size (offset + n) past) ∙ is in cc)
-  ]
-]
-
-either_true : (a b : Bool) → b ≡ true → (a || b) ≡ true
-either_true true b is = refl
-either_true false b is = is
-
-module _ {A : Type 0} (cs size offset n : ℕ) (x : A) where
-  abbrev answer : Option A
-  answer = cond (rounds_past cs size offset n) None (Some x)
-
-  pub past_first : 2 ^ 64 ≤ rounded_up cs offset → None ≡ cond (rounds_past cs size offset n) None (Some x)
-  past_first past = sym (cond-true (rounds_past cs size offset n) None (Some x) (ap (λ b. b || (offset + n == size && nat_le (2 ^ 64) (rounded_up cs (offset + n)))) (le-leb (2 ^ 64) (rounded_up cs offset) past)))
-
-  pub past_end : offset + n ≡ size → 2 ^ 64 ≤ rounded_up cs (offset + n) → None ≡ cond (rounds_past cs size offset n) None (Some x)
-  past_end same past = sym (cond-true (rounds_past cs size offset n) None (Some x)
-      (either_true (nat_le (2 ^ 64) (rounded_up cs offset)) _ (ap (λ b. b && nat_le (2 ^ 64) (rounded_up cs (offset + n))) (eq-eqb (offset + n) size same) ∙ le-leb (2 ^ 64) (rounded_up cs (offset + n)) past)))
-
-  end_fits : (offset + n ≡ size → rounded_up cs (offset + n) < 2 ^ 64) → (offset + n == size && nat_le (2 ^ 64) (rounded_up cs (offset + n))) ≡ false
-  end_fits fits = elim (cases_eq (offset + n) size) [
-    | inl same ↦ ap (λ b. b && nat_le (2 ^ 64) (rounded_up cs (offset + n))) (eq-eqb (offset + n) size same) ∙ lt-leb (2 ^ 64) (rounded_up cs (offset + n)) (fits same)
-    | inr other ↦ ap (λ b. b && nat_le (2 ^ 64) (rounded_up cs (offset + n))) (ne_eqb (offset + n) size other)
-  ]
-
-  pub not_past : rounded_up cs offset < 2 ^ 64 → (offset + n ≡ size → rounded_up cs (offset + n) < 2 ^ 64) → Some x ≡ cond (rounds_past cs size offset n) None (Some x)
-  not_past first fits = sym (cond-false (rounds_past cs size offset n) None (Some x)
-      (ap (λ b. b || (offset + n == size && nat_le (2 ^ 64) (rounded_up cs (offset + n)))) (lt-leb (2 ^ 64) (rounded_up cs offset) first) ∙ end_fits fits))
 
 -- where the touched range ends, by the rest of a table
 module _ (h : HeaderFields) (some : 0 < cluster_size h) (rows : 0 < entries_per_cluster h) (from : ℕ) where

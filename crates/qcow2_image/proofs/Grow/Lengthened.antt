@@ -293,9 +293,6 @@ module _ {S F : Type 0} (view : S → StorageView) (backing : F → BackingView)
           (move_then p q q old mid final takes
           (moves_kept q q mid final (λ k some. some) (keeps_listed view backing out q q mid list (listed former) takes.sound longer (leads_none (state_in view mid.file q) takes.sound.file.caches.kept.kept.guarded)) takes.sound))
 
-      pub list_grows : ListGrows old final
-      list_grows = record { more = grows.more ++ listed former; is = longer ∙ ap (λ l. l ++ listed former) grows.is ∙ append_assoc old.file.free_list grows.more (listed former) }
-
 -- ---- a call that makes an L1 entry
 module _ {S F : Type 0} (view : S → StorageView) (backing : F → BackingView) (out : List (Option Prepared)) (old new : Qcow2 S F) (sound : ImageInvariant view backing (pending_in view backing old out) old out) where
   module _ (moves : UnseenMove view backing (pending_in view backing old out) (pending_with_listed (pending_in view backing old out) old new) old new out) where

@@ -1,6 +1,6 @@
 -- Tables are loaded, written and evicted, and bytes are read: no guest sees it.
 use Rattle.std.proofs.Common.{◌≡◌, ℕ, ◌+◌, List, [], refl, sym, ap, ◌∙◌, subst}
-use Rattle.std.specs.Prelude.{Option, Some, None, IfSome, Result, Ok, Err, IfOk, true}
+use Rattle.std.specs.Prelude.{Option, Some, None, IfSome, Result, Ok, Err, IfOk}
 use Rattle.image_access.specs.Backing.{BackingView}
 use Rattle.image_access.specs.Moments.{StorageView}
 use Rattle.qcow2_metadata.specs.Bytes.{Bytes, byte_at}
@@ -10,7 +10,7 @@ use Rattle.std.proofs.lemmas.List.{append-nil}
 use Rattle.qcow2_laws.specs.CrashInvariant.{Pending}
 use Rattle.qcow2_laws.specs.SafeSteps.{DriverState, StateInvariant}
 use Rattle.qcow2_disk.specs.Stops.{StopOkEverywhere}
-use Rattle.qcow2_laws.proofs.Unseen.{unseen_none, unseen_known}
+use Rattle.qcow2_laws.proofs.Unseen.{unseen_known}
 use Rattle.qcow2_alloc.specs.declared.cache.MetadataCaches.{MetadataCaches}
 use Rattle.qcow2_alloc.specs.declared.image_storage.ImageStorage.{ImageStorage}
 use Rattle.qcow2_alloc.specs.declared.allocation.Allocator.{Allocator}
@@ -22,14 +22,13 @@ use Rattle.qcow2_metadata.specs.Tables.{CachedTable, known}
 use Rattle.qcow2_laws.proofs.Lists.{clean_known}
 use Rattle.qcow2_laws.specs.Caches.{AreSettled}
 use Rattle.image_access.specs.declared.error.StorageError.{StorageError}
-use Rattle.image_access.specs.Backing.{Stays}
 use Rattle.image_access.specs.Moments.{Calls, Passing, ContentsStay}
 use Rattle.qcow2_laws.proofs.SafeSteps.{leads_none, endures_none}
 use Rattle.qcow2_alloc.specs.MetadataCaches.{l2_tables, refblocks, known_of, AreAllWritten, CacheInvariant, UnseenCacheStep}
 use Rattle.qcow2_alloc.specs.ImageFile.{state_in, view_in, contents_in, known_in, HasReftable}
 use Rattle.qcow2_image.specs.declared.image.Qcow2.{Qcow2}
 use Rattle.qcow2_image.specs.declared.prepared.Prepared.{Prepared}
-use Rattle.qcow2_image.specs.ImageInvariant.{cluster_of, IsHonestBacking, ImageInvariant, below_of}
+use Rattle.qcow2_image.specs.ImageInvariant.{cluster_of, ImageInvariant}
 use Rattle.qcow2_image.specs.UnseenSteps.{UnseenStep}
 use Rattle.qcow2_image.proofs.Ready.{still_ready}
 use Rattle.qcow2_alloc.proofs.FileSteps.{cached_endures}
@@ -140,17 +139,3 @@ module _ {S F : Type 0} (view : S → StorageView) (backing : F → BackingView)
   pub read_moved : {T : Type 0} {result : Result T StorageError} (storage' : ImageStorage S) → Calls (view_in view image.file) (view (storage_of storage')) result → ContentsStay (view_in view image.file) (view (storage_of storage'))
       → UnseenStep view backing p p image (with_caches view backing image out p sound storage' image.file.caches) out
   read_moved storage' calls keeps = still_moved storage' (calls.honest sound.file.honest) calls.time (keeps sound.file.honest)
-
-  pub backing_moved : {T : Type 0} {result : Result T StorageError} (f f' : F) → image.backing ≡ Some f → Stays (backing f) (backing f') result → UnseenStep view backing p p image (record image { backing = Some f' }) out
-  backing_moved f f' is stays =
-      let honest : (backing f).is_honest = subst (IsHonestBacking view backing) is sound.below in
-      let guarded = sound.file.caches.kept.kept.guarded in
-      record {
-        sound = record { works = sound.works; file = sound.file; l1_table = sound.l1_table; reftable = sound.reftable; below = stays.honest honest; ready = λ k q at. let r = sound.ready k q at in record { own = r.own; mapped = r.mapped }; pinned = sound.pinned; once = sound.once };
-        leads = leads_none (state_in view image.file p) guarded;
-        since = endures_none (view_in view image.file) (known_in view image.file);
-        unseen = unseen_none (state_in view image.file p);
-        copied = λ i copied. refl;
-        below = ap (λ b. (true, byte_at b)) (stays.bytes honest) ∙ ap (below_of view backing) (sym is);
-        list = record { more = []; is = sym (append-nil image.file.free_list) };
-      }

@@ -10,8 +10,6 @@ use Rattle.qcow2_metadata.specs.declared.l2_mapping.L2Mapping.TheVariants.{Data,
 use Rattle.qcow2_disk.specs.Calls.{Refusal, Does, Refuses, IsSame, storage}
 use Rattle.qcow2_disk.specs.AbstractImages.{AbstractImage}
 use Rattle.qcow2_disk.specs.Found.{Kind, raw, indirect, zeros, special, eof, kind_at, IsCompressed, IsCompressedAt, IsFoundIn}
-use Rattle.qcow2_alloc.specs.ImageError.{IsOfTables}
-use Rattle.qcow2_alloc.specs.declared.error.ImageError.{ImageError}
 use Rattle.qcow2_alloc.specs.declared.error.ImageError.TheVariants as I
 use Rattle.qcow2_image.specs.SpecialReads.{is_special}
 
@@ -46,10 +44,6 @@ module _ (known : Bytes) (b : Bool) (offset max n : ℕ) where
       let special : is_special kind ≡ true = subst (λ k. is_special k ≡ true) (sym (found.run is.0).kind_is) (compressed_special (header known) b offset (cover (header known) known (offset / cluster_size (header known))) is.1) in
       let e : false ≡ true = sym not ∙ special in
       cc
-
--- what stands in the way of tables isn't compressed data
-pub not_compressed : (e : ImageError) → IsOfTables e → e ≡ I.Compressed → ⊥
-not_compressed e tables is = subst IsOfTables is tables
 
 -- a call refuses by itself, after its work was done
 pub refuses_after : {old new : AbstractImage} (e : Refusal) → (e ≡ storage → ⊥) → Does old new [] [] (IsSame old new) → Refuses old new [] [] e (IsSame old new)

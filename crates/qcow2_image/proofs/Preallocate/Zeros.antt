@@ -155,18 +155,6 @@ module _ (size : ℕ) (d : Disk) (m : PreparedMapping) (offset n : ℕ) (prepare
   put_private : (o : ℕ) → m.is_private o ≡ true → (put_disk d m 0 zeros).value o ≡ d.value o
   put_private o private = cond-true (m.is_private o) (d.value o) ((with_bytes d (m.from + 0) zeros).value o) private
 
-  pub put_may : MayBeZero offset end d (put_disk d m 0 zeros)
-  put_may = record {
-    size = refl;
-    values = λ o. elim (cases_Bool (m.is_private o)) [
-      | inl private ↦ inl (put_private o private)
-      | inr plain ↦ elim (cases_range offset end o) [
-        | inl inside ↦ inr (inside.0, inside.1, put_value o plain ∙ zero_in d offset end o inside.0 inside.1)
-        | inr outside ↦ inl (put_value o plain ∙ zero_out d offset end o outside)
-      ]
-    ];
-  }
-
   put_out : (o : ℕ) → (o < offset) ⊎ (end ≤ o) → (put_disk d m 0 zeros).value o ≡ d.value o
   put_out o outside = elim (cases_Bool (m.is_private o)) [ inl private ↦ put_private o private | inr plain ↦ put_value o plain ∙ zero_out d offset end o outside ]
 

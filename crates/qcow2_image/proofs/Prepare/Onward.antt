@@ -17,7 +17,7 @@ use Rattle.qcow2_disk.specs.Mappings.{PreparedMapping, IsPrepared}
 use Rattle.qcow2_laws.specs.Unseen.{KeepsFormat}
 use Rattle.qcow2_disk.proofs.Compose.{works_then, stops_as}
 use Rattle.qcow2_alloc.specs.ImageFile.{contents_in, known_in, state_in, KeepsHeader}
-use Rattle.qcow2_alloc.proofs.Following.{header_format, header_same, header_then}
+use Rattle.qcow2_alloc.proofs.Following.{header_format, header_then}
 use Rattle.qcow2_alloc.specs.declared.error.ImageError.{ImageError}
 use Rattle.qcow2_image.specs.declared.image.Qcow2.{Qcow2}
 use Rattle.qcow2_image.specs.declared.prepared.Prepared.{Prepared}
@@ -188,15 +188,6 @@ lt_of_mul a b c lt = elim (cases_lt a b) [
 ]
 
 module _ {S F : Type 0} (view : S → StorageView) (backing : F → BackingView) where
-  pub so_far_none : (old : Qcow2 S F) (p : Prepared) (n end table : ℕ) (overwrite : Bool) → EndsWithCluster old.file.header.fields p → HasRoomForRange old.file.header.fields n p → end ≡ min n (rest_of_table old.file.header.fields p.guest) → IsSoFar view backing old old p p n end table overwrite
-  so_far_none old p n end table overwrite whole room bound = record {
-    stays = record { image = record { number = refl; size = refl; writable = refl; external = refl }; failed = refl };
-    header = header_same old.file.header old.file.header refl;
-    longer = record { image = refl; guest = refl; place = refl; under = refl; more = omega arith; most = λ past. refl; whole = λ less. whole };
-    room = subst (λ m. p.guest % cluster_size old.file.header.fields + m < vec_capacity p.shares * cluster_size old.file.header.fields) (sym bound) room;
-    goes = λ start out k free under is. is;
-  }
-
   module _ (old now : Qcow2 S F) (p q : Prepared) (n end table : ℕ) (overwrite : Bool) (so : IsSoFar view backing old now p q n end table overwrite) (bound : end ≡ min n (rest_of_table old.file.header.fields p.guest)) where
     abbrev h : HeaderFields
     h = old.file.header.fields
@@ -213,9 +204,6 @@ module _ {S F : Type 0} (view : S → StorageView) (backing : F → BackingView)
     module _ (less : q.length < end) where
       whole : EndsWithCluster h q
       whole = so.longer.whole (omega arith)
-
-      pub has_room : length q.shares.items < vec_capacity q.shares
-      has_room = lt_of_mul (length q.shares.items) (vec_capacity q.shares) (cluster_size h) (let w = whole in let g = guest_same in let room = so.room in omega arith)
 
       -- it may go on
       pub may_go_on : (start : Qcow2 S F) (out : List (Option Prepared)) (k : ℕ) → p.table ≡ Some table → IsReadied view backing start old out k p.guest n overwrite p → MayGoOn now.file.header.fields n table q
@@ -272,9 +260,6 @@ module _ {S F : Type 0} (view : S → StorageView) (backing : F → BackingView)
               let before = so.goes start out k free under is in
               readied_on view backing start now new out k n overwrite q free before r r_guest (goes (slice_set out k (Some q)) k (get_set_same out k (Some q) None free) (may_go_on start out k under is) before.sound);
         }
-
-        pub so_far_smaller : end - r.length < end - q.length
-        so_far_smaller = let l = length_is in let some : 0 < cluster_size h = pow_pos h.cluster_bits in omega arith
 
       -- or nothing can stand behind it
       pub so_far_ends : (new : Qcow2 S F) (start : Qcow2 S F) (out : List (Option Prepared)) (k : ℕ) → slice_get out k ≡ Some None → p.table ≡ Some table → IsReadied view backing start old out k p.guest n overwrite p

@@ -79,7 +79,7 @@ module _ {S F : Type 0} (view : S → StorageView) (backing : F → BackingView)
       grows_noted (Err e) grows = λ out. refuses_noted _ image noted out _ _ _ (grows out)
 
       pub tables_noted : (out : List (Option Prepared)) (r : Result (Unit {0}) ImageError) → GrowsTables view backing old image size mode out r → GrowsTables view backing old (with_marks image noted (is_failed image)) size mode out r
-      tables_noted out (Ok done) tables = record { format = tables.format; reaches = tables.reaches; covers = tables.covers }
+      tables_noted out (Ok done) tables = record { format = tables.format; reaches = tables.reaches; length = tables.length; covers = tables.covers }
       tables_noted out (Err e) tables = tables
 
     pub unchanged_noted : (out : List (Option Prepared)) (r : Result (Unit {0}) ImageError) → RefusesUnchanged view backing old image out r → RefusesUnchanged view backing old (with_marks image noted (is_failed image)) out r

@@ -4,18 +4,17 @@ use Rattle.std.specs.Prelude.{Some, None, Ok, Err, not}
 use Rattle.std.specs.Option.{option_or}
 use Rattle.image_access.specs.Backing.{BackingView}
 use Rattle.image_access.specs.Moments.{StorageView}
-use Rattle.image_access.proofs.Passing.{passes_none}
 use Rattle.qcow2_disk.specs.Calls.{another, storage}
 use Rattle.qcow2_disk.proofs.Compose.{works_less}
 use Rattle.qcow2_alloc.specs.declared.error.ImageError.{ImageError}
 use Rattle.qcow2_alloc.specs.declared.error.ImageError.TheVariants as I
-use Rattle.qcow2_alloc.specs.ImageFile.{l2_pins, view_in}
+use Rattle.qcow2_alloc.specs.ImageFile.{l2_pins}
 use Rattle.qcow2_image.specs.Calls.{refusal_of}
 use Rattle.qcow2_image.specs.declared.image.Qcow2.{Qcow2}
 use Rattle.qcow2_image.specs.Image.{is_external, is_failed, is_writable, size_of}
 use Rattle.qcow2_image.specs.ImageInvariant.{abstract_of, disk_of}
 use Rattle.qcow2_image.specs.Refusals.{refuse_if}
-use Rattle.qcow2_image.specs.Resizing.{IsMetShrinking, Shrinks, WritesSizeLast, gifts_of_shrink, gifts_of_shrunk, refuses_to_resize}
+use Rattle.qcow2_image.specs.Resizing.{IsMetShrinking, Shrinks, gifts_of_shrink, gifts_of_shrunk, refuses_to_resize}
 use Rattle.qcow2_image.proofs.Backings.{some_prepared}
 use Rattle.qcow2_image.proofs.Call.Called.{refuses_early, works_none}
 use Rattle.qcow2_image.proofs.Clear.ClearCalls.{works_if}
@@ -65,9 +64,6 @@ module _ {S F : Type 0} (view : S → StorageView) (backing : F → BackingView)
         answer = λ sound. let s = disk_size view backing old out sound in
             (sound, (disk_of view backing old, record { no_smaller = λ _. (s, refl); smaller = λ lt. absurd (omega (arith, lt, s, le)) }, refl));
       }
-
-  pub nothing_written : WritesSizeLast view backing old old
-  nothing_written = passes_none (view_in view old.file) _
 
   -- ---- why it is refused later
   pub met_prepared : (pins : (t : ℕ) × (0 < l2_pins old.file.caches t)) → IsMetShrinking view backing old old I.MappingPrepared

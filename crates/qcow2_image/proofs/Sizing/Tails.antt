@@ -98,9 +98,6 @@ module _ (h : HeaderFields) (some : 0 < cluster_size h) (rows : 0 < entries_per_
     many_is : range.1 ≡ cond (nat_lt from to) (min to (at + (end - at)) - from) 0
     many_is = ap (λ (r : ℕ × ℕ). r.1) is
 
-    up_to : from ≤ rounded_up (cluster_size h) end
-    up_to = mono_up (cluster_size h) some at end (omega (arith, lt))
-
     at_up : at ≤ from
     at_up = rounded_from (cluster_size h) at some
 

@@ -46,8 +46,8 @@ returns-then-is_some-clause-sound g c = λ p sound. (c.in_ok-load_block.ensures.
 pub returns-then-not-can_name-clause-sound : goal.returns-then-not-can_name-clause-sound
 returns-then-not-can_name-clause-sound g c = λ p sound. let one = (c.in_ok-load_block.ensures.sound p sound).0 in inl (one.moves, one.reftable)
 
-pub returns-then-ends_call-clause-sound : goal.returns-then-ends_call-clause-sound
-returns-then-ends_call-clause-sound g c = λ p sound.
+pub returns-then-is_fault-clause-sound : goal.returns-then-is_fault-clause-sound
+returns-then-is_fault-clause-sound g c = λ p sound.
     let one = (c.in_ok-load_block.ensures.sound p sound).0 in
     leaves_then g.S.Storage.view p c.args.file.now c.load_block.new.file c.take_lowest_below.new.file c.take_lowest_below.new.self c.in-Err.refusal one.moves (c.in-Err.ensures.sound p (is_sound_now g.S.Storage.view p p c.args.file.now c.load_block.new.file c.args.self.now one))
 
@@ -73,10 +73,10 @@ returns-in-Ok-None-clause-sound g c = λ p sound.
     gets_then g.S.Storage.view p c.args.file.now c.take_lowest_below.new.file c.cover_range.new.file c.take_lowest_below.new.self c.cover_range.new.self c.cover_range.result before
     (c.cover_range.ensures.sound p (is_sound_now g.S.Storage.view p p c.args.file.now c.take_lowest_below.new.file c.take_lowest_below.new.self before))
 
-pub returns-else-ends_call-clause-sound : goal.returns-else-ends_call-clause-sound
-returns-else-ends_call-clause-sound g c = λ p sound.
+pub returns-else-is_fault-clause-sound : goal.returns-else-is_fault-clause-sound
+returns-else-is_fault-clause-sound g c = λ p sound.
     let one = (c.in_ok-load_block.ensures.sound p sound).0 in
-    let two = still_sound g.S.Storage.view p c.load_block.new.file c.take_lowest_below.new.file c.take_lowest_below.new.self c.in-Err.refusal (λ fault. not_both c.ends_call.result (c.ends_call.ensures.ends fault) c.if-ends_call.false)
+    let two = still_sound g.S.Storage.view p c.load_block.new.file c.take_lowest_below.new.file c.take_lowest_below.new.self c.in-Err.refusal (λ fault. not_both c.is_fault.result (c.is_fault.ensures.1 fault) c.if-is_fault.false)
     (c.in-Err.ensures.sound p (is_sound_now g.S.Storage.view p p c.args.file.now c.load_block.new.file c.args.self.now one)) in
     let before = becomes_then g.S.Storage.view p p c.args.file.now c.load_block.new.file c.take_lowest_below.new.file c.args.self.now c.take_lowest_below.new.self one two in
     gets_then g.S.Storage.view p c.args.file.now c.take_lowest_below.new.file c.cover_range-in-Err.new.file c.take_lowest_below.new.self c.cover_range-in-Err.new.self c.cover_range-in-Err.result before
@@ -115,19 +115,19 @@ returns-in-Ok-None-clause-hint g c = λ p sound hint.
     hint_got g.S.Storage.view p c.take_lowest_below.new.file c.cover_range.new.file c.take_lowest_below.new.self c.cover_range.new.self c.cover_range.result c.cover_range.ensures.first
     (c.cover_range.ensures.sound p (is_sound_now g.S.Storage.view p p c.load_block.new.file c.take_lowest_below.new.file c.take_lowest_below.new.self two)) (c.in-Ok-None.ensures.hint p now still)
 
-pub returns-else-ends_call-clause-has : goal.returns-else-ends_call-clause-has
-returns-else-ends_call-clause-has g c = λ p sound.
+pub returns-else-is_fault-clause-has : goal.returns-else-is_fault-clause-has
+returns-else-is_fault-clause-has g c = λ p sound.
     let one = (c.in_ok-load_block.ensures.sound p sound).0 in
-    let two = still_sound g.S.Storage.view p c.load_block.new.file c.take_lowest_below.new.file c.take_lowest_below.new.self c.in-Err.refusal (λ fault. not_both c.ends_call.result (c.ends_call.ensures.ends fault) c.if-ends_call.false)
+    let two = still_sound g.S.Storage.view p c.load_block.new.file c.take_lowest_below.new.file c.take_lowest_below.new.self c.in-Err.refusal (λ fault. not_both c.is_fault.result (c.is_fault.ensures.1 fault) c.if-is_fault.false)
     (c.in-Err.ensures.sound p (is_sound_now g.S.Storage.view p p c.args.file.now c.load_block.new.file c.args.self.now one)) in
     ok_as _ _ c.cover_range-in-Err.result (range_as c.cover_range-in-Err.new.self.reftable c.args.cluster (2 ^ c.rb_bits-bits.result) (counts_per_block c.args.file.now.header.fields) c.rb_bits-bits.ensures.counts)
     (c.cover_range-in-Err.ensures.has p (is_sound_now g.S.Storage.view p p c.load_block.new.file c.take_lowest_below.new.file c.take_lowest_below.new.self two))
 
-pub returns-else-ends_call-clause-hint : goal.returns-else-ends_call-clause-hint
-returns-else-ends_call-clause-hint g c = λ p sound hint.
+pub returns-else-is_fault-clause-hint : goal.returns-else-is_fault-clause-hint
+returns-else-is_fault-clause-hint g c = λ p sound hint.
     let one = (c.in_ok-load_block.ensures.sound p sound).0 in
     let now = is_sound_now g.S.Storage.view p p c.args.file.now c.load_block.new.file c.args.self.now one in
-    let no_fault : IsFault c.in-Err.refusal → ⊥ = λ fault. not_both c.ends_call.result (c.ends_call.ensures.ends fault) c.if-ends_call.false in
+    let no_fault : IsFault c.in-Err.refusal → ⊥ = λ fault. not_both c.is_fault.result (c.is_fault.ensures.1 fault) c.if-is_fault.false in
     let two = still_sound g.S.Storage.view p c.load_block.new.file c.take_lowest_below.new.file c.take_lowest_below.new.self c.in-Err.refusal no_fault (c.in-Err.ensures.sound p now) in
     let still = hint_stays g.S.Storage.view p c.args.file.now c.load_block.new.file c.args.self.now c.args.self.now one refl hint in
     hint_got g.S.Storage.view p c.take_lowest_below.new.file c.cover_range-in-Err.new.file c.take_lowest_below.new.self c.cover_range-in-Err.new.self c.cover_range-in-Err.result c.cover_range-in-Err.ensures.first
@@ -165,8 +165,8 @@ returns-in-Ok-Some-clause-hint g c = λ p sound hint.
 pub returns-in_err-load_block-clause-fault : goal.returns-in_err-load_block-clause-fault
 returns-in_err-load_block-clause-fault g c = λ p sound within near. handed_on (λ (r : Result (Unit {0}) ImageError). IfErr r IsFault) c.from_residual.result c.in_err-load_block.field-0.0 c.from_residual.ensures (c.in_err-load_block.ensures.sound p sound).0
 
-pub returns-then-ends_call-clause-fault : goal.returns-then-ends_call-clause-fault
-returns-then-ends_call-clause-fault g c = λ p sound within near. c.ends_call.ensures.fault c.if-ends_call.true
+pub returns-then-is_fault-clause-fault : goal.returns-then-is_fault-clause-fault
+returns-then-is_fault-clause-fault g c = λ p sound within near. c.is_fault.ensures.0 c.if-is_fault.true
 
 pub returns-then-not-can_name-clause-fault : goal.returns-then-not-can_name-clause-fault
 returns-then-not-can_name-clause-fault g c = λ p sound within near.
@@ -191,10 +191,10 @@ returns-in-Ok-None-clause-fault g c = λ p sound within near.
     let range = ap (λ n. c.args.cluster / n) c.rb_bits-bits.ensures.counts in
     c.cover_range.ensures.fault p (is_sound_now g.S.Storage.view p p c.load_block.new.file c.take_lowest_below.new.file c.take_lowest_below.new.self two) (omega (arith, range, count, within)) here
 
-pub returns-else-ends_call-clause-fault : goal.returns-else-ends_call-clause-fault
-returns-else-ends_call-clause-fault g c = λ p sound within near.
+pub returns-else-is_fault-clause-fault : goal.returns-else-is_fault-clause-fault
+returns-else-is_fault-clause-fault g c = λ p sound within near.
     let one = (c.in_ok-load_block.ensures.sound p sound).0 in
-    let two = still_sound g.S.Storage.view p c.load_block.new.file c.take_lowest_below.new.file c.take_lowest_below.new.self c.in-Err.refusal (λ fault. not_both c.ends_call.result (c.ends_call.ensures.ends fault) c.if-ends_call.false)
+    let two = still_sound g.S.Storage.view p c.load_block.new.file c.take_lowest_below.new.file c.take_lowest_below.new.self c.in-Err.refusal (λ fault. not_both c.is_fault.result (c.is_fault.ensures.1 fault) c.if-is_fault.false)
     (c.in-Err.ensures.sound p (is_sound_now g.S.Storage.view p p c.args.file.now c.load_block.new.file c.args.self.now one)) in
     let count = c.in-Err.ensures.entries.count in
     let same = ap (λ x. x.fields) (c.take_lowest_below.ensures.header ∙ c.load_block.ensures.header) in
@@ -230,11 +230,11 @@ returns-in-Ok-Some-clause-place g c = place_then c.args.self.now.reftable c.take
 pub returns-in-Ok-None-clause-place : goal.returns-in-Ok-None-clause-place
 returns-in-Ok-None-clause-place g c = place_then c.args.self.now.reftable c.take_lowest_below.new.self.reftable c.cover_range.new.self.reftable (place_as _ c.args.self.now.reftable c.take_lowest_below.new.self.reftable c.take_lowest_below.ensures.entries) (place_as _ c.take_lowest_below.new.self.reftable c.cover_range.new.self.reftable c.cover_range.ensures.entries)
 
-pub returns-then-ends_call-clause-place : goal.returns-then-ends_call-clause-place
-returns-then-ends_call-clause-place g c = place_as _ c.args.self.now.reftable c.take_lowest_below.new.self.reftable c.take_lowest_below.ensures.entries
+pub returns-then-is_fault-clause-place : goal.returns-then-is_fault-clause-place
+returns-then-is_fault-clause-place g c = place_as _ c.args.self.now.reftable c.take_lowest_below.new.self.reftable c.take_lowest_below.ensures.entries
 
-pub returns-else-ends_call-clause-place : goal.returns-else-ends_call-clause-place
-returns-else-ends_call-clause-place g c = place_then c.args.self.now.reftable c.take_lowest_below.new.self.reftable c.cover_range-in-Err.new.self.reftable (place_as _ c.args.self.now.reftable c.take_lowest_below.new.self.reftable c.take_lowest_below.ensures.entries) (place_as _ c.take_lowest_below.new.self.reftable c.cover_range-in-Err.new.self.reftable c.cover_range-in-Err.ensures.entries)
+pub returns-else-is_fault-clause-place : goal.returns-else-is_fault-clause-place
+returns-else-is_fault-clause-place g c = place_then c.args.self.now.reftable c.take_lowest_below.new.self.reftable c.cover_range-in-Err.new.self.reftable (place_as _ c.args.self.now.reftable c.take_lowest_below.new.self.reftable c.take_lowest_below.ensures.entries) (place_as _ c.take_lowest_below.new.self.reftable c.cover_range-in-Err.new.self.reftable c.cover_range-in-Err.ensures.entries)
 
 pub returns-in_err-load_block-clause-marks : goal.returns-in_err-load_block-clause-marks
 returns-in_err-load_block-clause-marks g c = c.load_block.ensures.marks
@@ -296,29 +296,29 @@ returns-in-Ok-None-clause-header g c = c.cover_range.ensures.header ∙ c.take_l
 pub returns-in-Ok-None-clause-list : goal.returns-in-Ok-None-clause-list
 returns-in-Ok-None-clause-list g c = c.cover_range.ensures.list ∙ c.take_lowest_below.ensures.list ∙ c.load_block.ensures.list
 
-pub returns-then-ends_call-clause-marks : goal.returns-then-ends_call-clause-marks
-returns-then-ends_call-clause-marks g c = marks_then _ _ _ c.load_block.ensures.marks c.take_lowest_below.ensures.marks
+pub returns-then-is_fault-clause-marks : goal.returns-then-is_fault-clause-marks
+returns-then-is_fault-clause-marks g c = marks_then _ _ _ c.load_block.ensures.marks c.take_lowest_below.ensures.marks
 
-pub returns-then-ends_call-clause-order : goal.returns-then-ends_call-clause-order
-returns-then-ends_call-clause-order g c = c.take_lowest_below.ensures.order ∙ c.load_block.ensures.order
+pub returns-then-is_fault-clause-order : goal.returns-then-is_fault-clause-order
+returns-then-is_fault-clause-order g c = c.take_lowest_below.ensures.order ∙ c.load_block.ensures.order
 
-pub returns-then-ends_call-clause-header : goal.returns-then-ends_call-clause-header
-returns-then-ends_call-clause-header g c = c.take_lowest_below.ensures.header ∙ c.load_block.ensures.header
+pub returns-then-is_fault-clause-header : goal.returns-then-is_fault-clause-header
+returns-then-is_fault-clause-header g c = c.take_lowest_below.ensures.header ∙ c.load_block.ensures.header
 
-pub returns-then-ends_call-clause-list : goal.returns-then-ends_call-clause-list
-returns-then-ends_call-clause-list g c = c.take_lowest_below.ensures.list ∙ c.load_block.ensures.list
+pub returns-then-is_fault-clause-list : goal.returns-then-is_fault-clause-list
+returns-then-is_fault-clause-list g c = c.take_lowest_below.ensures.list ∙ c.load_block.ensures.list
 
-pub returns-else-ends_call-clause-marks : goal.returns-else-ends_call-clause-marks
-returns-else-ends_call-clause-marks g c = marks_then _ _ _ (marks_then _ _ _ c.load_block.ensures.marks c.take_lowest_below.ensures.marks) c.cover_range-in-Err.ensures.marks
+pub returns-else-is_fault-clause-marks : goal.returns-else-is_fault-clause-marks
+returns-else-is_fault-clause-marks g c = marks_then _ _ _ (marks_then _ _ _ c.load_block.ensures.marks c.take_lowest_below.ensures.marks) c.cover_range-in-Err.ensures.marks
 
-pub returns-else-ends_call-clause-order : goal.returns-else-ends_call-clause-order
-returns-else-ends_call-clause-order g c = c.cover_range-in-Err.ensures.order ∙ c.take_lowest_below.ensures.order ∙ c.load_block.ensures.order
+pub returns-else-is_fault-clause-order : goal.returns-else-is_fault-clause-order
+returns-else-is_fault-clause-order g c = c.cover_range-in-Err.ensures.order ∙ c.take_lowest_below.ensures.order ∙ c.load_block.ensures.order
 
-pub returns-else-ends_call-clause-header : goal.returns-else-ends_call-clause-header
-returns-else-ends_call-clause-header g c = c.cover_range-in-Err.ensures.header ∙ c.take_lowest_below.ensures.header ∙ c.load_block.ensures.header
+pub returns-else-is_fault-clause-header : goal.returns-else-is_fault-clause-header
+returns-else-is_fault-clause-header g c = c.cover_range-in-Err.ensures.header ∙ c.take_lowest_below.ensures.header ∙ c.load_block.ensures.header
 
-pub returns-else-ends_call-clause-list : goal.returns-else-ends_call-clause-list
-returns-else-ends_call-clause-list g c = c.cover_range-in-Err.ensures.list ∙ c.take_lowest_below.ensures.list ∙ c.load_block.ensures.list
+pub returns-else-is_fault-clause-list : goal.returns-else-is_fault-clause-list
+returns-else-is_fault-clause-list g c = c.cover_range-in-Err.ensures.list ∙ c.take_lowest_below.ensures.list ∙ c.load_block.ensures.list
 
 pub returns-in_err-load_block-clause-unaligned : goal.returns-in_err-load_block-clause-unaligned
 returns-in_err-load_block-clause-unaligned g c = λ u. handed_unaligned c.from_residual.result c.in_err-load_block.field-0.0 c.from_residual.ensures (c.in_err-load_block.ensures.unaligned (is_unaligned c.args.file.now.header.fields c.args.self.now.reftable c.args.cluster (2 ^ c.rb_bits-bits.result) (counts_per_block c.args.file.now.header.fields) c.rb_bits-bits.ensures.counts u))
@@ -350,17 +350,17 @@ returns-in-Ok-None-clause-cause g c = c.cover_range.ensures.cause
 pub returns-in-Ok-None-clause-storage_faults : goal.returns-in-Ok-None-clause-storage_faults
 returns-in-Ok-None-clause-storage_faults g c = told_third _ _ _ _ _ _ c.cover_range.result c.load_block.ensures.storage_faults c.take_lowest_below.ensures.storage_faults c.cover_range.ensures.storage_faults
 
-pub returns-else-ends_call-clause-cause : goal.returns-else-ends_call-clause-cause
-returns-else-ends_call-clause-cause g c = c.cover_range-in-Err.ensures.cause
+pub returns-else-is_fault-clause-cause : goal.returns-else-is_fault-clause-cause
+returns-else-is_fault-clause-cause g c = c.cover_range-in-Err.ensures.cause
 
-pub returns-else-ends_call-clause-storage_faults : goal.returns-else-ends_call-clause-storage_faults
-returns-else-ends_call-clause-storage_faults g c = told_third _ _ _ _ _ _ c.cover_range-in-Err.result c.load_block.ensures.storage_faults c.take_lowest_below.ensures.storage_faults c.cover_range-in-Err.ensures.storage_faults
+pub returns-else-is_fault-clause-storage_faults : goal.returns-else-is_fault-clause-storage_faults
+returns-else-is_fault-clause-storage_faults g c = told_third _ _ _ _ _ _ c.cover_range-in-Err.result c.load_block.ensures.storage_faults c.take_lowest_below.ensures.storage_faults c.cover_range-in-Err.ensures.storage_faults
 
-pub returns-then-ends_call-clause-cause : goal.returns-then-ends_call-clause-cause
-returns-then-ends_call-clause-cause g c = c.in-Err.ensures.cause
+pub returns-then-is_fault-clause-cause : goal.returns-then-is_fault-clause-cause
+returns-then-is_fault-clause-cause g c = c.in-Err.ensures.cause
 
-pub returns-then-ends_call-clause-storage_faults : goal.returns-then-ends_call-clause-storage_faults
-returns-then-ends_call-clause-storage_faults g c = told_since _ _ _ c.load_block.ensures.storage_faults.no_fewer (told_err _ _ c.in-Err.refusal c.in-Err.ensures.storage_faults)
+pub returns-then-is_fault-clause-storage_faults : goal.returns-then-is_fault-clause-storage_faults
+returns-then-is_fault-clause-storage_faults g c = told_since _ _ _ c.load_block.ensures.storage_faults.no_fewer (told_err _ _ c.in-Err.refusal c.in-Err.ensures.storage_faults)
 
 pub returns-then-is_some-clause-storage_faults : goal.returns-then-is_some-clause-storage_faults
 returns-then-is_some-clause-storage_faults g c = told_ok _ _ tt c.load_block.ensures.storage_faults.no_fewer
@@ -380,17 +380,17 @@ returns-in-Ok-Some-clause-unaligned g c = λ u. ok_no_err _ I.UnalignedTable (c.
 pub returns-in-Ok-None-clause-unaligned : goal.returns-in-Ok-None-clause-unaligned
 returns-in-Ok-None-clause-unaligned g c = λ u. ok_no_err _ I.UnalignedTable (c.in_ok-load_block.ensures.unaligned (is_unaligned c.args.file.now.header.fields c.args.self.now.reftable c.args.cluster (2 ^ c.rb_bits-bits.result) (counts_per_block c.args.file.now.header.fields) c.rb_bits-bits.ensures.counts u))
 
-pub returns-then-ends_call-clause-unaligned : goal.returns-then-ends_call-clause-unaligned
-returns-then-ends_call-clause-unaligned g c = λ u. ok_no_err _ I.UnalignedTable (c.in_ok-load_block.ensures.unaligned (is_unaligned c.args.file.now.header.fields c.args.self.now.reftable c.args.cluster (2 ^ c.rb_bits-bits.result) (counts_per_block c.args.file.now.header.fields) c.rb_bits-bits.ensures.counts u))
+pub returns-then-is_fault-clause-unaligned : goal.returns-then-is_fault-clause-unaligned
+returns-then-is_fault-clause-unaligned g c = λ u. ok_no_err _ I.UnalignedTable (c.in_ok-load_block.ensures.unaligned (is_unaligned c.args.file.now.header.fields c.args.self.now.reftable c.args.cluster (2 ^ c.rb_bits-bits.result) (counts_per_block c.args.file.now.header.fields) c.rb_bits-bits.ensures.counts u))
 
-pub returns-else-ends_call-clause-unaligned : goal.returns-else-ends_call-clause-unaligned
-returns-else-ends_call-clause-unaligned g c = λ u. ok_no_err _ I.UnalignedTable (c.in_ok-load_block.ensures.unaligned (is_unaligned c.args.file.now.header.fields c.args.self.now.reftable c.args.cluster (2 ^ c.rb_bits-bits.result) (counts_per_block c.args.file.now.header.fields) c.rb_bits-bits.ensures.counts u))
+pub returns-else-is_fault-clause-unaligned : goal.returns-else-is_fault-clause-unaligned
+returns-else-is_fault-clause-unaligned g c = λ u. ok_no_err _ I.UnalignedTable (c.in_ok-load_block.ensures.unaligned (is_unaligned c.args.file.now.header.fields c.args.self.now.reftable c.args.cluster (2 ^ c.rb_bits-bits.result) (counts_per_block c.args.file.now.header.fields) c.rb_bits-bits.ensures.counts u))
 
 pub returns-then-not-can_name-clause-has : goal.returns-then-not-can_name-clause-has
 returns-then-not-can_name-clause-has g c = λ p sound. tt
 
-pub returns-then-ends_call-clause-has : goal.returns-then-ends_call-clause-has
-returns-then-ends_call-clause-has g c = λ p sound. tt
+pub returns-then-is_fault-clause-has : goal.returns-then-is_fault-clause-has
+returns-then-is_fault-clause-has g c = λ p sound. tt
 
 pub returns-then-is_some-clause-fault : goal.returns-then-is_some-clause-fault
 returns-then-is_some-clause-fault g c = λ p sound within near. tt

@@ -1,4 +1,4 @@
-use Rattle.qcow2_alloc.proofs.allocation.Allocator.lower.Goals.{in-Ok-false, in-Err+else-ends_call+in-StillInUse-1, in-Err+else-ends_call+in-ReadOnly-1}
+use Rattle.qcow2_alloc.proofs.allocation.Allocator.lower.Goals.{in-Ok-false, in-Err+else-is_fault+in-StillInUse-1, in-Err+else-is_fault+in-ReadOnly-1}
 use Rattle.qcow2_alloc.proofs.Outcomes.{not_both}
 use Rattle.qcow2_alloc.proofs.allocation.Allocator.lower.Goals as goal
 
@@ -8,8 +8,8 @@ returns-in-Ok-true-clause-sound g c = λ p owed sound may. rw c.in-Ok-true.field
 pub returns-clause-sound : goal.returns-clause-sound
 returns-clause-sound g c = λ p owed sound may. elim c.match-try_lower.branch [
   | in-Ok-false w ↦ absurd (rw w.in-Ok-false.field-0-test at (w.in-Ok-false.ensures.sound p owed sound may))
-  | in-Err+else-ends_call+in-StillInUse-1 w ↦ not_both w.ends_call.result (w.ends_call.ensures.ends (w.in-Err.ensures.sound p owed sound may).0) w.if-ends_call.false
-  | in-Err+else-ends_call+in-ReadOnly-1 w ↦ not_both w.ends_call.result (w.ends_call.ensures.ends (w.in-Err.ensures.sound p owed sound may).0) w.if-ends_call.false
+  | in-Err+else-is_fault+in-StillInUse-1 w ↦ not_both w.is_fault.result (w.is_fault.ensures.1 (w.in-Err.ensures.sound p owed sound may).0) w.if-is_fault.false
+  | in-Err+else-is_fault+in-ReadOnly-1 w ↦ not_both w.is_fault.result (w.is_fault.ensures.1 (w.in-Err.ensures.sound p owed sound may).0) w.if-is_fault.false
 ]
 
 pub returns-in-Ok-true-clause-hint : goal.returns-in-Ok-true-clause-hint
@@ -18,13 +18,13 @@ returns-in-Ok-true-clause-hint g c = λ p owed sound may hint. c.in-Ok-true.ensu
 pub returns-clause-hint : goal.returns-clause-hint
 returns-clause-hint g c = λ p owed sound may hint. elim c.match-try_lower.branch [
   | in-Ok-false w ↦ absurd (rw w.in-Ok-false.field-0-test at (w.in-Ok-false.ensures.sound p owed sound may))
-  | in-Err+else-ends_call+in-StillInUse-1 w ↦ not_both w.ends_call.result (w.ends_call.ensures.ends (w.in-Err.ensures.sound p owed sound may).0) w.if-ends_call.false
-  | in-Err+else-ends_call+in-ReadOnly-1 w ↦ not_both w.ends_call.result (w.ends_call.ensures.ends (w.in-Err.ensures.sound p owed sound may).0) w.if-ends_call.false
+  | in-Err+else-is_fault+in-StillInUse-1 w ↦ not_both w.is_fault.result (w.is_fault.ensures.1 (w.in-Err.ensures.sound p owed sound may).0) w.if-is_fault.false
+  | in-Err+else-is_fault+in-ReadOnly-1 w ↦ not_both w.is_fault.result (w.is_fault.ensures.1 (w.in-Err.ensures.sound p owed sound may).0) w.if-is_fault.false
 ]
 
 pub returns-clause-leaks : goal.returns-clause-leaks
 returns-clause-leaks g c = λ p owed sound may. elim c.match-try_lower.branch [
   | in-Ok-false w ↦ absurd (rw w.in-Ok-false.field-0-test at (w.in-Ok-false.ensures.sound p owed sound may))
-  | in-Err+else-ends_call+in-StillInUse-1 w ↦ not_both w.ends_call.result (w.ends_call.ensures.ends (w.in-Err.ensures.sound p owed sound may).0) w.if-ends_call.false
-  | in-Err+else-ends_call+in-ReadOnly-1 w ↦ not_both w.ends_call.result (w.ends_call.ensures.ends (w.in-Err.ensures.sound p owed sound may).0) w.if-ends_call.false
+  | in-Err+else-is_fault+in-StillInUse-1 w ↦ not_both w.is_fault.result (w.is_fault.ensures.1 (w.in-Err.ensures.sound p owed sound may).0) w.if-is_fault.false
+  | in-Err+else-is_fault+in-ReadOnly-1 w ↦ not_both w.is_fault.result (w.is_fault.ensures.1 (w.in-Err.ensures.sound p owed sound may).0) w.if-is_fault.false
 ]

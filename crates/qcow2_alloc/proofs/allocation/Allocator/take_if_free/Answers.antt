@@ -27,12 +27,12 @@ returns-in-Ok-clause-sound g c = λ p sound.
     let has = ap (λ n. lacks t (c.args.cluster / n)) c.requires.counts ∙ sym c.lacks_block.ensures ∙ c.if-lacks_block.false in
     free_taken g.S.Storage.view p c.args.file.now c.raise.new.file c.raise.new.self t c.args.cluster c.in-Ok.taken has (c.in-Ok.ensures.sound p false sound tt)
 
-pub returns-then-ends_call-clause-sound : goal.returns-then-ends_call-clause-sound
-returns-then-ends_call-clause-sound g c = λ p sound. (c.ends_call.ensures.fault c.if-ends_call.true, c.in-Err.ensures.sound p false sound tt)
+pub returns-then-is_fault-clause-sound : goal.returns-then-is_fault-clause-sound
+returns-then-is_fault-clause-sound g c = λ p sound. (c.is_fault.ensures.0 c.if-is_fault.true, c.in-Err.ensures.sound p false sound tt)
 
-pub returns-else-ends_call-clause-sound : goal.returns-else-ends_call-clause-sound
-returns-else-ends_call-clause-sound g c = λ p sound.
-    still_sound g.S.Storage.view p c.args.file.now c.raise.new.file c.raise.new.self c.in-Err.refusal (λ fault. not_both c.ends_call.result (c.ends_call.ensures.ends fault) c.if-ends_call.false)
+pub returns-else-is_fault-clause-sound : goal.returns-else-is_fault-clause-sound
+returns-else-is_fault-clause-sound g c = λ p sound.
+    still_sound g.S.Storage.view p c.args.file.now c.raise.new.file c.raise.new.self c.in-Err.refusal (λ fault. not_both c.is_fault.result (c.is_fault.ensures.1 fault) c.if-is_fault.false)
     (c.in-Err.ensures.sound p false sound tt)
 
 pub returns-in-Ok-clause-used : goal.returns-in-Ok-clause-used
@@ -42,8 +42,8 @@ returns-in-Ok-clause-used g c = λ p sound.
     c.in-Ok.ensures.used p sound
     (λ none. let lacking : lacks t (c.args.cluster / counts_per_block c.args.file.now.header.fields) ≡ true = eq-eqb (block_offset (entry_at t.bytes (c.args.cluster / counts_per_block c.args.file.now.header.fields))) 0 none in let bad : true ≡ false = sym lacking ∙ has in cc)
 
-pub returns-else-ends_call-clause-used : goal.returns-else-ends_call-clause-used
-returns-else-ends_call-clause-used g c = λ p sound. not_both c.ends_call.result (c.ends_call.ensures.ends (c.in-Err.ensures.fault p sound)) c.if-ends_call.false
+pub returns-else-is_fault-clause-used : goal.returns-else-is_fault-clause-used
+returns-else-is_fault-clause-used g c = λ p sound. not_both c.is_fault.result (c.is_fault.ensures.1 (c.in-Err.ensures.fault p sound)) c.if-is_fault.false
 
 pub returns-in-Ok-clause-marks : goal.returns-in-Ok-clause-marks
 returns-in-Ok-clause-marks g c = c.raise.ensures.marks
@@ -60,35 +60,35 @@ returns-in-Ok-clause-header g c = c.raise.ensures.header
 pub returns-in-Ok-clause-list : goal.returns-in-Ok-clause-list
 returns-in-Ok-clause-list g c = c.raise.ensures.list
 
-pub returns-then-ends_call-clause-marks : goal.returns-then-ends_call-clause-marks
-returns-then-ends_call-clause-marks g c = c.raise.ensures.marks
+pub returns-then-is_fault-clause-marks : goal.returns-then-is_fault-clause-marks
+returns-then-is_fault-clause-marks g c = c.raise.ensures.marks
 
-pub returns-then-ends_call-clause-order : goal.returns-then-ends_call-clause-order
-returns-then-ends_call-clause-order g c = c.raise.ensures.order
+pub returns-then-is_fault-clause-order : goal.returns-then-is_fault-clause-order
+returns-then-is_fault-clause-order g c = c.raise.ensures.order
 
-pub returns-then-ends_call-clause-same : goal.returns-then-ends_call-clause-same
-returns-then-ends_call-clause-same g c = c.raise.ensures.same
+pub returns-then-is_fault-clause-same : goal.returns-then-is_fault-clause-same
+returns-then-is_fault-clause-same g c = c.raise.ensures.same
 
-pub returns-then-ends_call-clause-header : goal.returns-then-ends_call-clause-header
-returns-then-ends_call-clause-header g c = c.raise.ensures.header
+pub returns-then-is_fault-clause-header : goal.returns-then-is_fault-clause-header
+returns-then-is_fault-clause-header g c = c.raise.ensures.header
 
-pub returns-then-ends_call-clause-list : goal.returns-then-ends_call-clause-list
-returns-then-ends_call-clause-list g c = c.raise.ensures.list
+pub returns-then-is_fault-clause-list : goal.returns-then-is_fault-clause-list
+returns-then-is_fault-clause-list g c = c.raise.ensures.list
 
-pub returns-else-ends_call-clause-marks : goal.returns-else-ends_call-clause-marks
-returns-else-ends_call-clause-marks g c = c.raise.ensures.marks
+pub returns-else-is_fault-clause-marks : goal.returns-else-is_fault-clause-marks
+returns-else-is_fault-clause-marks g c = c.raise.ensures.marks
 
-pub returns-else-ends_call-clause-order : goal.returns-else-ends_call-clause-order
-returns-else-ends_call-clause-order g c = c.raise.ensures.order
+pub returns-else-is_fault-clause-order : goal.returns-else-is_fault-clause-order
+returns-else-is_fault-clause-order g c = c.raise.ensures.order
 
-pub returns-else-ends_call-clause-same : goal.returns-else-ends_call-clause-same
-returns-else-ends_call-clause-same g c = c.raise.ensures.same
+pub returns-else-is_fault-clause-same : goal.returns-else-is_fault-clause-same
+returns-else-is_fault-clause-same g c = c.raise.ensures.same
 
-pub returns-else-ends_call-clause-header : goal.returns-else-ends_call-clause-header
-returns-else-ends_call-clause-header g c = c.raise.ensures.header
+pub returns-else-is_fault-clause-header : goal.returns-else-is_fault-clause-header
+returns-else-is_fault-clause-header g c = c.raise.ensures.header
 
-pub returns-else-ends_call-clause-list : goal.returns-else-ends_call-clause-list
-returns-else-ends_call-clause-list g c = c.raise.ensures.list
+pub returns-else-is_fault-clause-list : goal.returns-else-is_fault-clause-list
+returns-else-is_fault-clause-list g c = c.raise.ensures.list
 
 pub returns-then-lacks_block-clause-marks : goal.returns-then-lacks_block-clause-marks
 returns-then-lacks_block-clause-marks g c = marks_none _
@@ -111,11 +111,11 @@ returns-then-lacks_block-clause-storage_faults g c = told_ok _ _ _ (le_refl _)
 pub returns-in-Ok-clause-storage_faults : goal.returns-in-Ok-clause-storage_faults
 returns-in-Ok-clause-storage_faults g c = told_ok _ _ _ c.raise.ensures.storage_faults.no_fewer
 
-pub returns-else-ends_call-clause-storage_faults : goal.returns-else-ends_call-clause-storage_faults
-returns-else-ends_call-clause-storage_faults g c = told_ok _ _ _ c.raise.ensures.storage_faults.no_fewer
+pub returns-else-is_fault-clause-storage_faults : goal.returns-else-is_fault-clause-storage_faults
+returns-else-is_fault-clause-storage_faults g c = told_ok _ _ _ c.raise.ensures.storage_faults.no_fewer
 
-pub returns-then-ends_call-clause-storage_faults : goal.returns-then-ends_call-clause-storage_faults
-returns-then-ends_call-clause-storage_faults g c = c.in-Err.ensures.storage_faults
+pub returns-then-is_fault-clause-storage_faults : goal.returns-then-is_fault-clause-storage_faults
+returns-then-is_fault-clause-storage_faults g c = c.in-Err.ensures.storage_faults
 
-pub returns-then-ends_call-clause-cause : goal.returns-then-ends_call-clause-cause
-returns-then-ends_call-clause-cause g c = c.in-Err.ensures.cause
+pub returns-then-is_fault-clause-cause : goal.returns-then-is_fault-clause-cause
+returns-then-is_fault-clause-cause g c = c.in-Err.ensures.cause

@@ -13,7 +13,7 @@ use Rattle.qcow2_alloc.proofs.AllocationSteps.{handed_on, of_equal, may_still, o
 use Rattle.qcow2_alloc.proofs.Following.{header_same, header_then, lists_none, lists_then, following_same, still_taken, more_taken, ends_taken, then_leaves, header_bits}
 use Rattle.qcow2_alloc.specs.LowestRuns.{NoFreeBelowHint, IsUsed, KeepsNoFreeBelowHint, KeepsUsed}
 use Rattle.qcow2_alloc.proofs.Runs.{none_there, run_after, run_last, run_none, taken_none}
-use Rattle.qcow2_alloc.proofs.allocation.Allocator.take_run.Goals.{then-not-ends_call+in_ok-give_back-in-Err, else-not-ends_call}
+use Rattle.qcow2_alloc.proofs.allocation.Allocator.take_run.Goals.{then-not-is_fault+in_ok-give_back-in-Err, else-not-is_fault}
 use Rattle.std.specs.Prelude.{IfErr}
 use Rattle.qcow2_metadata.specs.L2Mapping.{IsHostCluster}
 use Rattle.qcow2_alloc.specs.Limits.{CantCount, CantCountRun, IsFaultOr}
@@ -92,12 +92,12 @@ returns-in_err-give_back-in-Err-clause-sound g c = λ p d sound may.
     let q : Pending = taken_as d (pending_then p c.args.file.now.free_list c.taking.file.free_list) (run_at c.args.first c.taking.taken) in
     let now = is_sound_on g.S.Storage.view p q c.args.file.now c.taking.file c.taking.self before in
     let may_now = may_still d c.args.file.now c.taking.file c.taking.invariant.order may in
-    let two = still_as g.S.Storage.view q (pending_then q c.taking.file.free_list c.take.new.file.free_list) c.taking.file c.take.new.file c.take.new.self c.in-Err.refusal (λ fault. not_both c.ends_call.result (c.ends_call.ensures.ends fault) c.if-not-ends_call.true) (c.in-Err.ensures.sound q d now may_now) in
+    let two = still_as g.S.Storage.view q (pending_then q c.taking.file.free_list c.take.new.file.free_list) c.taking.file c.take.new.file c.take.new.self c.in-Err.refusal (λ fault. not_both c.is_fault.result (c.is_fault.ensures.1 fault) c.if-not-is_fault.true) (c.in-Err.ensures.sound q d now may_now) in
     let taken = still_taken g.S.Storage.view d p (run_at c.args.first c.taking.taken) c.args.file.now c.taking.file c.take.new.file c.taking.self c.take.new.self c.taking.invariant.list c.take.ensures.list before two in
-    handed_on (TakesRun g.S.Storage.view p c.args.file.now c.give_back-then-not-ends_call.new.self c.give_back-then-not-ends_call.new.file (pending_then p c.args.file.now.free_list c.give_back-then-not-ends_call.new.file.free_list) d c.args.first c.args.n)
+    handed_on (TakesRun g.S.Storage.view p c.args.file.now c.give_back-then-not-is_fault.new.self c.give_back-then-not-is_fault.new.file (pending_then p c.args.file.now.free_list c.give_back-then-not-is_fault.new.file.free_list) d c.args.first c.args.n)
     c.from_residual-in_err-give_back-in-Err.result c.in_err-give_back-in-Err.field-0.0 c.from_residual-in_err-give_back-in-Err.ensures
-    (subst (λ (r : Pending). RefusedGrowth g.S.Storage.view p c.args.file.now c.give_back-then-not-ends_call.new.self c.give_back-then-not-ends_call.new.file r c.in_err-give_back-in-Err.field-0.0)
-    (ap (pending_then p c.args.file.now.free_list) (sym c.give_back-then-not-ends_call.ensures.list))
+    (subst (λ (r : Pending). RefusedGrowth g.S.Storage.view p c.args.file.now c.give_back-then-not-is_fault.new.self c.give_back-then-not-is_fault.new.file r c.in_err-give_back-in-Err.field-0.0)
+    (ap (pending_then p c.args.file.now.free_list) (sym c.give_back-then-not-is_fault.ensures.list))
     (c.in_err-give_back-in-Err.ensures.sound p (pending_then p c.args.file.now.free_list c.take.new.file.free_list) d c.args.file.now (λ k some. some) taken (λ some. c.take.ensures.marks.changed (c.taking.invariant.noted some))).1)
 
 pub returns-in-Err-clause-sound : goal.returns-in-Err-clause-sound
@@ -108,18 +108,18 @@ returns-in-Err-clause-sound g c = λ p d sound may.
     let may_now = may_still d c.args.file.now c.taking.file c.taking.invariant.order may in
     let leaves = c.in-Err.ensures.sound q d now may_now in
     let noted : 0 < c.taking.taken → IsTrue c.take.new.file.caches.is_changed = (λ some. c.take.ensures.marks.changed (c.taking.invariant.noted some)) in
-    elim c.if-not-ends_call.branch [
-      | then-not-ends_call+in_ok-give_back-in-Err w ↦
+    elim c.if-not-is_fault.branch [
+      | then-not-is_fault+in_ok-give_back-in-Err w ↦
           let two = still_as g.S.Storage.view q (pending_then q c.taking.file.free_list c.take.new.file.free_list) c.taking.file c.take.new.file c.take.new.self c.in-Err.refusal
-          (λ fault. not_both c.ends_call.result (c.ends_call.ensures.ends fault) w.if-not-ends_call.true) leaves in
+          (λ fault. not_both c.is_fault.result (c.is_fault.ensures.1 fault) w.if-not-is_fault.true) leaves in
           let taken = still_taken g.S.Storage.view d p (run_at c.args.first c.taking.taken) c.args.file.now c.taking.file c.take.new.file c.taking.self c.take.new.self c.taking.invariant.list c.take.ensures.list before two in
           let back = w.in_ok-give_back-in-Err.ensures.sound p (pending_then p c.args.file.now.free_list c.take.new.file.free_list) d c.args.file.now (λ k some. some) taken noted in
-          of_equal (λ t f. RefusedGrowth g.S.Storage.view p c.args.file.now t f (pending_then p c.args.file.now.free_list f.free_list) c.in-Err.refusal) c.if-not-ends_call.self w.give_back-then-not-ends_call.new.self c.if-not-ends_call.file w.give_back-then-not-ends_call.new.file w.self-is w.file-is
-          (inl (subst (λ (r : Pending). UnseenAllocatorGrowth g.S.Storage.view p c.args.file.now w.give_back-then-not-ends_call.new.self w.give_back-then-not-ends_call.new.file r)
-          (ap (pending_then p c.args.file.now.free_list) (sym w.give_back-then-not-ends_call.ensures.list)) back))
-      | else-not-ends_call w ↦
-          of_equal (λ t f. RefusedGrowth g.S.Storage.view p c.args.file.now t f (pending_then p c.args.file.now.free_list f.free_list) c.in-Err.refusal) c.if-not-ends_call.self c.take.new.self c.if-not-ends_call.file c.take.new.file w.self-is w.file-is
-          (ends_run g.S.Storage.view d p c.args.first c.taking.taken c.args.file.now c.taking.file c.take.new.file c.taking.self c.take.new.self c.in-Err.refusal c.taking.invariant.list c.take.ensures.list before noted (c.ends_call.ensures.fault w.if-not-ends_call.false) leaves)
+          of_equal (λ t f. RefusedGrowth g.S.Storage.view p c.args.file.now t f (pending_then p c.args.file.now.free_list f.free_list) c.in-Err.refusal) c.if-not-is_fault.self w.give_back-then-not-is_fault.new.self c.if-not-is_fault.file w.give_back-then-not-is_fault.new.file w.self-is w.file-is
+          (inl (subst (λ (r : Pending). UnseenAllocatorGrowth g.S.Storage.view p c.args.file.now w.give_back-then-not-is_fault.new.self w.give_back-then-not-is_fault.new.file r)
+          (ap (pending_then p c.args.file.now.free_list) (sym w.give_back-then-not-is_fault.ensures.list)) back))
+      | else-not-is_fault w ↦
+          of_equal (λ t f. RefusedGrowth g.S.Storage.view p c.args.file.now t f (pending_then p c.args.file.now.free_list f.free_list) c.in-Err.refusal) c.if-not-is_fault.self c.take.new.self c.if-not-is_fault.file c.take.new.file w.self-is w.file-is
+          (ends_run g.S.Storage.view d p c.args.first c.taking.taken c.args.file.now c.taking.file c.take.new.file c.taking.self c.take.new.self c.in-Err.refusal c.taking.invariant.list c.take.ensures.list before noted (c.is_fault.ensures.0 w.if-not-is_fault.false) leaves)
     ]
 
 pub taking-preserved : goal.taking-preserved
@@ -203,10 +203,10 @@ returns-in_err-give_back-in-Err-clause-hint g c = λ p d sound may hint.
     let q : Pending = taken_as d (pending_then p c.args.file.now.free_list c.taking.file.free_list) (run_at c.args.first c.taking.taken) in
     let now = is_sound_on g.S.Storage.view p q c.args.file.now c.taking.file c.taking.self before in
     let may_now = may_still d c.args.file.now c.taking.file c.taking.invariant.order may in
-    let two = still_as g.S.Storage.view q (pending_then q c.taking.file.free_list c.take.new.file.free_list) c.taking.file c.take.new.file c.take.new.self c.in-Err.refusal (λ fault. not_both c.ends_call.result (c.ends_call.ensures.ends fault) c.if-not-ends_call.true) (c.in-Err.ensures.sound q d now may_now) in
+    let two = still_as g.S.Storage.view q (pending_then q c.taking.file.free_list c.take.new.file.free_list) c.taking.file c.take.new.file c.take.new.self c.in-Err.refusal (λ fault. not_both c.is_fault.result (c.is_fault.ensures.1 fault) c.if-not-is_fault.true) (c.in-Err.ensures.sound q d now may_now) in
     let taken = still_taken g.S.Storage.view d p (run_at c.args.first c.taking.taken) c.args.file.now c.taking.file c.take.new.file c.taking.self c.take.new.self c.taking.invariant.list c.take.ensures.list before two in
     let back = c.in_err-give_back-in-Err.ensures.sound p (pending_then p c.args.file.now.free_list c.take.new.file.free_list) d c.args.file.now (λ k some. some) taken (λ some. c.take.ensures.marks.changed (c.taking.invariant.noted some)) in
-    handed_on (KeepsNoFreeBelowHint g.S.Storage.view c.give_back-then-not-ends_call.new.self c.give_back-then-not-ends_call.new.file) c.from_residual-in_err-give_back-in-Err.result c.in_err-give_back-in-Err.field-0.0 c.from_residual-in_err-give_back-in-Err.ensures (λ other. absurd (other back.0))
+    handed_on (KeepsNoFreeBelowHint g.S.Storage.view c.give_back-then-not-is_fault.new.self c.give_back-then-not-is_fault.new.file) c.from_residual-in_err-give_back-in-Err.result c.in_err-give_back-in-Err.field-0.0 c.from_residual-in_err-give_back-in-Err.ensures (λ other. absurd (other back.0))
 
 pub returns-in-Err-clause-hint : goal.returns-in-Err-clause-hint
 returns-in-Err-clause-hint g c = λ p d sound may hint other.
@@ -217,11 +217,11 @@ returns-in-Err-clause-hint g c = λ p d sound may hint other.
     let two = still_as g.S.Storage.view q (pending_then q c.taking.file.free_list c.take.new.file.free_list) c.taking.file c.take.new.file c.take.new.self c.in-Err.refusal other (c.in-Err.ensures.sound q d now may_now) in
     let taken = still_taken g.S.Storage.view d p (run_at c.args.first c.taking.taken) c.args.file.now c.taking.file c.take.new.file c.taking.self c.take.new.self c.taking.invariant.list c.take.ensures.list before two in
     let here = c.in-Err.ensures.hint q d now may_now (c.taking.invariant.hint p d sound may hint) other in
-    elim c.if-not-ends_call.branch [
-      | then-not-ends_call+in_ok-give_back-in-Err w ↦
-          of_equal (λ t f. NoFreeBelowHint g.S.Storage.view t f) c.if-not-ends_call.self w.give_back-then-not-ends_call.new.self c.if-not-ends_call.file w.give_back-then-not-ends_call.new.file w.self-is w.file-is
+    elim c.if-not-is_fault.branch [
+      | then-not-is_fault+in_ok-give_back-in-Err w ↦
+          of_equal (λ t f. NoFreeBelowHint g.S.Storage.view t f) c.if-not-is_fault.self w.give_back-then-not-is_fault.new.self c.if-not-is_fault.file w.give_back-then-not-is_fault.new.file w.self-is w.file-is
           (w.in_ok-give_back-in-Err.ensures.hint (pending_then p c.args.file.now.free_list c.take.new.file.free_list) d (is_sound_on g.S.Storage.view p (taken_as d (pending_then p c.args.file.now.free_list c.take.new.file.free_list) (run_at c.args.first c.taking.taken)) c.args.file.now c.take.new.file c.take.new.self taken) here)
-      | else-not-ends_call w ↦ absurd (other (c.ends_call.ensures.fault w.if-not-ends_call.false))
+      | else-not-is_fault w ↦ absurd (other (c.is_fault.ensures.0 w.if-not-is_fault.false))
     ]
 
 pub returns-in_err-give_back-in-Ok-false-clause-list : goal.returns-in_err-give_back-in-Ok-false-clause-list
@@ -231,12 +231,12 @@ pub returns-in-Ok-false-clause-list : goal.returns-in-Ok-false-clause-list
 returns-in-Ok-false-clause-list g c = subst (λ l. ListsTables c.args.file.now.free_list l) (sym c.give_back.ensures.list) (lists_then c.args.file.now.free_list c.taking.file.free_list c.take.new.file.free_list c.taking.invariant.list c.take.ensures.list)
 
 pub returns-in_err-give_back-in-Err-clause-list : goal.returns-in_err-give_back-in-Err-clause-list
-returns-in_err-give_back-in-Err-clause-list g c = subst (λ l. ListsTables c.args.file.now.free_list l) (sym c.give_back-then-not-ends_call.ensures.list) (lists_then c.args.file.now.free_list c.taking.file.free_list c.take.new.file.free_list c.taking.invariant.list c.take.ensures.list)
+returns-in_err-give_back-in-Err-clause-list g c = subst (λ l. ListsTables c.args.file.now.free_list l) (sym c.give_back-then-not-is_fault.ensures.list) (lists_then c.args.file.now.free_list c.taking.file.free_list c.take.new.file.free_list c.taking.invariant.list c.take.ensures.list)
 
 pub returns-in-Err-clause-list : goal.returns-in-Err-clause-list
-returns-in-Err-clause-list g c = elim c.if-not-ends_call.branch [
-  | then-not-ends_call+in_ok-give_back-in-Err w ↦ subst (λ l. ListsTables c.args.file.now.free_list l) (sym (ap (λ f. f.free_list) w.file-is ∙ w.give_back-then-not-ends_call.ensures.list)) (lists_then c.args.file.now.free_list c.taking.file.free_list c.take.new.file.free_list c.taking.invariant.list c.take.ensures.list)
-  | else-not-ends_call w ↦ subst (λ l. ListsTables c.args.file.now.free_list l) (sym (ap (λ f. f.free_list) w.file-is)) (lists_then c.args.file.now.free_list c.taking.file.free_list c.take.new.file.free_list c.taking.invariant.list c.take.ensures.list)
+returns-in-Err-clause-list g c = elim c.if-not-is_fault.branch [
+  | then-not-is_fault+in_ok-give_back-in-Err w ↦ subst (λ l. ListsTables c.args.file.now.free_list l) (sym (ap (λ f. f.free_list) w.file-is ∙ w.give_back-then-not-is_fault.ensures.list)) (lists_then c.args.file.now.free_list c.taking.file.free_list c.take.new.file.free_list c.taking.invariant.list c.take.ensures.list)
+  | else-not-is_fault w ↦ subst (λ l. ListsTables c.args.file.now.free_list l) (sym (ap (λ f. f.free_list) w.file-is)) (lists_then c.args.file.now.free_list c.taking.file.free_list c.take.new.file.free_list c.taking.invariant.list c.take.ensures.list)
 ]
 
 -- ---- what was in use is in use: a cluster of the run that is given back wasn't
@@ -268,10 +268,10 @@ returns-in_err-give_back-in-Err-clause-uses g c = λ p d sound may.
     let q : Pending = taken_as d (pending_then p c.args.file.now.free_list c.taking.file.free_list) (run_at c.args.first c.taking.taken) in
     let now = is_sound_on g.S.Storage.view p q c.args.file.now c.taking.file c.taking.self before in
     let may_now = may_still d c.args.file.now c.taking.file c.taking.invariant.order may in
-    let two = still_as g.S.Storage.view q (pending_then q c.taking.file.free_list c.take.new.file.free_list) c.taking.file c.take.new.file c.take.new.self c.in-Err.refusal (λ fault. not_both c.ends_call.result (c.ends_call.ensures.ends fault) c.if-not-ends_call.true) (c.in-Err.ensures.sound q d now may_now) in
+    let two = still_as g.S.Storage.view q (pending_then q c.taking.file.free_list c.take.new.file.free_list) c.taking.file c.take.new.file c.take.new.self c.in-Err.refusal (λ fault. not_both c.is_fault.result (c.is_fault.ensures.1 fault) c.if-not-is_fault.true) (c.in-Err.ensures.sound q d now may_now) in
     let taken = still_taken g.S.Storage.view d p (run_at c.args.first c.taking.taken) c.args.file.now c.taking.file c.take.new.file c.taking.self c.take.new.self c.taking.invariant.list c.take.ensures.list before two in
     let back = c.in_err-give_back-in-Err.ensures.sound p (pending_then p c.args.file.now.free_list c.take.new.file.free_list) d c.args.file.now (λ k some. some) taken (λ some. c.take.ensures.marks.changed (c.taking.invariant.noted some)) in
-    handed_on (KeepsUsed g.S.Storage.view c.args.file.now c.give_back-then-not-ends_call.new.file) c.from_residual-in_err-give_back-in-Err.result c.in_err-give_back-in-Err.field-0.0 c.from_residual-in_err-give_back-in-Err.ensures (λ other. absurd (other back.0))
+    handed_on (KeepsUsed g.S.Storage.view c.args.file.now c.give_back-then-not-is_fault.new.file) c.from_residual-in_err-give_back-in-Err.result c.in_err-give_back-in-Err.field-0.0 c.from_residual-in_err-give_back-in-Err.ensures (λ other. absurd (other back.0))
 
 pub returns-in-Err-clause-uses : goal.returns-in-Err-clause-uses
 returns-in-Err-clause-uses g c = λ p d sound may other k used.
@@ -281,12 +281,12 @@ returns-in-Err-clause-uses g c = λ p d sound may other k used.
     let may_now = may_still d c.args.file.now c.taking.file c.taking.invariant.order may in
     let two = still_as g.S.Storage.view q (pending_then q c.taking.file.free_list c.take.new.file.free_list) c.taking.file c.take.new.file c.take.new.self c.in-Err.refusal other (c.in-Err.ensures.sound q d now may_now) in
     let taken = still_taken g.S.Storage.view d p (run_at c.args.first c.taking.taken) c.args.file.now c.taking.file c.take.new.file c.taking.self c.take.new.self c.taking.invariant.list c.take.ensures.list before two in
-    elim c.if-not-ends_call.branch [
-      | then-not-ends_call+in_ok-give_back-in-Err w ↦
+    elim c.if-not-is_fault.branch [
+      | then-not-is_fault+in_ok-give_back-in-Err w ↦
           subst (λ f. IsUsed g.S.Storage.view f k) (sym w.file-is)
           (w.in_ok-give_back-in-Err.ensures.kept (pending_then p c.args.file.now.free_list c.take.new.file.free_list) d (is_sound_on g.S.Storage.view p (taken_as d (pending_then p c.args.file.now.free_list c.take.new.file.free_list) (run_at c.args.first c.taking.taken)) c.args.file.now c.take.new.file c.take.new.self taken) k
           (no_more (run_at c.args.first c.taking.taken k) (λ some. c.taking.invariant.free p d sound may k some used)) (c.in-Err.ensures.uses q d now may_now other k (c.taking.invariant.uses p d sound may k used)))
-      | else-not-ends_call w ↦ absurd (other (c.ends_call.ensures.fault w.if-not-ends_call.false))
+      | else-not-is_fault w ↦ absurd (other (c.is_fault.ensures.0 w.if-not-is_fault.false))
     ]
 
 pub returns-clause-uses : goal.returns-clause-uses
@@ -310,10 +310,10 @@ returns-in_err-give_back-in-Err-clause-limit g c = λ p d sound may hint near.
     let q : Pending = taken_as d (pending_then p c.args.file.now.free_list c.taking.file.free_list) (run_at c.args.first c.taking.taken) in
     let now = is_sound_on g.S.Storage.view p q c.args.file.now c.taking.file c.taking.self before in
     let may_now = may_still d c.args.file.now c.taking.file c.taking.invariant.order may in
-    let two = still_as g.S.Storage.view q (pending_then q c.taking.file.free_list c.take.new.file.free_list) c.taking.file c.take.new.file c.take.new.self c.in-Err.refusal (λ fault. not_both c.ends_call.result (c.ends_call.ensures.ends fault) c.if-not-ends_call.true) (c.in-Err.ensures.sound q d now may_now) in
+    let two = still_as g.S.Storage.view q (pending_then q c.taking.file.free_list c.take.new.file.free_list) c.taking.file c.take.new.file c.take.new.self c.in-Err.refusal (λ fault. not_both c.is_fault.result (c.is_fault.ensures.1 fault) c.if-not-is_fault.true) (c.in-Err.ensures.sound q d now may_now) in
     let taken = still_taken g.S.Storage.view d p (run_at c.args.first c.taking.taken) c.args.file.now c.taking.file c.take.new.file c.taking.self c.take.new.self c.taking.invariant.list c.take.ensures.list before two in
     let back = c.in_err-give_back-in-Err.ensures.sound p (pending_then p c.args.file.now.free_list c.take.new.file.free_list) d c.args.file.now (λ k some. some) taken (λ some. c.take.ensures.marks.changed (c.taking.invariant.noted some)) in
-    handed_on (λ (r : Result ℕ ImageError). IfErr r (IsFaultOr (CantCountRun g.S.Storage.view c.give_back-then-not-ends_call.new.file c.give_back-then-not-ends_call.new.self c.args.first c.args.n)))
+    handed_on (λ (r : Result ℕ ImageError). IfErr r (IsFaultOr (CantCountRun g.S.Storage.view c.give_back-then-not-is_fault.new.file c.give_back-then-not-is_fault.new.self c.args.first c.args.n)))
     c.from_residual-in_err-give_back-in-Err.result c.in_err-give_back-in-Err.field-0.0 c.from_residual-in_err-give_back-in-Err.ensures (inl back.0)
 
 pub returns-in-Err-clause-limit : goal.returns-in-Err-clause-limit
@@ -326,22 +326,22 @@ returns-in-Err-clause-limit g c = λ p d sound may hint near.
     let here = subst (λ n. IsHostCluster n (c.args.first + c.taking.taken)) (sym (header_bits c.args.file.now.header c.taking.file.header c.taking.invariant.header))
     (host_of_few c.args.file.now.header.fields (c.args.first + c.taking.taken) (omega (arith, lt, near))) in
     let why = c.in-Err.ensures.limit q d now may_now (c.taking.invariant.hint p d sound may hint) here in
-    elim c.if-not-ends_call.branch [
-      | then-not-ends_call+in_ok-give_back-in-Err w ↦
+    elim c.if-not-is_fault.branch [
+      | then-not-is_fault+in_ok-give_back-in-Err w ↦
           let two = still_as g.S.Storage.view q (pending_then q c.taking.file.free_list c.take.new.file.free_list) c.taking.file c.take.new.file c.take.new.self c.in-Err.refusal
-          (λ fault. not_both c.ends_call.result (c.ends_call.ensures.ends fault) w.if-not-ends_call.true) (c.in-Err.ensures.sound q d now may_now) in
+          (λ fault. not_both c.is_fault.result (c.is_fault.ensures.1 fault) w.if-not-is_fault.true) (c.in-Err.ensures.sound q d now may_now) in
           let taken = still_taken g.S.Storage.view d p (run_at c.args.first c.taking.taken) c.args.file.now c.taking.file c.take.new.file c.taking.self c.take.new.self c.taking.invariant.list c.take.ensures.list before two in
           let kept = w.in_ok-give_back-in-Err.ensures.kept (pending_then p c.args.file.now.free_list c.take.new.file.free_list) d
           (is_sound_on g.S.Storage.view p (taken_as d (pending_then p c.args.file.now.free_list c.take.new.file.free_list) (run_at c.args.first c.taking.taken)) c.args.file.now c.take.new.file c.take.new.self taken) in
-          of_equal (λ t f. IsFaultOr (CantCountRun g.S.Storage.view f t c.args.first c.args.n) c.in-Err.refusal) c.if-not-ends_call.self w.give_back-then-not-ends_call.new.self c.if-not-ends_call.file w.give_back-then-not-ends_call.new.file w.self-is w.file-is
-          (cause_as (CantCount g.S.Storage.view c.take.new.file (λ k. 0) c.take.new.self (c.args.first + c.taking.taken)) (CantCountRun g.S.Storage.view w.give_back-then-not-ends_call.new.file w.give_back-then-not-ends_call.new.self c.args.first c.args.n) c.in-Err.refusal
+          of_equal (λ t f. IsFaultOr (CantCountRun g.S.Storage.view f t c.args.first c.args.n) c.in-Err.refusal) c.if-not-is_fault.self w.give_back-then-not-is_fault.new.self c.if-not-is_fault.file w.give_back-then-not-is_fault.new.file w.self-is w.file-is
+          (cause_as (CantCount g.S.Storage.view c.take.new.file (λ k. 0) c.take.new.self (c.args.first + c.taking.taken)) (CantCountRun g.S.Storage.view w.give_back-then-not-is_fault.new.file w.give_back-then-not-is_fault.new.self c.args.first c.args.n) c.in-Err.refusal
           (λ not. (
             c.taking.taken,
             lt,
-            count_back g.S.Storage.view c.take.new.file w.give_back-then-not-ends_call.new.file c.take.new.self w.give_back-then-not-ends_call.new.self c.args.first c.taking.taken (c.args.first + c.taking.taken)
-                w.give_back-then-not-ends_call.ensures.header w.give_back-then-not-ends_call.ensures.reftable kept not,
+            count_back g.S.Storage.view c.take.new.file w.give_back-then-not-is_fault.new.file c.take.new.self w.give_back-then-not-is_fault.new.self c.args.first c.taking.taken (c.args.first + c.taking.taken)
+                w.give_back-then-not-is_fault.ensures.header w.give_back-then-not-is_fault.ensures.reftable kept not,
           )) why)
-      | else-not-ends_call w ↦ inl (c.ends_call.ensures.fault w.if-not-ends_call.false)
+      | else-not-is_fault w ↦ inl (c.is_fault.ensures.0 w.if-not-is_fault.false)
     ]
 
 pub returns-in_err-give_back-in-Ok-false-clause-former : goal.returns-in_err-give_back-in-Ok-false-clause-former
@@ -351,13 +351,13 @@ pub returns-in-Ok-false-clause-former : goal.returns-in-Ok-false-clause-former
 returns-in-Ok-false-clause-former g c = former_still c.args.self.now.reftable c.take.new.self.reftable c.give_back.new.self.reftable c.args.file.now.free_list c.take.new.file.free_list c.give_back.new.file.free_list (former_then c.args.self.now.reftable c.taking.self.reftable c.take.new.self.reftable c.args.file.now.free_list c.taking.file.free_list c.take.new.file.free_list c.taking.invariant.former c.take.ensures.former) c.give_back.ensures.reftable c.give_back.ensures.list
 
 pub returns-in_err-give_back-in-Err-clause-former : goal.returns-in_err-give_back-in-Err-clause-former
-returns-in_err-give_back-in-Err-clause-former g c = former_still c.args.self.now.reftable c.take.new.self.reftable c.give_back-then-not-ends_call.new.self.reftable c.args.file.now.free_list c.take.new.file.free_list c.give_back-then-not-ends_call.new.file.free_list (former_then c.args.self.now.reftable c.taking.self.reftable c.take.new.self.reftable c.args.file.now.free_list c.taking.file.free_list c.take.new.file.free_list c.taking.invariant.former c.take.ensures.former) c.give_back-then-not-ends_call.ensures.reftable c.give_back-then-not-ends_call.ensures.list
+returns-in_err-give_back-in-Err-clause-former g c = former_still c.args.self.now.reftable c.take.new.self.reftable c.give_back-then-not-is_fault.new.self.reftable c.args.file.now.free_list c.take.new.file.free_list c.give_back-then-not-is_fault.new.file.free_list (former_then c.args.self.now.reftable c.taking.self.reftable c.take.new.self.reftable c.args.file.now.free_list c.taking.file.free_list c.take.new.file.free_list c.taking.invariant.former c.take.ensures.former) c.give_back-then-not-is_fault.ensures.reftable c.give_back-then-not-is_fault.ensures.list
 
 pub returns-in-Err-clause-former : goal.returns-in-Err-clause-former
-returns-in-Err-clause-former g c = elim c.if-not-ends_call.branch [
-  | then-not-ends_call+in_ok-give_back-in-Err w ↦ former_still c.args.self.now.reftable c.take.new.self.reftable c.if-not-ends_call.self.reftable c.args.file.now.free_list c.take.new.file.free_list c.if-not-ends_call.file.free_list (former_then c.args.self.now.reftable c.taking.self.reftable c.take.new.self.reftable c.args.file.now.free_list c.taking.file.free_list c.take.new.file.free_list c.taking.invariant.former c.take.ensures.former)
-      (ap (λ t. t.reftable) w.self-is ∙ w.give_back-then-not-ends_call.ensures.reftable) (ap (λ f. f.free_list) w.file-is ∙ w.give_back-then-not-ends_call.ensures.list)
-  | else-not-ends_call w ↦ former_still c.args.self.now.reftable c.take.new.self.reftable c.if-not-ends_call.self.reftable c.args.file.now.free_list c.take.new.file.free_list c.if-not-ends_call.file.free_list (former_then c.args.self.now.reftable c.taking.self.reftable c.take.new.self.reftable c.args.file.now.free_list c.taking.file.free_list c.take.new.file.free_list c.taking.invariant.former c.take.ensures.former) (ap (λ t. t.reftable) w.self-is) (ap (λ f. f.free_list) w.file-is)
+returns-in-Err-clause-former g c = elim c.if-not-is_fault.branch [
+  | then-not-is_fault+in_ok-give_back-in-Err w ↦ former_still c.args.self.now.reftable c.take.new.self.reftable c.if-not-is_fault.self.reftable c.args.file.now.free_list c.take.new.file.free_list c.if-not-is_fault.file.free_list (former_then c.args.self.now.reftable c.taking.self.reftable c.take.new.self.reftable c.args.file.now.free_list c.taking.file.free_list c.take.new.file.free_list c.taking.invariant.former c.take.ensures.former)
+      (ap (λ t. t.reftable) w.self-is ∙ w.give_back-then-not-is_fault.ensures.reftable) (ap (λ f. f.free_list) w.file-is ∙ w.give_back-then-not-is_fault.ensures.list)
+  | else-not-is_fault w ↦ former_still c.args.self.now.reftable c.take.new.self.reftable c.if-not-is_fault.self.reftable c.args.file.now.free_list c.take.new.file.free_list c.if-not-is_fault.file.free_list (former_then c.args.self.now.reftable c.taking.self.reftable c.take.new.self.reftable c.args.file.now.free_list c.taking.file.free_list c.take.new.file.free_list c.taking.invariant.former c.take.ensures.former) (ap (λ t. t.reftable) w.self-is) (ap (λ f. f.free_list) w.file-is)
 ]
 
 pub returns-in_err-give_back-in-Ok-false-clause-marks : goal.returns-in_err-give_back-in-Ok-false-clause-marks
@@ -385,16 +385,16 @@ pub returns-in_err-give_back-in-Ok-false-clause-header : goal.returns-in_err-giv
 returns-in_err-give_back-in-Ok-false-clause-header g c = header_then c.args.file.now.header c.take.new.file.header c.give_back.new.file.header (header_then c.args.file.now.header c.taking.file.header c.take.new.file.header c.taking.invariant.header c.take.ensures.header) (header_same c.take.new.file.header c.give_back.new.file.header c.give_back.ensures.header)
 
 pub returns-in_err-give_back-in-Err-clause-marks : goal.returns-in_err-give_back-in-Err-clause-marks
-returns-in_err-give_back-in-Err-clause-marks g c = marks_then _ _ _ (marks_then _ _ _ c.taking.invariant.marks c.take.ensures.marks) c.give_back-then-not-ends_call.ensures.marks
+returns-in_err-give_back-in-Err-clause-marks g c = marks_then _ _ _ (marks_then _ _ _ c.taking.invariant.marks c.take.ensures.marks) c.give_back-then-not-is_fault.ensures.marks
 
 pub returns-in_err-give_back-in-Err-clause-order : goal.returns-in_err-give_back-in-Err-clause-order
-returns-in_err-give_back-in-Err-clause-order g c = c.give_back-then-not-ends_call.ensures.order ∙ c.take.ensures.order ∙ c.taking.invariant.order
+returns-in_err-give_back-in-Err-clause-order g c = c.give_back-then-not-is_fault.ensures.order ∙ c.take.ensures.order ∙ c.taking.invariant.order
 
 pub returns-in_err-give_back-in-Err-clause-cause : goal.returns-in_err-give_back-in-Err-clause-cause
 returns-in_err-give_back-in-Err-clause-cause g c = handed_cause c.from_residual-in_err-give_back-in-Err.result c.in_err-give_back-in-Err.field-0.0 c.from_residual-in_err-give_back-in-Err.ensures c.in_err-give_back-in-Err.ensures.cause
 
 pub returns-in_err-give_back-in-Err-clause-storage_faults : goal.returns-in_err-give_back-in-Err-clause-storage_faults
-returns-in_err-give_back-in-Err-clause-storage_faults g c = told_after _ _ _ c.give_back-then-not-ends_call.result c.in_err-give_back-in-Err.field-0.0 c.from_residual-in_err-give_back-in-Err.result (le_trans c.taking.invariant.faults c.take.ensures.storage_faults.no_fewer) c.give_back-then-not-ends_call.ensures.storage_faults c.in_err-give_back-in-Err.was c.from_residual-in_err-give_back-in-Err.ensures
+returns-in_err-give_back-in-Err-clause-storage_faults g c = told_after _ _ _ c.give_back-then-not-is_fault.result c.in_err-give_back-in-Err.field-0.0 c.from_residual-in_err-give_back-in-Err.result (le_trans c.taking.invariant.faults c.take.ensures.storage_faults.no_fewer) c.give_back-then-not-is_fault.ensures.storage_faults c.in_err-give_back-in-Err.was c.from_residual-in_err-give_back-in-Err.ensures
 
 pub returns-in_err-give_back-in-Err-clause-noted : goal.returns-in_err-give_back-in-Err-clause-noted
 returns-in_err-give_back-in-Err-clause-noted g c = if_no_ok _ c.from_residual-in_err-give_back-in-Err.result c.in_err-give_back-in-Err.field-0.0 c.from_residual-in_err-give_back-in-Err.ensures
@@ -406,7 +406,7 @@ pub returns-in_err-give_back-in-Err-clause-used : goal.returns-in_err-give_back-
 returns-in_err-give_back-in-Err-clause-used g c = λ _ _ _ _. if_no_ok _ c.from_residual-in_err-give_back-in-Err.result c.in_err-give_back-in-Err.field-0.0 c.from_residual-in_err-give_back-in-Err.ensures
 
 pub returns-in_err-give_back-in-Err-clause-header : goal.returns-in_err-give_back-in-Err-clause-header
-returns-in_err-give_back-in-Err-clause-header g c = header_then c.args.file.now.header c.take.new.file.header c.give_back-then-not-ends_call.new.file.header (header_then c.args.file.now.header c.taking.file.header c.take.new.file.header c.taking.invariant.header c.take.ensures.header) (header_same c.take.new.file.header c.give_back-then-not-ends_call.new.file.header c.give_back-then-not-ends_call.ensures.header)
+returns-in_err-give_back-in-Err-clause-header g c = header_then c.args.file.now.header c.take.new.file.header c.give_back-then-not-is_fault.new.file.header (header_then c.args.file.now.header c.taking.file.header c.take.new.file.header c.taking.invariant.header c.take.ensures.header) (header_same c.take.new.file.header c.give_back-then-not-is_fault.new.file.header c.give_back-then-not-is_fault.ensures.header)
 
 pub returns-in-Ok-false-clause-marks : goal.returns-in-Ok-false-clause-marks
 returns-in-Ok-false-clause-marks g c = marks_then _ _ _ (marks_then _ _ _ c.taking.invariant.marks c.take.ensures.marks) c.give_back.ensures.marks
@@ -448,25 +448,25 @@ pub returns-in-Err-clause-cause : goal.returns-in-Err-clause-cause
 returns-in-Err-clause-cause g c = c.in-Err.ensures.cause
 
 pub returns-in-Err-clause-marks : goal.returns-in-Err-clause-marks
-returns-in-Err-clause-marks g c = elim c.if-not-ends_call.branch [
-  | then-not-ends_call+in_ok-give_back-in-Err w ↦ subst (λ (f : ImageFile g.row.S.Denot). KeepsMarks c.args.file.now.caches f.caches) (sym w.file-is) (marks_then _ _ _ (marks_then _ _ _ c.taking.invariant.marks c.take.ensures.marks) w.give_back-then-not-ends_call.ensures.marks)
-  | else-not-ends_call w ↦ subst (λ (f : ImageFile g.row.S.Denot). KeepsMarks c.args.file.now.caches f.caches) (sym w.file-is) (marks_then _ _ _ c.taking.invariant.marks c.take.ensures.marks)
+returns-in-Err-clause-marks g c = elim c.if-not-is_fault.branch [
+  | then-not-is_fault+in_ok-give_back-in-Err w ↦ subst (λ (f : ImageFile g.row.S.Denot). KeepsMarks c.args.file.now.caches f.caches) (sym w.file-is) (marks_then _ _ _ (marks_then _ _ _ c.taking.invariant.marks c.take.ensures.marks) w.give_back-then-not-is_fault.ensures.marks)
+  | else-not-is_fault w ↦ subst (λ (f : ImageFile g.row.S.Denot). KeepsMarks c.args.file.now.caches f.caches) (sym w.file-is) (marks_then _ _ _ c.taking.invariant.marks c.take.ensures.marks)
 ]
 
 pub returns-in-Err-clause-header : goal.returns-in-Err-clause-header
-returns-in-Err-clause-header g c = elim c.if-not-ends_call.branch [
-  | then-not-ends_call+in_ok-give_back-in-Err w ↦ subst (λ (f : ImageFile g.row.S.Denot). KeepsHeader c.args.file.now.header f.header) (sym w.file-is) (header_then c.args.file.now.header c.take.new.file.header w.give_back-then-not-ends_call.new.file.header (header_then c.args.file.now.header c.taking.file.header c.take.new.file.header c.taking.invariant.header c.take.ensures.header) (header_same c.take.new.file.header w.give_back-then-not-ends_call.new.file.header w.give_back-then-not-ends_call.ensures.header))
-  | else-not-ends_call w ↦ subst (λ (f : ImageFile g.row.S.Denot). KeepsHeader c.args.file.now.header f.header) (sym w.file-is) (header_then c.args.file.now.header c.taking.file.header c.take.new.file.header c.taking.invariant.header c.take.ensures.header)
+returns-in-Err-clause-header g c = elim c.if-not-is_fault.branch [
+  | then-not-is_fault+in_ok-give_back-in-Err w ↦ subst (λ (f : ImageFile g.row.S.Denot). KeepsHeader c.args.file.now.header f.header) (sym w.file-is) (header_then c.args.file.now.header c.take.new.file.header w.give_back-then-not-is_fault.new.file.header (header_then c.args.file.now.header c.taking.file.header c.take.new.file.header c.taking.invariant.header c.take.ensures.header) (header_same c.take.new.file.header w.give_back-then-not-is_fault.new.file.header w.give_back-then-not-is_fault.ensures.header))
+  | else-not-is_fault w ↦ subst (λ (f : ImageFile g.row.S.Denot). KeepsHeader c.args.file.now.header f.header) (sym w.file-is) (header_then c.args.file.now.header c.taking.file.header c.take.new.file.header c.taking.invariant.header c.take.ensures.header)
 ]
 
 pub returns-in-Err-clause-order : goal.returns-in-Err-clause-order
-returns-in-Err-clause-order g c = elim c.if-not-ends_call.branch [
-  | then-not-ends_call+in_ok-give_back-in-Err w ↦ ap (λ (f : ImageFile g.row.S.Denot). order_of f.caches) w.file-is ∙ w.give_back-then-not-ends_call.ensures.order ∙ c.take.ensures.order ∙ c.taking.invariant.order
-  | else-not-ends_call w ↦ ap (λ (f : ImageFile g.row.S.Denot). order_of f.caches) w.file-is ∙ c.take.ensures.order ∙ c.taking.invariant.order
+returns-in-Err-clause-order g c = elim c.if-not-is_fault.branch [
+  | then-not-is_fault+in_ok-give_back-in-Err w ↦ ap (λ (f : ImageFile g.row.S.Denot). order_of f.caches) w.file-is ∙ w.give_back-then-not-is_fault.ensures.order ∙ c.take.ensures.order ∙ c.taking.invariant.order
+  | else-not-is_fault w ↦ ap (λ (f : ImageFile g.row.S.Denot). order_of f.caches) w.file-is ∙ c.take.ensures.order ∙ c.taking.invariant.order
 ]
 
 pub returns-in-Err-clause-storage_faults : goal.returns-in-Err-clause-storage_faults
-returns-in-Err-clause-storage_faults g c = elim c.if-not-ends_call.branch [
-  | then-not-ends_call+in_ok-give_back-in-Err w ↦ subst (λ (f : ImageFile g.row.S.Denot). FaultsTold {T = ℕ} (faults_of g.S.Storage.view c.args.file.now.storage) (faults_of g.S.Storage.view f.storage) (Err c.in-Err.refusal)) (sym w.file-is) (told_still _ _ _ _ (told_since _ _ _ c.taking.invariant.faults (told_err _ _ c.in-Err.refusal c.in-Err.ensures.storage_faults)) w.give_back-then-not-ends_call.ensures.storage_faults.no_fewer)
-  | else-not-ends_call w ↦ subst (λ (f : ImageFile g.row.S.Denot). FaultsTold {T = ℕ} (faults_of g.S.Storage.view c.args.file.now.storage) (faults_of g.S.Storage.view f.storage) (Err c.in-Err.refusal)) (sym w.file-is) (told_since _ _ _ c.taking.invariant.faults (told_err _ _ c.in-Err.refusal c.in-Err.ensures.storage_faults))
+returns-in-Err-clause-storage_faults g c = elim c.if-not-is_fault.branch [
+  | then-not-is_fault+in_ok-give_back-in-Err w ↦ subst (λ (f : ImageFile g.row.S.Denot). FaultsTold {T = ℕ} (faults_of g.S.Storage.view c.args.file.now.storage) (faults_of g.S.Storage.view f.storage) (Err c.in-Err.refusal)) (sym w.file-is) (told_still _ _ _ _ (told_since _ _ _ c.taking.invariant.faults (told_err _ _ c.in-Err.refusal c.in-Err.ensures.storage_faults)) w.give_back-then-not-is_fault.ensures.storage_faults.no_fewer)
+  | else-not-is_fault w ↦ subst (λ (f : ImageFile g.row.S.Denot). FaultsTold {T = ℕ} (faults_of g.S.Storage.view c.args.file.now.storage) (faults_of g.S.Storage.view f.storage) (Err c.in-Err.refusal)) (sym w.file-is) (told_since _ _ _ c.taking.invariant.faults (told_err _ _ c.in-Err.refusal c.in-Err.ensures.storage_faults))
 ]

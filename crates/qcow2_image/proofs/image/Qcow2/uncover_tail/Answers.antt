@@ -1,7 +1,8 @@
-use Rattle.std.proofs.Common.{◌∙◌, arith, Err}
+use Rattle.std.proofs.Common.{◌∙◌, arith, refl, Some, None, Err}
+use Rattle.qcow2_alloc.proofs.Outcomes.{not_both}
 use Rattle.qcow2_image.specs.ImageInvariant.{pending_in}
 use Rattle.qcow2_image.proofs.Sizing.Shrinking.{next_so_far, none_so_far, tail_refused, tail_stops}
-use Rattle.qcow2_image.proofs.Call.FaultCounts.{counted_as, fewer_then, stopped_tells}
+use Rattle.qcow2_image.proofs.Call.FaultCounts.{counted_as, fewer_then}
 use Rattle.qcow2_image.specs.Faults.{CountsImageFaults}
 use Rattle.qcow2_image.proofs.image.Qcow2.uncover_tail.Goals as goal
 
@@ -22,30 +23,41 @@ loop-at-preserved g c = record {
   faults = fewer_then g.S.Storage.view g.F.BackingDisk.backing c.args.self.now c.loop-at.self c.uncover_from.new.self c.loop-at.invariant.faults c.uncover_from.ensures.faults.no_fewer;
 }
 
+pub returns-then-is_fault-clause-uncovers : goal.returns-then-is_fault-clause-uncovers
+returns-then-is_fault-clause-uncovers g c = λ out sound.
+    tail_refused g.S.Storage.view g.F.BackingDisk.backing c.args.self.now c.loop-at.self c.uncover_from.new.self c.args.size c.loop-at.at c.size-end.result c.loop-at.invariant.turns (omega (arith, c.loop-at-test.true)) c.in-Err.refusal c.in-Err.ensures.uncovers out sound
+    (Some c.in-Err.refusal) (refl, c.is_fault.ensures.0 c.if-is_fault.true) (λ none. absurd (cc))
+
 pub returns-in-Err-clause-uncovers : goal.returns-in-Err-clause-uncovers
 returns-in-Err-clause-uncovers g c = λ out sound.
     tail_refused g.S.Storage.view g.F.BackingDisk.backing c.args.self.now c.loop-at.self c.uncover_from.new.self c.args.size c.loop-at.at c.size-end.result c.loop-at.invariant.turns (omega (arith, c.loop-at-test.true)) c.in-Err.refusal c.in-Err.ensures.uncovers out sound
-    c.ends_call.result c.ends_call.ensures.some c.ends_call.ensures.none
+    None tt (λ _ fault. not_both c.is_fault.result (c.is_fault.ensures.1 fault) c.if-is_fault.false)
+
+pub returns-then-is_fault-clause-stops : goal.returns-then-is_fault-clause-stops
+returns-then-is_fault-clause-stops g c = λ none out sound unprepared is lt. absurd (cc)
 
 pub returns-in-Err-clause-stops : goal.returns-in-Err-clause-stops
 returns-in-Err-clause-stops g c = λ none out sound unprepared is lt.
     tail_stops g.S.Storage.view g.F.BackingDisk.backing out c.args.self.now c.loop-at.self c.uncover_from.new.self c.args.size c.loop-at.at c.size-end.result c.loop-at.invariant.turns c.in-Err.refusal
-    (λ none sound unprepared. c.in-Err.ensures.stops none out sound unprepared) none sound unprepared (c.ends_call.ensures.none is)
+    (λ none sound unprepared. c.in-Err.ensures.stops none out sound unprepared) none sound unprepared (λ fault. not_both c.is_fault.result (c.is_fault.ensures.1 fault) c.if-is_fault.false)
 
 pub returns-clause-stops : goal.returns-clause-stops
 returns-clause-stops g c = λ none out sound unprepared is lt.
     let last = c.loop-at.invariant.turns.last in
     absurd (omega (arith, lt, last, c.loop-at-test.false))
 
-pub returns-in-Err-clause-faults : goal.returns-in-Err-clause-faults
-returns-in-Err-clause-faults g c =
+pub returns-then-is_fault-clause-faults : goal.returns-then-is_fault-clause-faults
+returns-then-is_fault-clause-faults g c =
     let view = g.S.Storage.view in
     let below = g.F.BackingDisk.backing in
     let old = c.args.self.now in
-    let e = c.in-Err.refusal in
     let new = c.uncover_from.new.self in
-    let told : CountsImageFaults view below {T = Unit {0}} old c.uncover_from.new.self (Err c.in-Err.refusal) = counted_as view below old c.loop-at.self new c.uncover_from.result e c.loop-at.invariant.faults c.uncover_from.ensures.faults c.in-Err.is in
-    (told.no_fewer, stopped_tells view below old new e c.ends_call.result told.rose c.ends_call.ensures.some)
+    let told : CountsImageFaults view below {T = Unit {0}} old new (Err c.in-Err.refusal) = counted_as view below old c.loop-at.self new c.uncover_from.result c.in-Err.refusal c.loop-at.invariant.faults c.uncover_from.ensures.faults c.in-Err.is in
+    (told.no_fewer, told.rose)
+
+pub returns-in-Err-clause-faults : goal.returns-in-Err-clause-faults
+returns-in-Err-clause-faults g c =
+    (fewer_then g.S.Storage.view g.F.BackingDisk.backing c.args.self.now c.loop-at.self c.uncover_from.new.self c.loop-at.invariant.faults c.uncover_from.ensures.faults.no_fewer, tt)
 
 pub returns-clause-faults : goal.returns-clause-faults
 returns-clause-faults g c = (c.loop-at.invariant.faults, tt)
