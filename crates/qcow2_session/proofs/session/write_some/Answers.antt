@@ -1,4 +1,5 @@
 use Rattle.std.proofs.Common.{◌≡◌, sym, subst, ap, ◌∙◌, Err, [], ◌∷◌, Some, None, min, length, refl, arith}
+use Rattle.std.specs.Prelude.{IfSome, Option, Result}
 use Rattle.qcow2_disk.specs.Mappings.{gift_of}
 use Rattle.qcow2_disk.specs.AbstractImages.{Setting, guest_of}
 use Rattle.qcow2_image.specs.Calls.{refusal_of, Commits}
@@ -16,6 +17,14 @@ use Rattle.qcow2_image.proofs.Map.Unmodified.{read_same, read_then}
 use Rattle.qcow2_session.proofs.Unwritten.{nothing_prepared, prepare_same, put_same, read_let_go}
 use Rattle.qcow2_image.specs.declared.image.Qcow2.{Qcow2}
 use Rattle.qcow2_session.proofs.session.write_some.Goals as goal
+
+-- what refused a call that begins another one before any work refused that one
+one_cause : {A E : Type 0} (r : Result A E) (e x : E) → r ≡ Err e → r ≡ Err x → e ≡ x
+one_cause r e x was is = cc
+
+early_handed : {A B E : Type 0} (S : Type 0) (o : Option E) (r : Result A E) (e : E) (r' : Result B E) → IfSome o (λ x. (r ≡ Err x) × S) → r ≡ Err e → r' ≡ Err e → IfSome o (λ x. (r' ≡ Err x) × S)
+early_handed S None r e r' early was handed = tt
+early_handed S (Some x) r e r' early was handed = (handed ∙ ap Err (one_cause r e x was early.0), early.1)
 
 pub returns-in_err-prepared-clause-sees : goal.returns-in_err-prepared-clause-sees
 returns-in_err-prepared-clause-sees g c =
@@ -146,3 +155,8 @@ returns-in-Err-Kept-clause-unwritten g c = λ reading out sound clean.
     let goes = c.commit_data_mapping.ensures.existing (c.in_ok-prepared.ensures.own ∙ sym (ap number_of same)) (ap is_failed same ∙ sound.works) none.0 in
     let second = read_then view first (read_let_go view put c.commit_data_mapping.new.self goes.1 first.unmodified) in
     read_then view second (read_let_go view c.commit_data_mapping.new.self c.release-in-Err-Kept.new.image c.release-in-Err-Kept.ensures.rest second.unmodified)
+
+pub returns-in_err-prepared-clause-early : goal.returns-in_err-prepared-clause-early
+returns-in_err-prepared-clause-early g c =
+    early_handed _ (refuses_to_prepare c.args.image.now c.args.offset (length c.args.bytes.now)) c.prepare_data_mapping.result c.in_err-prepared.field-0.0 c.from_residual.result
+    c.prepare_data_mapping.ensures.early c.in_err-prepared.was (refused_is _ c.in_err-prepared.field-0.0 c.from_residual.ensures)
