@@ -1,4 +1,5 @@
 use Rattle.std.proofs.Common.{◌≡◌, sym, subst, ap, ◌∙◌, Err, [], ◌∷◌, Some, None, min, length, refl, arith}
+use Rattle.std.specs.Prelude.{IfSome, Option, Result}
 use Rattle.qcow2_disk.specs.Mappings.{gift_of}
 use Rattle.qcow2_disk.specs.AbstractImages.{Setting, guest_of}
 use Rattle.qcow2_image.specs.Calls.{refusal_of, Commits}
@@ -26,6 +27,14 @@ use Rattle.qcow2_image.specs.Clearing.{IsUnderMapping}
 use Rattle.qcow2_image.specs.Refusals.{IsMet, IsMetPreparing}
 use Rattle.qcow2_session.proofs.Parts.{not_failed_yet, prepares_usable, put_met, under_taken}
 use Rattle.qcow2_session.proofs.session.write_some.Goals as goal
+
+-- what refused a call that begins another one before any work refused that one
+one_cause : {A E : Type 0} (r : Result A E) (e x : E) → r ≡ Err e → r ≡ Err x → e ≡ x
+one_cause r e x was is = cc
+
+early_handed : {A B E : Type 0} (S : Type 0) (o : Option E) (r : Result A E) (e : E) (r' : Result B E) → IfSome o (λ x. (r ≡ Err x) × S) → r ≡ Err e → r' ≡ Err e → IfSome o (λ x. (r' ≡ Err x) × S)
+early_handed S None r e r' early was handed = tt
+early_handed S (Some x) r e r' early was handed = (handed ∙ ap Err (one_cause r e x was early.0), early.1)
 
 pub returns-in_err-prepared-clause-sees : goal.returns-in_err-prepared-clause-sees
 returns-in_err-prepared-clause-sees g c =
@@ -200,3 +209,8 @@ pub returns-in-Err-Kept-clause-taken : goal.returns-in-Err-Kept-clause-taken
 returns-in-Err-Kept-clause-taken g c = λ none out sound is. absurd (subst IsMet is (subst (λ r. IsMet (reason_of r)) c.in-Err-Kept.field-0-is
     (c.in-Err-Kept.ensures.late (c.in_ok-prepared.ensures.own ∙ sym (c.write_mapped.ensures.image.number ∙ c.prepare_data_mapping.ensures.image.number))
     (c.in_default.ensures.marks ∙ c.in_ok-prepared.ensures.marks ∙ not_failed_yet c.args.image.now c.prepare_data_mapping.new.self c.prepare_data_mapping.ensures.image (prepares_usable c.args.image.now c.args.offset (length c.args.bytes.now) none)))))
+
+pub returns-in_err-prepared-clause-early : goal.returns-in_err-prepared-clause-early
+returns-in_err-prepared-clause-early g c =
+    early_handed _ (refuses_to_prepare c.args.image.now c.args.offset (length c.args.bytes.now)) c.prepare_data_mapping.result c.in_err-prepared.field-0.0 c.from_residual.result
+    c.prepare_data_mapping.ensures.early c.in_err-prepared.was (refused_is _ c.in_err-prepared.field-0.0 c.from_residual.ensures)
