@@ -17,6 +17,7 @@ pub mod CacheMarks
 pub mod ImageFile
 pub mod Allocation
 pub mod LowestRuns
+pub mod KeptAllocators
 pub mod FreeList
 pub mod Growing
 pub mod Leaks

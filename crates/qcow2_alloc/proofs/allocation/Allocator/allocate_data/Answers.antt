@@ -36,7 +36,7 @@ pub returns-in_err-l2_depends_on_rb-clause-hint : goal.returns-in_err-l2_depends
 returns-in_err-l2_depends_on_rb-clause-hint g c = λ p sound hint.
     let one = becomes_cached g.S.Storage.view p c.args.file.now c.args.self.now c.l2_depends_on_rb.new.storage c.l2_depends_on_rb.new.self sound (c.l2_depends_on_rb.ensures.keeps c.args.file.now.header.fields p sound.sound.honest sound.sound.caches) c.l2_depends_on_rb.ensures.marks in
     let file : ImageFile g.row.S.Denot = record c.args.file.now { storage = c.l2_depends_on_rb.new.storage; caches = c.l2_depends_on_rb.new.self } in
-    handed_on (KeepsNoFreeBelowHint g.S.Storage.view c.args.self.now file) c.from_residual.result c.in_err-l2_depends_on_rb.field-0.0 c.from_residual.ensures (λ other. hint_stays g.S.Storage.view p c.args.file.now file c.args.self.now c.args.self.now one refl hint)
+    handed_on (KeepsNoFreeBelowHint g.S.Storage.view c.args.self.now file) c.from_residual.result c.in_err-l2_depends_on_rb.field-0.0 c.from_residual.ensures (inl (hint_stays g.S.Storage.view p c.args.file.now file c.args.self.now c.args.self.now one refl hint))
 
 pub returns-clause-lowest : goal.returns-clause-lowest
 returns-clause-lowest g c = λ p sound hint.
