@@ -26,7 +26,6 @@ use Rattle.qcow2_alloc.specs.MetadataCaches.{rb_at}
 use Rattle.qcow2_alloc.specs.declared.cache.MetadataCaches.{MetadataCaches}
 use Rattle.std.proofs.lemmas.Bool.Decides.{nat_tests}
 use Rattle.qcow2_alloc.specs.LowestRuns.{IsUsed, IsLowestRun, NoFreeBelowHint, KeepsNoFreeBelowHint, KeepsUsed, BrokeOff}
-use Rattle.qcow2_alloc.proofs.AllocationSteps.{still_sound}
 use Rattle.qcow2_alloc.proofs.FileSteps.{one_here}
 use Rattle.qcow2_alloc.proofs.Runs.{none_there, run_in}
 

@@ -18,6 +18,7 @@ pub mod ImageFile
 pub mod Allocation
 pub mod LowestRuns
 pub mod KeptAllocators
+pub mod SoundAllocators
 pub mod FreeList
 pub mod Growing
 pub mod Leaks

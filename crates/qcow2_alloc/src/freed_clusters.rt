@@ -7,6 +7,7 @@ ghost use Rattle.qcow2_alloc.specs.FreeList.{run_of, with_listed, but, GoOffInOr
 ghost use Rattle.qcow2_alloc.specs.CacheMarks.{KeepsMarks};
 ghost use Rattle.qcow2_alloc.specs.Faults.{CountsFaults};
 ghost use Rattle.qcow2_alloc.specs.Leaks.{TriesToLower, LowersOrLeaks};
+ghost use Rattle.qcow2_alloc.specs.SoundAllocators.{SoundAllocator};
 ghost use Rattle.qcow2_alloc.specs.LowestRuns.{NoFreeBelowHint, KeepsNoFreeBelowHint, KeepsUsedBut};
 ghost use Rattle.qcow2_alloc.specs.ImageError.{IsOfTables};
 ghost use Rattle.qcow2_alloc.specs.ImageFile.{AllocatorInvariant};
@@ -94,7 +95,7 @@ impl Allocator {
         ensures header { file.new.header ≡ file.old.header }
         ensures cause { IfErr result IsOfTables }
         ensures storage_faults { CountsFaults S.view file.old.storage file.new.storage result }
-        ensures hint { (p : Pending) → AllocatorInvariant S.view self.old (with_listed p file.old.free_list) file.old → NoFreeBelowHint S.view self.old file.old → KeepsNoFreeBelowHint S.view self.new file.new result }
+        ensures hint { (p : Pending) → SoundAllocator S.view self.old (with_listed p file.old.free_list) file.old → KeepsNoFreeBelowHint S.view self.new file.new result }
     {
         self.free_kind(file, ClusterKind::Metadata)?;
         if file.free_list.is_empty() {

@@ -81,7 +81,7 @@ pub returns-in_err-grow_reftable-clause-limit : goal.returns-in_err-grow_reftabl
 returns-in_err-grow_reftable-clause-limit g c = λ p sound hint near.
     handed_on (λ (r : Result (Unit {0}) ImageError). IfErr r (IsFaultOr (CantCount g.S.Storage.view c.grow_reftable.new.file (λ k. 0) c.grow_reftable.new.self c.args.cluster))) c.from_residual.result c.in_err-grow_reftable.field-0.0 c.from_residual.ensures
     (grown_why g.S.Storage.view c.args.file.now c.grow_reftable.new.file c.args.self.now c.grow_reftable.new.self c.args.cluster c.rb_bits.result c.in_err-grow_reftable.field-0.0 c.rb_bits.ensures.counts c.grow_reftable.ensures.header
-    (not_below (c.args.cluster / 2 ^ c.rb_bits.result) (entry_count c.args.self.now.reftable) c.in_bounds.result c.in_bounds.ensures c.if-in_bounds.false) (c.in_err-grow_reftable.ensures.limit p sound hint))
+    (not_below (c.args.cluster / 2 ^ c.rb_bits.result) (entry_count c.args.self.now.reftable) c.in_bounds.result c.in_bounds.ensures c.if-in_bounds.false) (c.in_err-grow_reftable.ensures.limit p (record { sound = sound; hint = hint })))
 
 pub returns-clause-limit : goal.returns-clause-limit
 returns-clause-limit g c = λ p sound hint near.
