@@ -1,4 +1,4 @@
-use Rattle.std.proofs.Common.{sym, ap, subst}
+use Rattle.std.proofs.Common.{sym, ap, subst, arith}
 use Rattle.qcow2_image.proofs.Open.Opening.{fresh_read, fresh_then, stays_then, told_fresh, kept_then}
 use Rattle.qcow2_image.proofs.Open.Clearing.{stays_after, kept_after}
 use Rattle.qcow2_image.proofs.image.Qcow2.load_allocator.Goals as goal
@@ -16,8 +16,13 @@ returns-clause-loaded g c = λ p fresh.
     let same = c.will_write.ensures.storage in
     let first = fresh_read view below p file c.will_write.new.self read.fresh (subst (λ s. (view s).is_honest) (sym same) read.fresh.sound.honest) (ap (λ s. (view s).contents) same) in
     let then = stays_then view below p file told new first
-    (stays_after view below p told first.fresh c.clear_autoclear.new.storage c.clear_autoclear.new.self cleared.ok cleared.calls.honest cleared.written (λ none. (cleared.untouched none).1) cleared.fields cleared.reads) in
-    (stays_then view below p old file new read then, then.reftable c.in_ok-allocator.allocator.reftable (c.in_ok-allocator.ensures.reftable fresh.sound.honest))
+    (stays_after view below p told first.fresh c.clear_autoclear.new.storage c.clear_autoclear.new.self cleared.ok cleared.calls.honest cleared.written (λ none. (cleared.untouched none).1) cleared.fields cleared.reads) in (
+      stays_then view below p old file new read then,
+      record {
+        reftable = then.reftable c.in_ok-allocator.allocator.reftable (c.in_ok-allocator.ensures.reftable fresh.sound.honest);
+        hint = λ k low. let first = c.in_ok-allocator.ensures.first in absurd (omega (arith, first, low));
+      },
+    )
 
 pub returns-clause-since : goal.returns-clause-since
 returns-clause-since g c = λ p fresh.
