@@ -1,5 +1,5 @@
 -- The first free cluster of an allocator over its steps: what is in use stays in use, but for what is given back.
-use Rattle.std.proofs.Common.{◌≡◌, ◌≢◌, inl, inr, ℕ, ◌==◌, IsTrue, IsSome, ◌+◌, ◌*◌, ◌/◌, ◌<◌, ◌≤◌, Bool, true, false, Option, Some, None, Result, Ok, Err, sym, ap, ◌∙◌, subst, refl, arith}
+use Rattle.std.proofs.Common.{◌≡◌, ◌≢◌, ◌⊎◌, inl, inr, ℕ, ◌==◌, IsTrue, IsSome, ◌+◌, ◌*◌, ◌/◌, ◌<◌, ◌≤◌, Bool, true, false, Option, Some, None, Result, Ok, Err, sym, ap, ◌∙◌, subst, refl, arith}
 use Rattle.std.specs.Option.{is_some}
 use Rattle.std.specs.Prelude.{OnOk}
 use Rattle.std.proofs.lemmas.Bool.{cases_eq, cases_lt}
@@ -25,8 +25,7 @@ use Rattle.qcow2_alloc.specs.ImageFile.{pending_at, contents_in, known_in, FileI
 use Rattle.qcow2_alloc.specs.MetadataCaches.{rb_at}
 use Rattle.qcow2_alloc.specs.declared.cache.MetadataCaches.{MetadataCaches}
 use Rattle.std.proofs.lemmas.Bool.Decides.{nat_tests}
-use Rattle.qcow2_alloc.specs.LowestRuns.{IsUsed, IsLowestRun, NoFreeBelowHint, KeepsNoFreeBelowHint, KeepsUsed}
-use Rattle.qcow2_alloc.proofs.AllocationSteps.{still_sound}
+use Rattle.qcow2_alloc.specs.LowestRuns.{IsUsed, IsLowestRun, NoFreeBelowHint, KeepsNoFreeBelowHint, KeepsUsed, BrokeOff}
 use Rattle.qcow2_alloc.proofs.FileSteps.{one_here}
 use Rattle.qcow2_alloc.proofs.Runs.{none_there, run_in}
 
@@ -60,6 +59,10 @@ owed_pending (Taken d) p n k = taken_pending d p n k
 owed_pending (Listed Data) p n k = omega arith
 owed_pending (Listed Metadata) p n k = omega arith
 
+-- a refusal that is no fault broke nothing off
+pub not_broken : {S : Type 0} {A : Type 0} (file : ImageFile S) (e : ImageError) → (IsFault e → ⊥) → A ⊎ BrokeOff file e → A
+not_broken file e other is = elim is [ inl so ↦ so | inr broke ↦ absurd (other broke.0) ]
+
 module _ {S : Type 0} (view : S → StorageView) where
   -- a cluster stays in use while no less is pending
   pub used_stays : (p p' : Pending) (a b : ImageFile S) (t : Allocator) (k : ℕ) → UnseenAllocatorStep view p a t b p' → pending_at p k ≤ pending_at p' k → IsUsed view a k → IsUsed view b k
@@ -88,13 +91,19 @@ module _ {S : Type 0} (view : S → StorageView) where
   pub hint_as : (file : ImageFile S) (t t' : Allocator) → t'.first_free_cluster ≡ t.first_free_cluster → NoFreeBelowHint view t file → NoFreeBelowHint view t' file
   hint_as file t t' same hint k below = hint k (subst (λ n. k < n) same below)
 
-  -- after a refusal that is no fault
-  pub hint_refused : (p : Pending) (a b : ImageFile S) (t t' : Allocator) (e : ImageError) → t'.first_free_cluster ≡ t.first_free_cluster → RefusedFileStep view p a t' b e → NoFreeBelowHint view t a → (IsFault e → ⊥) → NoFreeBelowHint view t' b
-  hint_refused p a b t t' e same leaves hint other = hint_stays p a b t t' (still_sound view p a b t' e other leaves) same hint
+  -- after a refusal
+  pub hint_refused : (p : Pending) (a b : ImageFile S) (t t' : Allocator) (e : ImageError) → t'.first_free_cluster ≡ t.first_free_cluster → RefusedFileStep view p a t' b e → NoFreeBelowHint view t a → NoFreeBelowHint view t' b ⊎ BrokeOff b e
+  hint_refused p a b t t' e same leaves hint = elim leaves [
+    | inl sound ↦ inl (hint_stays p a b t t' (record { moves = sound.0; reftable = sound.1 }) same hint)
+    | inr breaks ↦ inr (breaks.fault, breaks.noted)
+  ]
 
   -- ---- what was in use is in use
-  pub uses_refused : (p : Pending) (a b : ImageFile S) (t : Allocator) (e : ImageError) → RefusedFileStep view p a t b e → (IsFault e → ⊥) → (k : ℕ) → IsUsed view a k → IsUsed view b k
-  uses_refused p a b t e leaves other k used = used_stays p p a b t k (still_sound view p a b t e other leaves) (omega arith) used
+  pub uses_refused : (p : Pending) (a b : ImageFile S) (t : Allocator) (e : ImageError) → RefusedFileStep view p a t b e → ((k : ℕ) → IsUsed view a k → IsUsed view b k) ⊎ BrokeOff b e
+  uses_refused p a b t e leaves = elim leaves [
+    | inl sound ↦ inl (λ k used. used_stays p p a b t k (record { moves = sound.0; reftable = sound.1 }) (omega arith) used)
+    | inr breaks ↦ inr (breaks.fault, breaks.noted)
+  ]
 
   pub uses_got : (p : Pending) (a b : ImageFile S) (t : Allocator) (result : Result (Unit {0}) ImageError) → GetsBlock view p a t b result → KeepsUsed view a b result
   uses_got p a b t (Ok done) gets = λ k used. used_stays p p a b t k gets (omega arith) used
@@ -102,7 +111,7 @@ module _ {S : Type 0} (view : S → StorageView) where
 
   pub uses_then : {A : Type 0} (a b c : ImageFile S) (result : Result A ImageError) → ((k : ℕ) → IsUsed view a k → IsUsed view b k) → KeepsUsed view b c result → KeepsUsed view a c result
   uses_then a b c (Ok done) first second = λ k used. second k (first k used)
-  uses_then a b c (Err e) first second = λ other k used. second other k (first k used)
+  uses_then a b c (Err e) first second = elim second [ inl kept ↦ inl (λ k used. kept k (first k used)) | inr broke ↦ inr broke ]
 
   pub uses_raised : (p : Pending) (d : Bool) (cluster : ℕ) (a b : ImageFile S) (t : Allocator) (taken : Bool) → TakesOne view p a t b d cluster (Ok taken) → (k : ℕ) → IsUsed view a k → IsUsed view b k
   uses_raised p d cluster a b t true takes k used = used_stays p (taken_as d p (one_at cluster)) a b t k takes (let more = taken_pending d p (one_at cluster) k in omega (arith, more)) used
@@ -110,6 +119,19 @@ module _ {S : Type 0} (view : S → StorageView) where
 
   pub hint_used : (a b : ImageFile S) (t t' : Allocator) → t'.first_free_cluster ≡ t.first_free_cluster → ((k : ℕ) → IsUsed view a k → IsUsed view b k) → NoFreeBelowHint view t a → NoFreeBelowHint view t' b
   hint_used a b t t' same uses hint k below = uses k (hint k (subst (λ n. k < n) same below))
+
+  pub hint_or_broke : (a b : ImageFile S) (t t' : Allocator) (e : ImageError) → t'.first_free_cluster ≡ t.first_free_cluster → ((k : ℕ) → IsUsed view a k → IsUsed view b k) ⊎ BrokeOff b e → NoFreeBelowHint view t a → NoFreeBelowHint view t' b ⊎ BrokeOff b e
+  hint_or_broke a b t t' e same uses hint = elim uses [ inl kept ↦ inl (hint_used a b t t' same kept hint) | inr broke ↦ inr broke ]
+
+  -- clusters are given back that weren't in use at first
+  pub kept_then : (n : ℕ → ℕ) (a b c : ImageFile S) (e : ImageError) → ((k : ℕ) → IsUsed view a k → n k ≡ 0) → ((k : ℕ) → IsUsed view a k → IsUsed view b k)
+      → ((k : ℕ) → n k ≡ 0 → IsUsed view b k → IsUsed view c k) ⊎ BrokeOff c e → ((k : ℕ) → IsUsed view a k → IsUsed view c k) ⊎ BrokeOff c e
+  kept_then n a b c e free first second = elim second [ inl kept ↦ inl (λ k used. kept k (free k used) (first k used)) | inr broke ↦ inr broke ]
+
+  -- so it is where one of what is given back couldn't be
+  pub kept_refused : (n : ℕ → ℕ) (p : Pending) (a b c : ImageFile S) (t : Allocator) (e : ImageError) → RefusedFileStep view p b t c e → ((k : ℕ) → n k ≡ 0 → IsUsed view a k → IsUsed view b k)
+      → ((k : ℕ) → n k ≡ 0 → IsUsed view a k → IsUsed view c k) ⊎ BrokeOff c e
+  kept_refused n p a b c t e leaves first = elim (uses_refused p b c t e leaves) [ inl uses ↦ inl (λ k none used. uses k (first k none used)) | inr broke ↦ inr broke ]
 
   -- a range that has a refblock in the file has one in memory
   pub block_in_memory : (p : Pending) (file : ImageFile S) (t : EntryTableView) (range block : ℕ) → FileInvariant view p file → HasReftable view file t → RefblockAt view file range (Some block) → HasNone t range → ⊥
@@ -174,7 +196,7 @@ module _ {S : Type 0} (view : S → StorageView) where
         let none = none_there at k other in
         used_stays (taken_as false p (one_at at)) p mid new t' k placed.0 (omega (arith, none)) (hint k (subst (λ n. k < n) same below))
   ]
-  hint_placed p mid new t t' range at (Err e) same placed hint = λ other. absurd (other placed.0)
+  hint_placed p mid new t t' range at (Err e) same placed hint = hint_refused (taken_as false p (one_at at)) mid new t t' e same placed.1 hint
 
   -- a range got its refblock
   pub hint_got : (p : Pending) (old new : ImageFile S) (t t' : Allocator) (result : Result (Unit {0}) ImageError) → t'.first_free_cluster ≡ t.first_free_cluster → GetsBlock view p old t' new result → NoFreeBelowHint view t old → KeepsNoFreeBelowHint view t' new result

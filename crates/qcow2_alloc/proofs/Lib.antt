@@ -14,6 +14,7 @@ pub mod PlacedBlocks
 pub mod NamedBlocks
 pub mod CountsStay
 pub mod Hints
+pub mod KeptAllocators
 pub mod Freeing
 pub mod Following
 pub mod Leaks

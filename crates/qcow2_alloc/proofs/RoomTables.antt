@@ -1,5 +1,5 @@
 -- A longer reftable is written behind its refblocks, and stands ready then.
-use Rattle.std.proofs.Common.{◌≡◌, ℕ, ◌+◌, ◌*◌, ◌/◌, ◌%◌, ◌<◌, List, None, Result, Ok, Err, sym, ◌∙◌, subst, arith}
+use Rattle.std.proofs.Common.{◌≡◌, ℕ, ◌+◌, ◌*◌, ◌/◌, ◌%◌, ◌<◌, List, None, Result, Ok, Err, sym, ◌∙◌, subst, arith, inl, inr}
 use Rattle.std.proofs.lemmas.Nat.{mod_below}
 use Rattle.image_access.specs.Moments.{StorageView}
 use Rattle.qcow2_metadata.specs.Bytes.{Bytes}
@@ -69,7 +69,7 @@ stands_ready view file h old t first blocks clusters same grown stands counts cl
 -- after steps that leave the same pending
 pub uses_after : {S : Type 0} (view : S → StorageView) (q : Pending) (a b c : ImageFile S) (t : Allocator) (result : Result (Unit {0}) ImageError) → UnseenAllocatorStep view q a t b q → KeepsUsed view b c result → KeepsUsed view a c result
 uses_after view q a b c t (Ok x) first uses = λ k used. uses k (used_stays view q q a b t k first (omega arith) used)
-uses_after view q a b c t (Err e) first uses = λ other k used. uses other k (used_stays view q q a b t k first (omega arith) used)
+uses_after view q a b c t (Err e) first uses = elim uses [ inl kept ↦ inl (λ k used. kept k (used_stays view q q a b t k first (omega arith) used)) | inr broke ↦ inr broke ]
 
 -- the pointer is written after those
 pub names_then : {S : Type 0} (view : S → StorageView) (p : Pending) (a b c : ImageFile S) (u u' : Allocator) (t : EntryTableView) (first n : ℕ) → b.header.fields ≡ a.header.fields → (result : Result (Unit {0}) ImageError)

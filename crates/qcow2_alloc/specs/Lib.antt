@@ -17,6 +17,8 @@ pub mod CacheMarks
 pub mod ImageFile
 pub mod Allocation
 pub mod LowestRuns
+pub mod KeptAllocators
+pub mod SoundAllocators
 pub mod FreeList
 pub mod Growing
 pub mod Leaks

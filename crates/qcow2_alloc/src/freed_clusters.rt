@@ -7,7 +7,8 @@ ghost use Rattle.qcow2_alloc.specs.FreeList.{run_of, with_listed, but, GoOffInOr
 ghost use Rattle.qcow2_alloc.specs.CacheMarks.{KeepsMarks};
 ghost use Rattle.qcow2_alloc.specs.Faults.{CountsFaults};
 ghost use Rattle.qcow2_alloc.specs.Leaks.{TriesToLower, LowersOrLeaks};
-ghost use Rattle.qcow2_alloc.specs.LowestRuns.{NoFreeBelowHint, IsUsed};
+ghost use Rattle.qcow2_alloc.specs.SoundAllocators.{SoundAllocator};
+ghost use Rattle.qcow2_alloc.specs.LowestRuns.{NoFreeBelowHint, KeepsNoFreeBelowHint, KeepsUsedBut};
 ghost use Rattle.qcow2_alloc.specs.ImageError.{IsOfTables};
 ghost use Rattle.qcow2_alloc.specs.ImageFile.{AllocatorInvariant};
 ghost use Rattle.qcow2_alloc.specs.MetadataCaches.{order_of};
@@ -34,8 +35,8 @@ impl Allocator {
         ensures list { file.new.free_list ≡ file.old.free_list }
         ensures cause { IfErr result IsOfTables }
         ensures storage_faults { CountsFaults S.view file.old.storage file.new.storage result }
-        ensures hint { (p : Pending) (is_data : Bool) → AllocatorInvariant S.view self.old (taken_as is_data p (run_at first n)) file.old → NoFreeBelowHint S.view self.old file.old → OnOk result (NoFreeBelowHint S.view self.new file.new) }
-        ensures kept { (p : Pending) (is_data : Bool) → AllocatorInvariant S.view self.old (taken_as is_data p (run_at first n)) file.old → OnOk result ((k : ℕ) → run_at first n k ≡ 0 → IsUsed S.view file.old k → IsUsed S.view file.new k) }
+        ensures hint { (p : Pending) (is_data : Bool) → AllocatorInvariant S.view self.old (taken_as is_data p (run_at first n)) file.old → NoFreeBelowHint S.view self.old file.old → KeepsNoFreeBelowHint S.view self.new file.new result }
+        ensures kept { (p : Pending) (is_data : Bool) → AllocatorInvariant S.view self.old (taken_as is_data p (run_at first n)) file.old → KeepsUsedBut S.view (run_at first n) file.old file.new result }
     {
         if n == 0 {
             return Ok(());
@@ -65,7 +66,7 @@ impl Allocator {
         ensures list { file.new.free_list ≡ file.old.free_list }
         ensures cause { IfErr result IsOfTables }
         ensures storage_faults { CountsFaults S.view file.old.storage file.new.storage result }
-        ensures hint { (p : Pending) (owed : Owed) → AllocatorInvariant S.view self.old (owed_as owed p (one_at cluster)) file.old → MayLower owed file.old → NoFreeBelowHint S.view self.old file.old → OnOk result (NoFreeBelowHint S.view self.new file.new) }
+        ensures hint { (p : Pending) (owed : Owed) → AllocatorInvariant S.view self.old (owed_as owed p (one_at cluster)) file.old → MayLower owed file.old → NoFreeBelowHint S.view self.old file.old → KeepsNoFreeBelowHint S.view self.new file.new result }
     {
         match self.try_lower(file, cluster) {
             Ok(true) => return Ok(()),
@@ -93,7 +94,7 @@ impl Allocator {
         ensures header { file.new.header ≡ file.old.header }
         ensures cause { IfErr result IsOfTables }
         ensures storage_faults { CountsFaults S.view file.old.storage file.new.storage result }
-        ensures hint { (p : Pending) → AllocatorInvariant S.view self.old (with_listed p file.old.free_list) file.old → NoFreeBelowHint S.view self.old file.old → OnOk result (NoFreeBelowHint S.view self.new file.new) }
+        ensures hint { (p : Pending) → SoundAllocator S.view self.old (with_listed p file.old.free_list) file.old → KeepsNoFreeBelowHint S.view self.new file.new result }
     {
         self.free_kind(file, ClusterKind::Metadata)?;
         if file.free_list.is_empty() {
@@ -120,7 +121,7 @@ impl Allocator {
         ensures header { file.new.header ≡ file.old.header }
         ensures cause { IfErr result IsOfTables }
         ensures storage_faults { CountsFaults S.view file.old.storage file.new.storage result }
-        ensures hint { (p : Pending) → AllocatorInvariant S.view self.old (with_listed p file.old.free_list) file.old → MayFree kind file.old → NoFreeBelowHint S.view self.old file.old → OnOk result (NoFreeBelowHint S.view self.new file.new) }
+        ensures hint { (p : Pending) → AllocatorInvariant S.view self.old (with_listed p file.old.free_list) file.old → MayFree kind file.old → NoFreeBelowHint S.view self.old file.old → KeepsNoFreeBelowHint S.view self.new file.new result }
     {
         let mut taken = file.free_list.take();
         let done = self.free_taken(file, &mut taken, kind);
@@ -147,7 +148,7 @@ impl Allocator {
         ensures header { file.new.header ≡ file.old.header }
         ensures cause { IfErr result IsOfTables }
         ensures storage_faults { CountsFaults S.view file.old.storage file.new.storage result }
-        ensures hint { (p : Pending) → AllocatorInvariant S.view self.old (with_listed p (file.old.free_list ++ taken.old)) file.old → MayFree kind file.old → NoFreeBelowHint S.view self.old file.old → OnOk result (NoFreeBelowHint S.view self.new file.new) }
+        ensures hint { (p : Pending) → AllocatorInvariant S.view self.old (with_listed p (file.old.free_list ++ taken.old)) file.old → MayFree kind file.old → NoFreeBelowHint S.view self.old file.old → KeepsNoFreeBelowHint S.view self.new file.new result }
     {
         'freeing: while let Some(pending) = taken.next_pending() {
             self.free_or_list(file, pending, kind)?;
@@ -173,7 +174,7 @@ impl Allocator {
         ensures header { file.new.header ≡ file.old.header }
         ensures cause { IfErr result IsOfTables }
         ensures storage_faults { CountsFaults S.view file.old.storage file.new.storage result }
-        ensures hint { (p : Pending) → AllocatorInvariant S.view self.old (with_listed p (file.old.free_list ++ pending ∷ [])) file.old → MayFree kind file.old → NoFreeBelowHint S.view self.old file.old → OnOk result (NoFreeBelowHint S.view self.new file.new) }
+        ensures hint { (p : Pending) → AllocatorInvariant S.view self.old (with_listed p (file.old.free_list ++ pending ∷ [])) file.old → MayFree kind file.old → NoFreeBelowHint S.view self.old file.old → KeepsNoFreeBelowHint S.view self.new file.new result }
     {
         if pending.kind() == kind {
             return self.free_entry(file, pending);
@@ -199,7 +200,7 @@ impl Allocator {
         ensures header { file.new.header ≡ file.old.header }
         ensures cause { IfErr result IsOfTables }
         ensures storage_faults { CountsFaults S.view file.old.storage file.new.storage result }
-        ensures hint { (p : Pending) → AllocatorInvariant S.view self.old (with_listed p (file.old.free_list ++ pending ∷ [])) file.old → MayFree pending.kind file.old → NoFreeBelowHint S.view self.old file.old → OnOk result (NoFreeBelowHint S.view self.new file.new) }
+        ensures hint { (p : Pending) → AllocatorInvariant S.view self.old (with_listed p (file.old.free_list ++ pending ∷ [])) file.old → MayFree pending.kind file.old → NoFreeBelowHint S.view self.old file.old → KeepsNoFreeBelowHint S.view self.new file.new result }
     {
         let mut run = pending;
         match self.free_run(file, &mut run) {
@@ -232,7 +233,7 @@ impl Allocator {
         ensures list { file.new.free_list ≡ file.old.free_list }
         ensures cause { IfErr result IsOfTables }
         ensures storage_faults { CountsFaults S.view file.old.storage file.new.storage result }
-        ensures hint { (p : Pending) → AllocatorInvariant S.view self.old (listed_as run.old.kind p (run_of run.old)) file.old → MayFree run.old.kind file.old → NoFreeBelowHint S.view self.old file.old → OnOk result (NoFreeBelowHint S.view self.new file.new) }
+        ensures hint { (p : Pending) → AllocatorInvariant S.view self.old (listed_as run.old.kind p (run_of run.old)) file.old → MayFree run.old.kind file.old → NoFreeBelowHint S.view self.old file.old → KeepsNoFreeBelowHint S.view self.new file.new result }
     {
         'freeing: while run.count().value() > 0 {
             self.lower(file, run.cluster().value())?;
@@ -259,7 +260,7 @@ impl Allocator {
         ensures list { file.new.free_list ≡ file.old.free_list }
         ensures cause { IfErr result IsOfTables }
         ensures storage_faults { CountsFaults S.view file.old.storage file.new.storage result }
-        ensures hint { (p : Pending) (owed : Owed) → AllocatorInvariant S.view self.old (owed_as owed p (one_at cluster)) file.old → MayLower owed file.old → NoFreeBelowHint S.view self.old file.old → OnOk result (NoFreeBelowHint S.view self.new file.new) }
+        ensures hint { (p : Pending) (owed : Owed) → AllocatorInvariant S.view self.old (owed_as owed p (one_at cluster)) file.old → MayLower owed file.old → NoFreeBelowHint S.view self.old file.old → KeepsNoFreeBelowHint S.view self.new file.new result }
     {
         let bits = file.header.rb_bits();
         let Some(block) = self.load_block(file, cluster >> bits)? else {

@@ -12,8 +12,9 @@ use Rattle.qcow2_laws.proofs.Formats.{l1_format}
 use Rattle.qcow2_alloc.specs.CacheMarks.{l2_pins}
 use Rattle.qcow2_alloc.specs.declared.allocation.Allocator.{Allocator}
 use Rattle.qcow2_alloc.specs.declared.image_file.ImageFile.{ImageFile}
-use Rattle.qcow2_alloc.specs.ImageFile.{contents_in, known_in, UnseenFileStep, UnseenFileGrowth, HasReftable}
+use Rattle.qcow2_alloc.specs.ImageFile.{contents_in, known_in, UnseenFileStep, UnseenFileGrowth}
 use Rattle.qcow2_alloc.proofs.FileSteps.{moves_on}
+use Rattle.qcow2_alloc.specs.KeptAllocators.{IsAllocatorOf}
 use Rattle.qcow2_image.specs.declared.image.Qcow2.{Qcow2}
 use Rattle.qcow2_image.specs.declared.prepared.Prepared.{Prepared}
 use Rattle.qcow2_image.specs.UnseenSteps.{UnseenStep, ListGrows, UnseenFreeingStep}
@@ -22,7 +23,7 @@ use Rattle.qcow2_image.proofs.Formats.{l1_shared, ready_format}
 use Rattle.qcow2_image.proofs.Ready.{still_ready}
 
 module _ {S F : Type 0} (view : S → StorageView) (backing : F → BackingView) (old : Qcow2 S F) (out : List (Option Prepared)) (p p' : Pending) (sound : ImageInvariant view backing p old out)
-    (file : ImageFile S) (allocator : Option Allocator) (moves : UnseenFileGrowth view p p' old.file file) (reftable : IfSome allocator (λ a. HasReftable view file a.reftable))
+    (file : ImageFile S) (allocator : Option Allocator) (moves : UnseenFileGrowth view p p' old.file file) (reftable : IfSome allocator (IsAllocatorOf view file))
     (pins : (table : ℕ) → l2_pins file.caches table ≡ l2_pins old.file.caches table) where
   abbrev h : HeaderFields
   h = old.file.header.fields
@@ -76,7 +77,7 @@ module _ {S F : Type 0} (view : S → StorageView) (backing : F → BackingView)
 
 -- the reftable stays, and so does the list
 module _ {S F : Type 0} (view : S → StorageView) (backing : F → BackingView) (old : Qcow2 S F) (out : List (Option Prepared)) (p p' : Pending) (sound : ImageInvariant view backing p old out)
-    (file : ImageFile S) (allocator : Option Allocator) (moves : UnseenFileStep view p p' old.file file) (reftable : IfSome allocator (λ a. HasReftable view file a.reftable))
+    (file : ImageFile S) (allocator : Option Allocator) (moves : UnseenFileStep view p p' old.file file) (reftable : IfSome allocator (IsAllocatorOf view file))
     (pins : (table : ℕ) → l2_pins file.caches table ≡ l2_pins old.file.caches table) where
   pub file_moved : file.free_list ≡ old.file.free_list → UnseenStep view backing p p' old (record old { file = file; allocator = allocator }) out
   file_moved list = file_moved_on view backing old out p p' sound file allocator (moves_on view p p' old.file file moves) reftable pins (record { more = []; is = list ∙ sym (append-nil old.file.free_list) })

@@ -22,7 +22,8 @@ use Rattle.qcow2_alloc.specs.ClustersToFree.{data_entry}
 use Rattle.qcow2_alloc.specs.declared.image_file.ImageFile.{ImageFile}
 pub use Rattle.qcow2_alloc.specs.FreeList.{run_of, of_data, of_tables, to_free}
 use Rattle.qcow2_alloc.specs.MetadataCaches.{IsEntryAt}
-use Rattle.qcow2_alloc.specs.ImageFile.{l2_pins, view_in, contents_in, known_in, FileInvariant, HasReftable}
+use Rattle.qcow2_alloc.specs.ImageFile.{l2_pins, view_in, contents_in, known_in, FileInvariant}
+use Rattle.qcow2_alloc.specs.KeptAllocators.{IsAllocatorOf}
 use Rattle.qcow2_image.specs.declared.image.Qcow2.{Qcow2}
 use Rattle.qcow2_image.specs.declared.prepared.Prepared.{Prepared}
 use Rattle.qcow2_image.specs.declared.prepared.Share.{Share}
@@ -190,7 +191,7 @@ module _ {S F : Type 0} (view : S → StorageView) (backing : F → BackingView)
     pub works : is_failed image ≡ false
     pub file : FileInvariant view p image.file
     pub l1_table : HasL1Table image.file image.l1_table
-    pub reftable : IfSome image.allocator (λ a. HasReftable view image.file a.reftable)
+    pub reftable : IfSome image.allocator (IsAllocatorOf view image.file)
     pub below : IsHonestBacking image.backing
     pub ready : (k : ℕ) (q : Prepared) → slice_get out k ≡ Some (Some q) → IsReady image q
     pub pinned : (table : ℕ) → l2_pins image.file.caches table ≡ over_all pins_by out table

@@ -19,6 +19,7 @@ use Rattle.qcow2_alloc.specs.declared.error.ImageError.TheVariants.{Dependency, 
 use Rattle.qcow2_alloc.specs.ImageError.{IsFault}
 use Rattle.qcow2_alloc.specs.ImageFile.{l2_pins, nothing_given, view_in, FileInvariant, HasReftable}
 use Rattle.qcow2_alloc.specs.MetadataCaches.{known_of}
+use Rattle.qcow2_alloc.specs.KeptAllocators.{IsAllocatorOf}
 use Rattle.qcow2_image.specs.declared.image.Qcow2.{Qcow2}
 use Rattle.qcow2_image.specs.Image.{storage_of_image}
 use Rattle.qcow2_image.specs.ImageInvariant.{abstract_of, HasL1Table}
@@ -74,7 +75,7 @@ module _ {S F : Type 0} (view : S → StorageView) (backing : F → BackingView)
   pub record IsLoaded (p : Pending) (file : ImageFile S) (table : EntryTableView) (allocator : Option Allocator) : Type 0 where
     pub fresh : IsFresh p file
     pub l1_table : HasL1Table view backing file table
-    pub reftable : IfSome allocator (λ a. HasReftable view file a.reftable)
+    pub reftable : IfSome allocator (IsAllocatorOf view file)
 
   -- An image is sound as it is opened, and nothing is modified. Each cluster is counted as much more often than named as these bytes have it.
   pub record IsOpenedFrom (b : Bytes) (image : Qcow2 S F) : Type 0 where

@@ -76,7 +76,8 @@ impl<S: Storage, F: WrappedFormat<S>> Qcow2<S, F> {
     ghost use Rattle.image_access.specs.Moments.{ContentsStay, Passing};
     ghost use Rattle.qcow2_metadata.specs.Bytes.{byte_at};
     ghost use Rattle.qcow2_metadata.specs.Consistent.{IsConsistent};
-    ghost use Rattle.qcow2_alloc.specs.ImageFile.{view_in, HasReftable};
+    ghost use Rattle.qcow2_alloc.specs.ImageFile.{view_in};
+    ghost use Rattle.qcow2_alloc.specs.KeptAllocators.{IsAllocatorOf};
     ghost use Rattle.qcow2_image.specs.ImageInvariant.{HasL1Table};
     ghost use Rattle.qcow2_image.specs.Created.{begins_image};
     ghost use Rattle.qcow2_image.specs.Growing.{SameFormat, WritesBack};
@@ -234,7 +235,7 @@ impl<S: Storage, F: WrappedFormat<S>> Qcow2<S, F> {
         ensures names { OnOk result (SameNames file.old.header file.new.header) }
         ensures faults { FaultsTold (view_in S.view file.old).faults (view_in S.view file.new).faults result }
         ensures since { (p : Pending) → IsFresh S.view F.backing p file.old → IsKeptSince (view_in S.view file.old) (view_in S.view file.new) }
-        ensures loaded { (p : Pending) → IsFresh S.view F.backing p file.old → IfOk result (λ allocator. StaysFresh S.view F.backing p file.old file.new × HasReftable S.view file.new allocator.reftable) }
+        ensures loaded { (p : Pending) → IsFresh S.view F.backing p file.old → IfOk result (λ allocator. StaysFresh S.view F.backing p file.old file.new × IsAllocatorOf S.view file.new allocator) }
         ensures cause { IfErr result IsMet }
         ensures why { (view_in S.view file.old).is_honest → MatchResult result (λ allocator. ReftableReads file.old.header.fields (contents_in S.view file.old)) (IsReasonAgainstReftable file.old.header.fields (contents_in S.view file.old)) }
     {

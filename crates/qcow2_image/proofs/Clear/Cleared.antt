@@ -238,7 +238,7 @@ module _ {S F : Type 0} (view : S → StorageView) (backing : F → BackingView)
         works = all.sound_now.works;
         file = record { honest = all.sound_now.file.honest; caches = all.sound_now.file.caches; settled = all.sound_now.file.settled; room = all.sound_now.file.room };
         l1_table = record { cluster = sound.l1_table.cluster; bits = sound.l1_table.bits; count = sound.l1_table.count; entries = sound.l1_table.entries };
-        reftable = reftable_still view a.file final.file refl refl a.allocator sound.reftable;
+        reftable = reftable_still view (record a.file { caches = caches }) final.file refl refl (λ k. refl) a.allocator all.sound_now.reftable;
         below = all.sound_now.below;
         ready = λ j r there. let ready = all.sound_now.ready j r there in record { own = ready.own; mapped = ready.mapped };
         pinned = all.sound_now.pinned;

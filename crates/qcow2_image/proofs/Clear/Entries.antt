@@ -13,7 +13,7 @@ use Rattle.qcow2_metadata.specs.declared.l2_mapping.L2Mapping.TheVariants.{Data,
 use Rattle.qcow2_metadata.specs.declared.l2_mapping.L2Mapping.TheVariants as M
 use Rattle.qcow2_metadata.specs.Header.{cluster_size, entries_per_cluster, has_data_file}
 use Rattle.qcow2_metadata.specs.Cover.{cover, cover_of, entry_cover}
-use Rattle.qcow2_metadata.specs.Entries.{is_copied, l1_entry, l2_entry, host_offset}
+use Rattle.qcow2_metadata.specs.Entries.{is_copied, l1_entry, l2_entry, host_offset, count}
 use Rattle.qcow2_metadata.specs.Consistent.{CoverIsAligned}
 use Rattle.qcow2_metadata.specs.L2Mapping.{IsInReach, named_run, run_has, is_same_run, dropped_run}
 use Rattle.qcow2_metadata.specs.L2Table.{copied_host, copied_kept, zero_cover}
@@ -41,7 +41,7 @@ use Rattle.qcow2_image.specs.declared.image.Qcow2.{Qcow2}
 use Rattle.qcow2_image.specs.declared.prepared.Prepared.{Prepared}
 use Rattle.qcow2_image.specs.ImageInvariant.{ImageInvariant, IsPending, IsReadyWith, cluster_of, listed_run, of_data, pins_by, to_free}
 use Rattle.qcow2_image.proofs.Apart.{pins_own, same_row}
-use Rattle.qcow2_image.proofs.Commit.Committing.{cover_now, known_entry_changes, listed_has}
+use Rattle.qcow2_image.proofs.Commit.Committing.{cover_now, known_entry_changes, listed_has, counts_now}
 use Rattle.qcow2_image.proofs.Open.Reftables.{reftable_still}
 use Rattle.qcow2_image.proofs.Ready.{still_pending, still_share}
 use Rattle.qcow2_image.proofs.Shares.{over_all_at}
@@ -202,6 +202,9 @@ module _ {S F : Type 0} (view : S → StorageView) (backing : F → BackingView)
   changes = known_entry_changes s known row column (cleared_entry how (entry_cover h word)) guarded at.real at.within entry.change
       (subst (λ v. Takes h p.held old v) (sym says) (takes_cleared how h p.held old (guarded.known_aligned guest)))
 
+  counts_stay : (k : ℕ) → count a.file.header.fields (known_in view a.file) k ≡ count a.file.header.fields (known_of a.file.header.fields b.file.caches (contents_in view a.file)) k
+  counts_stay = counts_now s known row column (cleared_entry how (entry_cover h word)) guarded at.real at.within entry.change
+
   abbrev after : Pending
   after = pending_after s known guest
 
@@ -272,7 +275,7 @@ module _ {S F : Type 0} (view : S → StorageView) (backing : F → BackingView)
       room = clears.marks.room sound.file.room;
     };
     l1_table = record { cluster = sound.l1_table.cluster; bits = sound.l1_table.bits; count = sound.l1_table.count; entries = sound.l1_table.entries };
-    reftable = reftable_still view a.file final.file refl refl a.allocator sound.reftable;
+    reftable = reftable_still view a.file final.file refl refl counts_stay a.allocator sound.reftable;
     below = sound.below;
     ready = λ j r there. let ready = sound.ready j r there in record { own = ready.own; mapped = still j r there r.table refl ready.mapped };
     pinned = λ table. clears.marks.pins table ∙ sound.pinned table;

@@ -10,7 +10,7 @@ use Rattle.image_access.specs.Moments.{StorageView}
 use Rattle.qcow2_metadata.specs.Bytes.{Bytes}
 use Rattle.qcow2_metadata.specs.declared.header.HeaderFields.{HeaderFields}
 use Rattle.qcow2_metadata.specs.Header.{cluster_size, entries_per_cluster, has_data_file, rounded_up}
-use Rattle.qcow2_metadata.specs.Entries.{l1_entry, l2_entry, host_offset}
+use Rattle.qcow2_metadata.specs.Entries.{l1_entry, l2_entry, host_offset, count}
 use Rattle.qcow2_metadata.specs.Guest.{Value, known_byte}
 use Rattle.qcow2_metadata.specs.Cover.{cover, entry_cover}
 use Rattle.qcow2_metadata.specs.L2Mapping.{IsHostCluster, named_run, run_has}
@@ -30,7 +30,7 @@ use Rattle.qcow2_disk.specs.Mappings.{PreparedMapping, gift_shown, gift_of_commi
 use Rattle.qcow2_disk.specs.Stops.{GivenBytes, IsGiven}
 use Rattle.qcow2_laws.specs.Steps.{guest_at, EntryChanges}
 use Rattle.qcow2_disk.specs.AbstractImages.{guest_of}
-use Rattle.qcow2_laws.proofs.Blocks.{entry_top}
+use Rattle.qcow2_laws.proofs.Blocks.{entry_top, entry_counts}
 use Rattle.qcow2_laws.proofs.CachedChanges.{Takes, takes_held, takes_own}
 use Rattle.qcow2_disk.proofs.Compose.{works_less}
 use Rattle.qcow2_laws.proofs.KeptClusters.{kept_committed}
@@ -71,6 +71,9 @@ module _ (s : DriverState) (known' : Bytes) (i j entry : ℕ) (sound : StateInva
 
   same_table : table_at s.header known' i ≡ table_at s.header s.known i
   same_table = ap host_offset (sym ((entry_top s.header s.direction s.pending s.on_storage s.known known' sound i j real within c.outside same_entries).l1 i))
+
+  pub counts_now : (k : ℕ) → count s.header s.known k ≡ count s.header known' k
+  counts_now = entry_counts s.header s.direction s.pending s.on_storage s.known known' sound i j real within c.outside same_entries
 
   pub cover_now : cover s.header known' (guest_at s.header i j) ≡ entry_cover s.header entry
   cover_now =
@@ -389,7 +392,7 @@ module _ {S F : Type 0} (view : S → StorageView) (backing : F → BackingView)
         room = marks.room sound.file.room;
       };
       l1_table = record { cluster = sound.l1_table.cluster; bits = sound.l1_table.bits; count = sound.l1_table.count; entries = sound.l1_table.entries };
-      reftable = reftable_still view old.file final.file refl refl old.allocator sound.reftable;
+      reftable = reftable_still view old.file final.file refl refl (counts_now s known row column (copied_entry host) sound.file.caches.kept.kept.guarded at_entry.real at_entry.within entry.change) old.allocator sound.reftable;
       below = sound.below;
       ready = ready_now;
       pinned = λ table. marks.pins table ∙ sound.pinned table ∙ sym (same_pins table);

@@ -22,6 +22,7 @@ use Rattle.qcow2_alloc.specs.CacheMarks.{l2_pins, SameTables}
 use Rattle.qcow2_alloc.specs.declared.cache.MetadataCaches.{MetadataCaches}
 use Rattle.qcow2_alloc.specs.MetadataCaches.{order_of, known_of, CacheInvariant}
 use Rattle.qcow2_alloc.specs.ImageFile.{state_in, view_in, contents_in, known_in, nothing_given}
+use Rattle.qcow2_metadata.specs.Entries.{count}
 use Rattle.qcow2_image.specs.declared.image.Qcow2.{Qcow2}
 use Rattle.qcow2_image.specs.declared.prepared.Prepared.{Prepared}
 use Rattle.qcow2_image.specs.declared.prepared.Share.{Share}
@@ -104,7 +105,7 @@ module _ {S F : Type 0} (view : S → StorageView) (backing : F → BackingView)
           room = tables.room sound.file.room;
         };
         l1_table = record { cluster = sound.l1_table.cluster; bits = sound.l1_table.bits; count = sound.l1_table.count; entries = sound.l1_table.entries };
-        reftable = reftable_still view old.file left.file refl refl old.allocator sound.reftable;
+        reftable = reftable_still view old.file left.file refl refl (λ k. ap (λ (b : Bytes). count h b k) (sym same_known)) old.allocator sound.reftable;
         below = sound.below;
         ready = λ j q there. let r = sound.ready j q (others_left out k j q there) in record { own = r.own; mapped = subst (λ (b : Bytes). IsReadyWith h b (contents_in view old.file) q q.table) (sym same_known) r.mapped };
         pinned = λ table. let all = over_all_left pins_by out k p at table in let was = sound.pinned table in let now = pins table in omega arith;

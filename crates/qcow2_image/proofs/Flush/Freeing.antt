@@ -20,6 +20,8 @@ use Rattle.qcow2_alloc.specs.FreeList.{with_listed}
 use Rattle.qcow2_alloc.specs.ImageFile.{state_in, view_in, contents_in, known_in, nothing_given}
 use Rattle.qcow2_alloc.specs.declared.error.ImageError.TheVariants as I
 use Rattle.qcow2_alloc.proofs.FileSteps.{moves_on, pending_same}
+use Rattle.qcow2_alloc.proofs.KeptAllocators.{freed_kept}
+use Rattle.qcow2_alloc.specs.LowestRuns.{KeepsNoFreeBelowHint}
 use Rattle.qcow2_image.specs.declared.image.Qcow2.{Qcow2}
 use Rattle.qcow2_image.specs.declared.prepared.Prepared.{Prepared}
 use Rattle.qcow2_image.specs.CallParts.{EndsFreeing, RefusedCall, UnseenCall}
@@ -48,10 +50,10 @@ module _ {S F : Type 0} (view : S → StorageView) (backing : F → BackingView)
   -- the allocator worked off the list
   module _ (p : Pending) (old : Qcow2 S F) (sound : ImageInvariant view backing (with_listed p old.file.free_list) old out) (file : ImageFile S) (a : Allocator) (pins : (table : ℕ) → l2_pins file.caches table ≡ l2_pins old.file.caches table)
       (header : file.header ≡ old.file.header) where
-    pub frees_listed : (r : Result (Unit {0}) ImageError) → Frees view (with_listed p old.file.free_list) old.file a file (with_listed p file.free_list) r → FreesListed view backing p old (record old { file = file; allocator = Some a }) out r
-    frees_listed (Ok _) frees = file_tidied view backing old out (with_listed p old.file.free_list) (with_listed p file.free_list) sound file (Some a) (moves_on view (with_listed p old.file.free_list) (with_listed p file.free_list) old.file file frees.moves) frees.reftable pins
-    frees_listed (Err e) frees = elim frees.1 [
-      | inl left ↦ inl (file_tidied view backing old out (with_listed p old.file.free_list) (with_listed p file.free_list) sound file (Some a) (moves_on view (with_listed p old.file.free_list) (with_listed p file.free_list) old.file file left.moves) left.reftable pins)
+    pub frees_listed : (r : Result (Unit {0}) ImageError) → Frees view (with_listed p old.file.free_list) old.file a file (with_listed p file.free_list) r → KeepsNoFreeBelowHint view a file r → FreesListed view backing p old (record old { file = file; allocator = Some a }) out r
+    frees_listed (Ok _) frees hint = file_tidied view backing old out (with_listed p old.file.free_list) (with_listed p file.free_list) sound file (Some a) (moves_on view (with_listed p old.file.free_list) (with_listed p file.free_list) old.file file frees.moves) (record { reftable = frees.reftable; hint = hint }) pins
+    frees_listed (Err e) frees hint = elim (freed_kept view (with_listed p old.file.free_list) (with_listed p file.free_list) old.file file a e frees.1 hint) [
+      | inl left ↦ inl (file_tidied view backing old out (with_listed p old.file.free_list) (with_listed p file.free_list) sound file (Some a) left.0 left.1 pins)
       | inr breaks ↦ inr (record { breaks = breaks; header = format_same old.file.header.fields file.header.fields (ap (λ x. x.fields) header); below = refl })
     ]
 

@@ -1,5 +1,5 @@
 -- A longer L1 table takes the place of the former one, part after part: no guest sees it.
-use Rattle.std.proofs.Common.{◌≡◌, inl, inr, ℕ, ◌+◌, ◌-◌, ◌*◌, ◌/◌, ◌%◌, ◌^◌, ◌<◌, ◌≤◌, Bool, true, false, cond, nat_le, nat_lt, ◌&&◌, List, [], ◌∷◌, ◌++◌, length, Option, Some, None, Result, Ok, Err, refl, sym, ap, ◌∙◌, subst, arith}
+use Rattle.std.proofs.Common.{◌≡◌, inl, inr, ℕ, ◌+◌, ◌-◌, ◌*◌, ◌/◌, ◌%◌, ◌^◌, ◌<◌, ◌≤◌, Bool, true, false, cond, nat_le, nat_lt, ◌&&◌, List, [], ◌∷◌, ◌++◌, length, Option, Some, None, Result, Ok, Err, refl, sym, ap, ◌∙◌, subst, arith, ◌⊎◌}
 use Rattle.std.proofs.lemmas.Bool.{cases_lt}
 use Rattle.std.proofs.lemmas.List.{append_assoc}
 use Rattle.std.proofs.lemmas.Nat.{div-mul-add}
@@ -34,6 +34,7 @@ use Rattle.qcow2_alloc.proofs.FileSteps.{pending_same}
 use Rattle.qcow2_alloc.proofs.Following.{header_format}
 use Rattle.qcow2_alloc.proofs.PlacedBlocks.{file_sizes}
 use Rattle.qcow2_alloc.proofs.Runs.{run_none}
+use Rattle.qcow2_alloc.specs.LowestRuns.{NoFreeBelowHint, BrokeOff}
 use Rattle.qcow2_image.specs.declared.image.Qcow2.{Qcow2}
 use Rattle.qcow2_image.specs.declared.prepared.Prepared.{Prepared}
 use Rattle.qcow2_image.specs.CallParts.{RefusedCall, UnseenCall}
@@ -165,16 +166,16 @@ module _ {S F : Type 0} (view : S → StorageView) (backing : F → BackingView)
     abbrev since : Pending
     since = pending_with_listed p old taken
 
-    pub none_taken_for_table : (e : ImageError) → RefusedGrowth view p old.file a file since e → RefusedMove view backing p old taken out e
-    none_taken_for_table e left = elim (none_taken view backing out p old sound file a marks lists e left) [
+    pub none_taken_for_table : (e : ImageError) → RefusedGrowth view p old.file a file since e → NoFreeBelowHint view a file ⊎ BrokeOff file e → RefusedMove view backing p old taken out e
+    none_taken_for_table e left hint = elim (none_taken view backing out p old sound file a marks lists e left hint) [
       | inl keeps ↦ inl keeps
       | inr breaks ↦ inr (record { breaks = breaks; header = format_moves old.file.header.fields file.header.fields (header_format old.file.header file.header header); below = refl })
     ]
 
-    module _ (t : EntryTableView) (cluster n : ℕ) (many : n ≡ clusters_of t) (becomes : UnseenAllocatorGrowth view p old.file a file (taken_as false since (run_at cluster n))) (longer : IsLongerL1 old t) where
+    module _ (t : EntryTableView) (cluster n : ℕ) (many : n ≡ clusters_of t) (becomes : UnseenAllocatorGrowth view p old.file a file (taken_as false since (run_at cluster n))) (hint : NoFreeBelowHint view a file) (longer : IsLongerL1 old t) where
       keeps_taken : UnseenStep view backing p (with_table since t cluster) old taken out
       keeps_taken = subst (λ m. UnseenStep view backing p (taken_as false since (run_at cluster m)) old taken out) many
-          (file_moved_on view backing old out p (taken_as false since (run_at cluster n)) sound file (Some a) becomes.moves becomes.reftable marks.pins (lists_grow old taken lists))
+          (file_moved_on view backing old out p (taken_as false since (run_at cluster n)) sound file (Some a) becomes.moves (record { reftable = becomes.reftable; hint = hint }) marks.pins (lists_grow old taken lists))
 
       longer_taken : IsLongerL1 taken t
       longer_taken = record {

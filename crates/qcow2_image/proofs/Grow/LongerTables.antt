@@ -1,5 +1,5 @@
 -- A longer L1 table is written to clusters that were taken for it, after all counts.
-use Rattle.std.proofs.Common.{◌≡◌, ◌⊎◌, inl, inr, ℕ, ◌+◌, ◌-◌, ◌*◌, ◌/◌, ◌^◌, ◌<◌, ◌≤◌, List, length, Option, Some, None, Result, Ok, refl, sym, ap, ◌∙◌, subst, arith}
+use Rattle.std.proofs.Common.{◌≡◌, ◌⊎◌, inl, inr, ℕ, ◌+◌, ◌-◌, ◌*◌, ◌/◌, ◌^◌, ◌<◌, ◌≤◌, List, length, Option, Some, Result, Ok, refl, sym, ap, ◌∙◌, subst, arith}
 use Rattle.std.specs.Prelude.{IfSome, nat_le, nat_lt, ◌&&◌}
 use Rattle.std.proofs.lemmas.Bool.{cases_lt}
 use Rattle.image_access.specs.Backing.{BackingView}
@@ -27,13 +27,15 @@ use Rattle.qcow2_laws.proofs.Steps.{data_is_written}
 use Rattle.qcow2_alloc.specs.declared.allocation.Allocator.{Allocator}
 use Rattle.qcow2_alloc.specs.declared.image_storage.ImageStorage.{ImageStorage}
 use Rattle.qcow2_alloc.specs.Allocation.{run_at}
-use Rattle.qcow2_alloc.specs.ImageFile.{view_in, contents_in, known_in, state_in, FileInvariant, HasReftable}
+use Rattle.qcow2_alloc.specs.ImageFile.{view_in, contents_in, known_in, state_in, FileInvariant}
 use Rattle.qcow2_alloc.specs.ImageStorage.{storage_of}
 use Rattle.qcow2_alloc.specs.MetadataCaches.{order_of, l2_tables, refblocks}
 use Rattle.qcow2_alloc.proofs.FileWrites.{moves_written, reftable_written}
 use Rattle.qcow2_alloc.proofs.KeptTables.Getting.{cluster_aligned}
 use Rattle.qcow2_alloc.proofs.KeptTables.Standing.{own_cluster}
 use Rattle.qcow2_alloc.proofs.PlacedBlocks.{IsFree, covers_written, file_sizes}
+use Rattle.qcow2_alloc.specs.KeptAllocators.{IsAllocatorOf}
+use Rattle.qcow2_image.proofs.Open.Reftables.{allocator_moved}
 use Rattle.qcow2_image.specs.declared.image.Qcow2.{Qcow2}
 use Rattle.qcow2_image.specs.declared.prepared.Prepared.{Prepared}
 use Rattle.qcow2_image.specs.LongerTables.{with_table, clusters_of, IsLongerL1, StandsWhole}
@@ -121,9 +123,9 @@ module _ {S F : Type 0} (view : S → StorageView) (backing : F → BackingView)
       calls_now : Calls (view_in view image.file) (view (storage_of storage)) result
       calls_now = subst (λ (s : S). Calls (view_in view image.file) (view s) result) (sym stored) calls
 
-      reftable_now : (a : Option Allocator) → IfSome a (λ x. HasReftable view image.file x.reftable) → IfSome a (λ x. HasReftable view placed.file x.reftable)
-      reftable_now None has = tt
-      reftable_now (Some a) has = reftable_written view q image.file storage sound.file (calls_now.honest sound.file.honest) each_now a.reftable has
+      reftable_now : (a : Option Allocator) → IfSome a (IsAllocatorOf view image.file) → IfSome a (IsAllocatorOf view placed.file)
+      reftable_now = allocator_moved view image.file placed.file q (moves_written view q image.file storage sound.file (calls_now.honest sound.file.honest) each_now calls_now.time)
+          (reftable_written view q image.file storage sound.file (calls_now.honest sound.file.honest) each_now)
 
       pub keeps_placed : UnseenStep view backing q q image placed out
       keeps_placed = file_moved view backing image out q q sound placed.file image.allocator (moves_written view q image.file storage sound.file (calls_now.honest sound.file.honest) each_now calls_now.time) (reftable_now image.allocator sound.reftable)

@@ -1,5 +1,5 @@
 -- The header is written to name a longer L1 table, which is the image's own then.
-use Rattle.std.proofs.Common.{◌≡◌, ℕ, ◌+◌, ◌*◌, ◌/◌, ◌^◌, ◌<◌, ◌≤◌, List, [], length, Option, Some, None, Result, Ok, Err, inr, refl, sym, ap, ◌∙◌, subst, arith}
+use Rattle.std.proofs.Common.{◌≡◌, ℕ, ◌+◌, ◌*◌, ◌/◌, ◌^◌, ◌<◌, ◌≤◌, List, [], length, Option, Some, Result, Ok, Err, inr, refl, sym, ap, ◌∙◌, subst, arith}
 use Rattle.std.specs.Prelude.{IfSome, IsTrue}
 use Rattle.std.proofs.lemmas.List.{append-nil}
 use Rattle.image_access.specs.Backing.{BackingView}
@@ -9,7 +9,7 @@ use Rattle.qcow2_metadata.specs.Bytes.{Bytes, byte_at}
 use Rattle.qcow2_metadata.specs.declared.header.HeaderFields.{HeaderFields}
 use Rattle.qcow2_metadata.specs.Header.{HeaderView, cluster_size, with_fields, with_l1_table}
 use Rattle.qcow2_metadata.specs.HeaderWrite.{l1_table_pointer_written}
-use Rattle.qcow2_metadata.specs.Entries.{l1_entry, reftable_entry}
+use Rattle.qcow2_metadata.specs.Entries.{l1_entry, reftable_entry, count, count_under}
 use Rattle.qcow2_metadata.specs.EntryTable.{EntryTableView, entry_count}
 use Rattle.qcow2_metadata.specs.L2Mapping.{IsHostCluster}
 use Rattle.qcow2_metadata.specs.Named.{in_run}
@@ -27,7 +27,7 @@ use Rattle.qcow2_laws.proofs.Shares.{run_has}
 use Rattle.qcow2_laws.proofs.Steps.{header_is_written}
 use Rattle.qcow2_alloc.specs.declared.allocation.Allocator.{Allocator}
 use Rattle.qcow2_alloc.specs.declared.image_storage.ImageStorage.{ImageStorage}
-use Rattle.qcow2_alloc.specs.ImageFile.{nothing_given, view_in, contents_in, known_in, state_in, HasReftable}
+use Rattle.qcow2_alloc.specs.ImageFile.{nothing_given, view_in, contents_in, known_in, state_in}
 use Rattle.qcow2_alloc.specs.ImageError.{of_storage}
 use Rattle.qcow2_alloc.specs.ImageStorage.{storage_of}
 use Rattle.qcow2_alloc.specs.MetadataCaches.{order_of, known_of}
@@ -37,6 +37,9 @@ use Rattle.qcow2_alloc.proofs.KeptTables.Getting.{cluster_aligned}
 use Rattle.qcow2_alloc.proofs.KeptTables.Standing.{own_cluster}
 use Rattle.qcow2_alloc.proofs.Numbers.{l1_pointer_writes}
 use Rattle.qcow2_alloc.proofs.PlacedBlocks.{file_sizes, known_there}
+use Rattle.qcow2_alloc.specs.KeptAllocators.{IsAllocatorOf}
+use Rattle.qcow2_alloc.proofs.KeptAllocators.{allocator_kept}
+use Rattle.qcow2_laws.proofs.Headers.{header_known_counts}
 use Rattle.qcow2_image.specs.declared.image.Qcow2.{Qcow2}
 use Rattle.qcow2_image.specs.declared.prepared.Prepared.{Prepared}
 use Rattle.qcow2_image.specs.LongerTables.{with_table, without_l1, StandsWhole, UnseenMove, NamesTable}
@@ -135,9 +138,17 @@ module _ {S F : Type 0} (view : S → StorageView) (backing : F → BackingView)
     blocks_now : (k : ℕ) → reftable_entry h' (contents_in view now.file) k ≡ reftable_entry h on_storage k
     blocks_now k = sym (now_reftable h place (entry_count t) (order_of old.file.caches) q on_storage known (contents_in view now.file) (known_of h old.file.caches (contents_in view now.file)) sound.file.caches.kept.kept.guarded writes_now new_l1 k)
 
-    reftable_now : (a : Option Allocator) → IfSome a (λ x. HasReftable view old.file x.reftable) → IfSome a (λ x. HasReftable view now.file x.reftable)
-    reftable_now None has = tt
-    reftable_now (Some a) has = record { cluster = has.cluster; bits = has.bits; count = has.count; entries = λ k. has.entries k ∙ sym (blocks_now k) }
+    -- counts don't go by where the L1 table stands
+    counts_too : (b : Bytes) (k : ℕ) → count h' b k ≡ count h b k
+    unfolding count count_under reftable_entry
+    counts_too b k = refl
+
+    reftable_now : (a : Option Allocator) → IfSome a (IsAllocatorOf view old.file) → IfSome a (IsAllocatorOf view now.file)
+    reftable_now = allocator_kept view old.file now.file (λ t has. record { cluster = has.cluster; bits = has.bits; count = has.count; entries = λ k. has.entries k ∙ sym (blocks_now k) })
+        (λ k.
+        let same = header_known_counts h (with_l1_at h place (entry_count t)) (order_of old.file.caches) q on_storage known (contents_in view now.file) (known_of h old.file.caches (contents_in view now.file)) sound.file.caches.kept.kept.guarded writes_now k in
+        let e : count h known k ≡ count h' (known_in view now.file) k = same ∙ sym (counts_too (known_in view now.file) k) in
+        omega arith)
 
     guests_now : KeepsGuests (state_in view old.file q) (with_new_l1 (state_in view old.file q) place (entry_count t) (contents_in view now.file) (known_of h old.file.caches (contents_in view now.file)))
     guests_now = longer_l1_table_keeps_guests (state_in view old.file q) (contents_in view now.file) (known_of h old.file.caches (contents_in view now.file)) place (entry_count t) sound.file.caches.kept.kept.guarded writes_now new_l1

@@ -1,10 +1,10 @@
 -- Tables are loaded, written and evicted, and bytes are read: no guest sees it.
-use Rattle.std.proofs.Common.{◌≡◌, ℕ, ◌+◌, List, [], refl, sym, ap, ◌∙◌, subst}
-use Rattle.std.specs.Prelude.{Option, Some, None, IfSome, Result, Ok, Err, IfOk}
+use Rattle.std.proofs.Common.{◌≡◌, ℕ, ◌+◌, List, [], refl, sym, ap, ◌∙◌, subst, arith}
+use Rattle.std.specs.Prelude.{Option, Some, None, IfSome, Result, Ok, Err, IfOk, true}
 use Rattle.image_access.specs.Backing.{BackingView}
 use Rattle.image_access.specs.Moments.{StorageView}
 use Rattle.qcow2_metadata.specs.Bytes.{Bytes, byte_at}
-use Rattle.qcow2_metadata.specs.Entries.{l1_entry, reftable_entry}
+use Rattle.qcow2_metadata.specs.Entries.{l1_entry, reftable_entry, count}
 use Rattle.qcow2_metadata.specs.Cover.{cover}
 use Rattle.std.proofs.lemmas.List.{append-nil}
 use Rattle.qcow2_laws.specs.CrashInvariant.{Pending}
@@ -25,7 +25,9 @@ use Rattle.image_access.specs.declared.error.StorageError.{StorageError}
 use Rattle.image_access.specs.Moments.{Calls, Passing, ContentsStay}
 use Rattle.qcow2_laws.proofs.SafeSteps.{leads_none, endures_none}
 use Rattle.qcow2_alloc.specs.MetadataCaches.{l2_tables, refblocks, known_of, AreAllWritten, CacheInvariant, UnseenCacheStep}
-use Rattle.qcow2_alloc.specs.ImageFile.{state_in, view_in, contents_in, known_in, HasReftable}
+use Rattle.qcow2_alloc.specs.ImageFile.{state_in, view_in, contents_in, known_in}
+use Rattle.qcow2_alloc.specs.KeptAllocators.{IsAllocatorOf}
+use Rattle.qcow2_alloc.proofs.KeptAllocators.{allocator_kept}
 use Rattle.qcow2_image.specs.declared.image.Qcow2.{Qcow2}
 use Rattle.qcow2_image.specs.declared.prepared.Prepared.{Prepared}
 use Rattle.qcow2_image.specs.ImageInvariant.{cluster_of, ImageInvariant}
@@ -49,14 +51,15 @@ module _ {S F : Type 0} (view : S → StorageView) (backing : F → BackingView)
   module _ (storage' : ImageStorage S) (caches' : MetadataCaches S)
       (stay : UnseenCacheStep old.file.header.fields p (view_in view old.file) old.file.caches (view (storage_of storage')) caches') (room : CachesHaveRoom old.file.caches → CachesHaveRoom caches')
       (pins : (table : ℕ) → l2_pins caches' table ≡ l2_pins old.file.caches table) where
-    reftable_still : (a : Option Allocator) → IfSome a (λ x. HasReftable view old.file x.reftable) → IfSome a (λ x. HasReftable view (with_caches storage' caches').file x.reftable)
-    reftable_still None has = tt
-    reftable_still (Some a) has = record {
-      cluster = has.cluster;
-      bits = has.bits;
-      count = has.count;
-      entries = λ i. has.entries i ∙ sym (same_reftable (state_in view old.file p) (state_in view (with_caches storage' caches').file p) sound.file.caches.kept.kept.guarded stay.sound.kept.kept.guarded refl stay.known i);
-    }
+    allocator_still : (a : Option Allocator) → IfSome a (IsAllocatorOf view old.file) → IfSome a (IsAllocatorOf view (with_caches storage' caches').file)
+    allocator_still = allocator_kept view old.file (with_caches storage' caches').file
+        (λ t has. record {
+          cluster = has.cluster;
+          bits = has.bits;
+          count = has.count;
+          entries = λ i. has.entries i ∙ sym (same_reftable (state_in view old.file p) (state_in view (with_caches storage' caches').file p) sound.file.caches.kept.kept.guarded stay.sound.kept.kept.guarded refl stay.known i);
+        })
+        (λ k. let e = ap (λ (b : Bytes). count old.file.header.fields b k) stay.known in omega arith)
 
     l1_still : (i : ℕ) → l1_entry old.file.header.fields (contents_in view (with_caches storage' caches').file) i ≡ l1_entry old.file.header.fields (contents_in view old.file) i
     l1_still i = same_l1 (state_in view old.file p) (state_in view (with_caches storage' caches').file p) sound.file.caches.kept.kept.guarded stay.sound.kept.kept.guarded refl stay.known i
@@ -67,7 +70,7 @@ module _ {S F : Type 0} (view : S → StorageView) (backing : F → BackingView)
         works = sound.works;
         file = record { honest = stay.honest; caches = stay.sound; settled = stay.settled sound.file.settled; room = room sound.file.room };
         l1_table = record { cluster = sound.l1_table.cluster; bits = sound.l1_table.bits; count = sound.l1_table.count; entries = λ i. sound.l1_table.entries i ∙ sym (l1_still i) };
-        reftable = reftable_still old.allocator sound.reftable;
+        reftable = allocator_still old.allocator sound.reftable;
         below = sound.below;
         ready = λ k q at. let r = sound.ready k q at in record {
           own = r.own;

@@ -1,20 +1,33 @@
--- The allocator's reftable is the one on the storage, still, where the same bytes stand there.
-use Rattle.std.proofs.Common.{◌≡◌, ◌/◌, Option, Some, None, sym, ap, ◌∙◌}
+-- The allocator is one of its file, still, where no count and no entry of the reftable changes.
+use Rattle.std.proofs.Common.{◌≡◌, ◌/◌, Option, Some, sym, ap, ◌∙◌, ℕ, arith}
 use Rattle.std.specs.Prelude.{IfSome}
 use Rattle.image_access.specs.Moments.{StorageView}
-use Rattle.qcow2_metadata.specs.Entries.{reftable_entry}
+use Rattle.qcow2_metadata.specs.Entries.{count, reftable_entry}
+use Rattle.qcow2_metadata.specs.EntryTable.{EntryTableView}
 use Rattle.qcow2_metadata.specs.Header.{cluster_size, reftable_entries}
 use Rattle.qcow2_metadata.specs.declared.header.HeaderFields.{HeaderFields}
+use Rattle.qcow2_laws.specs.CrashInvariant.{Pending}
 use Rattle.qcow2_alloc.specs.declared.allocation.Allocator.{Allocator}
 use Rattle.qcow2_alloc.specs.declared.image_file.ImageFile.{ImageFile}
-use Rattle.qcow2_alloc.specs.ImageFile.{contents_in, HasReftable}
+use Rattle.qcow2_alloc.specs.ImageFile.{contents_in, known_in, HasReftable, UnseenFileStep}
+use Rattle.qcow2_alloc.specs.KeptAllocators.{IsAllocatorOf}
+use Rattle.qcow2_alloc.proofs.KeptAllocators.{allocator_kept}
 
-pub reftable_still : {S : Type 0} (view : S → StorageView) (old new : ImageFile S) → new.header.fields ≡ old.header.fields → contents_in view new ≡ contents_in view old
-    → (a : Option Allocator) → IfSome a (λ x. HasReftable view old x.reftable) → IfSome a (λ x. HasReftable view new x.reftable)
-reftable_still view old new header same None has = tt
-reftable_still view old new header same (Some a) has = record {
-  cluster = has.cluster ∙ ap (λ (h : HeaderFields). Some (h.reftable_offset / cluster_size h)) (sym header);
-  bits = has.bits ∙ ap (λ (h : HeaderFields). h.cluster_bits) (sym header);
-  count = has.count ∙ ap reftable_entries (sym header);
-  entries = λ k. has.entries k ∙ ap (λ b. reftable_entry old.header.fields b k) (sym same) ∙ ap (λ h. reftable_entry h (contents_in view new) k) (sym header);
-}
+module _ {S : Type 0} (view : S → StorageView) (old new : ImageFile S) where
+  -- the same header and the same bytes on the storage
+  table_still : new.header.fields ≡ old.header.fields → contents_in view new ≡ contents_in view old → (t : EntryTableView) → HasReftable view old t → HasReftable view new t
+  table_still header same t has = record {
+    cluster = has.cluster ∙ ap (λ (h : HeaderFields). Some (h.reftable_offset / cluster_size h)) (sym header);
+    bits = has.bits ∙ ap (λ (h : HeaderFields). h.cluster_bits) (sym header);
+    count = has.count ∙ ap reftable_entries (sym header);
+    entries = λ k. has.entries k ∙ ap (λ b. reftable_entry old.header.fields b k) (sym same) ∙ ap (λ h. reftable_entry h (contents_in view new) k) (sym header);
+  }
+
+  -- each cluster is counted as often
+  pub reftable_still : new.header.fields ≡ old.header.fields → contents_in view new ≡ contents_in view old → ((k : ℕ) → count old.header.fields (known_in view old) k ≡ count new.header.fields (known_in view new) k)
+      → (a : Option Allocator) → IfSome a (IsAllocatorOf view old) → IfSome a (IsAllocatorOf view new)
+  reftable_still header same counts = allocator_kept view old new (table_still header same) (λ k. let e = counts k in omega arith)
+
+  -- a step of the file that leaves the same pending
+  pub allocator_moved : (p : Pending) → UnseenFileStep view p p old new → ((t : EntryTableView) → HasReftable view old t → HasReftable view new t) → (a : Option Allocator) → IfSome a (IsAllocatorOf view old) → IfSome a (IsAllocatorOf view new)
+  allocator_moved p moves table = allocator_kept view old new table (λ k. let e = moves.counts k in omega arith)

@@ -1,6 +1,6 @@
 -- An image whose new L2 table is named, or isn't: what is pending then, and what is to be freed.
-use Rattle.std.proofs.Common.{◌≡◌, inl, inr, ℕ, ◌+◌, false, List, [], ◌∷◌, ◌++◌, Option, Result, Ok, Err, refl, sym, ap, ◌∙◌, subst, arith}
-use Rattle.std.specs.Prelude.{IfSome, Some, None}
+use Rattle.std.proofs.Common.{◌≡◌, inl, inr, ℕ, ◌+◌, false, List, [], ◌∷◌, ◌++◌, Option, Result, Ok, Err, refl, sym, ap, ◌∙◌, subst, arith, ◌⊎◌}
+use Rattle.std.specs.Prelude.{Some}
 use Rattle.std.proofs.lemmas.Bool.{cases_lt}
 use Rattle.image_access.specs.Backing.{BackingView}
 use Rattle.image_access.specs.Moments.{StorageView}
@@ -27,9 +27,12 @@ use Rattle.qcow2_alloc.specs.declared.clusters_to_free.ClusterKind.{ClusterKind}
 use Rattle.qcow2_alloc.specs.declared.clusters_to_free.ClusterKind.TheVariants as Kind
 use Rattle.qcow2_alloc.specs.declared.error.ImageError.{ImageError}
 use Rattle.qcow2_alloc.specs.FreeList.{ListsTables}
-use Rattle.qcow2_alloc.specs.ImageFile.{nothing_given, view_in, contents_in, known_in, state_in, HasReftable, InterruptedFileStep}
+use Rattle.qcow2_alloc.specs.ImageFile.{nothing_given, view_in, contents_in, known_in, state_in, InterruptedFileStep}
 use Rattle.qcow2_alloc.proofs.FileSteps.{endures_then, one_few, one_here, pending_same}
 use Rattle.qcow2_alloc.proofs.Runs.{run_before, run_after, run_last}
+use Rattle.qcow2_alloc.proofs.KeptAllocators.{refused_kept}
+use Rattle.qcow2_alloc.specs.LowestRuns.{NoFreeBelowHint, BrokeOff}
+use Rattle.qcow2_image.proofs.Open.Reftables.{reftable_still}
 use Rattle.qcow2_image.specs.declared.image.Qcow2.{Qcow2}
 use Rattle.qcow2_image.specs.declared.prepared.Prepared.{Prepared}
 use Rattle.qcow2_image.specs.NewTables.{SaysKnown, MayName, replacing, NamesNew, WritesNew, EntersTable}
@@ -104,17 +107,13 @@ module _ {S F : Type 0} (view : S → StorageView) (backing : F → BackingView)
     abbrev relisted : Qcow2 S F
     relisted = record image { file = record image.file { free_list = list } }
 
-    reftable_listed : (a : Option Allocator) → IfSome a (λ x. HasReftable view image.file x.reftable) → IfSome a (λ x. HasReftable view relisted.file x.reftable)
-    reftable_listed None has = tt
-    reftable_listed (Some a) has = record { cluster = has.cluster; bits = has.bits; count = has.count; entries = has.entries }
-
     pub keeps_listed : UnseenStep view backing p q image relisted out
     keeps_listed = record {
       sound = record {
         works = sound.works;
         file = record { honest = sound.file.honest; caches = sound_while image.file.header.fields p q image.file.caches (contents_in view image.file) held.sound sound.file.caches; settled = sound.file.settled; room = sound.file.room };
         l1_table = record { cluster = sound.l1_table.cluster; bits = sound.l1_table.bits; count = sound.l1_table.count; entries = sound.l1_table.entries };
-        reftable = reftable_listed image.allocator sound.reftable;
+        reftable = reftable_still view image.file relisted.file refl refl (λ k. refl) image.allocator sound.reftable;
         below = sound.below;
         ready = λ j r there. let was = sound.ready j r there in record { own = was.own; mapped = was.mapped };
         pinned = sound.pinned;
@@ -169,16 +168,16 @@ module _ {S F : Type 0} (view : S → StorageView) (backing : F → BackingView)
     abbrev since : Pending
     since = pending_with_listed p old taken
 
-    pub none_taken : (e : ImageError) → RefusedGrowth view p old.file a file since e → RefusedStep view backing p old taken out e
-    none_taken e left = elim left [
-      | inl becomes ↦ inl (file_moved_on view backing old out p since sound file (Some a) becomes.moves becomes.reftable marks.pins (lists_grow old taken lists))
+    pub none_taken : (e : ImageError) → RefusedGrowth view p old.file a file since e → NoFreeBelowHint view a file ⊎ BrokeOff file e → RefusedStep view backing p old taken out e
+    none_taken e left hint = elim (refused_kept view p since old.file file a e left hint) [
+      | inl kept ↦ inl (file_moved_on view backing old out p since sound file (Some a) kept.0 kept.1 marks.pins (lists_grow old taken lists))
       | inr breaks ↦ inr breaks
     ]
 
-    module _ (first n : ℕ) (one : n ≡ 1) (becomes : UnseenAllocatorGrowth view p old.file a file (taken_as false since (run_at first n))) where
+    module _ (first n : ℕ) (one : n ≡ 1) (becomes : UnseenAllocatorGrowth view p old.file a file (taken_as false since (run_at first n))) (hint : NoFreeBelowHint view a file) where
       pub keeps_taken : UnseenStep view backing p (with_fresh since (one_at first)) old taken out
       keeps_taken = subst (λ (q : Pending). UnseenStep view backing p q old taken out) (ap (λ m. taken_as false since (run_at first m)) one ∙ one_taken since first)
-          (file_moved_on view backing old out p (taken_as false since (run_at first n)) sound file (Some a) becomes.moves becomes.reftable marks.pins (lists_grow old taken lists))
+          (file_moved_on view backing old out p (taken_as false since (run_at first n)) sound file (Some a) becomes.moves (record { reftable = becomes.reftable; hint = hint }) marks.pins (lists_grow old taken lists))
 
       may_taken : (index : ℕ) → MayName view old index → MayName view taken index
       may_taken = may_still p (with_fresh since (one_at first)) old taken sound keeps_taken.sound refl

@@ -21,13 +21,15 @@ use Rattle.qcow2_alloc.specs.declared.clusters_to_free.ClustersToFreeEntry.{Clus
 use Rattle.qcow2_alloc.specs.declared.error.ImageError.{ImageError}
 use Rattle.qcow2_alloc.specs.declared.image_file.ImageFile.{ImageFile}
 use Rattle.qcow2_alloc.specs.FreeList.{ListsTables, pending_then as since_listed}
-use Rattle.qcow2_alloc.specs.ImageFile.{state_in, view_in, contents_in, nothing_given, KeepsHeader, UnseenFileGrowth, HasReftable}
+use Rattle.qcow2_alloc.specs.ImageFile.{state_in, view_in, contents_in, known_in, nothing_given, KeepsHeader, UnseenFileGrowth}
 use Rattle.qcow2_alloc.proofs.FileSteps.{pending_same}
 use Rattle.qcow2_alloc.proofs.Following.{header_format, following_same as same_list}
 use Rattle.qcow2_alloc.proofs.Runs.{run_in}
+use Rattle.qcow2_alloc.specs.KeptAllocators.{IsAllocatorOf}
+use Rattle.qcow2_alloc.proofs.KeptAllocators.{refused_kept}
 use Rattle.qcow2_image.specs.declared.image.Qcow2.{Qcow2}
 use Rattle.qcow2_image.specs.declared.prepared.Prepared.{Prepared}
-use Rattle.qcow2_alloc.specs.LowestRuns.{IsUsed}
+use Rattle.qcow2_alloc.specs.LowestRuns.{IsUsed, NoFreeBelowHint, KeepsNoFreeBelowHint, BrokeOff}
 use Rattle.qcow2_metadata.specs.L2Mapping.{IsHostCluster}
 use Rattle.qcow2_image.specs.Ranges.{TakesDataAt}
 use Rattle.qcow2_image.specs.UnseenSteps.{pending_with_listed, is_announced, IsFilled, UnseenFillingStep, RefusedFillingStep, HoldsAll, ListGrows, TakesData}
@@ -58,15 +60,17 @@ module _ {S F : Type 0} (view : S → StorageView) (backing : F → BackingView)
     since = pending_with_listed p old taken
 
     -- from what is pending to what is
-    goes_moved : (q : Pending) → HoldsAll view backing q out → UnseenFileGrowth view p q old.file file → HasReftable view file a.reftable → UnseenFillingStep view backing p q old taken out
+    goes_moved : (q : Pending) → HoldsAll view backing q out → UnseenFileGrowth view p q old.file file → IsAllocatorOf view file a → UnseenFillingStep view backing p q old taken out
     goes_moved q still moves reftable = goes_kept view backing out old taken p q sound holds still (file_moved_on view backing old out p q sound file (Some a) moves reftable marks.pins (lists_grow old taken lists))
 
-    goes_back : (e : ImageError) → RefusedGrowth view p old.file a file since e → RefusedFillingStep view backing p old taken out e
-    goes_back e (inl kept) = inl (goes_moved since holds kept.moves kept.reftable)
-    goes_back e (inr broken) = inr (record { breaks = broken; header = header_format old.file.header file.header header; below = refl })
+    goes_back : (e : ImageError) → RefusedGrowth view p old.file a file since e → NoFreeBelowHint view a file ⊎ BrokeOff file e → RefusedFillingStep view backing p old taken out e
+    goes_back e leaves hint = elim (refused_kept view p since old.file file a e leaves hint) [
+      | inl kept ↦ inl (goes_moved since holds kept.0 kept.1)
+      | inr broken ↦ inr (record { breaks = broken; header = header_format old.file.header file.header header; below = refl })
+    ]
 
-    pub takes_data : (r : Result ClustersToFreeEntry ImageError) → Allocates view p old.file a file since Kind.Data 1 r → TakesData view backing p old taken out r
-    takes_data (Ok n) is =
+    pub takes_data : (r : Result ClustersToFreeEntry ImageError) → Allocates view p old.file a file since Kind.Data 1 r → KeepsNoFreeBelowHint view a file r → TakesData view backing p old taken out r
+    takes_data (Ok n) is hint =
         let count = is.0 in
         let run : run_at n.first_cluster 1 ≡ run_of n = ap (λ m. run_at n.first_cluster m) (sym count) in
         let becomes = is.2 in (
@@ -74,24 +78,24 @@ module _ {S F : Type 0} (view : S → StorageView) (backing : F → BackingView)
           is.1,
           subst (λ f. UnseenFillingStep view backing p (with_held since f) old taken out) run
               (goes_moved (with_held since (run_at n.first_cluster 1)) (λ k. let h = holds k in omega arith)
-              becomes.moves becomes.reftable),
+              becomes.moves (record { reftable = becomes.reftable; hint = hint })),
         )
-    takes_data (Err e) is = goes_back e is
+    takes_data (Err e) is hint = goes_back e is hint
 
     -- so does a cluster that was asked for
     pub takes_data_at : (cluster : ℕ) (r : Result (Option ClustersToFreeEntry) ImageError) → AllocatesAt view p old.file a file since cluster r
-        → IfOk r (λ run. IsNone run → (IsHostCluster old.file.header.fields.cluster_bits cluster → ⊥) ⊎ IsUsed view file cluster) → TakesDataAt view backing p old taken out cluster r
-    takes_data_at cluster (Ok (Some n)) is none =
+        → IfOk r (λ run. IsNone run → (IsHostCluster old.file.header.fields.cluster_bits cluster → ⊥) ⊎ IsUsed view file cluster) → KeepsNoFreeBelowHint view a file r → TakesDataAt view backing p old taken out cluster r
+    takes_data_at cluster (Ok (Some n)) is none hint =
         let run : run_at cluster 1 ≡ run_of n = ap (λ c. run_at c 1) (sym is.0) ∙ ap (λ m. run_at n.first_cluster m) (sym is.1) in (
           is.0,
           is.1,
           is.2,
           subst (λ f. UnseenFillingStep view backing p (with_held since f) old taken out) run
               (goes_moved (with_held since (run_at cluster 1)) (λ k. let h = holds k in omega arith)
-              is.3.moves is.3.reftable),
+              is.3.moves (record { reftable = is.3.reftable; hint = hint })),
         )
-    takes_data_at cluster (Ok None) is none = (goes_moved since holds is.moves is.reftable, none refl)
-    takes_data_at cluster (Err e) is none = goes_back e is
+    takes_data_at cluster (Ok None) is none hint = (goes_moved since holds is.moves (record { reftable = is.reftable; hint = hint }), none refl)
+    takes_data_at cluster (Err e) is none hint = goes_back e is hint
 
   -- ---- what was taken is handed back
   module _ (old : Qcow2 S F) (p : Pending) (n : ClustersToFreeEntry) (one : n.count ≡ 1) (kind : n.kind ≡ Kind.Data) (sound : ImageInvariant view backing (with_held p (run_of n)) old out) where
@@ -118,7 +122,7 @@ module _ {S F : Type 0} (view : S → StorageView) (backing : F → BackingView)
           room = sound.file.room;
         };
         l1_table = record { cluster = sound.l1_table.cluster; bits = sound.l1_table.bits; count = sound.l1_table.count; entries = sound.l1_table.entries };
-        reftable = reftable_still view old.file left.file refl refl old.allocator sound.reftable;
+        reftable = reftable_still view old.file left.file refl refl (λ k. refl) old.allocator sound.reftable;
         below = sound.below;
         ready = λ k q at. let r = sound.ready k q at in record { own = r.own; mapped = r.mapped };
         pinned = sound.pinned;

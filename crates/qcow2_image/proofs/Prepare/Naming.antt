@@ -1,5 +1,5 @@
 -- An L1 entry is written that names a new L2 table, which stands in its cluster.
-use Rattle.std.proofs.Common.{◌≡◌, ◌≢◌, ◌⊎◌, inl, inr, ℕ, ◌+◌, ◌*◌, ◌/◌, ◌%◌, ◌^◌, ◌<◌, ◌≤◌, true, List, [], ◌∷◌, length, Option, Some, None, Result, Ok, refl, sym, ap, ◌∙◌, subst, arith}
+use Rattle.std.proofs.Common.{◌≡◌, ◌≢◌, ◌⊎◌, inl, inr, ℕ, ◌+◌, ◌*◌, ◌/◌, ◌%◌, ◌^◌, ◌<◌, ◌≤◌, true, List, [], ◌∷◌, length, Option, Result, Ok, refl, sym, ap, ◌∙◌, subst, arith}
 use Rattle.std.proofs.lemmas.Bool.{cases_eq, eq-eqb, ne_eqb, cond-true, cond-false}
 use Rattle.std.proofs.lemmas.List.{append-nil}
 use Rattle.std.proofs.lemmas.Nat.{mod_below, div-add-mod'}
@@ -11,8 +11,8 @@ use Rattle.image_access.specs.Moments.{StorageView, Passing, Changes, Calls}
 use Rattle.image_access.specs.declared.error.StorageError.{StorageError}
 use Rattle.qcow2_metadata.specs.Bytes.{Bytes, byte_at}
 use Rattle.qcow2_metadata.specs.declared.header.HeaderFields.{HeaderFields}
-use Rattle.qcow2_metadata.specs.Header.{cluster_size, entries_per_cluster}
-use Rattle.qcow2_metadata.specs.Entries.{l1_entry, l2_entry, reftable_entry, block_offset, host_offset, is_copied, L1EntryReads}
+use Rattle.qcow2_metadata.specs.Header.{cluster_size, entries_per_cluster, counts_per_block}
+use Rattle.qcow2_metadata.specs.Entries.{l1_entry, l2_entry, reftable_entry, block_offset, host_offset, is_copied, L1EntryReads, count}
 use Rattle.qcow2_metadata.specs.Cover.{cover, entry_cover}
 use Rattle.qcow2_metadata.specs.EntryTable.{EntryTableView, IsL1TableOf, entry_count}
 use Rattle.qcow2_metadata.specs.L2Table.{L2TableView, copied_entry}
@@ -37,7 +37,7 @@ use Rattle.qcow2_laws.proofs.Lists.{unmodified_over}
 use Rattle.qcow2_laws.proofs.NewTables.{outside_eight, other_l1}
 use Rattle.qcow2_laws.proofs.Caches.{clean_counts, shared_covers}
 use Rattle.qcow2_laws.proofs.Places.{Sizes, cover_none}
-use Rattle.qcow2_laws.proofs.Shares.{shares, in_l1, l1_has, l1_reftable, table_has, block_has}
+use Rattle.qcow2_laws.proofs.Shares.{shares, in_l1, l1_has, l1_reftable, table_has, block_has, count_stays}
 use Rattle.qcow2_laws.proofs.Steps.{table_is_named}
 use Rattle.qcow2_laws.proofs.Unseen.{unseen_l2_table}
 use Rattle.qcow2_laws.proofs.SafeSteps.{done_endures, write_endures}
@@ -45,7 +45,7 @@ use Rattle.qcow2_metadata.specs.Tables.{CachedTable}
 use Rattle.qcow2_alloc.specs.declared.allocation.Allocator.{Allocator}
 use Rattle.qcow2_alloc.specs.declared.image_storage.ImageStorage.{ImageStorage}
 use Rattle.qcow2_alloc.specs.KeptTables.{AreLoaded}
-use Rattle.qcow2_alloc.specs.ImageFile.{nothing_given, view_in, contents_in, known_in, state_in, HasReftable}
+use Rattle.qcow2_alloc.specs.ImageFile.{nothing_given, view_in, contents_in, known_in, state_in}
 use Rattle.qcow2_alloc.specs.ImageStorage.{storage_of}
 use Rattle.qcow2_alloc.specs.MetadataCaches.{order_of, l2_tables, refblocks, CacheInvariant}
 use Rattle.qcow2_alloc.proofs.FileSteps.{one_here, pending_same}
@@ -54,6 +54,8 @@ use Rattle.qcow2_alloc.proofs.KeptTables.Named.{AreCurrentIn, current_entry, loa
 use Rattle.qcow2_alloc.proofs.KeptTables.Standing.{own_cluster}
 use Rattle.qcow2_alloc.proofs.NamedBlocks.{entry_write_as}
 use Rattle.qcow2_alloc.proofs.PlacedBlocks.{IsFree, covers_written, file_sizes, in_own, known_there}
+use Rattle.qcow2_alloc.specs.KeptAllocators.{IsAllocatorOf}
+use Rattle.qcow2_alloc.proofs.KeptAllocators.{allocator_kept}
 use Rattle.qcow2_image.specs.declared.image.Qcow2.{Qcow2}
 use Rattle.qcow2_image.specs.declared.prepared.Prepared.{Prepared}
 use Rattle.qcow2_image.specs.NewTables.{SaysKnown, StandsReady, MayName, NamesCopied, replacing}
@@ -303,9 +305,19 @@ module _ {S F : Type 0} (view : S → StorageView) (backing : F → BackingView)
     own_stays : KeepsCopied (state_in view old.file q) (state_in view named.file (replacing view p old index))
     own_stays i own = sym (other_l1 h on_storage on_storage' index i but (λ here. may (subst (λ k. NamesOwn (l1_entry h on_storage k)) here own)))
 
-    reftable_named : (a : Option Allocator) → IfSome a (λ x. HasReftable view old.file x.reftable) → IfSome a (λ x. HasReftable view named.file x.reftable)
-    reftable_named None has = tt
-    reftable_named (Some a) has = record { cluster = has.cluster; bits = has.bits; count = has.count; entries = λ k. has.entries k ∙ reftable_same k }
+    -- no refblock stands where the entry is written
+    storage_counts : (k : ℕ) → count h on_storage k ≡ count h on_storage' k
+    storage_counts k =
+        count_stays h on_storage on_storage' sound.file.caches.kept.kept.guarded.top k (reftable_same (k / counts_per_block h))
+        (λ real o in_block. sym (back_in (block_offset (reftable_entry h on_storage (k / counts_per_block h)) / cluster_size h) (let one = block_has h on_storage (k / counts_per_block h) real in omega (arith, one)) o in_block))
+
+    reftable_named : (a : Option Allocator) → IfSome a (IsAllocatorOf view old.file) → IfSome a (IsAllocatorOf view named.file)
+    reftable_named = allocator_kept view old.file named.file (λ t has. record { cluster = has.cluster; bits = has.bits; count = has.count; entries = λ k. has.entries k ∙ reftable_same k })
+        (λ k.
+        let before = clean_counts h (order_of old.file.caches) q (l2_tables old.file.caches) (refblocks old.file.caches) on_storage sound.file.caches.kept.kept ready.stored.counts k in
+        let after = clean_counts h (order_of old.file.caches) (replacing view p old index) (l2_tables old.file.caches) (refblocks old.file.caches) on_storage' caches_named.kept.kept ready.stored.counts k in
+        let e : count h known k ≡ count h (known_in view named.file) k = sym before ∙ storage_counts k ∙ after in
+        omega arith)
 
     l1_named : HasL1Table view backing named.file t'
     l1_named = record {

@@ -1,5 +1,5 @@
 -- The bytes of a new L2 table are written to its cluster, and then it is put into its cache.
-use Rattle.std.proofs.Common.{◌≡◌, ℕ, ◌+◌, ◌*◌, ◌^◌, ◌<◌, List, length, Option, None, Result, Ok, refl, sym, ap, ◌∙◌, subst, arith}
+use Rattle.std.proofs.Common.{◌≡◌, ℕ, ◌+◌, ◌*◌, ◌^◌, ◌<◌, List, length, Option, Result, Ok, refl, sym, ap, ◌∙◌, subst, arith}
 use Rattle.std.specs.Prelude.{Err, IfSome, OnOk, Some}
 use Rattle.qcow2_alloc.specs.declared.error.ImageError.{ImageError}
 use Rattle.image_access.specs.Backing.{BackingView}
@@ -15,7 +15,7 @@ use Rattle.qcow2_laws.specs.CrashInvariant.{Pending}
 use Rattle.qcow2_laws.proofs.Steps.{data_is_written}
 use Rattle.qcow2_alloc.specs.declared.allocation.Allocator.{Allocator}
 use Rattle.qcow2_alloc.specs.declared.image_storage.ImageStorage.{ImageStorage}
-use Rattle.qcow2_alloc.specs.ImageFile.{view_in, contents_in, state_in, HasReftable}
+use Rattle.qcow2_alloc.specs.ImageFile.{view_in, contents_in, state_in}
 use Rattle.qcow2_alloc.specs.ImageStorage.{storage_of}
 use Rattle.qcow2_alloc.specs.MetadataCaches.{order_of, l2_tables, refblocks, l2_at, HoldsKnown, UnseenCacheStep}
 use Rattle.qcow2_alloc.specs.Allocation.{StandAt}
@@ -23,6 +23,8 @@ use Rattle.qcow2_alloc.specs.CacheMarks.{l2_pins, CachesHaveRoom}
 use Rattle.qcow2_alloc.specs.declared.cache.MetadataCaches.{MetadataCaches}
 use Rattle.qcow2_laws.specs.Caches.{AreClean, BlocksMayGo}
 use Rattle.qcow2_alloc.proofs.PlacedBlocks.{IsFree, covers_written, in_own, known_there, moves_rewritten, reftable_rewritten}
+use Rattle.qcow2_alloc.specs.KeptAllocators.{IsAllocatorOf}
+use Rattle.qcow2_image.proofs.Open.Reftables.{allocator_moved}
 use Rattle.qcow2_image.specs.declared.image.Qcow2.{Qcow2}
 use Rattle.qcow2_image.specs.declared.prepared.Prepared.{Prepared}
 use Rattle.qcow2_image.specs.NewTables.{IsStored, PlacesNewTable, StandsReady}
@@ -67,9 +69,9 @@ module _ {S F : Type 0} (view : S → StorageView) (backing : F → BackingView)
     full : length bytes ≡ cluster_size h
     full = long ∙ ap (λ n. 2 ^ n) format
 
-    reftable : (a : Option Allocator) → IfSome a (λ x. HasReftable view old.file x.reftable) → IfSome a (λ x. HasReftable view placed.file x.reftable)
-    reftable None has = tt
-    reftable (Some a) has = reftable_rewritten view p old.file storage at bytes result sound.file free_here full writes calls a.reftable has
+    reftable : (a : Option Allocator) → IfSome a (IsAllocatorOf view old.file) → IfSome a (IsAllocatorOf view placed.file)
+    reftable = allocator_moved view old.file placed.file p (moves_rewritten view p old.file storage at bytes result sound.file free_here full writes calls)
+        (reftable_rewritten view p old.file storage at bytes result sound.file free_here full writes calls)
 
     pub keeps_placed : UnseenStep view backing p p old placed out
     keeps_placed = file_moved view backing old out p p sound placed.file old.allocator (moves_rewritten view p old.file storage at bytes result sound.file free_here full writes calls) (reftable old.allocator sound.reftable) (λ t. refl) refl

@@ -20,6 +20,7 @@ use Rattle.qcow2_disk.specs.AbstractImages.{Guest, guest_of}
 use Rattle.qcow2_alloc.specs.CacheMarks.{l2_pins, SameTables}
 use Rattle.qcow2_alloc.specs.declared.cache.MetadataCaches.{MetadataCaches}
 use Rattle.qcow2_alloc.specs.ImageFile.{state_in, contents_in, known_in, nothing_given}
+use Rattle.qcow2_metadata.specs.Entries.{count}
 use Rattle.qcow2_image.specs.declared.image.Qcow2.{Qcow2}
 use Rattle.qcow2_image.specs.declared.mapping.Place.TheVariants.{Image}
 use Rattle.qcow2_image.specs.declared.prepared.Prepared.{Prepared}
@@ -148,7 +149,7 @@ module _ {S F : Type 0} (view : S → StorageView) (backing : F → BackingView)
       room = tables.room goes.sound.file.room;
     };
     l1_table = record { cluster = goes.sound.l1_table.cluster; bits = goes.sound.l1_table.bits; count = goes.sound.l1_table.count; entries = goes.sound.l1_table.entries };
-    reftable = reftable_still view mid.file new.file refl refl mid.allocator goes.sound.reftable;
+    reftable = reftable_still view mid.file new.file refl refl (λ k. ap (λ (b : Bytes). count h b k) (sym same_known)) mid.allocator goes.sound.reftable;
     below = goes.sound.below;
     ready = λ j r at. let ready = ready_now j r at in record { own = ready.1; mapped = subst (λ (b : Bytes). IsReadyWith h b (contents_in view mid.file) r r.table) (sym same_known) ready.0 };
     pinned = λ c. let more = over_all_put pins_by out k p free c in let was = goes.sound.pinned c in let n = pins c in omega arith;

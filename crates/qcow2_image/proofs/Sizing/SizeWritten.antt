@@ -10,7 +10,7 @@ use Rattle.image_access.specs.declared.error.StorageError.TheVariants as SE
 use Rattle.qcow2_metadata.specs.Bytes.{Bytes, byte_at}
 use Rattle.qcow2_metadata.specs.Cover.{cover, cover_under}
 use Rattle.qcow2_metadata.specs.declared.header.HeaderFields.{HeaderFields}
-use Rattle.qcow2_metadata.specs.Entries.{l1_entry}
+use Rattle.qcow2_metadata.specs.Entries.{l1_entry, count, count_under, reftable_entry}
 use Rattle.qcow2_metadata.specs.Guest.{guest_value, known_byte}
 use Rattle.qcow2_metadata.specs.Header.{cluster_size, with_fields, with_size}
 use Rattle.qcow2_metadata.specs.HeaderWrite.{size_written}
@@ -22,7 +22,7 @@ use Rattle.qcow2_laws.specs.CrashInvariant.{Pending}
 use Rattle.qcow2_laws.specs.SafeSteps.{SafeStep}
 use Rattle.qcow2_laws.specs.Tops.{WritesHeader, resized_places}
 use Rattle.qcow2_laws.specs.Unseen.{SameUsedBytes, used_by_guests}
-use Rattle.qcow2_laws.proofs.Headers.{header_elsewhere, header_fixed, header_l1, header_known_l1, header_known_covers}
+use Rattle.qcow2_laws.proofs.Headers.{header_elsewhere, header_fixed, header_l1, header_known_l1, header_known_covers, header_known_counts}
 use Rattle.qcow2_laws.proofs.Mixes.{tied}
 use Rattle.qcow2_laws.proofs.SafeSteps.{step_endures}
 use Rattle.qcow2_laws.proofs.Steps.{header_is_written}
@@ -32,10 +32,12 @@ use Rattle.qcow2_alloc.specs.declared.allocation.Allocator.{Allocator}
 use Rattle.qcow2_alloc.specs.declared.error.ImageError.TheVariants as I
 use Rattle.qcow2_alloc.specs.declared.image_storage.ImageStorage.{ImageStorage}
 use Rattle.qcow2_alloc.specs.ImageError.{of_storage}
-use Rattle.qcow2_alloc.specs.ImageFile.{nothing_given, view_in, contents_in, known_in, state_in, HasReftable}
+use Rattle.qcow2_alloc.specs.ImageFile.{nothing_given, view_in, contents_in, known_in, state_in}
 use Rattle.qcow2_alloc.specs.ImageStorage.{storage_of}
 use Rattle.qcow2_alloc.specs.MetadataCaches.{known_of, order_of}
 use Rattle.qcow2_alloc.proofs.Numbers.{size_writes}
+use Rattle.qcow2_alloc.specs.KeptAllocators.{IsAllocatorOf}
+use Rattle.qcow2_alloc.proofs.KeptAllocators.{allocator_kept}
 use Rattle.qcow2_image.specs.CallParts.{UnseenCall}
 use Rattle.qcow2_image.specs.declared.image.Qcow2.{Qcow2}
 use Rattle.qcow2_image.specs.declared.prepared.Prepared.{Prepared}
@@ -127,14 +129,18 @@ module _ {S F : Type 0} (view : S → StorageView) (backing : F → BackingView)
     pub leads_now : SafeStep (state_in view old.file p) (state_in view sized.file p) nothing_given (size ∷ [])
     leads_now = leads_at (contents_in view sized.file) writes_now
 
-    reftable_now : (a : Option Allocator) → IfSome a (λ x. HasReftable view old.file x.reftable) → IfSome a (λ x. HasReftable view sized.file x.reftable)
-    reftable_now None has = tt
-    reftable_now (Some a) has = record {
-      cluster = has.cluster;
-      bits = has.bits;
-      count = has.count;
-      entries = λ k. has.entries k ∙ sym (resized_reftable view p old.file sound.file size h.autoclear (contents_in view sized.file) writes_now k);
-    }
+    -- counts don't go by the size
+    counts_too : (b : Bytes) (k : ℕ) → count (with_size h size) b k ≡ count h b k
+    unfolding count count_under reftable_entry
+    counts_too b k = refl
+
+    reftable_now : (a : Option Allocator) → IfSome a (IsAllocatorOf view old.file) → IfSome a (IsAllocatorOf view sized.file)
+    reftable_now = allocator_kept view old.file sized.file
+        (λ t has. record { cluster = has.cluster; bits = has.bits; count = has.count; entries = λ k. has.entries k ∙ sym (resized_reftable view p old.file sound.file size h.autoclear (contents_in view sized.file) writes_now k) })
+        (λ k.
+        let same = header_known_counts h (resized_places h size h.autoclear) (order_of old.file.caches) p on_storage known (contents_in view sized.file) (known_of h old.file.caches (contents_in view sized.file)) sound.file.caches.kept.kept.guarded writes_now k in
+        let e : count h known k ≡ count (with_size h size) (known_in view sized.file) k = same ∙ sym (counts_too (known_in view sized.file) k) in
+        omega arith)
 
     -- the L1 entries and what stands for guest clusters stay
     l1_now : (i : ℕ) → l1_entry h (contents_in view sized.file) i ≡ l1_entry h on_storage i

@@ -1,6 +1,6 @@
 -- Bytes are written where no table stands: in place over data, or to the private cluster of a prepared mapping.
 use Rattle.std.proofs.Common.{◌≡◌, ◌⊎◌, inl, inr, ℕ, ◌+◌, ◌-◌, ◌/◌, ◌<◌, List, length, [], refl, sym, ap, ◌∙◌, subst, arith}
-use Rattle.std.specs.Prelude.{Option, Some, None, IfSome}
+use Rattle.std.specs.Prelude.{Option, IfSome}
 use Rattle.std.proofs.lemmas.Bool.{cases_lt}
 use Rattle.image_access.specs.Backing.{BackingView}
 use Rattle.image_access.specs.Contents.{overwritten}
@@ -23,8 +23,11 @@ use Rattle.qcow2_alloc.specs.declared.allocation.Allocator.{Allocator}
 use Rattle.qcow2_alloc.specs.declared.image_storage.ImageStorage.{ImageStorage}
 use Rattle.qcow2_alloc.specs.ImageStorage.{storage_of}
 use Rattle.qcow2_alloc.specs.MetadataCaches.{order_of, l2_tables, refblocks}
-use Rattle.qcow2_alloc.specs.ImageFile.{state_in, view_in, contents_in, known_in, HasReftable}
+use Rattle.qcow2_alloc.specs.ImageFile.{state_in, view_in, contents_in, known_in}
 use Rattle.qcow2_alloc.proofs.KeptTables.Beside.{top_beside, settled_beside_write, sound_beside}
+use Rattle.qcow2_alloc.specs.KeptAllocators.{IsAllocatorOf}
+use Rattle.qcow2_alloc.proofs.KeptAllocators.{allocator_kept}
+use Rattle.qcow2_alloc.proofs.CountsStay.{counts_follow, fixed_more}
 use Rattle.qcow2_image.specs.declared.image.Qcow2.{Qcow2}
 use Rattle.qcow2_image.specs.declared.prepared.Prepared.{Prepared}
 use Rattle.qcow2_image.specs.ImageInvariant.{cluster_of, pending_in, ImageInvariant}
@@ -85,15 +88,14 @@ module _ {S F : Type 0} {p : Pending} (view : S → StorageView) (backing : F �
     module _ (given : Bytes → List GivenBytes) (honest : (view (storage_of storage)).is_honest) (time : Passing (view_in view old.file) (view (storage_of storage)) (λ c. c ≡ (view (storage_of storage)).contents))
         (leads : SafeStep (state_in view old.file p) (state_in view written.file p) given [])
         (covers : SameCovers h (known_in view old.file) (known_in view written.file)) where
-      reftable_written : (a : Option Allocator) → IfSome a (λ x. HasReftable view old.file x.reftable) → IfSome a (λ x. HasReftable view written.file x.reftable)
-      reftable_written None has = tt
-      reftable_written (Some a) has = record {
-        cluster = has.cluster;
-        bits = has.bits;
-        count = has.count;
-        entries = λ k. has.entries k
-            ∙ (top_beside h p p old.file.caches (contents_in view old.file) (contents_in view written.file) sound.file.caches sound.file.settled tables_stay).reftable k;
-      }
+      reftable_written : (a : Option Allocator) → IfSome a (IsAllocatorOf view old.file) → IfSome a (IsAllocatorOf view written.file)
+      reftable_written =
+          let top = top_beside h p p old.file.caches (contents_in view old.file) (contents_in view written.file) sound.file.caches sound.file.settled tables_stay in
+          allocator_kept view old.file written.file (λ t has. record { cluster = has.cluster; bits = has.bits; count = has.count; entries = λ k. has.entries k ∙ top.reftable k })
+          (λ k.
+          let more = counts_follow h (order_of old.file.caches) (order_of old.file.caches) p p (contents_in view old.file) (contents_in view written.file) (known_in view old.file) (known_in view written.file) sound.file.caches.kept.kept.guarded leads.sound covers
+          (fixed_more h (contents_in view old.file) (contents_in view written.file) (λ i some. sym (top.reftable i)) (λ i. sym (top.l1 i))) k refl in
+          omega arith)
 
       pub sound_written : ImageInvariant view backing p written out
       sound_written =

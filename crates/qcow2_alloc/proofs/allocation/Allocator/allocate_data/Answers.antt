@@ -33,34 +33,34 @@ returns-clause-sound g c = λ p sound.
     (c.allocate.ensures.sound p (is_sound_now g.S.Storage.view p p c.args.file.now file c.args.self.now one) c.in_ok-l2_depends_on_rb.ensures.order)
 
 pub returns-in_err-l2_depends_on_rb-clause-hint : goal.returns-in_err-l2_depends_on_rb-clause-hint
-returns-in_err-l2_depends_on_rb-clause-hint g c = λ p sound hint.
-    let one = becomes_cached g.S.Storage.view p c.args.file.now c.args.self.now c.l2_depends_on_rb.new.storage c.l2_depends_on_rb.new.self sound (c.l2_depends_on_rb.ensures.keeps c.args.file.now.header.fields p sound.sound.honest sound.sound.caches) c.l2_depends_on_rb.ensures.marks in
+returns-in_err-l2_depends_on_rb-clause-hint g c = λ p kept.
+    let one = becomes_cached g.S.Storage.view p c.args.file.now c.args.self.now c.l2_depends_on_rb.new.storage c.l2_depends_on_rb.new.self kept.sound (c.l2_depends_on_rb.ensures.keeps c.args.file.now.header.fields p kept.sound.sound.honest kept.sound.sound.caches) c.l2_depends_on_rb.ensures.marks in
     let file : ImageFile g.row.S.Denot = record c.args.file.now { storage = c.l2_depends_on_rb.new.storage; caches = c.l2_depends_on_rb.new.self } in
-    handed_on (KeepsNoFreeBelowHint g.S.Storage.view c.args.self.now file) c.from_residual.result c.in_err-l2_depends_on_rb.field-0.0 c.from_residual.ensures (λ other. hint_stays g.S.Storage.view p c.args.file.now file c.args.self.now c.args.self.now one refl hint)
+    handed_on (KeepsNoFreeBelowHint g.S.Storage.view c.args.self.now file) c.from_residual.result c.in_err-l2_depends_on_rb.field-0.0 c.from_residual.ensures (inl (hint_stays g.S.Storage.view p c.args.file.now file c.args.self.now c.args.self.now one refl kept.hint))
 
 pub returns-clause-lowest : goal.returns-clause-lowest
-returns-clause-lowest g c = λ p sound hint.
-    let one = becomes_cached g.S.Storage.view p c.args.file.now c.args.self.now c.l2_depends_on_rb.new.storage c.l2_depends_on_rb.new.self sound (c.l2_depends_on_rb.ensures.keeps c.args.file.now.header.fields p sound.sound.honest sound.sound.caches) c.l2_depends_on_rb.ensures.marks in
+returns-clause-lowest g c = λ p kept.
+    let one = becomes_cached g.S.Storage.view p c.args.file.now c.args.self.now c.l2_depends_on_rb.new.storage c.l2_depends_on_rb.new.self kept.sound (c.l2_depends_on_rb.ensures.keeps c.args.file.now.header.fields p kept.sound.sound.honest kept.sound.sound.caches) c.l2_depends_on_rb.ensures.marks in
     let file : ImageFile g.row.S.Denot = record c.args.file.now { storage = c.l2_depends_on_rb.new.storage; caches = c.l2_depends_on_rb.new.self } in
-    c.allocate.ensures.lowest p (is_sound_now g.S.Storage.view p p c.args.file.now file c.args.self.now one) c.in_ok-l2_depends_on_rb.ensures.order (hint_stays g.S.Storage.view p c.args.file.now file c.args.self.now c.args.self.now one refl hint)
+    c.allocate.ensures.lowest p (is_sound_now g.S.Storage.view p p c.args.file.now file c.args.self.now one) c.in_ok-l2_depends_on_rb.ensures.order (hint_stays g.S.Storage.view p c.args.file.now file c.args.self.now c.args.self.now one refl kept.hint)
 
 pub returns-clause-hint : goal.returns-clause-hint
-returns-clause-hint g c = λ p sound hint.
-    let one = becomes_cached g.S.Storage.view p c.args.file.now c.args.self.now c.l2_depends_on_rb.new.storage c.l2_depends_on_rb.new.self sound (c.l2_depends_on_rb.ensures.keeps c.args.file.now.header.fields p sound.sound.honest sound.sound.caches) c.l2_depends_on_rb.ensures.marks in
+returns-clause-hint g c = λ p kept.
+    let one = becomes_cached g.S.Storage.view p c.args.file.now c.args.self.now c.l2_depends_on_rb.new.storage c.l2_depends_on_rb.new.self kept.sound (c.l2_depends_on_rb.ensures.keeps c.args.file.now.header.fields p kept.sound.sound.honest kept.sound.sound.caches) c.l2_depends_on_rb.ensures.marks in
     let file : ImageFile g.row.S.Denot = record c.args.file.now { storage = c.l2_depends_on_rb.new.storage; caches = c.l2_depends_on_rb.new.self } in
-    c.allocate.ensures.hint p (is_sound_now g.S.Storage.view p p c.args.file.now file c.args.self.now one) c.in_ok-l2_depends_on_rb.ensures.order (hint_stays g.S.Storage.view p c.args.file.now file c.args.self.now c.args.self.now one refl hint)
+    c.allocate.ensures.hint p (is_sound_now g.S.Storage.view p p c.args.file.now file c.args.self.now one) c.in_ok-l2_depends_on_rb.ensures.order (hint_stays g.S.Storage.view p c.args.file.now file c.args.self.now c.args.self.now one refl kept.hint)
 
 pub returns-in_err-l2_depends_on_rb-clause-limit : goal.returns-in_err-l2_depends_on_rb-clause-limit
-returns-in_err-l2_depends_on_rb-clause-limit g c = λ p sound hint some.
+returns-in_err-l2_depends_on_rb-clause-limit g c = λ p kept some.
     let file : ImageFile g.row.S.Denot = record c.args.file.now { storage = c.l2_depends_on_rb.new.storage; caches = c.l2_depends_on_rb.new.self } in
     handed_on (λ (r : Result ClustersToFreeEntry ImageError). IfErr r (IsFaultOr (HasNoPlace g.S.Storage.view file c.args.self.now c.args.count))) c.from_residual.result c.in_err-l2_depends_on_rb.field-0.0 c.from_residual.ensures
-    (inl (c.in_err-l2_depends_on_rb.ensures.faults c.args.file.now.header.fields p sound.sound.honest sound.sound.caches sound.sound.settled))
+    (inl (c.in_err-l2_depends_on_rb.ensures.faults c.args.file.now.header.fields p kept.sound.sound.honest kept.sound.sound.caches kept.sound.sound.settled))
 
 pub returns-clause-limit : goal.returns-clause-limit
-returns-clause-limit g c = λ p sound hint some.
-    let one = becomes_cached g.S.Storage.view p c.args.file.now c.args.self.now c.l2_depends_on_rb.new.storage c.l2_depends_on_rb.new.self sound (c.l2_depends_on_rb.ensures.keeps c.args.file.now.header.fields p sound.sound.honest sound.sound.caches) c.l2_depends_on_rb.ensures.marks in
+returns-clause-limit g c = λ p kept some.
+    let one = becomes_cached g.S.Storage.view p c.args.file.now c.args.self.now c.l2_depends_on_rb.new.storage c.l2_depends_on_rb.new.self kept.sound (c.l2_depends_on_rb.ensures.keeps c.args.file.now.header.fields p kept.sound.sound.honest kept.sound.sound.caches) c.l2_depends_on_rb.ensures.marks in
     let file : ImageFile g.row.S.Denot = record c.args.file.now { storage = c.l2_depends_on_rb.new.storage; caches = c.l2_depends_on_rb.new.self } in
-    c.allocate.ensures.limit p (is_sound_now g.S.Storage.view p p c.args.file.now file c.args.self.now one) c.in_ok-l2_depends_on_rb.ensures.order (hint_stays g.S.Storage.view p c.args.file.now file c.args.self.now c.args.self.now one refl hint) some
+    c.allocate.ensures.limit p (is_sound_now g.S.Storage.view p p c.args.file.now file c.args.self.now one) c.in_ok-l2_depends_on_rb.ensures.order (hint_stays g.S.Storage.view p c.args.file.now file c.args.self.now c.args.self.now one refl kept.hint) some
 
 pub returns-in_err-l2_depends_on_rb-clause-former : goal.returns-in_err-l2_depends_on_rb-clause-former
 returns-in_err-l2_depends_on_rb-clause-former g c = former_none c.args.self.now.reftable c.args.file.now.free_list
@@ -81,7 +81,7 @@ pub returns-in_err-l2_depends_on_rb-clause-elsewhere : goal.returns-in_err-l2_de
 returns-in_err-l2_depends_on_rb-clause-elsewhere g c = if_no_ok _ c.from_residual.result c.in_err-l2_depends_on_rb.field-0.0 c.from_residual.ensures
 
 pub returns-in_err-l2_depends_on_rb-clause-lowest : goal.returns-in_err-l2_depends_on_rb-clause-lowest
-returns-in_err-l2_depends_on_rb-clause-lowest g c = λ _ _ _. if_no_ok _ c.from_residual.result c.in_err-l2_depends_on_rb.field-0.0 c.from_residual.ensures
+returns-in_err-l2_depends_on_rb-clause-lowest g c = λ _ _. if_no_ok _ c.from_residual.result c.in_err-l2_depends_on_rb.field-0.0 c.from_residual.ensures
 
 pub returns-in_err-l2_depends_on_rb-clause-noted : goal.returns-in_err-l2_depends_on_rb-clause-noted
 returns-in_err-l2_depends_on_rb-clause-noted g c = on_no_ok _ c.from_residual.result c.in_err-l2_depends_on_rb.field-0.0 c.from_residual.ensures

@@ -41,10 +41,10 @@ returns-then-at-eq0-clause-sound g c = λ p sound.
     subst (λ (r : Pending). UnseenAllocatorGrowth g.S.Storage.view p c.args.file.now c.args.self.now file r) (sym (following_same p c.args.file.now.free_list c.args.file.now.free_list refl)) (on_of g.S.Storage.view p p c.args.file.now file c.args.self.now one)
 
 pub returns-then-at-eq0-clause-hint : goal.returns-then-at-eq0-clause-hint
-returns-then-at-eq0-clause-hint g c = λ p sound hint.
-    let one = becomes_cached g.S.Storage.view p c.args.file.now c.args.self.now c.l2_depends_on_rb.new.storage c.l2_depends_on_rb.new.self sound (c.l2_depends_on_rb.ensures.keeps c.args.file.now.header.fields p sound.sound.honest sound.sound.caches) c.l2_depends_on_rb.ensures.marks in
+returns-then-at-eq0-clause-hint g c = λ p kept.
+    let one = becomes_cached g.S.Storage.view p c.args.file.now c.args.self.now c.l2_depends_on_rb.new.storage c.l2_depends_on_rb.new.self kept.sound (c.l2_depends_on_rb.ensures.keeps c.args.file.now.header.fields p kept.sound.sound.honest kept.sound.sound.caches) c.l2_depends_on_rb.ensures.marks in
     let file : ImageFile g.row.S.Denot = record c.args.file.now { storage = c.l2_depends_on_rb.new.storage; caches = c.l2_depends_on_rb.new.self } in
-    hint_stays g.S.Storage.view p c.args.file.now file c.args.self.now c.args.self.now one refl hint
+    hint_stays g.S.Storage.view p c.args.file.now file c.args.self.now c.args.self.now one refl kept.hint
 
 pub returns-then-at-eq0-clause-none : goal.returns-then-at-eq0-clause-none
 returns-then-at-eq0-clause-none g c = λ p sound _.
@@ -95,55 +95,61 @@ returns-in-Ok-false-clause-none g c = λ p sound _.
     inr (subst (λ n. IsUsed g.S.Storage.view c.take.new.file n) c.value.ensures (c.in-Ok-false.ensures.used p true now c.in_ok-l2_depends_on_rb.ensures.order c.in-Ok-false.field-0-test))
 
 pub returns-in_err-l2_depends_on_rb-clause-hint : goal.returns-in_err-l2_depends_on_rb-clause-hint
-returns-in_err-l2_depends_on_rb-clause-hint g c = λ p sound hint.
-    let one = becomes_cached g.S.Storage.view p c.args.file.now c.args.self.now c.l2_depends_on_rb.new.storage c.l2_depends_on_rb.new.self sound (c.l2_depends_on_rb.ensures.keeps c.args.file.now.header.fields p sound.sound.honest sound.sound.caches) c.l2_depends_on_rb.ensures.marks in
+returns-in_err-l2_depends_on_rb-clause-hint g c = λ p kept.
+    let one = becomes_cached g.S.Storage.view p c.args.file.now c.args.self.now c.l2_depends_on_rb.new.storage c.l2_depends_on_rb.new.self kept.sound (c.l2_depends_on_rb.ensures.keeps c.args.file.now.header.fields p kept.sound.sound.honest kept.sound.sound.caches) c.l2_depends_on_rb.ensures.marks in
     let file : ImageFile g.row.S.Denot = record c.args.file.now { storage = c.l2_depends_on_rb.new.storage; caches = c.l2_depends_on_rb.new.self } in
-    handed_on (KeepsNoFreeBelowHint g.S.Storage.view c.args.self.now file) c.from_residual.result c.in_err-l2_depends_on_rb.field-0.0 c.from_residual.ensures (λ other. hint_stays g.S.Storage.view p c.args.file.now file c.args.self.now c.args.self.now one refl hint)
+    handed_on (KeepsNoFreeBelowHint g.S.Storage.view c.args.self.now file) c.from_residual.result c.in_err-l2_depends_on_rb.field-0.0 c.from_residual.ensures (inl (hint_stays g.S.Storage.view p c.args.file.now file c.args.self.now c.args.self.now one refl kept.hint))
 
 pub returns-then-not-is_nameable-clause-hint : goal.returns-then-not-is_nameable-clause-hint
-returns-then-not-is_nameable-clause-hint g c = λ p sound hint.
-    let one = becomes_cached g.S.Storage.view p c.args.file.now c.args.self.now c.l2_depends_on_rb.new.storage c.l2_depends_on_rb.new.self sound (c.l2_depends_on_rb.ensures.keeps c.args.file.now.header.fields p sound.sound.honest sound.sound.caches) c.l2_depends_on_rb.ensures.marks in
+returns-then-not-is_nameable-clause-hint g c = λ p kept.
+    let one = becomes_cached g.S.Storage.view p c.args.file.now c.args.self.now c.l2_depends_on_rb.new.storage c.l2_depends_on_rb.new.self kept.sound (c.l2_depends_on_rb.ensures.keeps c.args.file.now.header.fields p kept.sound.sound.honest kept.sound.sound.caches) c.l2_depends_on_rb.ensures.marks in
     let file : ImageFile g.row.S.Denot = record c.args.file.now { storage = c.l2_depends_on_rb.new.storage; caches = c.l2_depends_on_rb.new.self } in
-    hint_stays g.S.Storage.view p c.args.file.now file c.args.self.now c.args.self.now one refl hint
+    hint_stays g.S.Storage.view p c.args.file.now file c.args.self.now c.args.self.now one refl kept.hint
 
 pub returns-in-Ok-true-clause-hint : goal.returns-in-Ok-true-clause-hint
-returns-in-Ok-true-clause-hint g c = λ p sound hint.
-    let one = becomes_cached g.S.Storage.view p c.args.file.now c.args.self.now c.l2_depends_on_rb.new.storage c.l2_depends_on_rb.new.self sound (c.l2_depends_on_rb.ensures.keeps c.args.file.now.header.fields p sound.sound.honest sound.sound.caches) c.l2_depends_on_rb.ensures.marks in
+returns-in-Ok-true-clause-hint g c = λ p kept.
+    let one = becomes_cached g.S.Storage.view p c.args.file.now c.args.self.now c.l2_depends_on_rb.new.storage c.l2_depends_on_rb.new.self kept.sound (c.l2_depends_on_rb.ensures.keeps c.args.file.now.header.fields p kept.sound.sound.honest kept.sound.sound.caches) c.l2_depends_on_rb.ensures.marks in
     let file : ImageFile g.row.S.Denot = record c.args.file.now { storage = c.l2_depends_on_rb.new.storage; caches = c.l2_depends_on_rb.new.self } in
     let now = is_sound_now g.S.Storage.view p p c.args.file.now file c.args.self.now one in
-    c.in-Ok-true.ensures.hint p true now c.in_ok-l2_depends_on_rb.ensures.order (hint_stays g.S.Storage.view p c.args.file.now file c.args.self.now c.args.self.now one refl hint)
+    c.in-Ok-true.ensures.hint p true now c.in_ok-l2_depends_on_rb.ensures.order (hint_stays g.S.Storage.view p c.args.file.now file c.args.self.now c.args.self.now one refl kept.hint)
 
 pub returns-in-Ok-false-clause-hint : goal.returns-in-Ok-false-clause-hint
-returns-in-Ok-false-clause-hint g c = λ p sound hint.
-    let one = becomes_cached g.S.Storage.view p c.args.file.now c.args.self.now c.l2_depends_on_rb.new.storage c.l2_depends_on_rb.new.self sound (c.l2_depends_on_rb.ensures.keeps c.args.file.now.header.fields p sound.sound.honest sound.sound.caches) c.l2_depends_on_rb.ensures.marks in
+returns-in-Ok-false-clause-hint g c = λ p kept.
+    let one = becomes_cached g.S.Storage.view p c.args.file.now c.args.self.now c.l2_depends_on_rb.new.storage c.l2_depends_on_rb.new.self kept.sound (c.l2_depends_on_rb.ensures.keeps c.args.file.now.header.fields p kept.sound.sound.honest kept.sound.sound.caches) c.l2_depends_on_rb.ensures.marks in
     let file : ImageFile g.row.S.Denot = record c.args.file.now { storage = c.l2_depends_on_rb.new.storage; caches = c.l2_depends_on_rb.new.self } in
     let now = is_sound_now g.S.Storage.view p p c.args.file.now file c.args.self.now one in
-    c.in-Ok-false.ensures.hint p true now c.in_ok-l2_depends_on_rb.ensures.order (hint_stays g.S.Storage.view p c.args.file.now file c.args.self.now c.args.self.now one refl hint)
+    c.in-Ok-false.ensures.hint p true now c.in_ok-l2_depends_on_rb.ensures.order (hint_stays g.S.Storage.view p c.args.file.now file c.args.self.now c.args.self.now one refl kept.hint)
 
 pub returns-in-Err-clause-hint : goal.returns-in-Err-clause-hint
-returns-in-Err-clause-hint g c = λ p sound hint.
-    let one = becomes_cached g.S.Storage.view p c.args.file.now c.args.self.now c.l2_depends_on_rb.new.storage c.l2_depends_on_rb.new.self sound (c.l2_depends_on_rb.ensures.keeps c.args.file.now.header.fields p sound.sound.honest sound.sound.caches) c.l2_depends_on_rb.ensures.marks in
+returns-in-Err-clause-hint g c = λ p kept.
+    let one = becomes_cached g.S.Storage.view p c.args.file.now c.args.self.now c.l2_depends_on_rb.new.storage c.l2_depends_on_rb.new.self kept.sound (c.l2_depends_on_rb.ensures.keeps c.args.file.now.header.fields p kept.sound.sound.honest kept.sound.sound.caches) c.l2_depends_on_rb.ensures.marks in
     let file : ImageFile g.row.S.Denot = record c.args.file.now { storage = c.l2_depends_on_rb.new.storage; caches = c.l2_depends_on_rb.new.self } in
     let now = is_sound_now g.S.Storage.view p p c.args.file.now file c.args.self.now one in
-    c.in-Err.ensures.hint p true now c.in_ok-l2_depends_on_rb.ensures.order (hint_stays g.S.Storage.view p c.args.file.now file c.args.self.now c.args.self.now one refl hint)
+    c.in-Err.ensures.hint p true now c.in_ok-l2_depends_on_rb.ensures.order (hint_stays g.S.Storage.view p c.args.file.now file c.args.self.now c.args.self.now one refl kept.hint)
 
 pub returns-in_err-l2_depends_on_rb-clause-limit : goal.returns-in_err-l2_depends_on_rb-clause-limit
-returns-in_err-l2_depends_on_rb-clause-limit g c = λ p sound hint.
+returns-in_err-l2_depends_on_rb-clause-limit g c = λ p kept.
     let file : ImageFile g.row.S.Denot = record c.args.file.now { storage = c.l2_depends_on_rb.new.storage; caches = c.l2_depends_on_rb.new.self } in
     handed_on (λ (r : Result (Option ClustersToFreeEntry) ImageError). IfErr r (IsFaultOr (CantCount g.S.Storage.view file (λ k. 0) c.args.self.now c.args.cluster))) c.from_residual.result c.in_err-l2_depends_on_rb.field-0.0 c.from_residual.ensures
-    (inl (c.in_err-l2_depends_on_rb.ensures.faults c.args.file.now.header.fields p sound.sound.honest sound.sound.caches sound.sound.settled))
+    (inl (c.in_err-l2_depends_on_rb.ensures.faults c.args.file.now.header.fields p kept.sound.sound.honest kept.sound.sound.caches kept.sound.sound.settled))
+
+pub returns-in_default-clause-hint : goal.returns-in_default-clause-hint
+returns-in_default-clause-hint g c = λ p kept.
+    let one = becomes_cached g.S.Storage.view p c.args.file.now c.args.self.now c.l2_depends_on_rb.new.storage c.l2_depends_on_rb.new.self kept.sound (c.l2_depends_on_rb.ensures.keeps c.args.file.now.header.fields p kept.sound.sound.honest kept.sound.sound.caches) c.l2_depends_on_rb.ensures.marks in
+    let file : ImageFile g.row.S.Denot = record c.args.file.now { storage = c.l2_depends_on_rb.new.storage; caches = c.l2_depends_on_rb.new.self } in
+    inl (hint_stays g.S.Storage.view p c.args.file.now file c.args.self.now c.args.self.now one refl kept.hint)
 
 pub returns-in_default-clause-limit : goal.returns-in_default-clause-limit
-returns-in_default-clause-limit g c = λ p sound hint. inl (inr refl)
+returns-in_default-clause-limit g c = λ p kept. inl (inr refl)
 
 pub returns-in-Err-clause-limit : goal.returns-in-Err-clause-limit
-returns-in-Err-clause-limit g c = λ p sound hint.
-    let one = becomes_cached g.S.Storage.view p c.args.file.now c.args.self.now c.l2_depends_on_rb.new.storage c.l2_depends_on_rb.new.self sound (c.l2_depends_on_rb.ensures.keeps c.args.file.now.header.fields p sound.sound.honest sound.sound.caches) c.l2_depends_on_rb.ensures.marks in
+returns-in-Err-clause-limit g c = λ p kept.
+    let one = becomes_cached g.S.Storage.view p c.args.file.now c.args.self.now c.l2_depends_on_rb.new.storage c.l2_depends_on_rb.new.self kept.sound (c.l2_depends_on_rb.ensures.keeps c.args.file.now.header.fields p kept.sound.sound.honest kept.sound.sound.caches) c.l2_depends_on_rb.ensures.marks in
     let file : ImageFile g.row.S.Denot = record c.args.file.now { storage = c.l2_depends_on_rb.new.storage; caches = c.l2_depends_on_rb.new.self } in
     let now = is_sound_now g.S.Storage.view p p c.args.file.now file c.args.self.now one in
     let near : IsHostCluster c.args.file.now.header.fields.cluster_bits c.value.result = of_equal IsHostCluster c.args.file.now.header.fields.cluster_bits c.cluster_bits.result c.value.result c.args.cluster (sym c.cluster_bits.ensures.value) c.value.ensures (c.is_nameable.ensures.0 c.if-not-is_nameable.false) in
     subst (λ n. IsFaultOr (CantCount g.S.Storage.view c.take.new.file (λ k. 0) c.take.new.self n) c.in-Err.refusal) c.value.ensures
-    (c.in-Err.ensures.limit p true now c.in_ok-l2_depends_on_rb.ensures.order (hint_stays g.S.Storage.view p c.args.file.now file c.args.self.now c.args.self.now one refl hint) near)
+    (c.in-Err.ensures.limit p true now c.in_ok-l2_depends_on_rb.ensures.order (hint_stays g.S.Storage.view p c.args.file.now file c.args.self.now c.args.self.now one refl kept.hint) near)
 
 pub returns-in_err-l2_depends_on_rb-clause-former : goal.returns-in_err-l2_depends_on_rb-clause-former
 returns-in_err-l2_depends_on_rb-clause-former g c = former_none c.args.self.now.reftable c.args.file.now.free_list

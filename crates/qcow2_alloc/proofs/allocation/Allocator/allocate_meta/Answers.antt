@@ -4,10 +4,10 @@ pub returns-clause-sound : goal.returns-clause-sound
 returns-clause-sound g c = λ p sound. c.allocate.ensures.sound p sound tt
 
 pub returns-clause-lowest : goal.returns-clause-lowest
-returns-clause-lowest g c = λ p sound hint. c.allocate.ensures.lowest p sound tt hint
+returns-clause-lowest g c = λ p kept. c.allocate.ensures.lowest p kept.sound tt kept.hint
 
 pub returns-clause-hint : goal.returns-clause-hint
-returns-clause-hint g c = λ p sound hint. c.allocate.ensures.hint p sound tt hint
+returns-clause-hint g c = λ p kept. c.allocate.ensures.hint p kept.sound tt kept.hint
 
 pub returns-clause-limit : goal.returns-clause-limit
-returns-clause-limit g c = λ p sound hint some. c.allocate.ensures.limit p sound tt hint some
+returns-clause-limit g c = λ p kept some. c.allocate.ensures.limit p kept.sound tt kept.hint some

@@ -6,7 +6,7 @@ use Rattle.qcow2_alloc.specs.Allocation.{taken_as, HasNone, GetsBlock, IsUnalign
 use Rattle.qcow2_alloc.specs.ImageFile.{IsFault}
 use Rattle.qcow2_alloc.specs.LowestRuns.{KeepsNoFreeBelowHint}
 use Rattle.qcow2_alloc.proofs.FileSteps.{leaves_then}
-use Rattle.qcow2_alloc.proofs.Hints.{has_block, lacking_above, hint_got, hint_placed, hint_refused, hint_stays, ok_as, placed_block, range_as}
+use Rattle.qcow2_alloc.proofs.Hints.{has_block, lacking_above, hint_got, hint_placed, hint_refused, hint_stays, ok_as, placed_block, range_as, not_broken}
 use Rattle.qcow2_alloc.proofs.AllocationSteps.{handed_on, becomes_then, gets_then, gets_taken, is_sound_now, none_in_memory, stands_none, still_sound}
 use Rattle.std.specs.Prelude.{IfErr, IsSome}
 use Rattle.std.proofs.Math.Nat.{div-mul-le_self}
@@ -97,7 +97,7 @@ pub returns-then-is_some-clause-hint : goal.returns-then-is_some-clause-hint
 returns-then-is_some-clause-hint g c = λ p sound hint. hint_stays g.S.Storage.view p c.args.file.now c.load_block.new.file c.args.self.now c.args.self.now (c.in_ok-load_block.ensures.sound p sound).0 refl hint
 
 pub returns-then-not-can_name-clause-hint : goal.returns-then-not-can_name-clause-hint
-returns-then-not-can_name-clause-hint g c = λ p sound hint other. hint_stays g.S.Storage.view p c.args.file.now c.load_block.new.file c.args.self.now c.args.self.now (c.in_ok-load_block.ensures.sound p sound).0 refl hint
+returns-then-not-can_name-clause-hint g c = λ p sound hint. inl (hint_stays g.S.Storage.view p c.args.file.now c.load_block.new.file c.args.self.now c.args.self.now (c.in_ok-load_block.ensures.sound p sound).0 refl hint)
 
 pub returns-in-Ok-None-clause-has : goal.returns-in-Ok-None-clause-has
 returns-in-Ok-None-clause-has g c = λ p sound.
@@ -115,6 +115,12 @@ returns-in-Ok-None-clause-hint g c = λ p sound hint.
     hint_got g.S.Storage.view p c.take_lowest_below.new.file c.cover_range.new.file c.take_lowest_below.new.self c.cover_range.new.self c.cover_range.result c.cover_range.ensures.first
     (c.cover_range.ensures.sound p (is_sound_now g.S.Storage.view p p c.load_block.new.file c.take_lowest_below.new.file c.take_lowest_below.new.self two)) (c.in-Ok-None.ensures.hint p now still)
 
+pub returns-then-is_fault-clause-hint : goal.returns-then-is_fault-clause-hint
+returns-then-is_fault-clause-hint g c = λ p sound hint.
+    let one = (c.in_ok-load_block.ensures.sound p sound).0 in
+    let now = is_sound_now g.S.Storage.view p p c.args.file.now c.load_block.new.file c.args.self.now one in
+    c.in-Err.ensures.hint p now (hint_stays g.S.Storage.view p c.args.file.now c.load_block.new.file c.args.self.now c.args.self.now one refl hint)
+
 pub returns-else-is_fault-clause-has : goal.returns-else-is_fault-clause-has
 returns-else-is_fault-clause-has g c = λ p sound.
     let one = (c.in_ok-load_block.ensures.sound p sound).0 in
@@ -131,7 +137,7 @@ returns-else-is_fault-clause-hint g c = λ p sound hint.
     let two = still_sound g.S.Storage.view p c.load_block.new.file c.take_lowest_below.new.file c.take_lowest_below.new.self c.in-Err.refusal no_fault (c.in-Err.ensures.sound p now) in
     let still = hint_stays g.S.Storage.view p c.args.file.now c.load_block.new.file c.args.self.now c.args.self.now one refl hint in
     hint_got g.S.Storage.view p c.take_lowest_below.new.file c.cover_range-in-Err.new.file c.take_lowest_below.new.self c.cover_range-in-Err.new.self c.cover_range-in-Err.result c.cover_range-in-Err.ensures.first
-    (c.cover_range-in-Err.ensures.sound p (is_sound_now g.S.Storage.view p p c.load_block.new.file c.take_lowest_below.new.file c.take_lowest_below.new.self two)) (c.in-Err.ensures.hint p now still no_fault)
+    (c.cover_range-in-Err.ensures.sound p (is_sound_now g.S.Storage.view p p c.load_block.new.file c.take_lowest_below.new.file c.take_lowest_below.new.self two)) (not_broken c.take_lowest_below.new.file c.in-Err.refusal no_fault (c.in-Err.ensures.hint p now still))
 
 pub returns-in-Ok-Some-clause-has : goal.returns-in-Ok-Some-clause-has
 returns-in-Ok-Some-clause-has g c = λ p sound.

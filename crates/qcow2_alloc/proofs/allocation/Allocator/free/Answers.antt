@@ -4,6 +4,7 @@ use Rattle.qcow2_alloc.specs.declared.clusters_to_free.ClusterKind.TheVariants.{
 use Rattle.qcow2_alloc.specs.declared.image_file.ImageFile.{ImageFile}
 use Rattle.qcow2_alloc.specs.Allocation.{Frees}
 use Rattle.qcow2_alloc.specs.FreeList.{with_listed, but}
+use Rattle.qcow2_alloc.specs.LowestRuns.{KeepsNoFreeBelowHint}
 use Rattle.qcow2_alloc.proofs.AllocationSteps.{handed_on, is_sound_now, becomes_cached}
 use Rattle.qcow2_alloc.proofs.Hints.{hint_stays}
 use Rattle.qcow2_alloc.proofs.Freeing.{but_both, on_ok, becomes_on, frees_then}
@@ -56,23 +57,41 @@ returns-clause-sound g c = λ p sound.
     frees_then view q now (with_listed p c.free_kind-2.new.file.free_list) c.args.file.now turned c.free_kind-2.new.file c.free_kind.new.self c.free_kind-2.new.self c.free_kind-2.result (λ k some. some) both
     (c.free_kind-2.ensures.sound p (is_sound_now view q now c.args.file.now turned c.free_kind.new.self both) c.in_ok-rb_depends_on_l2.ensures.order)
 
-pub returns-then-is_empty-clause-hint : goal.returns-then-is_empty-clause-hint
-returns-then-is_empty-clause-hint g c = λ p sound hint. c.in_ok-free_kind.ensures.hint p sound tt hint
+pub returns-in_err-free_kind-clause-hint : goal.returns-in_err-free_kind-clause-hint
+returns-in_err-free_kind-clause-hint g c = λ p kept.
+    handed_on (KeepsNoFreeBelowHint g.S.Storage.view c.free_kind.new.self c.free_kind.new.file) c.from_residual.result c.in_err-free_kind.field-0.0 c.from_residual.ensures (c.in_err-free_kind.ensures.hint p kept.sound tt kept.hint)
 
-pub returns-clause-hint : goal.returns-clause-hint
-returns-clause-hint g c = λ p sound hint.
+pub returns-in_err-rb_depends_on_l2-clause-hint : goal.returns-in_err-rb_depends_on_l2-clause-hint
+returns-in_err-rb_depends_on_l2-clause-hint g c = λ p kept.
     let view = g.S.Storage.view in
     let q : Pending = with_listed p c.args.file.now.free_list in
     let now : Pending = with_listed p c.free_kind.new.file.free_list in
-    let one = c.in_ok-free_kind.ensures.sound p sound tt in
+    let one = c.in_ok-free_kind.ensures.sound p kept.sound tt in
+    let h = c.free_kind.new.file.header.fields in
+    let s = one.moves.sound in
+    let turned : ImageFile g.row.S.Denot = record c.free_kind.new.file { storage = c.rb_depends_on_l2.new.storage; caches = c.rb_depends_on_l2.new.self } in
+    let two = becomes_cached view now c.free_kind.new.file c.free_kind.new.self c.rb_depends_on_l2.new.storage c.rb_depends_on_l2.new.self (is_sound_now view q now c.args.file.now c.free_kind.new.file c.free_kind.new.self one)
+    (c.rb_depends_on_l2.ensures.keeps h now s.honest s.caches) c.rb_depends_on_l2.ensures.marks in
+    handed_on (KeepsNoFreeBelowHint view c.free_kind.new.self turned) c.from_residual-in_err-rb_depends_on_l2.result c.in_err-rb_depends_on_l2.field-0.0 c.from_residual-in_err-rb_depends_on_l2.ensures
+    (inl (hint_stays view now c.free_kind.new.file turned c.free_kind.new.self c.free_kind.new.self two refl (c.in_ok-free_kind.ensures.hint p kept.sound tt kept.hint)))
+
+pub returns-then-is_empty-clause-hint : goal.returns-then-is_empty-clause-hint
+returns-then-is_empty-clause-hint g c = λ p kept. c.in_ok-free_kind.ensures.hint p kept.sound tt kept.hint
+
+pub returns-clause-hint : goal.returns-clause-hint
+returns-clause-hint g c = λ p kept.
+    let view = g.S.Storage.view in
+    let q : Pending = with_listed p c.args.file.now.free_list in
+    let now : Pending = with_listed p c.free_kind.new.file.free_list in
+    let one = c.in_ok-free_kind.ensures.sound p kept.sound tt in
     let h = c.free_kind.new.file.header.fields in
     let s = one.moves.sound in
     let turned : ImageFile g.row.S.Denot = record c.free_kind.new.file { storage = c.rb_depends_on_l2.new.storage; caches = c.rb_depends_on_l2.new.self } in
     let two = becomes_cached view now c.free_kind.new.file c.free_kind.new.self c.rb_depends_on_l2.new.storage c.rb_depends_on_l2.new.self (is_sound_now view q now c.args.file.now c.free_kind.new.file c.free_kind.new.self one)
     (c.rb_depends_on_l2.ensures.keeps h now s.honest s.caches) c.rb_depends_on_l2.ensures.marks in
     let both = becomes_on view q now now c.args.file.now c.free_kind.new.file turned c.free_kind.new.self c.free_kind.new.self (λ k some. some) one two in
-    let kept = hint_stays view now c.free_kind.new.file turned c.free_kind.new.self c.free_kind.new.self two refl (c.in_ok-free_kind.ensures.hint p sound tt hint) in
-    c.free_kind-2.ensures.hint p (is_sound_now view q now c.args.file.now turned c.free_kind.new.self both) c.in_ok-rb_depends_on_l2.ensures.order kept
+    let still = hint_stays view now c.free_kind.new.file turned c.free_kind.new.self c.free_kind.new.self two refl (c.in_ok-free_kind.ensures.hint p kept.sound tt kept.hint) in
+    c.free_kind-2.ensures.hint p (is_sound_now view q now c.args.file.now turned c.free_kind.new.self both) c.in_ok-rb_depends_on_l2.ensures.order still
 
 pub returns-clause-in_order : goal.returns-clause-in_order
 returns-clause-in_order g c = inl (c.free_kind-2.ensures.others ∙ ap (but Data) c.in_ok-free_kind.ensures.left ∙ but_both c.args.file.now.free_list)

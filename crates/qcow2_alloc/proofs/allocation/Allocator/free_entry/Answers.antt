@@ -33,6 +33,11 @@ returns-in-Ok-clause-hint g c = λ p sound may hint.
     let q : Pending = with_listed p c.args.file.now.free_list in
     c.in-Ok.ensures.hint q (subst (λ (r : Pending). AllocatorInvariant g.S.Storage.view c.args.self.now r c.args.file.now) (with_one p c.args.file.now.free_list c.args.pending) sound) may hint
 
+pub returns-in-Err-clause-hint : goal.returns-in-Err-clause-hint
+returns-in-Err-clause-hint g c = λ p sound may hint.
+    let q : Pending = with_listed p c.args.file.now.free_list in
+    c.in-Err.ensures.hint q (subst (λ (r : Pending). AllocatorInvariant g.S.Storage.view c.args.self.now r c.args.file.now) (with_one p c.args.file.now.free_list c.args.pending) sound) may hint
+
 pub returns-in-Err-clause-others : goal.returns-in-Err-clause-others
 returns-in-Err-clause-others g c =
     ap (but c.args.pending.kind) (c.hand_back.ensures ∙ ap (λ l. l ++ c.free_run.new.run ∷ []) c.free_run.ensures.list) ∙ but_same c.args.pending.kind c.args.file.now.free_list c.free_run.new.run c.free_run.ensures.kind

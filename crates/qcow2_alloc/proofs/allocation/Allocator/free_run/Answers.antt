@@ -2,6 +2,7 @@ use Rattle.std.proofs.Common.{◌<◌, ◌∙◌, arith}
 use Rattle.qcow2_laws.specs.CrashInvariant.{Pending}
 use Rattle.qcow2_alloc.specs.Allocation.{Listed, listed_as, Frees}
 use Rattle.qcow2_alloc.specs.FreeList.{run_of}
+use Rattle.qcow2_alloc.specs.LowestRuns.{KeepsNoFreeBelowHint}
 use Rattle.qcow2_alloc.proofs.AllocationSteps.{handed_on, may_lower_still, is_sound_now}
 use Rattle.qcow2_alloc.proofs.CacheMarks.{marks_then}
 use Rattle.qcow2_alloc.proofs.Freeing.{listed_held, behind_first, first_owed, run_refused, run_freed}
@@ -67,6 +68,19 @@ freeing-preserved g c = record {
       (may_lower_still (Listed kind) c.args.file.now c.freeing.file c.freeing.invariant.order may)
       ∙ c.freeing.invariant.leaks p sound may;
 }
+
+pub returns-in_err-lower-clause-hint : goal.returns-in_err-lower-clause-hint
+returns-in_err-lower-clause-hint g c = λ p sound may hint.
+    let kind = c.args.run.now.kind in
+    let q : Pending = listed_as kind p (run_of c.args.run.now) in
+    let now : Pending = listed_as kind p (run_of c.freeing.run) in
+    let before = c.freeing.invariant.sound p sound may in
+    let at = c.value-in-freeing.ensures ∙ c.cluster.ensures in
+    let some : 0 < c.freeing.run.count = omega (arith, c.freeing-test.true, c.value.ensures, c.count.ensures) in
+    handed_on (KeepsNoFreeBelowHint g.S.Storage.view c.lower.new.self c.lower.new.file) c.from_residual.result c.in_err-lower.field-0.0 c.from_residual.ensures
+    (c.in_err-lower.ensures.hint (behind_first c.freeing.run kind p) (Listed kind)
+    (first_owed g.S.Storage.view kind p c.freeing.run some c.value-in-freeing.result at c.freeing.file c.freeing.self (is_sound_now g.S.Storage.view q now c.args.file.now c.freeing.file c.freeing.self before))
+    (may_lower_still (Listed kind) c.args.file.now c.freeing.file c.freeing.invariant.order may) (c.freeing.invariant.hint p sound may hint))
 
 pub returns-clause-hint : goal.returns-clause-hint
 returns-clause-hint g c = λ p sound may hint. c.freeing.invariant.hint p sound may hint

@@ -2,6 +2,7 @@ use Rattle.std.proofs.Common.{◌≡◌, ◌++◌, ◌∷◌, [], Ok, Err, refl,
 use Rattle.qcow2_laws.specs.CrashInvariant.{Pending}
 use Rattle.qcow2_alloc.specs.Allocation.{Listed, UnseenAllocatorStep, Frees}
 use Rattle.qcow2_alloc.specs.FreeList.{with_listed, but}
+use Rattle.qcow2_alloc.specs.LowestRuns.{KeepsNoFreeBelowHint}
 use Rattle.qcow2_alloc.proofs.AllocationSteps.{handed_on, may_lower_still, is_sound_now}
 use Rattle.qcow2_alloc.proofs.CacheMarks.{marks_then}
 use Rattle.qcow2_alloc.proofs.Freeing.{but_first, but_step, entry_sound, entry_goes}
@@ -68,6 +69,15 @@ returns-clause-sound g c = λ p sound may.
     let q : Pending = with_listed p (c.args.file.now.free_list ++ c.args.taken.now) in
     let same : c.freeing.taken ≡ c.next_pending.new.self = (c.in_default.ensures.none refl).0 ∙ sym (c.in_default.ensures.none refl).1 in
     subst (λ l. UnseenAllocatorStep g.S.Storage.view q c.args.file.now c.freeing.self c.freeing.file (with_listed p (c.freeing.file.free_list ++ l))) same (c.freeing.invariant.sound p sound may)
+
+pub returns-in_err-free_or_list-clause-hint : goal.returns-in_err-free_or_list-clause-hint
+returns-in_err-free_or_list-clause-hint g c = λ p sound may hint.
+    let q : Pending = with_listed p (c.args.file.now.free_list ++ c.args.taken.now) in
+    let now : Pending = with_listed p (c.freeing.file.free_list ++ c.freeing.taken) in
+    handed_on (KeepsNoFreeBelowHint g.S.Storage.view c.free_or_list.new.self c.free_or_list.new.file) c.from_residual.result c.in_err-free_or_list.field-0.0 c.from_residual.ensures
+    (c.in_err-free_or_list.ensures.hint (with_listed p c.next_pending.new.self)
+    (entry_sound g.S.Storage.view p c.freeing.taken c.next_pending.new.self c.in-Some.pending c.in-Some.ensures.some c.freeing.file c.freeing.self (is_sound_now g.S.Storage.view q now c.args.file.now c.freeing.file c.freeing.self (c.freeing.invariant.sound p sound may)))
+    (may_lower_still (Listed c.args.kind) c.args.file.now c.freeing.file c.freeing.invariant.order may) (c.freeing.invariant.hint p sound may hint))
 
 pub returns-clause-hint : goal.returns-clause-hint
 returns-clause-hint g c = λ p sound may hint. c.freeing.invariant.hint p sound may hint

@@ -3,10 +3,11 @@ use Rattle.qcow2_laws.specs.Changes.{one_at}
 use Rattle.qcow2_laws.specs.CrashInvariant.{Pending}
 use Rattle.qcow2_alloc.specs.Allocation.{run_at, taken_as, Taken, UnseenAllocatorGrowth, GivesBackAs}
 use Rattle.qcow2_alloc.specs.ImageFile.{AllocatorInvariant, UnseenFileGrowth}
+use Rattle.qcow2_alloc.specs.LowestRuns.{KeepsNoFreeBelowHint, KeepsUsedBut}
 use Rattle.qcow2_alloc.proofs.CacheMarks.{marks_none, marks_then}
 use Rattle.qcow2_alloc.proofs.FileSteps.{moves_on, on_then, on_breaks_after}
 use Rattle.qcow2_alloc.proofs.AllocationSteps.{handed_on, is_sound_now}
-use Rattle.qcow2_alloc.proofs.Hints.{not_in_run, taken_pending, used_stays}
+use Rattle.qcow2_alloc.proofs.Hints.{kept_refused, not_in_run, taken_pending, used_stays}
 use Rattle.qcow2_alloc.proofs.Runs.{taken_first, taken_none, held_more}
 use Rattle.qcow2_alloc.proofs.Faults.{told_ok}
 use Rattle.qcow2_alloc.proofs.Outcomes.{told_after, handed_cause}
@@ -88,6 +89,23 @@ pub returns-clause-sound : goal.returns-clause-sound
 returns-clause-sound g c = λ p p' d start held b noted.
     subst (λ (r : Pending). UnseenAllocatorGrowth g.S.Storage.view p start c.lowering.self c.lowering.file r)
     (taken_none d p' c.lowering.cluster ((c.args.first + c.args.n) - c.lowering.cluster) (let past = c.lowering-test.false in omega arith)) (c.lowering.invariant.sound p p' d start held b)
+
+pub returns-in_err-lower-clause-hint : goal.returns-in_err-lower-clause-hint
+returns-in_err-lower-clause-hint g c = λ p d sound hint.
+    let one = c.lowering.invariant.kept p d sound in
+    let q : Pending = (taken_as d p (run_at (c.lowering.cluster + 1) ((c.args.first + c.args.n) - (c.lowering.cluster + 1)))) in
+    let same = taken_first d p c.lowering.cluster (c.args.first + c.args.n) c.lowering-test.true in
+    handed_on (KeepsNoFreeBelowHint g.S.Storage.view c.lower.new.self c.lower.new.file) c.from_residual.result c.in_err-lower.field-0.0 c.from_residual.ensures
+    (c.in_err-lower.ensures.hint q (Taken d) (subst (λ (r : Pending). AllocatorInvariant g.S.Storage.view c.lowering.self r c.lowering.file) (sym same) one.0) tt (c.lowering.invariant.hint p d sound hint))
+
+pub returns-in_err-lower-clause-kept : goal.returns-in_err-lower-clause-kept
+returns-in_err-lower-clause-kept g c = λ p d sound.
+    let one = c.lowering.invariant.kept p d sound in
+    let q : Pending = (taken_as d p (run_at (c.lowering.cluster + 1) ((c.args.first + c.args.n) - (c.lowering.cluster + 1)))) in
+    let same = taken_first d p c.lowering.cluster (c.args.first + c.args.n) c.lowering-test.true in
+    let low = c.in_err-lower.ensures.sound q (Taken d) (subst (λ (r : Pending). AllocatorInvariant g.S.Storage.view c.lowering.self r c.lowering.file) (sym same) one.0) tt in
+    handed_on (KeepsUsedBut g.S.Storage.view (run_at c.args.first c.args.n) c.args.file.now c.lower.new.file) c.from_residual.result c.in_err-lower.field-0.0 c.from_residual.ensures
+    (kept_refused g.S.Storage.view (run_at c.args.first c.args.n) (taken_as d q (one_at c.lowering.cluster)) c.args.file.now c.lowering.file c.lower.new.file c.lower.new.self c.in_err-lower.field-0.0 low.1 one.1)
 
 pub returns-clause-hint : goal.returns-clause-hint
 returns-clause-hint g c = λ p d sound hint. c.lowering.invariant.hint p d sound hint

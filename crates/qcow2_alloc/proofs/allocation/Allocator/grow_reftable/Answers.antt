@@ -41,7 +41,7 @@ pub returns-in-Err-clause-uses : goal.returns-in-Err-clause-uses
 returns-in-Err-clause-uses g c = λ p sound. c.in-Err.ensures.uses p sound c.in_ok-table.ensures.entries c.in_ok-table.ensures.length.enough.whole
 
 pub returns-in_err-table-clause-limit : goal.returns-in_err-table-clause-limit
-returns-in_err-table-clause-limit g c = λ p sound hint.
+returns-in_err-table-clause-limit g c = λ p kept.
     let view = g.S.Storage.view in
     let t = c.args.self.now.reftable in
     let old = c.args.file.now in
@@ -51,14 +51,14 @@ returns-in_err-table-clause-limit g c = λ p sound hint.
     (λ none. (refl, λ n small least end low near. absurd (none n small least.enough))) c.in_err-table.ensures.limit)
 
 pub returns-in_err-former-clause-limit : goal.returns-in_err-former-clause-limit
-returns-in_err-former-clause-limit g c = λ p sound hint.
+returns-in_err-former-clause-limit g c = λ p kept.
     let t = c.args.self.now.reftable in
-    let some : IsSome t.cluster = rw sound.reftable.cluster refl in
+    let some : IsSome t.cluster = rw kept.sound.reftable.cluster refl in
     handed_on (λ (r : Result (Unit {0}) ImageError). IfErr r (IsFaultOr ((t ≡ t) × CantGrow g.S.Storage.view c.args.file.now (λ k. 0) t c.args.index))) c.from_residual-in_err-former.result c.in_err-former.field-0.0 c.from_residual-in_err-former.ensures
     (inl (inr (c.in_err-former.ensures.placed some)))
 
 pub returns-in-Err-clause-limit : goal.returns-in-Err-clause-limit
-returns-in-Err-clause-limit g c = λ p sound hint.
+returns-in-Err-clause-limit g c = λ p kept.
     let view = g.S.Storage.view in
     let t = c.args.self.now.reftable in
     let old = c.args.file.now in
@@ -71,11 +71,11 @@ returns-in-Err-clause-limit g c = λ p sound hint.
       cant_grow view new (λ k. 0) t c.args.index length (entries_per_cluster old.header.fields) (counts_per_block old.header.fields)
           (ap (λ (h : HeaderView). entries_per_cluster h.fields) header) (ap (λ (h : HeaderView). counts_per_block h.fields) header) c.in_ok-table.ensures.length none.1,
     ))
-    (c.in-Err.ensures.limit p sound hint c.in_ok-table.ensures.entries c.in_ok-table.ensures.length.enough.whole)
+    (c.in-Err.ensures.limit p kept.sound kept.hint c.in_ok-table.ensures.entries c.in_ok-table.ensures.length.enough.whole)
 
 pub returns-in-Ok-clause-lowest : goal.returns-in-Ok-clause-lowest
-returns-in-Ok-clause-lowest g c = λ p sound hint.
-    let lies = c.in-Ok.ensures.lowest p sound hint c.in_ok-table.ensures.entries c.in_ok-table.ensures.length.enough.whole in
+returns-in-Ok-clause-lowest g c = λ p kept.
+    let lies = c.in-Ok.ensures.lowest p kept.sound kept.hint c.in_ok-table.ensures.entries c.in_ok-table.ensures.length.enough.whole in
     record { first = lies.first; blocks = lies.blocks; above = lies.above; behind = lies.behind; lacked = lies.lacked; lowest = lies.lowest }
 
 pub returns-in_err-table-clause-former : goal.returns-in_err-table-clause-former

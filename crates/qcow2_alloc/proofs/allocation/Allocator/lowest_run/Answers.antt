@@ -4,7 +4,7 @@ use Rattle.std.proofs.Math.Nat.{div-le_self, le_trans}
 use Rattle.qcow2_laws.specs.CrashInvariant.{Pending}
 use Rattle.qcow2_alloc.specs.LowestRuns.{KeepsNoFreeBelowHint}
 use Rattle.qcow2_alloc.specs.declared.allocation.Allocator.{Allocator}
-use Rattle.qcow2_alloc.proofs.Hints.{hint_header, lowest_behind, lowest_first, lowest_stays}
+use Rattle.qcow2_alloc.proofs.Hints.{hint_header, lowest_behind, lowest_first, lowest_stays, not_broken}
 use Rattle.qcow2_alloc.specs.Allocation.{run_at, UnseenAllocatorGrowth, TakesSomeRun}
 use Rattle.qcow2_alloc.specs.FreeList.{pending_then}
 use Rattle.qcow2_alloc.proofs.CacheMarks.{marks_none, marks_then}
@@ -115,7 +115,7 @@ returns-then-taken-n-clause-hint g c = λ p d sound may hint.
     c.in_ok-taken.ensures.hint q d now may_now (c.search.invariant.hint p d sound may hint)
 
 pub returns-clause-hint : goal.returns-clause-hint
-returns-clause-hint g c = λ p d sound may hint other. c.search.invariant.hint p d sound may hint
+returns-clause-hint g c = λ p d sound may hint. inl (c.search.invariant.hint p d sound may hint)
 
 pub returns-in_err-taken-clause-list : goal.returns-in_err-taken-clause-list
 returns-in_err-taken-clause-list g c = lists_then c.args.file.now.free_list c.search.file.free_list c.take_run.new.file.free_list c.search.invariant.list c.take_run.ensures.list
@@ -138,7 +138,7 @@ returns-in_err-taken-clause-limit g c = λ p d sound may hint some.
     (elim (c.in_err-taken.ensures.limit q d now may_now (c.search.invariant.hint p d sound may hint) within) [
       | inl fault ↦ inl fault
       | inr why ↦
-          let uses = c.in_err-taken.ensures.uses q d now may_now (limit_is_no_fault c.in_err-taken.field-0.0 why.0) in
+          let uses = not_broken c.take_run.new.file c.in_err-taken.field-0.0 (limit_is_no_fault c.in_err-taken.field-0.0 why.0) (c.in_err-taken.ensures.uses q d now may_now) in
           let lowest = lowest_stays g.S.Storage.view c.search.file c.take_run.new.file c.search.first c.args.n uses (c.search.invariant.lowest p d sound may hint some) in
           inr (why.0, inr (c.search.first, omega (arith, within, same), lowest, why.1))
     ])

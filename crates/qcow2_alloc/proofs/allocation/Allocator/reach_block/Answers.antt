@@ -6,7 +6,7 @@ use Rattle.qcow2_alloc.specs.FreeList.{pending_then}
 use Rattle.qcow2_alloc.specs.LowestRuns.{KeepsNoFreeBelowHint, KeepsUsed}
 use Rattle.qcow2_alloc.proofs.AllocationSteps.{handed_on, is_sound_on}
 use Rattle.qcow2_alloc.proofs.Following.{following_same, grows_none, grows_on, header_counts, header_bits, header_then, header_same, lists_then, lists_same}
-use Rattle.qcow2_alloc.proofs.Hints.{hint_used, ok_as, range_as, uses_got, uses_then}
+use Rattle.qcow2_alloc.proofs.Hints.{hint_used, ok_as, range_as, uses_got, uses_then, hint_or_broke}
 use Rattle.qcow2_alloc.specs.Limits.{CantCount, IsFaultOr}
 use Rattle.qcow2_alloc.proofs.Limits.{fault_or, grown_why, not_below}
 use Rattle.std.specs.Prelude.{IfErr}
@@ -36,7 +36,7 @@ returns-then-in_bounds-clause-uses g c = λ p sound. uses_got g.S.Storage.view p
 pub returns-in_err-grow_reftable-clause-hint : goal.returns-in_err-grow_reftable-clause-hint
 returns-in_err-grow_reftable-clause-hint g c = λ p sound hint.
     handed_on (KeepsNoFreeBelowHint g.S.Storage.view c.grow_reftable.new.self c.grow_reftable.new.file) c.from_residual.result c.in_err-grow_reftable.field-0.0 c.from_residual.ensures
-    (λ other. hint_used g.S.Storage.view c.args.file.now c.grow_reftable.new.file c.args.self.now c.grow_reftable.new.self c.grow_reftable.ensures.first (c.in_err-grow_reftable.ensures.uses p sound other) hint)
+    (hint_or_broke g.S.Storage.view c.args.file.now c.grow_reftable.new.file c.args.self.now c.grow_reftable.new.self c.in_err-grow_reftable.field-0.0 c.grow_reftable.ensures.first (c.in_err-grow_reftable.ensures.uses p sound) hint)
 
 pub returns-in_err-grow_reftable-clause-uses : goal.returns-in_err-grow_reftable-clause-uses
 returns-in_err-grow_reftable-clause-uses g c = λ p sound.
@@ -81,7 +81,7 @@ pub returns-in_err-grow_reftable-clause-limit : goal.returns-in_err-grow_reftabl
 returns-in_err-grow_reftable-clause-limit g c = λ p sound hint near.
     handed_on (λ (r : Result (Unit {0}) ImageError). IfErr r (IsFaultOr (CantCount g.S.Storage.view c.grow_reftable.new.file (λ k. 0) c.grow_reftable.new.self c.args.cluster))) c.from_residual.result c.in_err-grow_reftable.field-0.0 c.from_residual.ensures
     (grown_why g.S.Storage.view c.args.file.now c.grow_reftable.new.file c.args.self.now c.grow_reftable.new.self c.args.cluster c.rb_bits.result c.in_err-grow_reftable.field-0.0 c.rb_bits.ensures.counts c.grow_reftable.ensures.header
-    (not_below (c.args.cluster / 2 ^ c.rb_bits.result) (entry_count c.args.self.now.reftable) c.in_bounds.result c.in_bounds.ensures c.if-in_bounds.false) (c.in_err-grow_reftable.ensures.limit p sound hint))
+    (not_below (c.args.cluster / 2 ^ c.rb_bits.result) (entry_count c.args.self.now.reftable) c.in_bounds.result c.in_bounds.ensures c.if-in_bounds.false) (c.in_err-grow_reftable.ensures.limit p (record { sound = sound; hint = hint })))
 
 pub returns-clause-limit : goal.returns-clause-limit
 returns-clause-limit g c = λ p sound hint near.

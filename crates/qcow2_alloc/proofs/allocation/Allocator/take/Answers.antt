@@ -1,4 +1,4 @@
-use Rattle.std.proofs.Common.{◌≡◌, ◌∙◌, ◌+◌, Ok, ap, refl, sym, subst, inl, Bool, Result}
+use Rattle.std.proofs.Common.{◌≡◌, ◌∙◌, ◌+◌, Ok, ap, refl, sym, subst, inl, Bool, Result, inr}
 use Rattle.qcow2_laws.specs.CrashInvariant.{Pending}
 use Rattle.qcow2_metadata.specs.Header.{counts_per_block}
 use Rattle.qcow2_alloc.specs.declared.allocation.Allocator.{Allocator}
@@ -90,8 +90,9 @@ returns-in_err-taken-clause-uses g c = λ p d sound may.
     let q : Pending = pending_then p c.args.file.now.free_list c.reach_block.new.file.free_list in
     let now = is_sound_on g.S.Storage.view p q c.args.file.now c.reach_block.new.file c.reach_block.new.self (c.in_ok-reach_block.ensures.sound p sound) in
     handed_on (KeepsUsed g.S.Storage.view c.args.file.now c.raise.new.file) c.from_residual-in_err-taken.result c.in_err-taken.field-0.0 c.from_residual-in_err-taken.ensures
-    (λ other k used. uses_refused g.S.Storage.view q c.reach_block.new.file c.raise.new.file c.raise.new.self c.in_err-taken.field-0.0
-    (c.in_err-taken.ensures.sound q d now (may_still d c.args.file.now c.reach_block.new.file c.reach_block.ensures.order may)) other k (c.in_ok-reach_block.ensures.uses p sound k used))
+    (elim (uses_refused g.S.Storage.view q c.reach_block.new.file c.raise.new.file c.raise.new.self c.in_err-taken.field-0.0
+    (c.in_err-taken.ensures.sound q d now (may_still d c.args.file.now c.reach_block.new.file c.reach_block.ensures.order may)))
+    [ inl kept ↦ inl (λ k used. kept k (c.in_ok-reach_block.ensures.uses p sound k used)) | inr broke ↦ inr broke ])
 
 pub returns-clause-uses : goal.returns-clause-uses
 returns-clause-uses g c = λ p d sound may k used.

@@ -1,4 +1,4 @@
-use Rattle.std.proofs.Common.{◌≡◌, inl, inr, ℕ, ◌+◌, ◌<◌, Bool, IsTrue, refl, sym, ap, ◌∙◌, subst, arith, Result, Err}
+use Rattle.std.proofs.Common.{◌≡◌, ◌⊎◌, inl, inr, ℕ, ◌+◌, ◌<◌, Bool, IsTrue, refl, sym, ap, ◌∙◌, subst, arith, Result, Err}
 use Rattle.std.proofs.lemmas.Bool.{cases_eq, cases_lt}
 use Rattle.image_access.specs.Moments.{StorageView}
 use Rattle.qcow2_laws.specs.CrashInvariant.{Pending}
@@ -11,7 +11,8 @@ use Rattle.qcow2_alloc.specs.ImageFile.{IsFault, KeepsHeader}
 use Rattle.qcow2_alloc.proofs.CacheMarks.{marks_none, marks_then}
 use Rattle.qcow2_alloc.proofs.AllocationSteps.{handed_on, of_equal, may_still, on_none, is_sound_on, still_as}
 use Rattle.qcow2_alloc.proofs.Following.{header_same, header_then, lists_none, lists_then, following_same, still_taken, more_taken, ends_taken, then_leaves, header_bits}
-use Rattle.qcow2_alloc.specs.LowestRuns.{NoFreeBelowHint, IsUsed, KeepsNoFreeBelowHint, KeepsUsed}
+use Rattle.qcow2_alloc.specs.LowestRuns.{NoFreeBelowHint, IsUsed, KeepsNoFreeBelowHint, KeepsUsed, BrokeOff}
+use Rattle.qcow2_alloc.proofs.Hints.{kept_then, not_broken}
 use Rattle.qcow2_alloc.proofs.Runs.{none_there, run_after, run_last, run_none, taken_none}
 use Rattle.qcow2_alloc.proofs.allocation.Allocator.take_run.Goals.{then-not-is_fault+in_ok-give_back-in-Err, else-not-is_fault}
 use Rattle.std.specs.Prelude.{IfErr}
@@ -162,7 +163,6 @@ returns-clause-sound g c = λ p d sound may.
       (λ other. absurd (other refl)),
     )
 
--- giving back is refused by a fault alone
 pub returns-in_err-give_back-in-Ok-false-clause-hint : goal.returns-in_err-give_back-in-Ok-false-clause-hint
 returns-in_err-give_back-in-Ok-false-clause-hint g c = λ p d sound may hint.
     let before = c.taking.invariant.sound p d sound may in
@@ -171,8 +171,9 @@ returns-in_err-give_back-in-Ok-false-clause-hint g c = λ p d sound may hint.
     let may_now = may_still d c.args.file.now c.taking.file c.taking.invariant.order may in
     let two = rw c.in-Ok-false.field-0-test at (c.in-Ok-false.ensures.sound q d now may_now) in
     let taken = still_taken g.S.Storage.view d p (run_at c.args.first c.taking.taken) c.args.file.now c.taking.file c.take.new.file c.taking.self c.take.new.self c.taking.invariant.list c.take.ensures.list before two in
-    let back = c.in_err-give_back-in-Ok-false.ensures.sound p (pending_then p c.args.file.now.free_list c.take.new.file.free_list) d c.args.file.now (λ k some. some) taken (λ some. c.take.ensures.marks.changed (c.taking.invariant.noted some)) in
-    handed_on (KeepsNoFreeBelowHint g.S.Storage.view c.give_back.new.self c.give_back.new.file) c.from_residual.result c.in_err-give_back-in-Ok-false.field-0.0 c.from_residual.ensures (λ other. absurd (other back.0))
+    handed_on (KeepsNoFreeBelowHint g.S.Storage.view c.give_back.new.self c.give_back.new.file) c.from_residual.result c.in_err-give_back-in-Ok-false.field-0.0 c.from_residual.ensures
+    (c.in_err-give_back-in-Ok-false.ensures.hint (pending_then p c.args.file.now.free_list c.take.new.file.free_list) d (is_sound_on g.S.Storage.view p (taken_as d (pending_then p c.args.file.now.free_list c.take.new.file.free_list) (run_at c.args.first c.taking.taken)) c.args.file.now c.take.new.file c.take.new.self taken)
+    (c.in-Ok-false.ensures.hint q d now may_now (c.taking.invariant.hint p d sound may hint)))
 
 pub returns-in-Ok-false-clause-used : goal.returns-in-Ok-false-clause-used
 returns-in-Ok-false-clause-used g c = λ p d sound may.
@@ -205,23 +206,25 @@ returns-in_err-give_back-in-Err-clause-hint g c = λ p d sound may hint.
     let may_now = may_still d c.args.file.now c.taking.file c.taking.invariant.order may in
     let two = still_as g.S.Storage.view q (pending_then q c.taking.file.free_list c.take.new.file.free_list) c.taking.file c.take.new.file c.take.new.self c.in-Err.refusal (λ fault. not_both c.is_fault.result (c.is_fault.ensures.1 fault) c.if-not-is_fault.true) (c.in-Err.ensures.sound q d now may_now) in
     let taken = still_taken g.S.Storage.view d p (run_at c.args.first c.taking.taken) c.args.file.now c.taking.file c.take.new.file c.taking.self c.take.new.self c.taking.invariant.list c.take.ensures.list before two in
-    let back = c.in_err-give_back-in-Err.ensures.sound p (pending_then p c.args.file.now.free_list c.take.new.file.free_list) d c.args.file.now (λ k some. some) taken (λ some. c.take.ensures.marks.changed (c.taking.invariant.noted some)) in
-    handed_on (KeepsNoFreeBelowHint g.S.Storage.view c.give_back-then-not-is_fault.new.self c.give_back-then-not-is_fault.new.file) c.from_residual-in_err-give_back-in-Err.result c.in_err-give_back-in-Err.field-0.0 c.from_residual-in_err-give_back-in-Err.ensures (λ other. absurd (other back.0))
+    let here = not_broken c.take.new.file c.in-Err.refusal (λ fault. not_both c.is_fault.result (c.is_fault.ensures.1 fault) c.if-not-is_fault.true) (c.in-Err.ensures.hint q d now may_now (c.taking.invariant.hint p d sound may hint)) in
+    handed_on (KeepsNoFreeBelowHint g.S.Storage.view c.give_back-then-not-is_fault.new.self c.give_back-then-not-is_fault.new.file) c.from_residual-in_err-give_back-in-Err.result c.in_err-give_back-in-Err.field-0.0 c.from_residual-in_err-give_back-in-Err.ensures
+    (c.in_err-give_back-in-Err.ensures.hint (pending_then p c.args.file.now.free_list c.take.new.file.free_list) d (is_sound_on g.S.Storage.view p (taken_as d (pending_then p c.args.file.now.free_list c.take.new.file.free_list) (run_at c.args.first c.taking.taken)) c.args.file.now c.take.new.file c.take.new.self taken) here)
 
 pub returns-in-Err-clause-hint : goal.returns-in-Err-clause-hint
-returns-in-Err-clause-hint g c = λ p d sound may hint other.
+returns-in-Err-clause-hint g c = λ p d sound may hint.
     let before = c.taking.invariant.sound p d sound may in
     let q : Pending = taken_as d (pending_then p c.args.file.now.free_list c.taking.file.free_list) (run_at c.args.first c.taking.taken) in
     let now = is_sound_on g.S.Storage.view p q c.args.file.now c.taking.file c.taking.self before in
     let may_now = may_still d c.args.file.now c.taking.file c.taking.invariant.order may in
-    let two = still_as g.S.Storage.view q (pending_then q c.taking.file.free_list c.take.new.file.free_list) c.taking.file c.take.new.file c.take.new.self c.in-Err.refusal other (c.in-Err.ensures.sound q d now may_now) in
-    let taken = still_taken g.S.Storage.view d p (run_at c.args.first c.taking.taken) c.args.file.now c.taking.file c.take.new.file c.taking.self c.take.new.self c.taking.invariant.list c.take.ensures.list before two in
-    let here = c.in-Err.ensures.hint q d now may_now (c.taking.invariant.hint p d sound may hint) other in
+    let here = c.in-Err.ensures.hint q d now may_now (c.taking.invariant.hint p d sound may hint) in
     elim c.if-not-is_fault.branch [
       | then-not-is_fault+in_ok-give_back-in-Err w ↦
-          of_equal (λ t f. NoFreeBelowHint g.S.Storage.view t f) c.if-not-is_fault.self w.give_back-then-not-is_fault.new.self c.if-not-is_fault.file w.give_back-then-not-is_fault.new.file w.self-is w.file-is
-          (w.in_ok-give_back-in-Err.ensures.hint (pending_then p c.args.file.now.free_list c.take.new.file.free_list) d (is_sound_on g.S.Storage.view p (taken_as d (pending_then p c.args.file.now.free_list c.take.new.file.free_list) (run_at c.args.first c.taking.taken)) c.args.file.now c.take.new.file c.take.new.self taken) here)
-      | else-not-is_fault w ↦ absurd (other (c.is_fault.ensures.0 w.if-not-is_fault.false))
+          let no_fault : IsFault c.in-Err.refusal → ⊥ = λ fault. not_both c.is_fault.result (c.is_fault.ensures.1 fault) w.if-not-is_fault.true in
+          let two = still_as g.S.Storage.view q (pending_then q c.taking.file.free_list c.take.new.file.free_list) c.taking.file c.take.new.file c.take.new.self c.in-Err.refusal no_fault (c.in-Err.ensures.sound q d now may_now) in
+          let taken = still_taken g.S.Storage.view d p (run_at c.args.first c.taking.taken) c.args.file.now c.taking.file c.take.new.file c.taking.self c.take.new.self c.taking.invariant.list c.take.ensures.list before two in
+          inl (of_equal (λ t f. NoFreeBelowHint g.S.Storage.view t f) c.if-not-is_fault.self w.give_back-then-not-is_fault.new.self c.if-not-is_fault.file w.give_back-then-not-is_fault.new.file w.self-is w.file-is
+          (w.in_ok-give_back-in-Err.ensures.hint (pending_then p c.args.file.now.free_list c.take.new.file.free_list) d (is_sound_on g.S.Storage.view p (taken_as d (pending_then p c.args.file.now.free_list c.take.new.file.free_list) (run_at c.args.first c.taking.taken)) c.args.file.now c.take.new.file c.take.new.self taken) (not_broken c.take.new.file c.in-Err.refusal no_fault here)))
+      | else-not-is_fault w ↦ of_equal (λ t f. NoFreeBelowHint g.S.Storage.view t f ⊎ BrokeOff f c.in-Err.refusal) c.if-not-is_fault.self c.take.new.self c.if-not-is_fault.file c.take.new.file w.self-is w.file-is here
     ]
 
 pub returns-in_err-give_back-in-Ok-false-clause-list : goal.returns-in_err-give_back-in-Ok-false-clause-list
@@ -248,8 +251,11 @@ returns-in_err-give_back-in-Ok-false-clause-uses g c = λ p d sound may.
     let may_now = may_still d c.args.file.now c.taking.file c.taking.invariant.order may in
     let two = rw c.in-Ok-false.field-0-test at (c.in-Ok-false.ensures.sound q d now may_now) in
     let taken = still_taken g.S.Storage.view d p (run_at c.args.first c.taking.taken) c.args.file.now c.taking.file c.take.new.file c.taking.self c.take.new.self c.taking.invariant.list c.take.ensures.list before two in
-    let back = c.in_err-give_back-in-Ok-false.ensures.sound p (pending_then p c.args.file.now.free_list c.take.new.file.free_list) d c.args.file.now (λ k some. some) taken (λ some. c.take.ensures.marks.changed (c.taking.invariant.noted some)) in
-    handed_on (KeepsUsed g.S.Storage.view c.args.file.now c.give_back.new.file) c.from_residual.result c.in_err-give_back-in-Ok-false.field-0.0 c.from_residual.ensures (λ other. absurd (other back.0))
+    let kept = c.in_err-give_back-in-Ok-false.ensures.kept (pending_then p c.args.file.now.free_list c.take.new.file.free_list) d (is_sound_on g.S.Storage.view p (taken_as d (pending_then p c.args.file.now.free_list c.take.new.file.free_list) (run_at c.args.first c.taking.taken)) c.args.file.now c.take.new.file c.take.new.self taken) in
+    handed_on (KeepsUsed g.S.Storage.view c.args.file.now c.give_back.new.file) c.from_residual.result c.in_err-give_back-in-Ok-false.field-0.0 c.from_residual.ensures
+    (kept_then g.S.Storage.view (run_at c.args.first c.taking.taken) c.args.file.now c.take.new.file c.give_back.new.file c.in_err-give_back-in-Ok-false.field-0.0
+    (λ k used. no_more (run_at c.args.first c.taking.taken k) (λ some. c.taking.invariant.free p d sound may k some used))
+    (λ k used. c.in-Ok-false.ensures.uses q d now may_now k (c.taking.invariant.uses p d sound may k used)) kept)
 
 pub returns-in-Ok-false-clause-uses : goal.returns-in-Ok-false-clause-uses
 returns-in-Ok-false-clause-uses g c = λ p d sound may k used.
@@ -270,23 +276,30 @@ returns-in_err-give_back-in-Err-clause-uses g c = λ p d sound may.
     let may_now = may_still d c.args.file.now c.taking.file c.taking.invariant.order may in
     let two = still_as g.S.Storage.view q (pending_then q c.taking.file.free_list c.take.new.file.free_list) c.taking.file c.take.new.file c.take.new.self c.in-Err.refusal (λ fault. not_both c.is_fault.result (c.is_fault.ensures.1 fault) c.if-not-is_fault.true) (c.in-Err.ensures.sound q d now may_now) in
     let taken = still_taken g.S.Storage.view d p (run_at c.args.first c.taking.taken) c.args.file.now c.taking.file c.take.new.file c.taking.self c.take.new.self c.taking.invariant.list c.take.ensures.list before two in
-    let back = c.in_err-give_back-in-Err.ensures.sound p (pending_then p c.args.file.now.free_list c.take.new.file.free_list) d c.args.file.now (λ k some. some) taken (λ some. c.take.ensures.marks.changed (c.taking.invariant.noted some)) in
-    handed_on (KeepsUsed g.S.Storage.view c.args.file.now c.give_back-then-not-is_fault.new.file) c.from_residual-in_err-give_back-in-Err.result c.in_err-give_back-in-Err.field-0.0 c.from_residual-in_err-give_back-in-Err.ensures (λ other. absurd (other back.0))
+    let kept = c.in_err-give_back-in-Err.ensures.kept (pending_then p c.args.file.now.free_list c.take.new.file.free_list) d (is_sound_on g.S.Storage.view p (taken_as d (pending_then p c.args.file.now.free_list c.take.new.file.free_list) (run_at c.args.first c.taking.taken)) c.args.file.now c.take.new.file c.take.new.self taken) in
+    let uses = not_broken c.take.new.file c.in-Err.refusal (λ fault. not_both c.is_fault.result (c.is_fault.ensures.1 fault) c.if-not-is_fault.true) (c.in-Err.ensures.uses q d now may_now) in
+    handed_on (KeepsUsed g.S.Storage.view c.args.file.now c.give_back-then-not-is_fault.new.file) c.from_residual-in_err-give_back-in-Err.result c.in_err-give_back-in-Err.field-0.0 c.from_residual-in_err-give_back-in-Err.ensures
+    (kept_then g.S.Storage.view (run_at c.args.first c.taking.taken) c.args.file.now c.take.new.file c.give_back-then-not-is_fault.new.file c.in_err-give_back-in-Err.field-0.0
+    (λ k used. no_more (run_at c.args.first c.taking.taken k) (λ some. c.taking.invariant.free p d sound may k some used)) (λ k used. uses k (c.taking.invariant.uses p d sound may k used)) kept)
 
 pub returns-in-Err-clause-uses : goal.returns-in-Err-clause-uses
-returns-in-Err-clause-uses g c = λ p d sound may other k used.
+returns-in-Err-clause-uses g c = λ p d sound may.
     let before = c.taking.invariant.sound p d sound may in
     let q : Pending = taken_as d (pending_then p c.args.file.now.free_list c.taking.file.free_list) (run_at c.args.first c.taking.taken) in
     let now = is_sound_on g.S.Storage.view p q c.args.file.now c.taking.file c.taking.self before in
     let may_now = may_still d c.args.file.now c.taking.file c.taking.invariant.order may in
-    let two = still_as g.S.Storage.view q (pending_then q c.taking.file.free_list c.take.new.file.free_list) c.taking.file c.take.new.file c.take.new.self c.in-Err.refusal other (c.in-Err.ensures.sound q d now may_now) in
-    let taken = still_taken g.S.Storage.view d p (run_at c.args.first c.taking.taken) c.args.file.now c.taking.file c.take.new.file c.taking.self c.take.new.self c.taking.invariant.list c.take.ensures.list before two in
+    let here : ((k : ℕ) → IsUsed g.S.Storage.view c.args.file.now k → IsUsed g.S.Storage.view c.take.new.file k) ⊎ BrokeOff c.take.new.file c.in-Err.refusal =
+    elim (c.in-Err.ensures.uses q d now may_now) [ inl kept ↦ inl (λ k used. kept k (c.taking.invariant.uses p d sound may k used)) | inr broke ↦ inr broke ] in
     elim c.if-not-is_fault.branch [
       | then-not-is_fault+in_ok-give_back-in-Err w ↦
-          subst (λ f. IsUsed g.S.Storage.view f k) (sym w.file-is)
+          let no_fault : IsFault c.in-Err.refusal → ⊥ = λ fault. not_both c.is_fault.result (c.is_fault.ensures.1 fault) w.if-not-is_fault.true in
+          let two = still_as g.S.Storage.view q (pending_then q c.taking.file.free_list c.take.new.file.free_list) c.taking.file c.take.new.file c.take.new.self c.in-Err.refusal no_fault (c.in-Err.ensures.sound q d now may_now) in
+          let taken = still_taken g.S.Storage.view d p (run_at c.args.first c.taking.taken) c.args.file.now c.taking.file c.take.new.file c.taking.self c.take.new.self c.taking.invariant.list c.take.ensures.list before two in
+          let uses = not_broken c.take.new.file c.in-Err.refusal no_fault here in
+          inl (λ k used. subst (λ f. IsUsed g.S.Storage.view f k) (sym w.file-is)
           (w.in_ok-give_back-in-Err.ensures.kept (pending_then p c.args.file.now.free_list c.take.new.file.free_list) d (is_sound_on g.S.Storage.view p (taken_as d (pending_then p c.args.file.now.free_list c.take.new.file.free_list) (run_at c.args.first c.taking.taken)) c.args.file.now c.take.new.file c.take.new.self taken) k
-          (no_more (run_at c.args.first c.taking.taken k) (λ some. c.taking.invariant.free p d sound may k some used)) (c.in-Err.ensures.uses q d now may_now other k (c.taking.invariant.uses p d sound may k used)))
-      | else-not-is_fault w ↦ absurd (other (c.is_fault.ensures.0 w.if-not-is_fault.false))
+          (no_more (run_at c.args.first c.taking.taken k) (λ some. c.taking.invariant.free p d sound may k some used)) (uses k used)))
+      | else-not-is_fault w ↦ subst (λ f. ((k : ℕ) → IsUsed g.S.Storage.view c.args.file.now k → IsUsed g.S.Storage.view f k) ⊎ BrokeOff f c.in-Err.refusal) (sym w.file-is) here
     ]
 
 pub returns-clause-uses : goal.returns-clause-uses

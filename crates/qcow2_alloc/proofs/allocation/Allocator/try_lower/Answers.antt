@@ -2,8 +2,9 @@ use Rattle.qcow2_metadata.specs.Entries.{count}
 use Rattle.std.proofs.Common.{◌/◌, ◌%◌, ◌^◌, true, Ok, refl, ap, ◌∙◌}
 use Rattle.qcow2_laws.specs.Changes.{one_at}
 use Rattle.qcow2_alloc.specs.Allocation.{owed_as, LowersOne}
+use Rattle.qcow2_alloc.specs.LowestRuns.{KeepsNoFreeBelowHint}
 use Rattle.qcow2_alloc.specs.ImageFile.{contents_in, known_in}
-use Rattle.qcow2_alloc.proofs.Hints.{hint_lowered, is_zero, lowered_so, stands_still}
+use Rattle.qcow2_alloc.proofs.Hints.{hint_lowered, is_zero, lowered_so, stands_still, hint_refused}
 use Rattle.qcow2_alloc.proofs.AllocationSteps.{handed_on, of_equal, becomes_as, may_lower_still, counted_at, given_one, owed_counted, owed_has_block}
 use Rattle.std.proofs.Common.{sym}
 use Rattle.qcow2_metadata.specs.Header.{counts_per_block}
@@ -31,6 +32,11 @@ returns-clause-sound g c = λ p owed sound may.
     (becomes_as g.S.Storage.view (owed_as owed p (one_at c.args.cluster)) p c.args.file.now (record c.load_block.new.file { caches = c.rb_decrement-lowered.new.self }) c.args.self.now c.note_lowered.new.self c.note_lowered.ensures.reftable
     (given_one g.S.Storage.view (owed_as owed p (one_at c.args.cluster)) c.args.file.now c.load_block.new.file c.args.self.now l.0 c.args.cluster c.in-Some.block c.rb_index-index.result at c.rb_decrement-lowered.new.self c.rb_decrement-lowered.ensures.order c.rb_decrement-lowered.ensures.marks
     owed p (may_lower_still owed c.args.file.now c.load_block.new.file c.load_block.ensures.order may) refl (c.rb_decrement-lowered.ensures.counted lowered)))
+
+pub returns-in_err-block-clause-hint : goal.returns-in_err-block-clause-hint
+returns-in_err-block-clause-hint g c = λ p owed sound may hint.
+    handed_on (KeepsNoFreeBelowHint g.S.Storage.view c.args.self.now c.load_block.new.file) c.from_residual.result c.in_err-block.field-0.0 c.from_residual.ensures
+    (hint_refused g.S.Storage.view (owed_as owed p (one_at c.args.cluster)) c.args.file.now c.load_block.new.file c.args.self.now c.args.self.now c.in_err-block.field-0.0 refl (c.in_err-block.ensures.sound (owed_as owed p (one_at c.args.cluster)) sound).1 hint)
 
 pub returns-in_default-clause-hint : goal.returns-in_default-clause-hint
 returns-in_default-clause-hint g c = λ p owed sound may hint. absurd (returns-in_default-clause-sound g c p owed sound may)

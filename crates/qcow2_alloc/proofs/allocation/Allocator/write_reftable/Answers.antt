@@ -1,4 +1,4 @@
-use Rattle.std.proofs.Common.{◌≡◌, ℕ, ◌+◌, ◌*◌, ◌<◌, ◌≤◌, IsTrue, sym, ap, ◌∙◌, subst, arith, Some, refl}
+use Rattle.std.proofs.Common.{◌≡◌, ℕ, ◌+◌, ◌*◌, ◌<◌, ◌≤◌, IsTrue, sym, ap, ◌∙◌, subst, arith, Some, refl, inr}
 use Rattle.qcow2_metadata.specs.declared.header.HeaderFields.{HeaderFields}
 use Rattle.qcow2_metadata.specs.EntryTable.{EntryTableView}
 use Rattle.qcow2_metadata.specs.Header.{cluster_size}
@@ -54,7 +54,7 @@ returns-in_err-flush_rb-clause-uses g c = λ p sound longer.
     let one = becomes_cached view q old a c.flush_rb.new.storage c.flush_rb.new.self sound (c.flush_rb.ensures.keeps h q sound.sound.honest sound.sound.caches) c.flush_rb.ensures.marks in
     let f1 = record old { storage = c.flush_rb.new.storage; caches = c.flush_rb.new.self } in
     handed_on (KeepsUsed view old f1) c.from_residual.result c.in_err-flush_rb.field-0.0 c.from_residual.ensures
-    (λ other. absurd (other (c.in_err-flush_rb.ensures.faults h q sound.sound.honest sound.sound.caches sound.sound.settled)))
+    (inr (c.in_err-flush_rb.ensures.faults h q sound.sound.honest sound.sound.caches sound.sound.settled, λ _. c.flush_rb.ensures.marks.changed c.requires.noted))
 
 pub returns-in_err-place_blocks-clause-sound : goal.returns-in_err-place_blocks-clause-sound
 returns-in_err-place_blocks-clause-sound g c = λ p sound longer.
@@ -84,7 +84,8 @@ returns-in_err-place_blocks-clause-uses g c = λ p sound longer.
     let one = becomes_cached view q old a c.flush_rb.new.storage c.flush_rb.new.self sound (c.flush_rb.ensures.keeps h q sound.sound.honest sound.sound.caches) c.flush_rb.ensures.marks in
     let f1 = record old { storage = c.flush_rb.new.storage; caches = c.flush_rb.new.self } in
     let refused = c.in_err-place_blocks.ensures.sound p (is_sound_now view q q old f1 a one) c.in_ok-flush_rb.ensures.first longer in
-    handed_on (KeepsUsed view old c.place_blocks.new.file) c.from_residual-in_err-place_blocks.result c.in_err-place_blocks.field-0.0 c.from_residual-in_err-place_blocks.ensures (λ other. absurd (other refused.0))
+    handed_on (KeepsUsed view old c.place_blocks.new.file) c.from_residual-in_err-place_blocks.result c.in_err-place_blocks.field-0.0 c.from_residual-in_err-place_blocks.ensures
+    (inr (refused.0, λ _. c.place_blocks.ensures.marks.changed (c.flush_rb.ensures.marks.changed c.requires.noted)))
 
 pub returns-in_err-place_table-clause-sound : goal.returns-in_err-place_table-clause-sound
 returns-in_err-place_table-clause-sound g c = λ p sound longer.
@@ -137,7 +138,8 @@ returns-in_err-place_table-clause-uses g c = λ p sound longer.
     let long = c.place_blocks.ensures.as_long ∙ longer.long ∙ sym (ap (λ (k : HeaderFields). c.args.room.clusters * cluster_size k) header_two) in
     let refused = table_err view p first n a f2 c.place_table.new.file c.new.result c.args.room.clusters c.place_blocks.new.table.bytes h header_two c.in_err-place_table.field-0.0
     (λ s. c.in_err-place_table.ensures.sound p first n c.args.room.clusters a s may_two low high bits long) (is_sound_now view q q old f2 a two) in
-    handed_on (KeepsUsed view old c.place_table.new.file) c.from_residual-in_err-place_table.result c.in_err-place_table.field-0.0 c.from_residual-in_err-place_table.ensures (λ other. absurd (other refused.0))
+    handed_on (KeepsUsed view old c.place_table.new.file) c.from_residual-in_err-place_table.result c.in_err-place_table.field-0.0 c.from_residual-in_err-place_table.ensures
+    (inr (refused.0, λ _. subst (λ (x : MetadataCaches _). IsTrue x.is_changed) (sym c.place_table.ensures.caches) (c.place_blocks.ensures.marks.changed (c.flush_rb.ensures.marks.changed c.requires.noted))))
 
 pub returns-clause-sound : goal.returns-clause-sound
 returns-clause-sound g c = λ p sound longer.

@@ -2,7 +2,7 @@ use Rattle.std.proofs.Common.{sym, ◌∙◌, subst}
 use Rattle.std.specs.Prelude.{IfSome, Some, false}
 use Rattle.qcow2_alloc.specs.Allocation.{run_at, taken_as, UnseenAllocatorGrowth}
 use Rattle.qcow2_alloc.specs.FreeList.{pending_then}
-use Rattle.qcow2_alloc.specs.ImageFile.{HasReftable}
+use Rattle.qcow2_alloc.specs.KeptAllocators.{IsAllocatorOf}
 use Rattle.qcow2_alloc.proofs.AllocationSteps.{handed_on}
 use Rattle.qcow2_image.specs.LongerTables.{TakesTable}
 use Rattle.qcow2_image.proofs.Grow.Lengthened.{none_taken_for_table, refused_none, table_refused, table_taken}
@@ -14,29 +14,31 @@ returns-in_default-clause-takes g c = λ p out sound longer. refused_none g.S.St
 pub returns-in_err-pending-clause-takes : goal.returns-in_err-pending-clause-takes
 returns-in_err-pending-clause-takes g c = λ p out sound longer.
     let old = c.args.self.now in
-    let has = subst (λ o. IfSome o (λ x. HasReftable g.S.Storage.view old.file x.reftable)) c.in-Some.is sound.reftable in
+    let own = subst (λ o. IfSome o (IsAllocatorOf g.S.Storage.view old.file)) c.in-Some.is sound.reftable in
     handed_on (TakesTable g.S.Storage.view g.F.BackingDisk.backing p old (record old { file = c.allocate_meta.new.file; allocator = Some c.allocate_meta.new.self }) out)
     c.from_residual.result c.in_err-pending.field-0.0 c.from_residual.ensures
     (none_taken_for_table g.S.Storage.view g.F.BackingDisk.backing out p old sound c.allocate_meta.new.file c.allocate_meta.new.self c.allocate_meta.ensures.marks c.allocate_meta.ensures.list c.allocate_meta.ensures.header c.in_err-pending.field-0.0
-    (c.in_err-pending.ensures.sound p (record { sound = sound.file; reftable = has })))
+    (c.in_err-pending.ensures.sound p (record { sound = sound.file; reftable = own.reftable })) (c.in_err-pending.ensures.hint p (record { sound = record { sound = sound.file; reftable = own.reftable }; hint = own.hint })))
 
 pub returns-in-Ok-clause-takes : goal.returns-in-Ok-clause-takes
 returns-in-Ok-clause-takes g c = λ p out sound longer.
     let old = c.args.self.now in
-    let has = subst (λ o. IfSome o (λ x. HasReftable g.S.Storage.view old.file x.reftable)) c.in-Some.is sound.reftable in
-    let took = c.in_ok-pending.ensures.sound p (record { sound = sound.file; reftable = has }) in
+    let own = subst (λ o. IfSome o (IsAllocatorOf g.S.Storage.view old.file)) c.in-Some.is sound.reftable in
+    let took = c.in_ok-pending.ensures.sound p (record { sound = sound.file; reftable = own.reftable }) in
     let becomes = subst (λ n. UnseenAllocatorGrowth g.S.Storage.view p old.file c.allocate_meta.new.self c.allocate_meta.new.file (taken_as false (pending_then p old.file.free_list c.allocate_meta.new.file.free_list) (run_at n c.cluster_count.result))) (sym c.cluster.ensures) took.2 in
     table_taken g.S.Storage.view g.F.BackingDisk.backing out p old sound c.allocate_meta.new.file c.allocate_meta.new.self c.allocate_meta.ensures.marks c.allocate_meta.ensures.list c.allocate_meta.ensures.header
-    c.args.table c.cluster.result c.cluster_count.result c.cluster_count.ensures becomes longer c.write_l1_table.new.self c.write_l1_table.result c.write_l1_table.ensures.list
+    c.args.table c.cluster.result c.cluster_count.result c.cluster_count.ensures becomes
+    (c.in_ok-pending.ensures.hint p (record { sound = record { sound = sound.file; reftable = own.reftable }; hint = own.hint })) longer c.write_l1_table.new.self c.write_l1_table.result c.write_l1_table.ensures.list
     (λ placed. c.write_l1_table.ensures.names (pending_then p old.file.free_list c.allocate_meta.new.file.free_list) out placed c.in_ok-pending.ensures.noted) c.in-Ok.field-0 c.in-Ok.is
 
 pub returns-in-Err-clause-takes : goal.returns-in-Err-clause-takes
 returns-in-Err-clause-takes g c = λ p out sound longer.
     let old = c.args.self.now in
-    let has = subst (λ o. IfSome o (λ x. HasReftable g.S.Storage.view old.file x.reftable)) c.in-Some.is sound.reftable in
-    let took = c.in_ok-pending.ensures.sound p (record { sound = sound.file; reftable = has }) in
+    let own = subst (λ o. IfSome o (IsAllocatorOf g.S.Storage.view old.file)) c.in-Some.is sound.reftable in
+    let took = c.in_ok-pending.ensures.sound p (record { sound = sound.file; reftable = own.reftable }) in
     let becomes = subst (λ n. UnseenAllocatorGrowth g.S.Storage.view p old.file c.allocate_meta.new.self c.allocate_meta.new.file (taken_as false (pending_then p old.file.free_list c.allocate_meta.new.file.free_list) (run_at n c.cluster_count.result))) (sym c.cluster.ensures) took.2 in
     table_refused g.S.Storage.view g.F.BackingDisk.backing out p old sound c.allocate_meta.new.file c.allocate_meta.new.self c.allocate_meta.ensures.marks c.allocate_meta.ensures.list c.allocate_meta.ensures.header
-    c.args.table c.cluster.result c.cluster_count.result c.cluster_count.ensures becomes longer c.write_l1_table.new.self c.write_l1_table.result c.write_l1_table.ensures.list
+    c.args.table c.cluster.result c.cluster_count.result c.cluster_count.ensures becomes
+    (c.in_ok-pending.ensures.hint p (record { sound = record { sound = sound.file; reftable = own.reftable }; hint = own.hint })) longer c.write_l1_table.new.self c.write_l1_table.result c.write_l1_table.ensures.list
     (λ placed. c.write_l1_table.ensures.names (pending_then p old.file.free_list c.allocate_meta.new.file.free_list) out placed c.in_ok-pending.ensures.noted)
     c.in-Err.refusal c.in_ok-pending.pending c.hand_back.new.list c.in-Err.is (sym c.cluster.ensures) (took.0 ∙ c.cluster_count.ensures) took.1 c.hand_back.ensures

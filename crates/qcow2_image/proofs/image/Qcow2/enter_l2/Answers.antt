@@ -2,7 +2,7 @@ use Rattle.std.proofs.Common.{sym, ◌∙◌, subst}
 use Rattle.std.specs.Prelude.{IfSome, Some, false}
 use Rattle.qcow2_alloc.specs.Allocation.{run_at, taken_as, UnseenAllocatorGrowth}
 use Rattle.qcow2_alloc.specs.FreeList.{pending_then}
-use Rattle.qcow2_alloc.specs.ImageFile.{HasReftable}
+use Rattle.qcow2_alloc.specs.KeptAllocators.{IsAllocatorOf}
 use Rattle.qcow2_alloc.proofs.AllocationSteps.{handed_on}
 use Rattle.qcow2_image.specs.NewTables.{EntersTable}
 use Rattle.qcow2_image.proofs.Prepare.Entering.{none_taken, table_entered, table_refused}
@@ -11,28 +11,30 @@ use Rattle.qcow2_image.proofs.image.Qcow2.enter_l2.Goals as goal
 pub returns-in_err-pending-clause-enters : goal.returns-in_err-pending-clause-enters
 returns-in_err-pending-clause-enters g c = λ p out sound may says.
     let old = c.args.self.now in
-    let has = subst (λ o. IfSome o (λ x. HasReftable g.S.Storage.view old.file x.reftable)) c.in-Some.is sound.reftable in
+    let own = subst (λ o. IfSome o (IsAllocatorOf g.S.Storage.view old.file)) c.in-Some.is sound.reftable in
     handed_on (EntersTable g.S.Storage.view g.F.BackingDisk.backing p old (record old { file = c.allocate_meta.new.file; allocator = Some c.allocate_meta.new.self }) out c.args.index)
     c.from_residual.result c.in_err-pending.field-0.0 c.from_residual.ensures
     (none_taken g.S.Storage.view g.F.BackingDisk.backing out p old sound c.allocate_meta.new.file c.allocate_meta.new.self c.allocate_meta.ensures.marks c.allocate_meta.ensures.list c.in_err-pending.field-0.0
-    (c.in_err-pending.ensures.sound p (record { sound = sound.file; reftable = has })))
+    (c.in_err-pending.ensures.sound p (record { sound = sound.file; reftable = own.reftable })) (c.in_err-pending.ensures.hint p (record { sound = record { sound = sound.file; reftable = own.reftable }; hint = own.hint })))
 
 pub returns-in-Ok-clause-enters : goal.returns-in-Ok-clause-enters
 returns-in-Ok-clause-enters g c = λ p out sound may says.
     let old = c.args.self.now in
-    let has = subst (λ o. IfSome o (λ x. HasReftable g.S.Storage.view old.file x.reftable)) c.in-Some.is sound.reftable in
-    let took = c.in_ok-pending.ensures.sound p (record { sound = sound.file; reftable = has }) in
+    let own = subst (λ o. IfSome o (IsAllocatorOf g.S.Storage.view old.file)) c.in-Some.is sound.reftable in
+    let took = c.in_ok-pending.ensures.sound p (record { sound = sound.file; reftable = own.reftable }) in
     let becomes = subst (λ n. UnseenAllocatorGrowth g.S.Storage.view p old.file c.allocate_meta.new.self c.allocate_meta.new.file (taken_as false (pending_then p old.file.free_list c.allocate_meta.new.file.free_list) (run_at n c.new.result))) (sym c.cluster-cluster.ensures) took.2 in
     table_entered g.S.Storage.view g.F.BackingDisk.backing out p old sound c.allocate_meta.new.file c.allocate_meta.new.self c.allocate_meta.ensures.marks c.allocate_meta.ensures.list c.cluster-cluster.result c.new.result c.new.ensures becomes
+    (c.in_ok-pending.ensures.hint p (record { sound = record { sound = sound.file; reftable = own.reftable }; hint = own.hint }))
     c.write_l2.new.self c.args.index c.args.table may says c.write_l2.ensures.list c.write_l2.result
     (λ sound may says. c.write_l2.ensures.writes (pending_then p old.file.free_list c.allocate_meta.new.file.free_list) out sound may c.in_ok-pending.ensures.noted says) c.in-Ok.field-0 c.in-Ok.is
 
 pub returns-in-Err-clause-enters : goal.returns-in-Err-clause-enters
 returns-in-Err-clause-enters g c = λ p out sound may says.
     let old = c.args.self.now in
-    let has = subst (λ o. IfSome o (λ x. HasReftable g.S.Storage.view old.file x.reftable)) c.in-Some.is sound.reftable in
-    let took = c.in_ok-pending.ensures.sound p (record { sound = sound.file; reftable = has }) in
+    let own = subst (λ o. IfSome o (IsAllocatorOf g.S.Storage.view old.file)) c.in-Some.is sound.reftable in
+    let took = c.in_ok-pending.ensures.sound p (record { sound = sound.file; reftable = own.reftable }) in
     let becomes = subst (λ n. UnseenAllocatorGrowth g.S.Storage.view p old.file c.allocate_meta.new.self c.allocate_meta.new.file (taken_as false (pending_then p old.file.free_list c.allocate_meta.new.file.free_list) (run_at n c.new.result))) (sym c.cluster-cluster.ensures) took.2 in
     table_refused g.S.Storage.view g.F.BackingDisk.backing out p old sound c.allocate_meta.new.file c.allocate_meta.new.self c.allocate_meta.ensures.marks c.allocate_meta.ensures.list c.cluster-cluster.result c.new.result c.new.ensures becomes
+    (c.in_ok-pending.ensures.hint p (record { sound = record { sound = sound.file; reftable = own.reftable }; hint = own.hint }))
     c.write_l2.new.self c.args.index c.args.table may says c.write_l2.ensures.list c.write_l2.result
     (λ sound may says. c.write_l2.ensures.writes (pending_then p old.file.free_list c.allocate_meta.new.file.free_list) out sound may c.in_ok-pending.ensures.noted says) c.in-Err.refusal c.in_ok-pending.pending c.hand_back.new.list c.in-Err.is (sym c.cluster-cluster.ensures) (took.0 ∙ c.new.ensures) took.1 c.hand_back.ensures

@@ -1,18 +1,21 @@
 use Rattle.std.proofs.Common.{subst}
 use Rattle.std.specs.Prelude.{IfSome}
 use Rattle.qcow2_alloc.specs.FreeList.{with_listed}
-use Rattle.qcow2_alloc.specs.ImageFile.{HasReftable}
+use Rattle.qcow2_alloc.specs.KeptAllocators.{IsAllocatorOf}
 use Rattle.qcow2_image.proofs.Flush.Freeing.{frees_listed, frees_fault}
 use Rattle.qcow2_image.proofs.image.Qcow2.free_listed.Goals as goal
 
 pub returns-clause-frees : goal.returns-clause-frees
 returns-clause-frees g c = λ p out sound.
     let view = g.S.Storage.view in
+    let own = subst (λ x. IfSome x (IsAllocatorOf view c.args.self.now.file)) c.in-Some.is sound.reftable in
     frees_listed view g.F.BackingDisk.backing out p c.args.self.now sound c.free.new.file c.free.new.self c.free.ensures.marks.pins c.free.ensures.header c.free.result
-    (c.free.ensures.sound p (record { sound = sound.file; reftable = subst (λ x. IfSome x (λ a. HasReftable view c.args.self.now.file a.reftable)) c.in-Some.is sound.reftable }))
+    (c.free.ensures.sound p (record { sound = sound.file; reftable = own.reftable }))
+    (c.free.ensures.hint p (record { sound = record { sound = sound.file; reftable = own.reftable }; hint = own.hint }))
 
 pub returns-clause-faults : goal.returns-clause-faults
 returns-clause-faults g c = λ p out sound.
     let view = g.S.Storage.view in
+    let own = subst (λ x. IfSome x (IsAllocatorOf view c.args.self.now.file)) c.in-Some.is sound.reftable in
     frees_fault view g.F.BackingDisk.backing out (with_listed p c.args.self.now.file.free_list) (with_listed p c.free.new.file.free_list) c.args.self.now.file c.free.new.file c.free.new.self c.free.result
-    (c.free.ensures.sound p (record { sound = sound.file; reftable = subst (λ x. IfSome x (λ a. HasReftable view c.args.self.now.file a.reftable)) c.in-Some.is sound.reftable }))
+    (c.free.ensures.sound p (record { sound = sound.file; reftable = own.reftable }))

@@ -1,4 +1,4 @@
-use Rattle.std.proofs.Common.{Result, sym, ap, subst}
+use Rattle.std.proofs.Common.{Result, sym, ap, subst, arith}
 use Rattle.std.specs.Prelude.{MatchResult}
 use Rattle.qcow2_alloc.specs.declared.error.ImageError.{ImageError}
 use Rattle.qcow2_alloc.specs.ImageError.{of_storage}
@@ -23,8 +23,13 @@ returns-clause-loaded g c = λ p fresh.
     let same = c.will_write.ensures.storage in
     let first = fresh_read view below p file c.will_write.new.self read.fresh (subst (λ s. (view s).is_honest) (sym same) read.fresh.sound.honest) (ap (λ s. (view s).contents) same) in
     let then = stays_then view below p file told new first
-    (stays_after view below p told first.fresh c.clear_autoclear.new.storage c.clear_autoclear.new.self cleared.ok cleared.calls.honest cleared.written (λ none. (cleared.untouched none).1) cleared.fields cleared.reads) in
-    (stays_then view below p old file new read then, then.reftable c.in_ok-allocator.allocator.reftable (c.in_ok-allocator.ensures.reftable fresh.sound.honest))
+    (stays_after view below p told first.fresh c.clear_autoclear.new.storage c.clear_autoclear.new.self cleared.ok cleared.calls.honest cleared.written (λ none. (cleared.untouched none).1) cleared.fields cleared.reads) in (
+      stays_then view below p old file new read then,
+      record {
+        reftable = then.reftable c.in_ok-allocator.allocator.reftable (c.in_ok-allocator.ensures.reftable fresh.sound.honest);
+        hint = λ k low. let first = c.in_ok-allocator.ensures.first in absurd (omega (arith, first, low));
+      },
+    )
 
 pub returns-clause-since : goal.returns-clause-since
 returns-clause-since g c = λ p fresh.

@@ -2,7 +2,7 @@ use Rattle.std.proofs.Common.{◌≡◌, subst}
 use Rattle.std.specs.Prelude.{IfSome, Some}
 use Rattle.qcow2_alloc.specs.Allocation.{Allocates}
 use Rattle.qcow2_alloc.specs.FreeList.{pending_then}
-use Rattle.qcow2_alloc.specs.ImageFile.{HasReftable}
+use Rattle.qcow2_alloc.specs.KeptAllocators.{IsAllocatorOf}
 use Rattle.qcow2_alloc.specs.declared.clusters_to_free.ClusterKind.TheVariants as Kind
 use Rattle.qcow2_image.proofs.Formats.{lists_grow}
 use Rattle.qcow2_image.proofs.Prepare.Gaining.{takes_data}
@@ -12,9 +12,11 @@ pub returns-clause-takes : goal.returns-clause-takes
 returns-clause-takes g c = λ p out sound holds.
     let view = g.S.Storage.view in
     let one : c.new.result ≡ 1 = c.new.ensures in
-    let answer = c.allocate_data.ensures.sound p (record { sound = sound.file; reftable = subst (λ x. IfSome x (λ a. HasReftable view c.args.self.now.file a.reftable)) c.in-Some.is sound.reftable }) in
+    let own = subst (λ x. IfSome x (IsAllocatorOf view c.args.self.now.file)) c.in-Some.is sound.reftable in
+    let answer = c.allocate_data.ensures.sound p (record { sound = sound.file; reftable = own.reftable }) in
     takes_data view g.F.BackingDisk.backing out c.args.self.now p sound holds c.allocate_data.new.file c.allocate_data.new.self c.allocate_data.ensures.marks c.allocate_data.ensures.list c.allocate_data.ensures.header c.allocate_data.result
     (subst (λ n. Allocates view p c.args.self.now.file c.allocate_data.new.self c.allocate_data.new.file (pending_then p c.args.self.now.file.free_list c.allocate_data.new.file.free_list) Kind.Data n c.allocate_data.result) one answer)
+    (c.allocate_data.ensures.hint p (record { sound = record { sound = sound.file; reftable = own.reftable }; hint = own.hint }))
 
 pub returns-clause-list : goal.returns-clause-list
 returns-clause-list g c = lists_grow c.args.self.now (record c.args.self.now { file = c.allocate_data.new.file; allocator = Some c.allocate_data.new.self }) c.allocate_data.ensures.list

@@ -1,0 +1,37 @@
+-- An allocator stays one of its file, over steps and where a call is refused.
+use Rattle.std.proofs.Common.{◌⊎◌, inl, inr, ℕ, ◌≤◌, Option, Some, None, arith}
+use Rattle.std.specs.Prelude.{IfSome}
+use Rattle.image_access.specs.Moments.{StorageView}
+use Rattle.qcow2_metadata.specs.Entries.{count}
+use Rattle.qcow2_metadata.specs.EntryTable.{EntryTableView}
+use Rattle.qcow2_laws.specs.CrashInvariant.{Pending}
+use Rattle.qcow2_alloc.specs.declared.allocation.Allocator.{Allocator}
+use Rattle.qcow2_alloc.specs.declared.error.ImageError.{ImageError}
+use Rattle.qcow2_alloc.specs.declared.image_file.ImageFile.{ImageFile}
+use Rattle.qcow2_alloc.specs.Allocation.{RefusedGrowth, UnseenAllocatorStep}
+use Rattle.qcow2_alloc.specs.ImageFile.{known_in, HasReftable, UnseenFileGrowth, InterruptedFileStep}
+use Rattle.qcow2_alloc.specs.KeptAllocators.{IsAllocatorOf}
+use Rattle.qcow2_alloc.specs.LowestRuns.{NoFreeBelowHint, BrokeOff}
+use Rattle.qcow2_alloc.proofs.AllocationSteps.{on_of}
+
+module _ {S : Type 0} (view : S → StorageView) where
+  -- no count falls, and the reftable is the one on the storage still
+  pub allocator_kept : (old new : ImageFile S) → ((t : EntryTableView) → HasReftable view old t → HasReftable view new t)
+      → ((k : ℕ) → count old.header.fields (known_in view old) k ≤ count new.header.fields (known_in view new) k) → (a : Option Allocator) → IfSome a (IsAllocatorOf view old) → IfSome a (IsAllocatorOf view new)
+  allocator_kept old new table counts None is = tt
+  allocator_kept old new table counts (Some a) is = record {
+    reftable = table a.reftable is.reftable;
+    hint = λ k below zero. is.hint k below (let le = counts k in omega (arith, le, zero));
+  }
+
+  -- a refused call left both as they are kept, or broke off
+  pub refused_kept : (p q : Pending) (a b : ImageFile S) (t : Allocator) (e : ImageError) → RefusedGrowth view p a t b q e → NoFreeBelowHint view t b ⊎ BrokeOff b e → (UnseenFileGrowth view p q a b × IsAllocatorOf view b t) ⊎ InterruptedFileStep view a b e
+  refused_kept p q a b t e leaves hint = elim hint [
+    | inl kept ↦ elim leaves [ inl grows ↦ inl (grows.moves, record { reftable = grows.reftable; hint = kept }) | inr breaks ↦ inr breaks ]
+    | inr broke ↦ inr (elim leaves [ inl grows ↦ record { fault = broke.0; noted = broke.1; since = grows.moves.since } | inr breaks ↦ breaks ])
+  ]
+
+  -- so did one that frees
+  pub freed_kept : (p q : Pending) (a b : ImageFile S) (t : Allocator) (e : ImageError) → UnseenAllocatorStep view p a t b q ⊎ InterruptedFileStep view a b e → NoFreeBelowHint view t b ⊎ BrokeOff b e
+      → (UnseenFileGrowth view p q a b × IsAllocatorOf view b t) ⊎ InterruptedFileStep view a b e
+  freed_kept p q a b t e leaves hint = refused_kept p q a b t e (elim leaves [ inl step ↦ inl (on_of view p q a b t step) | inr breaks ↦ inr breaks ]) hint
