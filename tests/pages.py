@@ -33,7 +33,7 @@ DEFINES = re.compile(r"\s*(?:(?:abbrev|unfoldable) )?pub (?:(record|data) )?(?!(
 CONSTRUCTOR = re.compile(r"\s*(\w+) : ")
 # the files whose words build moments: those of storages, runs and calls, of steps, of an image's file and its caches, of creating, and of images that are only read
 WORDS_OF_MOMENTS = re.compile(r"""crates/(image_access/proofs/Passing|qcow2_disk/proofs/(Compose|RunSteps)|qcow2_laws/proofs/SafeSteps|qcow2_alloc/proofs/(FileSteps|KeptTables/\w+)
-    |qcow2_image/proofs/(Create/\w+|Map/Unmodified))\.antt$""", re.VERBOSE)
+    |qcow2_image/proofs/(Create/\w+|Map/Unmodified|Sizing/Noted))\.antt$""", re.VERBOSE)
 # a record with its moments, one of `Passing`, and a record that is taken over with other contents
 MOMENT = re.compile(r"\b(moments|later) = |\brecord [^{}]*[\w)] \{[^{}]*\b(contents) = ")
 
