@@ -9,7 +9,7 @@ use Rattle.qcow2_disk.specs.Calls.{Acts, Does, Refusal, Refuses, Works}
 use Rattle.qcow2_disk.specs.Stops.{GivenBytes}
 use Rattle.qcow2_alloc.specs.declared.allocation.Allocator.{Allocator}
 use Rattle.qcow2_alloc.specs.declared.error.ImageError.{ImageError}
-use Rattle.qcow2_alloc.specs.ImageFile.{HasReftable}
+use Rattle.qcow2_alloc.specs.KeptAllocators.{IsAllocatorOf}
 use Rattle.qcow2_alloc.specs.ImageStorage.{is_changed_of}
 use Rattle.qcow2_image.specs.declared.image.Qcow2.{Qcow2}
 use Rattle.qcow2_image.specs.declared.prepared.Prepared.{Prepared}
@@ -20,9 +20,9 @@ use Rattle.qcow2_image.specs.Resizing.{GrowsTables, GrowsTo, RefusesUnchanged, S
 use Rattle.qcow2_image.proofs.Call.FaultCounts.{counted_since, counted_still}
 
 module _ {S F : Type 0} (view : S → StorageView) (backing : F → BackingView) where
-  reftable_noted : (image : Qcow2 S F) (noted : Bool) (o : Option Allocator) → IfSome o (λ a. HasReftable view image.file a.reftable) → IfSome o (λ a. HasReftable view (with_marks image noted (is_failed image)).file a.reftable)
+  reftable_noted : (image : Qcow2 S F) (noted : Bool) (o : Option Allocator) → IfSome o (IsAllocatorOf view image.file) → IfSome o (IsAllocatorOf view (with_marks image noted (is_failed image)).file)
   reftable_noted image noted None has = tt
-  reftable_noted image noted (Some a) has = record { cluster = has.cluster; bits = has.bits; count = has.count; entries = has.entries }
+  reftable_noted image noted (Some a) has = record { reftable = record { cluster = has.reftable.cluster; bits = has.reftable.bits; count = has.reftable.count; entries = has.reftable.entries }; hint = has.hint }
 
   pub sound_noted : (image : Qcow2 S F) (noted : Bool) (out : List (Option Prepared)) → ImageInvariant view backing (pending_in view backing image out) image out
       → ImageInvariant view backing (pending_in view backing (with_marks image noted (is_failed image)) out) (with_marks image noted (is_failed image)) out
