@@ -32,9 +32,9 @@ FIELD = re.compile(r"\s*pub (\w+) :")
 DEFINES = re.compile(r"\s*(?:(?:abbrev|unfoldable) )?pub (?:(record|data) )?(?!(?:use|mod) )(\S+)")
 CONSTRUCTOR = re.compile(r"\s*(\w+) : ")
 # the files whose words build moments: those of storages, runs and calls, of steps, of an image's file and its caches, of creating, and of images that are only read
-WORDS_OF_MOMENTS = re.compile(r"""crates/(image_access/proofs/Passing|qcow2_disk/proofs/(Compose|RunSteps)|qcow2_laws/proofs/SafeSteps|qcow2_alloc/proofs/(FileSteps|KeptTables/\w+)
+WORDS_OF_MOMENTS = re.compile(r"""crates/(image_access/proofs/EachMomentSince|qcow2_disk/proofs/(Compose|RunSteps)|qcow2_laws/proofs/SafeSteps|qcow2_alloc/proofs/(FileSteps|KeptTables/\w+)
     |qcow2_image/proofs/(Create/\w+|Map/Unmodified|Sizing/Noted))\.antt$""", re.VERBOSE)
-# a record with its moments, one of `Passing`, and a record that is taken over with other contents
+# a record with its moments, one of `EachMomentSince`, and a record that is taken over with other contents
 MOMENT = re.compile(r"\b(moments|later) = |\brecord [^{}]*[\w)] \{[^{}]*\b(contents) = ")
 
 
@@ -481,7 +481,7 @@ PLANTED = [
     (misplaced_names, "docs/PROOFS.md", "`surplus` of `Abstraction`", "`pending` of `Abstraction`"),
     (missing_clauses, "crates/qcow2_alloc/README.md", "", "\n- `allocate_meta` is so (`quiet`).\n"),
     (missing_clauses, "crates/qcow2_alloc/README.md", "", "\n- `why` and `quiet` of `Allocator::new`.\n"),
-    (missing_clauses, "crates/qcow2_metadata/README.md", "`dropped`, `same` of `L2Table`", "`dropped`, `counted` of `L2Table`"),
+    (missing_clauses, "crates/qcow2_metadata/README.md", "`old_data`, `same` of `L2Table`", "`old_data`, `counted` of `L2Table`"),
     (missing_clauses, "docs/PROOFS.md", "| `keeps`, `ordered` |", "| `keeps`, `headline` |"),
     (missing_clauses, "docs/PROOFS.md", "", "\nSee [laws.rt](../crates/qcow2_laws/src/laws.rt), the clause `headline`.\n"),
     (missing_bodies, "docs/WRONG_BODIES.md", "`nothing_is_worked_off`", "`everything_is_worked_off`"),

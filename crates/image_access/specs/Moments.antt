@@ -37,14 +37,14 @@ pub record HasCause {T : Type 0} (before now : ℕ) (result : Result T StorageEr
   pub fault : IsErrOf result Fault → Rose before now
 
 -- time goes on: each content since an earlier moment was there before already, or has P
-pub record Passing (old new : StorageView) (P : List ℕ → Type 0) : Type 0 where
+pub record EachMomentSince (old new : StorageView) (P : List ℕ → Type 0) : Type 0 where
   pub later : old.moment ≤ new.moment
   pub each : (t : ℕ) (c : List ℕ) → t ≤ old.moment → new.had_since t c → old.had_since t c ⊎ P c
 
 -- What every call of a storage says: it stays honest, each moment since is one of before or has the contents at the return, and a fault is counted.
 pub record Calls {T : Type 0} (old new : StorageView) (result : Result T StorageError) : Type 0 where
   pub honest : old.is_honest → new.is_honest
-  pub time : Passing old new (λ c. c ≡ new.contents)
+  pub time : EachMomentSince old new (λ c. c ≡ new.contents)
   pub cause : HasCause old.faults new.faults result
 
 -- the same contents

@@ -6,7 +6,7 @@ use Rattle.image_access.specs.Moments.{StorageView}
 use Rattle.qcow2_metadata.specs.Bytes.{byte_at}
 use Rattle.qcow2_metadata.specs.Consistent.{IsConsistent}
 use Rattle.qcow2_disk.specs.AbstractImages.{IsOpened, guest_of}
-use Rattle.qcow2_disk.specs.Calls.{Acts}
+use Rattle.qcow2_disk.specs.Calls.{CallEffect}
 use Rattle.qcow2_disk.specs.Disk.{disk}
 use Rattle.qcow2_disk.specs.Stops.{StopOkEverywhere, checkpoint_at}
 use Rattle.qcow2_alloc.specs.declared.error.ImageError.{ImageError}
@@ -40,7 +40,7 @@ module _ {S F : Type 0} (view : S → StorageView) (backing : F → BackingView)
   pub has_export : (raw : List ℕ) (n : ℕ) → Exports view backing old raw n → IsExport storage.contents n raw
   has_export raw n exports = let done = exports [] opened.sound in record { count = done.0; is_disk = subst (λ d. IsRawOf d raw) disk_is done.1 }
 
-  keeps : Acts (abstract_of view backing old []) (abstract_of view backing new []) [] [] → KeepsDisk storage (view (storage_of_image new))
+  keeps : CallEffect (abstract_of view backing old []) (abstract_of view backing new []) [] [] → KeepsDisk storage (view (storage_of_image new))
   keeps acts =
       let v = abstract_of view backing old [] in
       let here : IsConsistent v.known = (whole view backing old [] opened.sound).consistent in

@@ -20,8 +20,8 @@ use Rattle.qcow2_alloc.specs.declared.clusters_to_free.ClusterKind.{ClusterKind}
 use Rattle.qcow2_alloc.specs.declared.clusters_to_free.ClusterKind.TheVariants.{Data, Metadata}
 use Rattle.qcow2_alloc.specs.declared.clusters_to_free.ClustersToFreeEntry.{ClustersToFreeEntry}
 use Rattle.qcow2_alloc.specs.Allocation.{run_at, is_data, taken_as, Owed, Taken, Listed, owed_as, MayTake, MayLower, HasNone, KeepsEntries, RefblockAt, UnseenAllocatorStep, UnseenAllocatorGrowth, PlacesBlock, GetsBlock, RefusedGrowth, TakesOne, TakesCluster, Allocates}
-use Rattle.qcow2_laws.specs.Caches.{AreSettled}
-use Rattle.qcow2_alloc.specs.CacheMarks.{KeepsMarks, SameTables}
+use Rattle.qcow2_laws.specs.Caches.{AreNamedBlocks}
+use Rattle.qcow2_alloc.specs.CachePins.{KeepsPinsAndNotes, SameTables}
 use Rattle.qcow2_alloc.specs.ImageFile.{view_in, contents_in, known_in, FileInvariant, AllocatorInvariant, HasReftable, RefusedFileStep}
 use Rattle.image_access.specs.declared.error.StorageError.{StorageError}
 use Rattle.image_access.specs.declared.error.StorageError.TheVariants.{Fault, Memory}
@@ -31,7 +31,7 @@ use Rattle.qcow2_alloc.specs.declared.image_storage.ImageStorage.{ImageStorage}
 use Rattle.qcow2_alloc.specs.ImageStorage.{storage_of}
 use Rattle.qcow2_alloc.proofs.KeptTables.Standing.{own_cluster}
 use Rattle.qcow2_alloc.proofs.KeptTables.Turning.{safe_none}
-use Rattle.qcow2_alloc.proofs.Runs.{held_more}
+use Rattle.qcow2_alloc.proofs.Runs.{new_data_more}
 use Rattle.qcow2_alloc.proofs.FileSteps.{one_here, moves_none, moves_then, moves_on, on_then, on_breaks, leaves_then, breaks_after, moves_cached, reftable_cached, reftable_counted, moves_raised, moves_lowered}
 
 -- what a `?` hands on
@@ -98,29 +98,29 @@ module _ {S : Type 0} (view : S → StorageView) where
   on_none p file t sound = on_of p p file file t (becomes_none p file t sound)
 
   -- what is held for guests is held still
-  pub becomes_on : (p q r : Pending) (a b c : ImageFile S) (t t' : Allocator) → ((k : ℕ) → 0 < p.held k → 0 < q.held k) → UnseenAllocatorGrowth view p a t b q → UnseenAllocatorGrowth view q b t' c r → UnseenAllocatorGrowth view p a t' c r
-  becomes_on p q r a b c t t' held first second = record { moves = on_then view p q r a b c held first.moves second.moves; reftable = second.reftable }
+  pub becomes_on : (p q r : Pending) (a b c : ImageFile S) (t t' : Allocator) → ((k : ℕ) → 0 < p.new_data k → 0 < q.new_data k) → UnseenAllocatorGrowth view p a t b q → UnseenAllocatorGrowth view q b t' c r → UnseenAllocatorGrowth view p a t' c r
+  becomes_on p q r a b c t t' new_data first second = record { moves = on_then view p q r a b c new_data first.moves second.moves; reftable = second.reftable }
 
   pub is_sound_on : (p q : Pending) (a b : ImageFile S) (t : Allocator) → UnseenAllocatorGrowth view p a t b q → AllocatorInvariant view t q b
   is_sound_on p q a b t first = record { sound = first.moves.sound; reftable = first.reftable }
 
   -- after clusters were taken
   pub becomes_more : (d : Bool) (p : Pending) (n : ℕ → ℕ) (r : Pending) (a b c : ImageFile S) (t t' : Allocator) → UnseenAllocatorStep view p a t b (taken_as d p n) → UnseenAllocatorStep view (taken_as d p n) b t' c r → UnseenAllocatorStep view p a t' c r
-  becomes_more d p n r a b c t t' first second = record { moves = moves_then view p (taken_as d p n) r a b c (held_more d p n) first.moves second.moves; reftable = second.reftable }
+  becomes_more d p n r a b c t t' first second = record { moves = moves_then view p (taken_as d p n) r a b c (new_data_more d p n) first.moves second.moves; reftable = second.reftable }
 
   pub becomes_cached : (p : Pending) (file : ImageFile S) (t : Allocator) (storage : ImageStorage S) (caches : MetadataCaches S) → AllocatorInvariant view t p file
-      → UnseenCacheStep file.header.fields p (view_in view file) file.caches (view (storage_of storage)) caches → KeepsMarks file.caches caches → UnseenAllocatorStep view p file t (record file { storage = storage; caches = caches }) p
+      → UnseenCacheStep file.header.fields p (view_in view file) file.caches (view (storage_of storage)) caches → KeepsPinsAndNotes file.caches caches → UnseenAllocatorStep view p file t (record file { storage = storage; caches = caches }) p
   becomes_cached p file t storage caches sound stays marks = record { moves = moves_cached view p file storage caches sound.sound stays marks; reftable = reftable_cached view p file storage caches sound.sound stays t.reftable sound.reftable }
 
   -- nothing but marks of the caches changes
-  pub becomes_marked : (p : Pending) (file : ImageFile S) (t : Allocator) (caches : MetadataCaches S) → AllocatorInvariant view t p file → SameTables file.caches caches → KeepsMarks file.caches caches → UnseenAllocatorStep view p file t (record file { caches = caches }) p
+  pub becomes_marked : (p : Pending) (file : ImageFile S) (t : Allocator) (caches : MetadataCaches S) → AllocatorInvariant view t p file → SameTables file.caches caches → KeepsPinsAndNotes file.caches caches → UnseenAllocatorStep view p file t (record file { caches = caches }) p
   becomes_marked p file t caches sound tables marks =
       let h = file.header.fields in
       becomes_cached p file t file.storage caches sound (record {
         honest = sound.sound.honest;
         sound = tables.sound h p (contents_in view file) sound.sound.caches;
         known = tables.known h (contents_in view file);
-        settled = λ settled. subst (λ ts. AreSettled h ts (contents_in view file)) (sym tables.refblocks) settled;
+        settled = λ settled. subst (λ ts. AreNamedBlocks h ts (contents_in view file)) (sym tables.refblocks) settled;
         since = safe_none (view_in view file) (known_in view file);
       }) marks
 
@@ -133,9 +133,9 @@ module _ {S : Type 0} (view : S → StorageView) where
   leaves_as p a b t e leaves = elim leaves [ inl sound ↦ inl (on_of p p a b t (record { moves = sound.0; reftable = sound.1 })) | inr breaks ↦ inr breaks ]
 
   -- a refusal after a step
-  pub leaves_on : (p q r : Pending) (a b c : ImageFile S) (t t' : Allocator) (e : ImageError) → ((k : ℕ) → 0 < p.held k → 0 < q.held k) → UnseenAllocatorGrowth view p a t b q → RefusedGrowth view q b t' c r e → RefusedGrowth view p a t' c r e
-  leaves_on p q r a b c t t' e held first second = elim second [
-    | inl sound ↦ inl (becomes_on p q r a b c t t' held first sound)
+  pub leaves_on : (p q r : Pending) (a b c : ImageFile S) (t t' : Allocator) (e : ImageError) → ((k : ℕ) → 0 < p.new_data k → 0 < q.new_data k) → UnseenAllocatorGrowth view p a t b q → RefusedGrowth view q b t' c r e → RefusedGrowth view p a t' c r e
+  leaves_on p q r a b c t t' e new_data first second = elim second [
+    | inl sound ↦ inl (becomes_on p q r a b c t t' new_data first sound)
     | inr breaks ↦ inr (on_breaks view p q a b c e first.moves breaks)
   ]
 
@@ -148,11 +148,11 @@ module _ {S : Type 0} (view : S → StorageView) where
   on_as p q a b t t' same becomes = record { moves = becomes.moves; reftable = subst (HasReftable view b) (sym same) becomes.reftable }
 
   -- a cluster that is taken, or is in use, after a step
-  pub takes_on : (p q : Pending) (a b c : ImageFile S) (t t' t'' : Allocator) (d : Bool) (cluster : ℕ) (taken : Bool) → ((k : ℕ) → 0 < p.held k → 0 < q.held k) → t''.reftable ≡ t'.reftable
+  pub takes_on : (p q : Pending) (a b c : ImageFile S) (t t' t'' : Allocator) (d : Bool) (cluster : ℕ) (taken : Bool) → ((k : ℕ) → 0 < p.new_data k → 0 < q.new_data k) → t''.reftable ≡ t'.reftable
       → UnseenAllocatorGrowth view p a t b q → TakesOne view q b t' c d cluster (Ok taken) → TakesCluster view p a t'' c q d cluster (Ok taken)
-  takes_on p q a b c t t' t'' d cluster true held same first second =
-      on_as p (taken_as d q (one_at cluster)) a c t' t'' same (becomes_on p q (taken_as d q (one_at cluster)) a b c t t' held first (on_of q (taken_as d q (one_at cluster)) b c t' second))
-  takes_on p q a b c t t' t'' d cluster false held same first second = on_as p q a c t' t'' same (becomes_on p q q a b c t t' held first (on_of q q b c t' second))
+  takes_on p q a b c t t' t'' d cluster true new_data same first second =
+      on_as p (taken_as d q (one_at cluster)) a c t' t'' same (becomes_on p q (taken_as d q (one_at cluster)) a b c t t' new_data first (on_of q (taken_as d q (one_at cluster)) b c t' second))
+  takes_on p q a b c t t' t'' d cluster false new_data same first second = on_as p q a c t' t'' same (becomes_on p q q a b c t t' new_data first (on_of q q b c t' second))
 
   -- an allocation after a step that left the same pending
   pub allocates_then : (p q : Pending) (a b c : ImageFile S) (t t' : Allocator) (kind : ClusterKind) (n : ℕ) (result : Result ClustersToFreeEntry ImageError) → UnseenAllocatorGrowth view p a t b p → Allocates view p b t' c q kind n result → Allocates view p a t' c q kind n result
@@ -214,7 +214,7 @@ module _ {S : Type 0} (view : S → StorageView) where
 
   -- ---- one cluster
   module _ (p : Pending) (a b : ImageFile S) (t : Allocator) (first : UnseenAllocatorStep view p a t b p) (cluster block index : ℕ) (at : IsCountedAt b.header.fields (known_in view b) cluster block index)
-      (caches : MetadataCaches S) (turned : order_of caches ≡ order_of b.caches) (marks : KeepsMarks b.caches caches) where
+      (caches : MetadataCaches S) (turned : order_of caches ≡ order_of b.caches) (marks : KeepsPinsAndNotes b.caches caches) where
     pub taken_one : (d : Bool) → MayTake d a → order_of b.caches ≡ order_of a.caches → count b.header.fields (known_in view b) cluster ≡ 0 → RaisesCount b.caches caches block index
         → UnseenAllocatorStep view p a t (record b { caches = caches }) (taken_as d p (one_at cluster))
     taken_one d may same free raises =
@@ -234,15 +234,15 @@ module _ {S : Type 0} (view : S → StorageView) where
   -- what is owed is counted
   pub owed_counted : (owed : Owed) (q : Pending) (cluster : ℕ) (p : Pending) (file : ImageFile S) → p ≡ owed_as owed q (one_at cluster) → FileInvariant view p file → count file.header.fields (known_in view file) cluster ≢ 0
   owed_counted owed q cluster p file owes sound none =
-      let tally = (sound.caches.kept.kept.guarded.always cluster).tally in
+      let tally = (sound.caches.kept.kept.guarded.each_cluster cluster).tally in
       let some = some_owed owed owes in
       absurd (omega (arith, tally, none, some))
     where
-      some_owed : (owed : Owed) → p ≡ owed_as owed q (one_at cluster) → 0 < p.held cluster + p.fresh cluster + p.spent cluster + p.dropped cluster
-      some_owed (Taken true) owes = let own = one_here cluster in let e : p.held cluster ≡ q.held cluster + one_at cluster cluster = ap (λ (r : Pending). r.held cluster) owes in omega arith
-      some_owed (Taken false) owes = let own = one_here cluster in let e : p.fresh cluster ≡ q.fresh cluster + one_at cluster cluster = ap (λ (r : Pending). r.fresh cluster) owes in omega arith
-      some_owed (Listed Metadata) owes = let own = one_here cluster in let e : p.spent cluster ≡ q.spent cluster + one_at cluster cluster = ap (λ (r : Pending). r.spent cluster) owes in omega arith
-      some_owed (Listed Data) owes = let own = one_here cluster in let e : p.dropped cluster ≡ q.dropped cluster + one_at cluster cluster = ap (λ (r : Pending). r.dropped cluster) owes in omega arith
+      some_owed : (owed : Owed) → p ≡ owed_as owed q (one_at cluster) → 0 < p.new_data cluster + p.new_tables cluster + p.old_tables cluster + p.old_data cluster
+      some_owed (Taken true) owes = let own = one_here cluster in let e : p.new_data cluster ≡ q.new_data cluster + one_at cluster cluster = ap (λ (r : Pending). r.new_data cluster) owes in omega arith
+      some_owed (Taken false) owes = let own = one_here cluster in let e : p.new_tables cluster ≡ q.new_tables cluster + one_at cluster cluster = ap (λ (r : Pending). r.new_tables cluster) owes in omega arith
+      some_owed (Listed Metadata) owes = let own = one_here cluster in let e : p.old_tables cluster ≡ q.old_tables cluster + one_at cluster cluster = ap (λ (r : Pending). r.old_tables cluster) owes in omega arith
+      some_owed (Listed Data) owes = let own = one_here cluster in let e : p.old_data cluster ≡ q.old_data cluster + one_at cluster cluster = ap (λ (r : Pending). r.old_data cluster) owes in omega arith
 
   -- so it has a refblock
   pub owed_has_block : (owed : Owed) (q : Pending) (cluster range bits : ℕ) (p : Pending) (file : ImageFile S) (header : HeaderFields) → file.header.fields ≡ header → p ≡ owed_as owed q (one_at cluster) → FileInvariant view p file

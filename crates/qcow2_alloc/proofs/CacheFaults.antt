@@ -2,7 +2,7 @@
 use Rattle.std.proofs.Common.{◌≤◌, ℕ, Bool, true, false, List, [], ◌∷◌, Option, Some, None, Result, Ok, Err, ⊎_elim, sym, subst, arith}
 use Rattle.std.specs.Option.{option_or}
 use Rattle.image_access.specs.Moments.{Rose}
-use Rattle.image_access.proofs.Passing.{rose_since, rose_still}
+use Rattle.image_access.proofs.EachMomentSince.{rose_since, rose_still}
 use Rattle.qcow2_alloc.specs.declared.async_lru_cache.slot.Slot.{Slot}
 use Rattle.qcow2_alloc.specs.declared.async_lru_cache.error.CacheError.{CacheError}
 use Rattle.qcow2_alloc.specs.declared.async_lru_cache.error.CacheError.TheVariants.{InUse, StillInUse, Memory, Backend}

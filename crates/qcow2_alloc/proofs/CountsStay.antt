@@ -35,9 +35,9 @@ module _ (h : HeaderFields) (on_storage on_storage' : Bytes) (kept : (k : ℕ) �
 pub counts_follow : (h : HeaderFields) (d d' : Direction) (p p' : Pending) (on_storage on_storage' known known' : Bytes) → CrashInvariant h d p on_storage known → CrashInvariant h d' p' on_storage' known' → SameCovers h known known'
     → ((c : ℕ) → named_for_tables h on_storage c ≤ named_for_tables h on_storage' c)
     → (c : ℕ) → p'.surplus c ≡ p.surplus c → count h known c + pending_at p' c ≤ count h known' c + pending_at p c
-counts_follow h d d' p p' on_storage on_storage' known known' old new covers fixed c same =
-    let before = (old.always c).tally in
-    let after = (new.always c).tally in
+counts_follow h d d' p p' on_storage on_storage' known known' old new covers table_refs c same =
+    let before = (old.each_cluster c).tally in
+    let after = (new.each_cluster c).tally in
     let used = over_guests-same h (names h known c) (names h known' c) (λ g. ap (named_by_cover h c) (covers g)) in
-    let more = fixed c in
+    let more = table_refs c in
     omega arith

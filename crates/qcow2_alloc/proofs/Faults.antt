@@ -6,7 +6,7 @@ use Rattle.lru.specs.LruCache.{promoted}
 use Rattle.image_access.specs.Moments.{StorageView, Rose}
 use Rattle.image_access.specs.declared.error.StorageError.{StorageError}
 use Rattle.image_access.specs.declared.error.StorageError.TheVariants as S
-use Rattle.image_access.proofs.Passing.{rose_since}
+use Rattle.image_access.proofs.EachMomentSince.{rose_since}
 use Rattle.qcow2_metadata.specs.MetadataError.{storage_result}
 use Rattle.qcow2_metadata.specs.declared.error.MetadataError.{MetadataError}
 use Rattle.qcow2_metadata.specs.declared.error.MetadataError.TheVariants as M

@@ -3,7 +3,7 @@ use Rattle.std.proofs.Common.{◌≡◌, inl, inr, ℕ, ◌+◌, ◌/◌, ◌<�
 use mathlib.Core.Path.{fun_ext}
 use Rattle.std.proofs.lemmas.Bool.{cases_eq, eq-eqb, ne_eqb, cond-true, cond-false}
 use Rattle.image_access.specs.Moments.{StorageView}
-use Rattle.image_access.proofs.Passing.{passes_on}
+use Rattle.image_access.proofs.EachMomentSince.{passes_on}
 use Rattle.qcow2_metadata.specs.Bytes.{Bytes}
 use Rattle.qcow2_metadata.specs.EntryTable.{EntryTableView}
 use Rattle.qcow2_metadata.specs.Header.{cluster_size}
@@ -12,7 +12,7 @@ use Rattle.qcow2_metadata.specs.Named.{named_for_tables}
 use Rattle.qcow2_disk.specs.Stops.{Checkpoint, StopOkEverywhere, SafeThroughout}
 use Rattle.qcow2_laws.specs.Clusters.{Direction}
 use Rattle.qcow2_laws.specs.CrashInvariant.{Pending}
-use Rattle.qcow2_laws.specs.Changes.{one_at, with_held, with_fresh, without_spent, without_dropped, held_to_spent, fresh_to_spent}
+use Rattle.qcow2_laws.specs.Changes.{one_at, with_new_data, with_new_tables, without_old_tables, without_old_data, new_data_to_old_tables, new_tables_to_old_tables}
 use Rattle.qcow2_laws.specs.SafeSteps.{DriverState, SafeStep}
 use Rattle.qcow2_laws.specs.Steps.{CountRises, CountFalls}
 use Rattle.qcow2_laws.specs.Unseen.{IsUnseen}
@@ -28,7 +28,7 @@ use Rattle.qcow2_alloc.specs.declared.image_file.ImageFile.{ImageFile}
 use Rattle.qcow2_alloc.specs.declared.image_storage.ImageStorage.{ImageStorage}
 use Rattle.qcow2_alloc.specs.Allocation.{taken_as, listed_as, Owed, Taken, Listed, owed_as, MayTake, MayLower}
 use Rattle.qcow2_alloc.specs.declared.clusters_to_free.ClusterKind.TheVariants.{Data, Metadata}
-use Rattle.qcow2_alloc.specs.CacheMarks.{KeepsMarks}
+use Rattle.qcow2_alloc.specs.CachePins.{KeepsPinsAndNotes}
 use Rattle.qcow2_alloc.specs.ImageFile.{nothing_given, pending_at, view_in, contents_in, known_in, state_in, FileInvariant, HasReftable, UnseenFileStep, UnseenFileGrowth, InterruptedFileStep, RefusedFileStep, IsFault}
 use Rattle.qcow2_alloc.specs.ImageStorage.{storage_of}
 use Rattle.qcow2_alloc.specs.KeptTables.{IsSafeSince}
@@ -48,13 +48,13 @@ one_alone c k some = elim (cases_eq k c) [
 ]
 
 -- the same numbers
-pub pending_same : (p q : Pending) → ((k : ℕ) → p.held k ≡ q.held k) → ((k : ℕ) → p.fresh k ≡ q.fresh k) → ((k : ℕ) → p.spent k ≡ q.spent k) → ((k : ℕ) → p.dropped k ≡ q.dropped k) → ((k : ℕ) → p.surplus k ≡ q.surplus k) → p ≡ q
-pending_same p q held fresh spent dropped surplus =
-    ap (λ (f : ℕ → ℕ). record p { held = f }) (fun_ext held)
-    ∙ ap (λ (f : ℕ → ℕ). record p { held = q.held; fresh = f }) (fun_ext fresh)
-    ∙ ap (λ (f : ℕ → ℕ). record p { held = q.held; fresh = q.fresh; spent = f }) (fun_ext spent)
-    ∙ ap (λ (f : ℕ → ℕ). record p { held = q.held; fresh = q.fresh; spent = q.spent; dropped = f }) (fun_ext dropped)
-    ∙ ap (λ (f : ℕ → ℕ). record p { held = q.held; fresh = q.fresh; spent = q.spent; dropped = q.dropped; surplus = f }) (fun_ext surplus)
+pub pending_same : (p q : Pending) → ((k : ℕ) → p.new_data k ≡ q.new_data k) → ((k : ℕ) → p.new_tables k ≡ q.new_tables k) → ((k : ℕ) → p.old_tables k ≡ q.old_tables k) → ((k : ℕ) → p.old_data k ≡ q.old_data k) → ((k : ℕ) → p.surplus k ≡ q.surplus k) → p ≡ q
+pending_same p q new_data new_tables old_tables old_data surplus =
+    ap (λ (f : ℕ → ℕ). record p { new_data = f }) (fun_ext new_data)
+    ∙ ap (λ (f : ℕ → ℕ). record p { new_data = q.new_data; new_tables = f }) (fun_ext new_tables)
+    ∙ ap (λ (f : ℕ → ℕ). record p { new_data = q.new_data; new_tables = q.new_tables; old_tables = f }) (fun_ext old_tables)
+    ∙ ap (λ (f : ℕ → ℕ). record p { new_data = q.new_data; new_tables = q.new_tables; old_tables = q.old_tables; old_data = f }) (fun_ext old_data)
+    ∙ ap (λ (f : ℕ → ℕ). record p { new_data = q.new_data; new_tables = q.new_tables; old_tables = q.old_tables; old_data = q.old_data; surplus = f }) (fun_ext surplus)
 
 pub one_few : (c k : ℕ) → one_at c k ≤ 1
 one_few c k = elim (k == c) as (λ (b : Bool). cond b 1 0 ≤ 1) [ true ↦ omega arith | false ↦ omega arith ]
@@ -87,8 +87,8 @@ module _ {S : Type 0} (view : S → StorageView) where
     contents = λ backing m ok known_ok. second.contents backing m (first.contents backing m ok known_ok) (known backing m ok known_ok);
   }
 
-  pub moves_then : (p q r : Pending) (a b c : ImageFile S) → ((k : ℕ) → 0 < p.held k → 0 < q.held k) → Moved p q a b → Moved q r b c → Moved p r a c
-  moves_then p q r a b c held first second = record {
+  pub moves_then : (p q r : Pending) (a b c : ImageFile S) → ((k : ℕ) → 0 < p.new_data k → 0 < q.new_data k) → Moved p q a b → Moved q r b c → Moved p r a c
+  moves_then p q r a b c new_data first second = record {
     sound = second.sound;
     leads = record {
       sound = second.leads.sound;
@@ -96,7 +96,7 @@ module _ {S : Type 0} (view : S → StorageView) where
       known = λ backing m ok known_ok. second.leads.known backing m (first.leads.on_storage backing m ok known_ok) (first.leads.known backing m ok known_ok);
     };
     since = endures_then a b c first.since first.leads.known second.since;
-    unseen = unseen_then (state_in view a p) (state_in view b q) (state_in view c r) first.unseen second.unseen held;
+    unseen = unseen_then (state_in view a p) (state_in view b q) (state_in view c r) first.unseen second.unseen new_data;
     l1_table = l1_same_then (state_in view a p) (state_in view b q) (state_in view c r) first.unseen.header first.l1_table second.l1_table;
     counts = λ k. let one = first.counts k in let two = second.counts k in omega arith;
   }
@@ -105,8 +105,8 @@ module _ {S : Type 0} (view : S → StorageView) where
   pub moves_on : (p q : Pending) (a b : ImageFile S) → Moved p q a b → UnseenFileGrowth view p q a b
   moves_on p q a b moves = record { sound = moves.sound; leads = moves.leads; since = moves.since; unseen = moves.unseen; l1_table = moves.l1_table }
 
-  pub on_then : (p q r : Pending) (a b c : ImageFile S) → ((k : ℕ) → 0 < p.held k → 0 < q.held k) → UnseenFileGrowth view p q a b → UnseenFileGrowth view q r b c → UnseenFileGrowth view p r a c
-  on_then p q r a b c held first second = record {
+  pub on_then : (p q r : Pending) (a b c : ImageFile S) → ((k : ℕ) → 0 < p.new_data k → 0 < q.new_data k) → UnseenFileGrowth view p q a b → UnseenFileGrowth view q r b c → UnseenFileGrowth view p r a c
+  on_then p q r a b c new_data first second = record {
     sound = second.sound;
     leads = record {
       sound = second.leads.sound;
@@ -114,7 +114,7 @@ module _ {S : Type 0} (view : S → StorageView) where
       known = λ backing m ok known_ok. second.leads.known backing m (first.leads.on_storage backing m ok known_ok) (first.leads.known backing m ok known_ok);
     };
     since = endures_then a b c first.since first.leads.known second.since;
-    unseen = unseen_then (state_in view a p) (state_in view b q) (state_in view c r) first.unseen second.unseen held;
+    unseen = unseen_then (state_in view a p) (state_in view b q) (state_in view c r) first.unseen second.unseen new_data;
     l1_table = l1_same_then (state_in view a p) (state_in view b q) (state_in view c r) first.unseen.header first.l1_table second.l1_table;
   }
 
@@ -151,7 +151,7 @@ module _ {S : Type 0} (view : S → StorageView) where
     abbrev called : ImageFile S
     called = record file { storage = storage; caches = caches }
 
-    pub moves_cached : KeepsMarks file.caches caches → Moved p p file called
+    pub moves_cached : KeepsPinsAndNotes file.caches caches → Moved p p file called
     moves_cached marks = record {
       sound = record { honest = stays.honest; caches = stays.sound; settled = stays.settled sound.settled; room = marks.room sound.room };
       leads = record {
@@ -174,7 +174,7 @@ module _ {S : Type 0} (view : S → StorageView) where
     }
 
   -- ---- a count changes
-  module _ (p : Pending) (file : ImageFile S) (caches : MetadataCaches S) (c : ℕ) (sound : FileInvariant view p file) (marks : KeepsMarks file.caches caches) (turned : order_of caches ≡ order_of file.caches) where
+  module _ (p : Pending) (file : ImageFile S) (caches : MetadataCaches S) (c : ℕ) (sound : FileInvariant view p file) (marks : KeepsPinsAndNotes file.caches caches) (turned : order_of caches ≡ order_of file.caches) where
     abbrev counted : ImageFile S
     counted = record file { caches = caches }
 
@@ -204,11 +204,11 @@ module _ {S : Type 0} (view : S → StorageView) where
           }
 
       -- no table lies in a cluster that isn't counted
-      unlaid : (o : ℕ) → o / cluster_size file.header.fields ≡ c → contents_in view file o ≡ known_in view file o
-      unlaid o in_c =
+      not_overlaid : (o : ℕ) → o / cluster_size file.header.fields ≡ c → contents_in view file o ≡ known_in view file o
+      not_overlaid o in_c =
           let h = file.header.fields in
           let kept = sound.caches.kept.kept in
-          let tally = (kept.guarded.always c).tally in
+          let tally = (kept.guarded.each_cluster c).tally in
           let free = made.change.free in
           let none : named_for_tables file.header.fields (contents_in view file) c ≡ 0 = omega (arith, tally, free) in
           sym (known_is_on_storage (cluster_size h) (l2_tables file.caches) (refblocks file.caches) (contents_in view file) o
@@ -217,8 +217,8 @@ module _ {S : Type 0} (view : S → StorageView) where
 
       -- a cluster is taken
       pub moves_raised : (d : Bool) → MayTake d file → Moved p (taken_as d p (one_at c)) file counted
-      moves_raised true may = raised_as (with_held p (one_at c)) (λ k. refl) (count_is_changed.data_allocated (state_in view file p) now_known c sound.caches.kept.kept.guarded may made.change unlaid)
-      moves_raised false may = raised_as (with_fresh p (one_at c)) (λ k. refl) (count_is_changed.table_allocated (state_in view file p) now_known c sound.caches.kept.kept.guarded made.change)
+      moves_raised true may = raised_as (with_new_data p (one_at c)) (λ k. refl) (count_is_changed.data_allocated (state_in view file p) now_known c sound.caches.kept.kept.guarded may made.change not_overlaid)
+      moves_raised false may = raised_as (with_new_tables p (one_at c)) (λ k. refl) (count_is_changed.table_allocated (state_in view file p) now_known c sound.caches.kept.kept.guarded made.change)
 
     -- a cluster that is owed is counted once less
     module _ (q : Pending) (made : Made (CountFalls file.header.fields (known_in view file) now_known c) file.header.fields file.caches caches (contents_in view file)) where
@@ -235,11 +235,11 @@ module _ {S : Type 0} (view : S → StorageView) where
           }
 
       -- it is spent first, and then no longer counted
-      freed : (spent : Pending) → SafeStep (state_in view file p) (record (state_in view file p) { pending = spent }) nothing_given [] → 0 < spent.spent c → without_spent spent (one_at c) ≡ q
+      freed : (old_tables : Pending) → SafeStep (state_in view file p) (record (state_in view file p) { pending = old_tables }) nothing_given [] → 0 < old_tables.old_tables c → without_old_tables old_tables (one_at c) ≡ q
           → SafeStep (state_in view file p) (record (state_in view file p) { pending = q; known = now_known }) nothing_given []
-      freed spent first some same =
+      freed old_tables first some same =
           let s : DriverState = state_in view file p in
-          let second = count_is_changed.table_freed (record s { pending = spent }) now_known c first.sound made.change some in
+          let second = count_is_changed.table_freed (record s { pending = old_tables }) now_known c first.sound made.change some in
           subst (λ (r : Pending). SafeStep s (record s { pending = r; known = now_known }) nothing_given []) same (record {
             sound = second.sound;
             on_storage = λ backing m ok known_ok. second.on_storage backing m (first.on_storage backing m ok known_ok) (first.known backing m ok known_ok);
@@ -248,30 +248,30 @@ module _ {S : Type 0} (view : S → StorageView) where
 
       pub moves_lowered : (owed : Owed) → MayLower owed file → p ≡ owed_as owed q (one_at c) → Moved p q file counted
       moves_lowered (Taken true) may taken =
-          let held : p.held c ≡ q.held c + one_at c c = ap (λ (r : Pending). r.held c) taken in
+          let new_data : p.new_data c ≡ q.new_data c + one_at c c = ap (λ (r : Pending). r.new_data c) taken in
           let own = one_here c in
-          let first = pending_is_changed.undone (state_in view file p) (one_at c) sound.caches.kept.kept.guarded (one_few c) (λ k some. subst (λ n. 0 < p.held n) (sym (one_alone c k some)) (omega arith)) in
-          lowered_as (λ k. sym (ap (λ (r : Pending). r.surplus k) taken)) (freed (held_to_spent p (one_at c)) first (omega arith)
-          (ap (λ (r : Pending). without_spent (held_to_spent r (one_at c)) (one_at c)) taken
-          ∙ pending_same (without_spent (held_to_spent (with_held q (one_at c)) (one_at c)) (one_at c)) q (λ k. omega arith) (λ k. refl) (λ k. omega arith) (λ k. refl) (λ k. refl)))
+          let first = pending_is_changed.undone (state_in view file p) (one_at c) sound.caches.kept.kept.guarded (one_few c) (λ k some. subst (λ n. 0 < p.new_data n) (sym (one_alone c k some)) (omega arith)) in
+          lowered_as (λ k. sym (ap (λ (r : Pending). r.surplus k) taken)) (freed (new_data_to_old_tables p (one_at c)) first (omega arith)
+          (ap (λ (r : Pending). without_old_tables (new_data_to_old_tables r (one_at c)) (one_at c)) taken
+          ∙ pending_same (without_old_tables (new_data_to_old_tables (with_new_data q (one_at c)) (one_at c)) (one_at c)) q (λ k. omega arith) (λ k. refl) (λ k. omega arith) (λ k. refl) (λ k. refl)))
       moves_lowered (Taken false) may taken =
-          let fresh : p.fresh c ≡ q.fresh c + one_at c c = ap (λ (r : Pending). r.fresh c) taken in
+          let new_tables : p.new_tables c ≡ q.new_tables c + one_at c c = ap (λ (r : Pending). r.new_tables c) taken in
           let own = one_here c in
-          let first = pending_is_changed.abandoned (state_in view file p) (one_at c) sound.caches.kept.kept.guarded (one_few c) (λ k some. subst (λ n. 0 < p.fresh n) (sym (one_alone c k some)) (omega arith)) in
-          lowered_as (λ k. sym (ap (λ (r : Pending). r.surplus k) taken)) (freed (fresh_to_spent p (one_at c)) first (omega arith)
-          (ap (λ (r : Pending). without_spent (fresh_to_spent r (one_at c)) (one_at c)) taken
-          ∙ pending_same (without_spent (fresh_to_spent (with_fresh q (one_at c)) (one_at c)) (one_at c)) q (λ k. refl) (λ k. omega arith) (λ k. omega arith) (λ k. refl) (λ k. refl)))
+          let first = pending_is_changed.abandoned (state_in view file p) (one_at c) sound.caches.kept.kept.guarded (one_few c) (λ k some. subst (λ n. 0 < p.new_tables n) (sym (one_alone c k some)) (omega arith)) in
+          lowered_as (λ k. sym (ap (λ (r : Pending). r.surplus k) taken)) (freed (new_tables_to_old_tables p (one_at c)) first (omega arith)
+          (ap (λ (r : Pending). without_old_tables (new_tables_to_old_tables r (one_at c)) (one_at c)) taken
+          ∙ pending_same (without_old_tables (new_tables_to_old_tables (with_new_tables q (one_at c)) (one_at c)) (one_at c)) q (λ k. refl) (λ k. omega arith) (λ k. omega arith) (λ k. refl) (λ k. refl)))
       moves_lowered (Listed Metadata) may listed =
-          let spent : p.spent c ≡ q.spent c + one_at c c = ap (λ (r : Pending). r.spent c) listed in
+          let old_tables : p.old_tables c ≡ q.old_tables c + one_at c c = ap (λ (r : Pending). r.old_tables c) listed in
           let own = one_here c in
           let s : DriverState = state_in view file p in
           lowered_as (λ k. sym (ap (λ (r : Pending). r.surplus k) listed)) (subst (λ (r : Pending). SafeStep s (record s { pending = r; known = now_known }) nothing_given [])
-          (ap (λ (r : Pending). without_spent r (one_at c)) listed ∙ pending_same (without_spent (listed_as Metadata q (one_at c)) (one_at c)) q (λ k. refl) (λ k. refl) (λ k. omega arith) (λ k. refl) (λ k. refl))
+          (ap (λ (r : Pending). without_old_tables r (one_at c)) listed ∙ pending_same (without_old_tables (listed_as Metadata q (one_at c)) (one_at c)) q (λ k. refl) (λ k. refl) (λ k. omega arith) (λ k. refl) (λ k. refl))
           (count_is_changed.table_freed s now_known c sound.caches.kept.kept.guarded made.change (omega arith)))
       moves_lowered (Listed Data) may listed =
-          let dropped : p.dropped c ≡ q.dropped c + one_at c c = ap (λ (r : Pending). r.dropped c) listed in
+          let old_data : p.old_data c ≡ q.old_data c + one_at c c = ap (λ (r : Pending). r.old_data c) listed in
           let own = one_here c in
           let s : DriverState = state_in view file p in
           lowered_as (λ k. sym (ap (λ (r : Pending). r.surplus k) listed)) (subst (λ (r : Pending). SafeStep s (record s { pending = r; known = now_known }) nothing_given [])
-          (ap (λ (r : Pending). without_dropped r (one_at c)) listed ∙ pending_same (without_dropped (listed_as Data q (one_at c)) (one_at c)) q (λ k. refl) (λ k. refl) (λ k. refl) (λ k. omega arith) (λ k. refl))
+          (ap (λ (r : Pending). without_old_data r (one_at c)) listed ∙ pending_same (without_old_data (listed_as Data q (one_at c)) (one_at c)) q (λ k. refl) (λ k. refl) (λ k. refl) (λ k. omega arith) (λ k. refl))
           (count_is_changed.data_freed s now_known c sound.caches.kept.kept.guarded may made.change (omega arith)))

@@ -1,6 +1,6 @@
 -- Bytes are written to clusters of an image's file that nothing names, and that aren't held.
 use Rattle.std.proofs.Common.{◌≡◌, ◌⊎◌, inl, inr, ℕ, [], refl, sym, ◌∙◌}
-use Rattle.image_access.specs.Moments.{StorageView, Passing}
+use Rattle.image_access.specs.Moments.{StorageView, EachMomentSince}
 use Rattle.qcow2_metadata.specs.Bytes.{byte_at}
 use Rattle.qcow2_metadata.specs.EntryTable.{EntryTableView}
 use Rattle.qcow2_metadata.specs.Header.{cluster_size}
@@ -22,7 +22,7 @@ use Rattle.qcow2_alloc.proofs.KeptTables.Beside.{top_beside, settled_beside_writ
 
 module _ {S : Type 0} (view : S → StorageView) (p : Pending) (file : ImageFile S) (storage : ImageStorage S) (sound : FileInvariant view p file) (honest : (view (storage_of storage)).is_honest)
     (each : (c : ℕ) → SameIn (cluster_size file.header.fields) c (contents_in view file) (byte_at (view (storage_of storage)).contents)
-    ⊎ (IsUnnamed file.header.fields (contents_in view file) (known_in view file) c × (p.held c ≡ 0))) where
+    ⊎ (IsUnnamed file.header.fields (contents_in view file) (known_in view file) c × (p.new_data c ≡ 0))) where
   abbrev written : ImageFile S
   written = record file { storage = storage }
 
@@ -50,7 +50,7 @@ module _ {S : Type 0} (view : S → StorageView) (p : Pending) (file : ImageFile
   leads_written = data_is_written.written (state_in view file p) (contents_in view written) (known_in view written) [] sound.caches.kept.kept.guarded is_written
 
   each_known : (c : ℕ) → (SameIn (cluster_size file.header.fields) c (contents_in view file) (contents_in view written) × SameIn (cluster_size file.header.fields) c (known_in view file) (known_in view written))
-      ⊎ (IsUnnamed file.header.fields (contents_in view file) (known_in view file) c × (p.held c ≡ 0))
+      ⊎ (IsUnnamed file.header.fields (contents_in view file) (known_in view file) c × (p.new_data c ≡ 0))
   each_known c = elim (each c) [
     | inl same ↦ inl (same_beside file.header.fields (order_of file.caches) p (l2_tables file.caches) (refblocks file.caches) (contents_in view file) (contents_in view written) sound.caches.kept.kept c same)
     | inr free ↦ inr free
@@ -65,7 +65,7 @@ module _ {S : Type 0} (view : S → StorageView) (p : Pending) (file : ImageFile
   }
 
   -- no guest sees it
-  pub moves_written : Passing (view_in view file) (view (storage_of storage)) (λ c. c ≡ (view (storage_of storage)).contents) → UnseenFileStep view p p file written
+  pub moves_written : EachMomentSince (view_in view file) (view (storage_of storage)) (λ c. c ≡ (view (storage_of storage)).contents) → UnseenFileStep view p p file written
   moves_written time =
       let h = file.header.fields in
       let unseen = unseen_written (state_in view file p) (state_in view written p) sound.caches.kept.kept.guarded each_known refl in record {

@@ -16,7 +16,7 @@ use Rattle.qcow2_alloc.specs.FreeList.{of_data, of_tables, to_free, pending_then
 use Rattle.qcow2_alloc.specs.ImageFile.{KeepsHeader, IsFault, InterruptedFileStep}
 use Rattle.qcow2_alloc.proofs.AllocationSteps.{on_of, becomes_on, leaves_as, leaves_on}
 use Rattle.qcow2_alloc.proofs.FileSteps.{pending_same, endures_then}
-use Rattle.qcow2_alloc.proofs.Runs.{held_more, taken_last}
+use Rattle.qcow2_alloc.proofs.Runs.{new_data_more, taken_last}
 use Rattle.qcow2_alloc.proofs.Freeing.{free_more, but_more}
 
 -- ---- the header
@@ -79,24 +79,24 @@ module _ {S : Type 0} (view : S → StorageView) where
   grows_none p a b t (Ok done) gets = on_of view p p a b t gets
   grows_none p a b t (Err e) gets = leaves_as view p a b t e gets
 
-  pub grows_on : (p q : Pending) (a b c : ImageFile S) (t t' : Allocator) (result : Result (Unit {0}) ImageError) → ((k : ℕ) → 0 < p.held k → 0 < q.held k) → UnseenAllocatorGrowth view p a t b q → GetsBlock view q b t' c result
+  pub grows_on : (p q : Pending) (a b c : ImageFile S) (t t' : Allocator) (result : Result (Unit {0}) ImageError) → ((k : ℕ) → 0 < p.new_data k → 0 < q.new_data k) → UnseenAllocatorGrowth view p a t b q → GetsBlock view q b t' c result
       → GrowsTable view p a t' c q result
-  grows_on p q a b c t t' (Ok done) held first second = becomes_on view p q q a b c t t' held first (on_of view q q b c t' second)
-  grows_on p q a b c t t' (Err e) held first second = leaves_on view p q q a b c t t' e held first (leaves_as view q b c t' e second)
+  grows_on p q a b c t t' (Ok done) new_data first second = becomes_on view p q q a b c t t' new_data first (on_of view q q b c t' second)
+  grows_on p q a b c t t' (Err e) new_data first second = leaves_on view p q q a b c t t' e new_data first (leaves_as view q b c t' e second)
 
 -- ---- a step after a run was taken, or before one is
 module _ {S : Type 0} (view : S → StorageView) (d : Bool) (p : Pending) (n : ℕ → ℕ) (a b c : ImageFile S) (t t' : Allocator) (first : ListsTables a.free_list b.free_list) (then : ListsTables b.free_list c.free_list) where
   abbrev so_far : Pending
   so_far = taken_as d (pending_then p a.free_list b.free_list) n
 
-  pub held_so_far : (k : ℕ) → 0 < p.held k → 0 < so_far.held k
-  held_so_far k some = held_more d (pending_then p a.free_list b.free_list) n k some
+  pub new_data_so_far : (k : ℕ) → 0 < p.new_data k → 0 < so_far.new_data k
+  new_data_so_far k some = new_data_more d (pending_then p a.free_list b.free_list) n k some
 
   -- the run is taken still
   pub still_taken : UnseenAllocatorGrowth view p a t b so_far → UnseenAllocatorGrowth view so_far b t' c (pending_then so_far b.free_list c.free_list) → UnseenAllocatorGrowth view p a t' c (taken_as d (pending_then p a.free_list c.free_list) n)
   still_taken before step =
       subst (λ (r : Pending). UnseenAllocatorGrowth view p a t' c r) (following_taken d p a.free_list b.free_list c.free_list n first then)
-      (becomes_on view p so_far (pending_then so_far b.free_list c.free_list) a b c t t' held_so_far before step)
+      (becomes_on view p so_far (pending_then so_far b.free_list c.free_list) a b c t t' new_data_so_far before step)
 
   -- one more cluster is taken
   pub more_taken : (from count : ℕ) → n ≡ run_at from count → UnseenAllocatorGrowth view p a t b so_far → UnseenAllocatorGrowth view so_far b t' c (taken_as d (pending_then so_far b.free_list c.free_list) (one_at (from + count)))
@@ -106,7 +106,7 @@ module _ {S : Type 0} (view : S → StorageView) (d : Bool) (p : Pending) (n : �
       (ap (λ (q : Pending). taken_as d q (one_at (from + count))) (following_taken d p a.free_list b.free_list c.free_list n first then)
       ∙ ap (λ m. taken_as d (taken_as d (pending_then p a.free_list c.free_list) m) (one_at (from + count))) is
       ∙ taken_last d (pending_then p a.free_list c.free_list) from count)
-      (becomes_on view p so_far (taken_as d (pending_then so_far b.free_list c.free_list) (one_at (from + count))) a b c t t' held_so_far before step)
+      (becomes_on view p so_far (taken_as d (pending_then so_far b.free_list c.free_list) (one_at (from + count))) a b c t t' new_data_so_far before step)
 
   -- a fault after a change that was noted breaks off
   pub ends_taken : (e : ImageError) → UnseenAllocatorGrowth view p a t b so_far → IsFault e → IsTrue c.caches.is_changed → (r : Pending) → RefusedGrowth view so_far b t' c r e → InterruptedFileStep view a c e

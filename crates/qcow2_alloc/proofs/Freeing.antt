@@ -32,9 +32,9 @@ listed_more Data p m n o sum = pending_same (listed_as Data (listed_as Data p m)
 listed_more Metadata p m n o sum = pending_same (listed_as Metadata (listed_as Metadata p m) n) (listed_as Metadata p o) (λ k. refl) (λ k. refl) (λ k. let s = sum k in omega arith) (λ k. refl) (λ k. refl)
 
 -- what is held stays, whatever is listed
-pub listed_held : (kind : ClusterKind) (p : Pending) (m n : ℕ → ℕ) (k : ℕ) → 0 < (listed_as kind p m).held k → 0 < (listed_as kind p n).held k
-listed_held Data p m n k some = some
-listed_held Metadata p m n k some = some
+pub listed_new_data : (kind : ClusterKind) (p : Pending) (m n : ℕ → ℕ) (k : ℕ) → 0 < (listed_as kind p m).new_data k → 0 < (listed_as kind p n).new_data k
+listed_new_data Data p m n k some = some
+listed_new_data Metadata p m n k some = some
 
 -- a run without its first cluster
 abbrev pub behind_first : ClustersToFreeEntry → ClusterKind → Pending → Pending
@@ -147,15 +147,15 @@ counted_small h b known c reads some = elim (cases_lt (c / counts_per_block h) (
 module _ {S : Type 0} (view : S → StorageView) where
   -- ---- one step after another
 
-  pub becomes_on : (p q r : Pending) (a b c : ImageFile S) (t t' : Allocator) → ((k : ℕ) → 0 < p.held k → 0 < q.held k) → UnseenAllocatorStep view p a t b q → UnseenAllocatorStep view q b t' c r → UnseenAllocatorStep view p a t' c r
-  becomes_on p q r a b c t t' held first second = record { moves = moves_then view p q r a b c held first.moves second.moves; reftable = second.reftable }
+  pub becomes_on : (p q r : Pending) (a b c : ImageFile S) (t t' : Allocator) → ((k : ℕ) → 0 < p.new_data k → 0 < q.new_data k) → UnseenAllocatorStep view p a t b q → UnseenAllocatorStep view q b t' c r → UnseenAllocatorStep view p a t' c r
+  becomes_on p q r a b c t t' new_data first second = record { moves = moves_then view p q r a b c new_data first.moves second.moves; reftable = second.reftable }
 
   -- a fault left it where it was, or it broke off
-  pub frees_refused : (p q : Pending) (a b c : ImageFile S) (t t' : Allocator) (e : ImageError) → ((k : ℕ) → 0 < p.held k → 0 < q.held k) → UnseenAllocatorStep view p a t b q → IsFault e → RefusedFileStep view q b t' c e → Frees view p a t' c q (Err e)
-  frees_refused p q a b c t t' e held first fault left = (
+  pub frees_refused : (p q : Pending) (a b c : ImageFile S) (t t' : Allocator) (e : ImageError) → ((k : ℕ) → 0 < p.new_data k → 0 < q.new_data k) → UnseenAllocatorStep view p a t b q → IsFault e → RefusedFileStep view q b t' c e → Frees view p a t' c q (Err e)
+  frees_refused p q a b c t t' e new_data first fault left = (
     fault,
     elim left [
-      | inl sound ↦ inl (record { moves = moves_then view p q q a b c held first.moves sound.0; reftable = sound.1 })
+      | inl sound ↦ inl (record { moves = moves_then view p q q a b c new_data first.moves sound.0; reftable = sound.1 })
       | inr breaks ↦ inr (breaks_then view p q a b c e first.moves breaks)
     ],
   )
@@ -196,12 +196,12 @@ module _ {S : Type 0} (view : S → StorageView) where
     ],
   )
 
-  pub frees_then : (p q r : Pending) (a b c : ImageFile S) (t t' : Allocator) (result : Result (Unit {0}) ImageError) → ((k : ℕ) → 0 < p.held k → 0 < q.held k) → UnseenAllocatorStep view p a t b q → Frees view q b t' c r result → Frees view p a t' c r result
-  frees_then p q r a b c t t' (Ok _) held first second = becomes_on p q r a b c t t' held first second
-  frees_then p q r a b c t t' (Err e) held first second = (
+  pub frees_then : (p q r : Pending) (a b c : ImageFile S) (t t' : Allocator) (result : Result (Unit {0}) ImageError) → ((k : ℕ) → 0 < p.new_data k → 0 < q.new_data k) → UnseenAllocatorStep view p a t b q → Frees view q b t' c r result → Frees view p a t' c r result
+  frees_then p q r a b c t t' (Ok _) new_data first second = becomes_on p q r a b c t t' new_data first second
+  frees_then p q r a b c t t' (Err e) new_data first second = (
     second.0,
     elim second.1 [
-      | inl left ↦ inl (becomes_on p q r a b c t t' held first left)
+      | inl left ↦ inl (becomes_on p q r a b c t t' new_data first left)
       | inr breaks ↦ inr (breaks_then view p q a b c e first.moves breaks)
     ],
   )
@@ -211,10 +211,10 @@ module _ {S : Type 0} (view : S → StorageView) where
     pub entry_sound : (b : ImageFile S) (t : Allocator) → AllocatorInvariant view t (with_listed p (b.free_list ++ taken)) b → AllocatorInvariant view t (with_listed (with_listed p rest) (b.free_list ++ e ∷ [])) b
     entry_sound b t sound = subst (λ (r : Pending). AllocatorInvariant view t r b) (sym (with_first p b.free_list taken rest e is)) sound
 
-    pub entry_goes : (q : Pending) (a b c : ImageFile S) (t t' : Allocator) (result : Result (Unit {0}) ImageError) → ((k : ℕ) → 0 < q.held k → 0 < p.held k) → UnseenAllocatorStep view q a t b (with_listed p (b.free_list ++ taken))
+    pub entry_goes : (q : Pending) (a b c : ImageFile S) (t t' : Allocator) (result : Result (Unit {0}) ImageError) → ((k : ℕ) → 0 < q.new_data k → 0 < p.new_data k) → UnseenAllocatorStep view q a t b (with_listed p (b.free_list ++ taken))
         → Frees view (with_listed (with_listed p rest) (b.free_list ++ e ∷ [])) b t' c (with_listed (with_listed p rest) c.free_list) result → Frees view q a t' c (with_listed p (c.free_list ++ rest)) result
-    entry_goes q a b c t t' result held first second =
-        frees_then q (with_listed p (b.free_list ++ taken)) (with_listed p (c.free_list ++ rest)) a b c t t' result held first
+    entry_goes q a b c t t' result new_data first second =
+        frees_then q (with_listed p (b.free_list ++ taken)) (with_listed p (c.free_list ++ rest)) a b c t t' result new_data first
         (frees_as (with_listed (with_listed p rest) (b.free_list ++ e ∷ [])) (with_listed p (b.free_list ++ taken)) (with_listed (with_listed p rest) c.free_list) (with_listed p (c.free_list ++ rest))
         b c t' b.free_list c.free_list result (with_first p b.free_list taken rest e is) (with_both p c.free_list rest) second)
 
@@ -240,15 +240,15 @@ module _ {S : Type 0} (view : S → StorageView) where
       pub first_owed : (file : ImageFile S) (t : Allocator) → AllocatorInvariant view t listed_run file → AllocatorInvariant view t owed_run file
       first_owed file t sound = subst (λ (r : Pending). AllocatorInvariant view t r file) (sym owed_is) sound
 
-      module _ (q : Pending) (held : (k : ℕ) → 0 < q.held k → 0 < listed_run.held k) (a b c : ImageFile S) (t t' : Allocator) (before : UnseenAllocatorStep view q a t b listed_run) where
+      module _ (q : Pending) (new_data : (k : ℕ) → 0 < q.new_data k → 0 < listed_run.new_data k) (a b c : ImageFile S) (t t' : Allocator) (before : UnseenAllocatorStep view q a t b listed_run) where
         -- it can't be lowered
         pub run_refused : (e : ImageError) → GivesBack view owed_run b t' c (behind_first run kind p) (Err e) → Frees view q a t' c listed_run (Err e)
-        run_refused e low = frees_refused q listed_run a b c t t' e held before low.0 (subst (λ (r : Pending). RefusedFileStep view r b t' c e) owed_is low.1)
+        run_refused e low = frees_refused q listed_run a b c t t' e new_data before low.0 (subst (λ (r : Pending). RefusedFileStep view r b t' c e) owed_is low.1)
 
         -- it is freed
         pub run_freed : (next : ClustersToFreeEntry) → (run.first_cluster + 1 < 2 ^ 64 → next.first_cluster ≡ run.first_cluster + 1) → next.count ≡ run.count - 1 → UnseenAllocatorStep view owed_run b t' c (behind_first run kind p)
             → UnseenAllocatorStep view q a t' c (listed_as kind p (run_of next))
         run_freed next first count low =
             let after = subst (λ (r : Pending). UnseenAllocatorStep view r b t' c (behind_first run kind p)) owed_is low in
-            becomes_on q listed_run (listed_as kind p (run_of next)) a b c t t' held before
+            becomes_on q listed_run (listed_as kind p (run_of next)) a b c t t' new_data before
             (subst (λ (r : Pending). UnseenAllocatorStep view listed_run b t' c r) (listed_rest kind p run next (first (first_small b before.moves.sound)) count) after)

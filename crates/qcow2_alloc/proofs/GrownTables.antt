@@ -221,8 +221,8 @@ module _ {S : Type 0} (view : S → StorageView) (p : Pending) (first blocks clu
     | inr real ↦ let zero = anew_some h old first n c real in absurd (omega (arith, zero, some))
   ]
 
-  run_fresh : (c : ℕ) → counted_anew h old first n c < in_run h c place (clusters * cluster_size h) + run_at first blocks c → (0 < q.fresh c) × (count h on_storage c ≡ count h known c)
-  run_fresh c less =
+  run_new_tables : (c : ℕ) → counted_anew h old first n c < in_run h c place (clusters * cluster_size h) + run_at first blocks c → (0 < q.new_tables c) × (count h on_storage c ≡ count h known c)
+  run_new_tables c less =
       let all = clusters_of_run c in
       let split = run_counted h old first n c in (
         omega (arith, less, all, split),
@@ -247,6 +247,6 @@ module _ {S : Type 0} (view : S → StorageView) (p : Pending) (first blocks clu
     counted_anew = anew_covered;
     once = λ c. let all = clusters_of_run c in let few = run_few first n c in omega (arith, all, few);
     counted_there = λ c. let all = clusters_of_run c in let split = run_counted h old first n c in omega (arith, all, split);
-    fresh = run_fresh;
+    new_tables = run_new_tables;
     written = covers_written view q file sound ready.may;
   }

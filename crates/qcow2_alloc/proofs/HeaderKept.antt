@@ -6,7 +6,7 @@ use Rattle.qcow2_metadata.specs.declared.header.HeaderFields.{HeaderFields}
 use Rattle.qcow2_metadata.specs.Header.{cluster_size}
 use Rattle.qcow2_metadata.specs.Entries.{is_copied, l1_entry, reftable_entry, host_offset, block_offset}
 use Rattle.qcow2_metadata.specs.Named.{in_cluster, named_for_tables, named_by_l1_table, named_by_reftable}
-use Rattle.qcow2_laws.specs.Caches.{CacheInvariantOver, HasL2, HasOwnL2, HasBlock, AreSettled}
+use Rattle.qcow2_laws.specs.Caches.{CacheInvariantOver, HasL2, HasOwnL2, HasBlock, AreNamedBlocks}
 use Rattle.qcow2_laws.specs.CrashInvariant.{Pending, CrashInvariant, SameIn}
 use Rattle.qcow2_laws.specs.Tops.{Places, WritesHeader, with_places}
 use Rattle.qcow2_laws.proofs.Blocks.{table_once}
@@ -80,7 +80,7 @@ module _ {S : Type 0} (view : S → StorageView) (p p' : Pending) (file : ImageF
   stays : (c : ℕ) → 0 < named_by_l1_table h on_storage c + named_by_reftable h on_storage c → SameIn (cluster_size h) c on_storage' on_storage
   stays c some o in_c = sym (same_there c (table_elsewhere c some) o in_c)
 
-  pub header_settled : AreSettled h' (refblocks file.caches) on_storage'
+  pub header_settled : AreNamedBlocks h' (refblocks file.caches) on_storage'
   header_settled c = elim (sound.settled c) [ inl free ↦ inl free | inr has ↦ inr (rb_still c has) ]
 
   pub header_sound : CacheInvariant h' p' file.caches on_storage'

@@ -158,7 +158,7 @@ module _ {S : Type 0} (view : S → StorageView) where
       let here : block_offset (reftable_entry h (contents_in view file) range) / cluster_size h ≡ at = ap (λ n. n / cluster_size h) place ∙ ap (λ n. n / cluster_size h) plus ∙ div-mul-add at (cluster_size h) 0 (pow_pos h.cluster_bits) in
       let one = subst (λ n. 1 ≤ named_by_reftable h (contents_in view file) n) here (block_has h (contents_in view file) range real) in
       let parts = shares h (contents_in view file) at in
-      let tally = (guarded.always at).tally in
+      let tally = (guarded.each_cluster at).tally in
       absurd (omega (arith, one, parts, tally, zero))
 
   -- cluster 0 is the header's, so it is in use
@@ -167,7 +167,7 @@ module _ {S : Type 0} (view : S → StorageView) where
       let h = file.header.fields in
       let one : in_cluster h 0 0 ≡ 1 = subst (λ n. in_cluster h n 0 ≡ 1) (zero-div (cluster_size h)) (in_own h 0) in
       let parts = shares h (contents_in view file) 0 in
-      let tally = (sound.caches.kept.kept.guarded.always 0).tally in
+      let tally = (sound.caches.kept.kept.guarded.each_cluster 0).tally in
       absurd (omega (arith, one, parts, tally, zero))
 
   -- a search may begin behind the header
@@ -220,9 +220,9 @@ module _ {S : Type 0} (view : S → StorageView) where
   -- the refblock of a range stands where it stood, while nothing is written
   pub stands_still : (p p' : Pending) (file : ImageFile S) (caches : MetadataCaches S) (range block : ℕ) → FileInvariant view p file → FileInvariant view p' (record file { caches = caches }) → IsSome (rb_at caches block)
       → RefblockAt view file range (Some block) → RefblockAt view (record file { caches = caches }) range (Some block)
-  stands_still p p' file caches range block sound sound' held at =
+  stands_still p p' file caches range block sound sound' new_data at =
       let same : block_offset (reftable_entry file.header.fields (known_in view (record file { caches = caches })) range) ≡ block_offset (reftable_entry file.header.fields (known_in view file) range) =
-      ap block_offset (sym (sound'.caches.kept.kept.guarded.same_top.reftable range) ∙ sound.caches.kept.kept.guarded.same_top.reftable range) in ((λ none. at.0 (sym same ∙ none)), same ∙ at.1, held)
+      ap block_offset (sym (sound'.caches.kept.kept.guarded.same_top.reftable range) ∙ sound.caches.kept.kept.guarded.same_top.reftable range) in ((λ none. at.0 (sym same ∙ none)), same ∙ at.1, new_data)
 
   -- a count was lowered, which is noted where it came to 0
   pub hint_lowered : (owed : Owed) (p : Pending) (cluster : ℕ) (old new : ImageFile S) (t t' : Allocator) → UnseenAllocatorStep view (owed_as owed p (one_at cluster)) old t' new p → t'.first_free_cluster ≤ t.first_free_cluster

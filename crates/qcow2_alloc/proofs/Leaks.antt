@@ -12,9 +12,9 @@ use Rattle.qcow2_alloc.proofs.KeptTables.Inserting.{found_or_not}
 
 module _ {S : Type 0} (before : MetadataCaches S) (file : ImageFile S) (at index cluster : ℕ) (is : index ≡ cluster % counts_per_block file.header.fields) where
   lowered_in : (block : RefBlockView) → rb_at before at ≡ Some block → CountsLess before file.caches at index block true → IsLowered file cluster
-  lowered_in block held less =
+  lowered_in block new_data less =
       let here = subst (λ n. CountsLess before file.caches at n block true) is less in
-      record { before = before; at = at; block = block; held = held; some = here.1; falls = here.2 }
+      record { before = before; at = at; block = block; new_data = new_data; some = here.1; falls = here.2 }
 
   pub tried : (b : Bool) → IfSome (rb_at before at) (λ block. CountsLess before file.caches at index block b) → (IsNone (rb_at before at) → IsFalse b) → TriesToLower file cluster (Ok b)
   tried false counts missing = tt

@@ -1,6 +1,6 @@
 pub mod CachedEntries
 pub mod CacheFaults
-pub mod CacheMarks
+pub mod CachePins
 pub mod TableFlush
 pub mod TableErrors
 pub mod Faults

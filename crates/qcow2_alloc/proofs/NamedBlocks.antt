@@ -5,7 +5,7 @@ use Rattle.std.proofs.lemmas.Nat.{div-add-mod', mod_below}
 use Rattle.std.specs.Option.{IfSome}
 use Rattle.std.specs.Int.{w64, to_be_bytes}
 use Rattle.image_access.specs.Contents.{overwritten}
-use Rattle.image_access.specs.Moments.{StorageView, Passing, Changes, Calls}
+use Rattle.image_access.specs.Moments.{StorageView, EachMomentSince, Changes, Calls}
 use Rattle.image_access.specs.declared.error.StorageError.{StorageError}
 use Rattle.qcow2_metadata.specs.Bytes.{Bytes, byte_at}
 use Rattle.qcow2_metadata.specs.EntryTable.{EntryTableView, IsRefTableOf, entry_count}
@@ -19,7 +19,7 @@ use Rattle.qcow2_metadata.proofs.EntryTables.{on_sector}
 use Rattle.qcow2_metadata.proofs.TablesAt.{ref_block_at}
 use Rattle.qcow2_metadata.proofs.WrittenTables.{IsRefTableOf-written_entry}
 use Rattle.qcow2_disk.specs.Stops.{SafeThroughout}
-use Rattle.qcow2_laws.specs.Changes.{one_at, with_fresh, named_now}
+use Rattle.qcow2_laws.specs.Changes.{one_at, with_new_tables, named_now}
 use Rattle.qcow2_laws.specs.CrashInvariant.{Pending, SameIn}
 use Rattle.qcow2_laws.specs.Caches.{AreClean, BlocksMayGo, HasL2, HasOwnL2, HasBlock}
 use Rattle.qcow2_laws.specs.Guests.{table_at}
@@ -97,7 +97,7 @@ module _ {S : Type 0} (view : S → StorageView) (d : Bool) (p : Pending) (range
     (within : range < entry_count t) (same : t' ≡ record t { bytes = t'.bytes }) (enters : ChangesEntry t.bytes t'.bytes range (at * cluster_size file.header.fields))
     (offset : block_offset (entry_at t'.bytes range) ≡ at * cluster_size file.header.fields) (fits : entry_at t'.bytes range < 2 ^ 64)
     (whole : IsRefBlock block) (format : IsBlockOf file.header.fields block) (counts : (i : ℕ) → count_at block i ≡ first_counts d i)
-    (held : (v : RefBlockView) × (rb_at file.caches at ≡ Some v) × (v.bytes ≡ block.bytes)) (stands : StandAt (contents_in view file) (at * cluster_size file.header.fields) block.bytes) where
+    (new_data : (v : RefBlockView) × (rb_at file.caches at ≡ Some v) × (v.bytes ≡ block.bytes)) (stands : StandAt (contents_in view file) (at * cluster_size file.header.fields) block.bytes) where
   abbrev h : HeaderFields
   h = file.header.fields
 
@@ -195,7 +195,7 @@ module _ {S : Type 0} (view : S → StorageView) (d : Bool) (p : Pending) (range
     named_pending : d ≡ false → named_now q (λ c. table_in h c (block_offset entry)) ≡ p
     named_pending is =
         ap (λ b. named_now (placing b p at) (λ c. table_in h c (block_offset entry))) is
-        ∙ pending_same (named_now (with_fresh p (one_at at)) (λ c. table_in h c (block_offset entry))) p (λ k. refl) (λ k. let one = table_in-one h k (block_offset entry) at has_place in_at in omega (arith, one)) (λ k. refl) (λ k. refl) (λ k. refl)
+        ∙ pending_same (named_now (with_new_tables p (one_at at)) (λ c. table_in h c (block_offset entry))) p (λ k. refl) (λ k. let one = table_in-one h k (block_offset entry) at has_place in_at in omega (arith, one)) (λ k. refl) (λ k. refl) (λ k. refl)
 
     pub leads : SafeStep (state_in view file q) (state_in view named p) nothing_given []
     leads = elim (cases_Bool d) [
@@ -206,10 +206,10 @@ module _ {S : Type 0} (view : S → StorageView) (d : Bool) (p : Pending) (range
           (ap (λ n. n / counts_per_block h) in_at ∙ (range_of_first range (counts_per_block h) at sizes.counts (subst (λ b. StandsFirst b h range at) is place.first)).0))
       | inr is ↦
           let own = one_here at in
-          let fresh : q.fresh (block_offset entry / cluster_size h) ≡ p.fresh at + one_at at at = ap q.fresh in_at ∙ ap (λ (b : Bool). (placing b p at).fresh at) is in
+          let new_tables : q.new_tables (block_offset entry / cluster_size h) ≡ p.new_tables at + one_at at at = ap q.new_tables in_at ∙ ap (λ (b : Bool). (placing b p at).new_tables at) is in
           subst (λ (r : Pending). SafeStep (state_in view file q) (state_in view named r) nothing_given []) (named_pending is)
           (table_is_named.refblock (state_in view file q) on_storage' (known_in view named) range entry sound.caches.kept.kept.guarded writes
-          (new_with (λ c. 0) (λ c in_range. first_says c in_range ∙ ap (λ b. new_counts b at c) is)) (omega (arith, fresh, own))
+          (new_with (λ c. 0) (λ c in_range. first_says c in_range ∙ ap (λ b. new_counts b at c) is)) (omega (arith, new_tables, own))
           (clean_counts h (order_of file.caches) q (l2_tables file.caches) (refblocks file.caches) on_storage sound.caches.kept.kept clean (block_offset entry / cluster_size h))
           (covers_written view q file sound may))
     ]
@@ -263,12 +263,12 @@ module _ {S : Type 0} (view : S → StorageView) (d : Bool) (p : Pending) (range
     current =
         let bits = file.caches.rb.backend.header.fields.cluster_bits in
         let same_bits = sound.caches.rb_format.bits in
-        let there : (i : ℕ) → i < cluster_size h → byte_at held.0.bytes i ≡ on_storage' (at * cluster_size h + i) = λ i lt.
-        ap (λ l. byte_at l i) held.2 ∙ stands i (subst (λ n. i < n) (sym (whole.whole ∙ ap (λ n. 2 ^ n) format.bits)) lt)
+        let there : (i : ℕ) → i < cluster_size h → byte_at new_data.0.bytes i ≡ on_storage' (at * cluster_size h + i) = λ i lt.
+        ap (λ l. byte_at l i) new_data.2 ∙ stands i (subst (λ n. i < n) (sym (whole.whole ∙ ap (λ n. 2 ^ n) format.bits)) lt)
         ∙ outside (at * cluster_size h + i) (λ e. free_apart (sym (in_own h.cluster_bits at i lt) ∙ e)) in
         subst (λ n. AreCurrentIn (2 ^ n) at (refblocks file.caches) on_storage') same_bits
-        (current_entry bits (λ (b : RefBlockView). b.bytes) (λ b. b.is_modified) (HasBlock h on_storage) on_storage on_storage' at file.caches.rb.entries held.0 held.1
-        (subst (λ n. (i : ℕ) → i < 2 ^ n → byte_at held.0.bytes i ≡ on_storage' (at * 2 ^ n + i)) (sym same_bits) there)
+        (current_entry bits (λ (b : RefBlockView). b.bytes) (λ b. b.is_modified) (HasBlock h on_storage) on_storage on_storage' at file.caches.rb.entries new_data.0 new_data.1
+        (subst (λ n. (i : ℕ) → i < 2 ^ n → byte_at new_data.0.bytes i ≡ on_storage' (at * 2 ^ n + i)) (sym same_bits) there)
         (subst (λ n. AreLoaded (2 ^ n) (HasBlock h on_storage) (refblocks file.caches) on_storage) (sym same_bits) sound.caches.kept.rb_loaded))
 
     rb_now : (c : ℕ) → HasBlock h on_storage' c → (HasBlock h on_storage c × SameIn (cluster_size h) c on_storage' on_storage) ⊎ AreCurrentIn (cluster_size h) c (refblocks file.caches) on_storage'
@@ -290,7 +290,7 @@ module _ {S : Type 0} (view : S → StorageView) (d : Bool) (p : Pending) (range
       entries = table_now;
     }
 
-    pub moves_named : (view (storage_of storage)).is_honest → Passing (view_in view file) (view (storage_of storage)) (λ c. c ≡ (view (storage_of storage)).contents) → UnseenFileStep view q p file named
+    pub moves_named : (view (storage_of storage)).is_honest → EachMomentSince (view_in view file) (view (storage_of storage)) (λ c. c ≡ (view (storage_of storage)).contents) → UnseenFileStep view q p file named
     moves_named honest time = record {
       sound = record {
         honest = honest;

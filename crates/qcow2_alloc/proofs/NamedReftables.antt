@@ -28,7 +28,7 @@ use Rattle.qcow2_alloc.specs.declared.image_file.ImageFile.{ImageFile}
 use Rattle.qcow2_alloc.specs.declared.image_storage.ImageStorage.{ImageStorage}
 use Rattle.qcow2_alloc.specs.declared.error.ImageError.{ImageError}
 use Rattle.qcow2_alloc.specs.Allocation.{run_at, UnseenAllocatorStep, UnseenAllocatorGrowth}
-use Rattle.qcow2_alloc.specs.CacheMarks.{KeepsMarks, SameTables}
+use Rattle.qcow2_alloc.specs.CachePins.{KeepsPinsAndNotes, SameTables}
 use Rattle.qcow2_alloc.specs.GrownTables.{reftable_at, with_run, without_reftable, StandsGrown}
 use Rattle.qcow2_alloc.specs.ImageFile.{nothing_given, view_in, contents_in, known_in, state_in, FileInvariant, AllocatorInvariant, HasReftable, IsFault, UnseenFileGrowth, InterruptedFileStep}
 use Rattle.qcow2_alloc.specs.ImageStorage.{storage_of}
@@ -250,7 +250,7 @@ module _ {S : Type 0} (view : S → StorageView) (p : Pending) (first blocks clu
       absurd (omega (arith, few, same, more))
 
   module _ (header : HeaderView) (caches : MetadataCaches S) (storage : ImageStorage S) (asked : S) (result : Result (Unit {0}) StorageError) (is_header : header ≡ with_fields file.header (with_reftable file.header.fields offset count))
-      (noted : caches ≡ record file.caches { is_changed = true }) (tables : SameTables file.caches caches) (marks : KeepsMarks file.caches caches) (same : asked ≡ storage_of file.storage)
+      (noted : caches ≡ record file.caches { is_changed = true }) (tables : SameTables file.caches caches) (marks : KeepsPinsAndNotes file.caches caches) (same : asked ≡ storage_of file.storage)
       (wrote : Changes (view asked) (view (storage_of storage)) result (reftable_pointer_written header.fields (view asked).contents)) (calls : Calls (view asked) (view (storage_of storage)) result) where
     abbrev taken : Pending
     taken = with_run p file.header.fields allocator.reftable first (blocks + clusters)
@@ -305,7 +305,7 @@ module _ {S : Type 0} (view : S → StorageView) (p : Pending) (first blocks clu
 
       becomes_after : UnseenAllocatorGrowth view taken file (record allocator { reftable = t }) after (without_reftable p file.header.fields)
       becomes_after = record {
-        moves = on_then view taken taken (without_reftable p file.header.fields) file marked after (λ k held. held) (moves_on view taken taken file marked now.moves)
+        moves = on_then view taken taken (without_reftable p file.header.fields) file marked after (λ k new_data. new_data) (moves_on view taken taken file marked now.moves)
             (on_named view p first blocks clusters marked allocator.reftable t now.moves.sound now.reftable ready_now is_table storage is_written (calls_now.honest sound.sound.honest) lasts);
         reftable = reftable_named view p first blocks clusters marked allocator.reftable t now.moves.sound now.reftable ready_now is_table storage is_written (calls_now.honest sound.sound.honest);
       }

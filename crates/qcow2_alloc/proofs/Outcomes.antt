@@ -4,7 +4,7 @@ use Rattle.std.specs.Prelude.{IsErrOf, IfOk, IfErr, OnOk, OnErr}
 use Rattle.qcow2_metadata.specs.EntryTable.{EntryTableView}
 use Rattle.qcow2_alloc.specs.Allocation.{KeepsEntries}
 use Rattle.qcow2_alloc.specs.ImageError.{IsOfTables}
-use Rattle.image_access.proofs.Passing.{rose_still}
+use Rattle.image_access.proofs.EachMomentSince.{rose_still}
 use Rattle.std.proofs.Math.Nat.{le_trans}
 use Rattle.qcow2_alloc.specs.declared.error.ImageError.{ImageError}
 use Rattle.qcow2_alloc.specs.declared.error.ImageError.TheVariants as I

@@ -6,14 +6,14 @@ use Rattle.std.specs.Option.{IfSome}
 use Rattle.image_access.specs.Contents.{overwritten}
 use Rattle.image_access.specs.Moments.{StorageView, Changes, Calls}
 use Rattle.image_access.specs.declared.error.StorageError.{StorageError}
-use Rattle.image_access.proofs.Passing.{whole_or_nothing}
+use Rattle.image_access.proofs.EachMomentSince.{whole_or_nothing}
 use Rattle.qcow2_metadata.specs.Bytes.{Bytes, byte_at}
 use Rattle.qcow2_metadata.specs.EntryTable.{EntryTableView}
 use Rattle.qcow2_metadata.specs.RefBlock.{RefBlockView}
 use Rattle.qcow2_metadata.specs.TableBytes.{entry_at}
 use Rattle.qcow2_metadata.specs.Header.{cluster_size, counts_per_block}
 use Rattle.qcow2_metadata.specs.Entries.{reftable_entry, block_offset, count}
-use Rattle.qcow2_laws.specs.Changes.{one_at, with_fresh}
+use Rattle.qcow2_laws.specs.Changes.{one_at, with_new_tables}
 use Rattle.qcow2_laws.specs.Clusters.{RbDependsOnL2}
 use Rattle.qcow2_laws.specs.CrashInvariant.{Pending, SameCovers, SameIn}
 use Rattle.qcow2_laws.specs.Caches.{BlocksMayGo}
@@ -30,7 +30,7 @@ use Rattle.qcow2_alloc.specs.Allocation.{placing, HasPlaceFor, StandAt}
 use Rattle.qcow2_alloc.specs.ImageFile.{view_in, contents_in, known_in, state_in, FileInvariant, HasReftable, UnseenFileStep}
 use Rattle.qcow2_alloc.specs.ImageStorage.{storage_of}
 use Rattle.qcow2_alloc.specs.MetadataCaches.{order_of, l2_tables, refblocks, HoldsKnown, UnseenCacheStep}
-use Rattle.qcow2_alloc.specs.CacheMarks.{KeepsMarks}
+use Rattle.qcow2_alloc.specs.CachePins.{KeepsPinsAndNotes}
 use Rattle.qcow2_alloc.specs.TableCaches.{IsBlockOf}
 use Rattle.qcow2_alloc.proofs.FileSteps.{one_here, moves_cached, reftable_cached}
 use Rattle.qcow2_alloc.proofs.FileWrites.{moves_written, reftable_written}
@@ -66,7 +66,7 @@ module _ {S : Type 0} (view : S → StorageView) where
   -- nothing names the cluster, and no guest's data are to stand in it
   pub record IsFree (q : Pending) (file : ImageFile S) (at : ℕ) : Type 0 where
     pub unnamed : IsUnnamed file.header.fields (contents_in view file) (known_in view file) at
-    pub unheld : q.held at ≡ 0
+    pub unheld : q.new_data at ≡ 0
 
   pub covers_written : (q : Pending) (file : ImageFile S) → FileInvariant view q file → BlocksMayGo (order_of file.caches) (l2_tables file.caches) → order_of file.caches ≡ RbDependsOnL2
       → SameCovers file.header.fields (contents_in view file) (known_in view file)
@@ -89,7 +89,7 @@ module _ {S : Type 0} (view : S → StorageView) where
       let in_range = (range_of_first range (counts_per_block file.header.fields) at (file_sizes p file sound).counts place.first).0 in
       let known_none : count file.header.fields (known_in view file) at ≡ 0 = count_none h (known_in view file) at (ap (λ k. block_offset (reftable_entry file.header.fields (known_in view file) k)) in_range ∙ none.1) in
       let storage_none : count file.header.fields (contents_in view file) at ≡ 0 = count_none h (contents_in view file) at (ap (λ k. block_offset (reftable_entry file.header.fields (contents_in view file) k)) in_range ∙ none.0) in
-      let tally = (sound.caches.kept.kept.guarded.always at).tally in
+      let tally = (sound.caches.kept.kept.guarded.each_cluster at).tally in
       record {
         unnamed = data_is_written.unused (state_in view file p) at sound.caches.kept.kept.guarded known_none storage_none;
         unheld = omega (arith, tally, known_none);
@@ -97,11 +97,11 @@ module _ {S : Type 0} (view : S → StorageView) where
   is_free false p range at file t sound has may place =
       let own = one_here at in
       let guarded = sound.caches.kept.kept.guarded in
-      let tally = (guarded.always at).tally in
-      let some : 0 < p.fresh at + one_at at at = omega arith in
-      let few = (guarded.always at).pending (omega (arith, some)) in
+      let tally = (guarded.each_cluster at).tally in
+      let some : 0 < p.new_tables at + one_at at at = omega arith in
+      let few = (guarded.each_cluster at).pending (omega (arith, some)) in
       record {
-        unnamed = data_is_written.fresh (state_in view file (with_fresh p (one_at at))) at guarded some (covers_written (with_fresh p (one_at at)) file sound may);
+        unnamed = data_is_written.new_tables (state_in view file (with_new_tables p (one_at at))) at guarded some (covers_written (with_new_tables p (one_at at)) file sound may);
         unheld = omega (arith, tally, few, some);
       }
 
@@ -121,11 +121,11 @@ module _ {S : Type 0} (view : S → StorageView) where
     rewritten = record file { storage = storage }
 
     each : (c : ℕ) → SameIn (cluster_size file.header.fields) c (contents_in view file) (byte_at (view (storage_of storage)).contents)
-        ⊎ (IsUnnamed file.header.fields (contents_in view file) (known_in view file) c × (q.held c ≡ 0))
+        ⊎ (IsUnnamed file.header.fields (contents_in view file) (known_in view file) c × (q.new_data c ≡ 0))
     each c = elim (whole_or_nothing result (view_in view file).contents (overwritten (view_in view file).contents (at * cluster_size file.header.fields) bytes) (view (storage_of storage)).contents (writes sound.honest)) [
       | inl same ↦ inl (λ o in_c. ap (λ (l : List ℕ). byte_at l o) (sym same))
       | inr new ↦ elim (cases_eq c at) [
-        | inl here ↦ inr (subst (λ n. IsUnnamed file.header.fields (contents_in view file) (known_in view file) n × (q.held n ≡ 0)) (sym here) (free.unnamed, free.unheld))
+        | inl here ↦ inr (subst (λ n. IsUnnamed file.header.fields (contents_in view file) (known_in view file) n × (q.new_data n ≡ 0)) (sym here) (free.unnamed, free.unheld))
         | inr other ↦ inl (λ o in_c.
             overwritten_but (view_in view file).contents (at * cluster_size file.header.fields) bytes o
             (subst (λ n. (o < at * cluster_size file.header.fields) ⊎ (at * cluster_size file.header.fields + n ≤ o)) (sym long) (outside_cluster file.header.fields.cluster_bits at o (λ e. other (sym in_c ∙ e))))
@@ -155,7 +155,7 @@ module _ {S : Type 0} (view : S → StorageView) where
         stands i (subst (λ n. i < n) (sym long) lt)
         ∙ sym (known_there (placing d p at) file at sound (is_free d p range at file t sound has may place) (at * cluster_size file.header.fields + i) (in_own file.header.fields.cluster_bits at i lt))
 
-    module _ (storage : ImageStorage S) (caches : MetadataCaches S) (stays : UnseenCacheStep file.header.fields (placing d p at) (view_in view file) file.caches (view (storage_of storage)) caches) (marks : KeepsMarks file.caches caches) where
+    module _ (storage : ImageStorage S) (caches : MetadataCaches S) (stays : UnseenCacheStep file.header.fields (placing d p at) (view_in view file) file.caches (view (storage_of storage)) caches) (marks : KeepsPinsAndNotes file.caches caches) where
       abbrev put : ImageFile S
       put = record file { storage = storage; caches = caches }
 

@@ -9,7 +9,7 @@ use Rattle.image_access.specs.Contents.{overwritten}
 use Rattle.image_access.specs.Moments.{StorageView, Changes, Calls}
 use Rattle.image_access.specs.declared.error.StorageError.{StorageError}
 use Rattle.image_access.proofs.Bytes.{byte_at-overwritten}
-use Rattle.image_access.proofs.Passing.{whole_or_nothing}
+use Rattle.image_access.proofs.EachMomentSince.{whole_or_nothing}
 use Rattle.qcow2_metadata.specs.Bytes.{Bytes, byte_at}
 use Rattle.qcow2_metadata.specs.declared.header.HeaderFields.{HeaderFields}
 use Rattle.qcow2_metadata.specs.EntryTable.{EntryTableView}
@@ -31,7 +31,7 @@ use Rattle.qcow2_alloc.specs.declared.cache.MetadataCaches.{MetadataCaches}
 use Rattle.qcow2_alloc.specs.declared.image_file.ImageFile.{ImageFile}
 use Rattle.qcow2_alloc.specs.declared.image_storage.ImageStorage.{ImageStorage}
 use Rattle.qcow2_alloc.specs.Allocation.{run_at, StandAt, UnseenAllocatorStep}
-use Rattle.qcow2_alloc.specs.CacheMarks.{KeepsMarks}
+use Rattle.qcow2_alloc.specs.CachePins.{KeepsPinsAndNotes}
 use Rattle.qcow2_alloc.specs.GrownTables.{counted_run, with_run}
 use Rattle.qcow2_alloc.specs.ImageFile.{view_in, contents_in, known_in, state_in, FileInvariant, AllocatorInvariant, HasReftable}
 use Rattle.qcow2_alloc.specs.ImageStorage.{storage_of}
@@ -53,7 +53,7 @@ module _ {S : Type 0} (view : S → StorageView) where
       let h = file.header.fields in
       let q : Pending = with_run p file.header.fields t first n in
       let guarded = sound.caches.kept.kept.guarded in
-      let tally = (guarded.always c).tally in
+      let tally = (guarded.each_cluster c).tally in
       elim (cases_eq (block_offset (entry_at t.bytes (c / counts_per_block file.header.fields))) 0) [
         | inl none ↦
             let none_there = has_none view q file t sound has (c / counts_per_block file.header.fields) none in
@@ -61,9 +61,9 @@ module _ {S : Type 0} (view : S → StorageView) where
             record { unnamed = data_is_written.unused (state_in view file q) c guarded known_none (count_none h (contents_in view file) c none_there.0); unheld = omega (arith, tally, known_none) }
         | inr real ↦
             let is : counted_run h t first n c ≡ run_at first n c = cond-false {A = ℕ} _ 0 (run_at first n c) (ne_eqb _ 0 real) in
-            let fresh : 0 < p.fresh c + counted_run h t first n c = omega (arith, is, some) in
-            let few = (guarded.always c).pending (omega (arith, fresh)) in
-            record { unnamed = data_is_written.fresh (state_in view file q) c guarded fresh (covers_written view q file sound may); unheld = omega (arith, tally, few, fresh) }
+            let new_tables : 0 < p.new_tables c + counted_run h t first n c = omega (arith, is, some) in
+            let few = (guarded.each_cluster c).pending (omega (arith, new_tables)) in
+            record { unnamed = data_is_written.new_tables (state_in view file q) c guarded new_tables (covers_written view q file sound may); unheld = omega (arith, tally, few, new_tables) }
       ]
 
   -- ---- a refblock is forgotten where nothing names its cluster
@@ -97,7 +97,7 @@ module _ {S : Type 0} (view : S → StorageView) where
     removed_stays false same takes =
         subst (λ (c : MetadataCaches S). UnseenCacheStep h q (view_in view file) file.caches (view_in view file) c) (sym (same refl)) (stay_none view h q file.storage file.caches sound.honest sound.caches)
 
-    pub becomes_removed : (a : Allocator) → HasReftable view file a.reftable → (taken : Bool) → (IsFalse taken → caches ≡ file.caches) → (IsTrue taken → TakesBlock file.caches caches cluster) → KeepsMarks file.caches caches
+    pub becomes_removed : (a : Allocator) → HasReftable view file a.reftable → (taken : Bool) → (IsFalse taken → caches ≡ file.caches) → (IsTrue taken → TakesBlock file.caches caches cluster) → KeepsPinsAndNotes file.caches caches
         → UnseenAllocatorStep view q file a (record file { caches = caches }) q
     becomes_removed a has taken same takes marks = becomes_cached view q file a file.storage caches (record { sound = sound; reftable = has }) (removed_stays taken same takes) marks
 
@@ -126,7 +126,7 @@ module _ {S : Type 0} (view : S → StorageView) where
 
   -- ---- both, one after the other
   module _ (p : Pending) (first n : ℕ) (file : ImageFile S) (a : Allocator) (caches : MetadataCaches S) (cluster : ℕ) (taken : Bool) (sound : AllocatorInvariant view a (with_run p file.header.fields a.reftable first n) file)
-      (may : BlocksMayGo (order_of file.caches) (l2_tables file.caches)) (some : 0 < run_at first n cluster) (order : order_of caches ≡ order_of file.caches) (tables : l2_tables caches ≡ l2_tables file.caches) (marks : KeepsMarks file.caches caches)
+      (may : BlocksMayGo (order_of file.caches) (l2_tables file.caches)) (some : 0 < run_at first n cluster) (order : order_of caches ≡ order_of file.caches) (tables : l2_tables caches ≡ l2_tables file.caches) (marks : KeepsPinsAndNotes file.caches caches)
       (same : IsFalse taken → caches ≡ file.caches) (takes : IsTrue taken → TakesBlock file.caches caches cluster)
       (asked : S) (after : ImageStorage S) (block : RefBlockView) (result : Result (Unit {0}) StorageError) (fits : IsBlockOf file.header.fields block) (is : block.cluster ≡ Some cluster) (whole : length block.bytes ≡ 2 ^ block.cluster_bits)
       (asked_same : asked ≡ storage_of file.storage)
@@ -227,7 +227,7 @@ module _ {S : Type 0} (view : S → StorageView) where
     ]
 
     each : (c : ℕ) → SameIn (cluster_size file.header.fields) c (contents_in view file) (byte_at (view (storage_of after)).contents)
-        ⊎ (IsUnnamed file.header.fields (contents_in view file) (known_in view file) c × (table_pending.held c ≡ 0))
+        ⊎ (IsUnnamed file.header.fields (contents_in view file) (known_in view file) c × (table_pending.new_data c ≡ 0))
     each c = elim (whole_or_nothing result (view_in view file).contents (overwritten (view_in view file).contents (at * cluster_size file.header.fields) t.bytes) (view (storage_of after)).contents (table_writes sound.sound.honest)) [
       | inl same ↦ inl (λ o in_c. ap (λ (l : List ℕ). byte_at l o) (sym same))
       | inr new ↦ elim (in_or_out c) [

@@ -7,7 +7,7 @@ use Rattle.qcow2_metadata.specs.declared.header.HeaderFields.{HeaderFields}
 use Rattle.qcow2_metadata.specs.Bytes.{sum_below, one_if}
 use Rattle.qcow2_metadata.specs.EntryTable.{EntryTableView}
 use Rattle.qcow2_metadata.specs.Header.{counts_per_block}
-use Rattle.qcow2_laws.specs.Changes.{one_at, with_fresh}
+use Rattle.qcow2_laws.specs.Changes.{one_at, with_new_tables}
 use Rattle.qcow2_laws.specs.CrashInvariant.{Pending}
 use Rattle.qcow2_alloc.specs.declared.allocation.Allocator.{Allocator}
 use Rattle.qcow2_alloc.specs.declared.error.ImageError.{ImageError}
@@ -69,27 +69,27 @@ module _ (h : HeaderFields) (t : EntryTableView) where
   ]
 
   -- ---- what is pending
-  pub one_none : (p : Pending) (c : ℕ) → lacks t (c / counts_per_block h) ≡ true → with_fresh p (counted_one h t c) ≡ p
+  pub one_none : (p : Pending) (c : ℕ) → lacks t (c / counts_per_block h) ≡ true → with_new_tables p (counted_one h t c) ≡ p
   one_none p c none =
-      pending_same (with_fresh p (counted_one h t c)) p (λ k. refl)
+      pending_same (with_new_tables p (counted_one h t c)) p (λ k. refl)
       (λ k. let e : counted_one h t c k ≡ 0 = cond-true {A = ℕ} (lacks t (c / counts_per_block h)) 0 (one_at c k) none in omega (arith, e)) (λ k. refl) (λ k. refl) (λ k. refl)
 
-  pub one_taken : (p : Pending) (c : ℕ) → lacks t (c / counts_per_block h) ≡ false → with_fresh p (counted_one h t c) ≡ with_fresh p (one_at c)
+  pub one_taken : (p : Pending) (c : ℕ) → lacks t (c / counts_per_block h) ≡ false → with_new_tables p (counted_one h t c) ≡ with_new_tables p (one_at c)
   one_taken p c has =
-      pending_same (with_fresh p (counted_one h t c)) (with_fresh p (one_at c)) (λ k. refl)
-      (λ k. ap (λ n. p.fresh k + n) (cond-false {A = ℕ} (lacks t (c / counts_per_block h)) 0 (one_at c k) has)) (λ k. refl) (λ k. refl) (λ k. refl)
+      pending_same (with_new_tables p (counted_one h t c)) (with_new_tables p (one_at c)) (λ k. refl)
+      (λ k. ap (λ n. p.new_tables k + n) (cond-false {A = ℕ} (lacks t (c / counts_per_block h)) 0 (one_at c k) has)) (λ k. refl) (λ k. refl) (λ k. refl)
 
   pub run_none : (p : Pending) (first n : ℕ) → ((k : ℕ) → counted_run h t first n k ≡ 0) → with_run p h t first n ≡ p
   run_none p first n none = pending_same (with_run p h t first n) p (λ k. refl) (λ k. let e = none k in omega (arith, e)) (λ k. refl) (λ k. refl) (λ k. refl)
 
-  pub run_more : (p : Pending) (first n : ℕ) → with_fresh (with_run p h t first n) (counted_one h t (first + n)) ≡ with_run p h t first (n + 1)
+  pub run_more : (p : Pending) (first n : ℕ) → with_new_tables (with_run p h t first n) (counted_one h t (first + n)) ≡ with_run p h t first (n + 1)
   run_more p first n =
-      pending_same (with_fresh (with_run p h t first n) (counted_one h t (first + n))) (with_run p h t first (n + 1)) (λ k. refl) (λ k. let e = counted_last first n k in omega (arith, e)) (λ k. refl) (λ k. refl) (λ k. refl)
+      pending_same (with_new_tables (with_run p h t first n) (counted_one h t (first + n))) (with_run p h t first (n + 1)) (λ k. refl) (λ k. let e = counted_last first n k in omega (arith, e)) (λ k. refl) (λ k. refl) (λ k. refl)
 
-  pub run_less : (p : Pending) (c end : ℕ) → c < end → with_fresh (with_run p h t (c + 1) (end - (c + 1))) (counted_one h t c) ≡ with_run p h t c (end - c)
+  pub run_less : (p : Pending) (c end : ℕ) → c < end → with_new_tables (with_run p h t (c + 1) (end - (c + 1))) (counted_one h t c) ≡ with_run p h t c (end - c)
   run_less p c end lt =
       let e : end - (c + 1) + 1 ≡ end - c = omega arith in
-      pending_same (with_fresh (with_run p h t (c + 1) (end - (c + 1))) (counted_one h t c)) (with_run p h t c (end - c)) (λ k. refl)
+      pending_same (with_new_tables (with_run p h t (c + 1) (end - (c + 1))) (counted_one h t c)) (with_run p h t c (end - c)) (λ k. refl)
       (λ k. let sum : counted_run h t (c + 1) (end - (c + 1)) k + counted_one h t c k ≡ counted_run h t c (end - c) k = counted_first c (end - (c + 1)) k ∙ ap (λ n. counted_run h t c n k) e in omega (arith, sum)) (λ k. refl) (λ k. refl) (λ k. refl)
 
   pub run_past : (p : Pending) (c end : ℕ) → end ≤ c → with_run p h t c (end - c) ≡ p
@@ -180,7 +180,7 @@ module _ {S : Type 0} (view : S → StorageView) where
   run_taken p t t' first n a b c u u' true same_header same before is takes =
       let h = a.header.fields in
       let q : Pending = with_run p a.header.fields t first n in
-      let now = subst (λ (x : EntryTableView). UnseenAllocatorStep view q b u' c (with_fresh q (counted_one h x (first + n)))) same (subst (λ (k : HeaderFields). UnseenAllocatorStep view q b u' c (with_fresh q (counted_one k t' (first + n)))) same_header takes) in
+      let now = subst (λ (x : EntryTableView). UnseenAllocatorStep view q b u' c (with_new_tables q (counted_one h x (first + n)))) same (subst (λ (k : HeaderFields). UnseenAllocatorStep view q b u' c (with_new_tables q (counted_one k t' (first + n)))) same_header takes) in
       becomes_more view false p (counted_run h t first n) (with_run p h t first (n + 1)) a b c u u' before (subst (λ (r : Pending). UnseenAllocatorStep view q b u' c r) (run_more h t p first n) now)
 
   -- so it isn't
@@ -195,23 +195,23 @@ module _ {S : Type 0} (view : S → StorageView) where
     abbrev rest : Pending
     rest = with_run p start.header.fields t (at + 1) (end - (at + 1))
 
-    owes : with_run p start.header.fields t at (end - at) ≡ with_fresh rest (one_at at)
+    owes : with_run p start.header.fields t at (end - at) ≡ with_new_tables rest (one_at at)
     owes = sym (run_less start.header.fields t p at end within) ∙ one_taken start.header.fields t rest at has
 
-    owing : UnseenAllocatorStep view p start u b (with_fresh rest (one_at at))
+    owing : UnseenAllocatorStep view p start u b (with_new_tables rest (one_at at))
     owing = subst (λ (r : Pending). UnseenAllocatorStep view p start u b r) owes before
 
-    pub owed_now : AllocatorInvariant view u (with_fresh rest (one_at at)) b
-    owed_now = is_sound_now view p (with_fresh rest (one_at at)) start b u owing
+    pub owed_now : AllocatorInvariant view u (with_new_tables rest (one_at at)) b
+    owed_now = is_sound_now view p (with_new_tables rest (one_at at)) start b u owing
 
-    pub left_one : UnseenAllocatorStep view (with_fresh rest (one_at at)) b u' f rest → UnseenAllocatorStep view p start u' f rest
-    left_one back = record { moves = moves_then view p (with_fresh rest (one_at at)) rest start b f (λ k some. some) owing.moves back.moves; reftable = back.reftable }
+    pub left_one : UnseenAllocatorStep view (with_new_tables rest (one_at at)) b u' f rest → UnseenAllocatorStep view p start u' f rest
+    left_one back = record { moves = moves_then view p (with_new_tables rest (one_at at)) rest start b f (λ k some. some) owing.moves back.moves; reftable = back.reftable }
 
     pub left_fault : (first n : ℕ) (e : ImageError) → first ≤ at → at < first + n → ((k : ℕ) → counted_run start.header.fields t first n k ≡ 0) ⊎ IsTrue f.caches.is_changed
-        → IsFault e × RefusedFileStep view (with_fresh rest (one_at at)) b u' f e → IsFault e × RefusedFileStep view p start u' f e
+        → IsFault e × RefusedFileStep view (with_new_tables rest (one_at at)) b u' f e → IsFault e × RefusedFileStep view p start u' f e
     left_fault first n e low high noted back = elim noted [
       | inl none ↦ let one = counted_in start.header.fields t first n at has in let in_run = run_in first n at low high in let zero = none at in absurd (omega (arith, one, in_run, zero))
-      | inr changed ↦ (back.0, inr (breaks_after view p (with_fresh rest (one_at at)) start b f u' e owing.moves back.0 changed back.1))
+      | inr changed ↦ (back.0, inr (breaks_after view p (with_new_tables rest (one_at at)) start b f u' e owing.moves back.0 changed back.1))
     ]
 
   -- the first one isn't counted

@@ -2,7 +2,7 @@
 use Rattle.std.proofs.Common.{◌≡◌, inl, inr, ℕ, ◌+◌, ◌-◌, ◌<◌, ◌≤◌, ◌==◌, ◌&&◌, Bool, true, false, nat_le, nat_lt, refl, sym, ap, ◌∙◌, arith}
 use Rattle.std.proofs.lemmas.Bool.{cases_eq, cases_lt, cond-false, ne_eqb}
 use Rattle.std.proofs.lemmas.Bool.Decides.{nat_tests}
-use Rattle.qcow2_laws.specs.Changes.{one_at, with_held, with_fresh}
+use Rattle.qcow2_laws.specs.Changes.{one_at, with_new_data, with_new_tables}
 use Rattle.qcow2_laws.specs.CrashInvariant.{Pending}
 use Rattle.qcow2_alloc.specs.Allocation.{run_at, taken_as}
 use Rattle.qcow2_alloc.proofs.FileSteps.{pending_same, one_here}
@@ -70,8 +70,8 @@ run_last c n k = elim (cases_eq k (c + n)) [
 
 -- ---- what is pending
 more : (d : Bool) (p : Pending) (m n o : ℕ → ℕ) → ((k : ℕ) → m k + n k ≡ o k) → taken_as d (taken_as d p m) n ≡ taken_as d p o
-more true p m n o sum = pending_same (with_held (with_held p m) n) (with_held p o) (λ k. let s = sum k in omega arith) (λ k. refl) (λ k. refl) (λ k. refl) (λ k. refl)
-more false p m n o sum = pending_same (with_fresh (with_fresh p m) n) (with_fresh p o) (λ k. refl) (λ k. let s = sum k in omega arith) (λ k. refl) (λ k. refl) (λ k. refl)
+more true p m n o sum = pending_same (with_new_data (with_new_data p m) n) (with_new_data p o) (λ k. let s = sum k in omega arith) (λ k. refl) (λ k. refl) (λ k. refl) (λ k. refl)
+more false p m n o sum = pending_same (with_new_tables (with_new_tables p m) n) (with_new_tables p o) (λ k. refl) (λ k. let s = sum k in omega arith) (λ k. refl) (λ k. refl) (λ k. refl)
 
 pub taken_first : (d : Bool) (p : Pending) (c end : ℕ) → c < end → taken_as d (taken_as d p (run_at (c + 1) (end - (c + 1)))) (one_at c) ≡ taken_as d p (run_at c (end - c))
 taken_first d p c end lt =
@@ -82,9 +82,9 @@ pub taken_last : (d : Bool) (p : Pending) (first n : ℕ) → taken_as d (taken_
 taken_last d p first n = more d p (run_at first n) (one_at (first + n)) (run_at first (n + 1)) (run_last first n)
 
 -- what was held still is
-pub held_more : (d : Bool) (p : Pending) (n : ℕ → ℕ) (k : ℕ) → 0 < p.held k → 0 < (taken_as d p n).held k
-held_more true p n k some = omega arith
-held_more false p n k some = some
+pub new_data_more : (d : Bool) (p : Pending) (n : ℕ → ℕ) (k : ℕ) → 0 < p.new_data k → 0 < (taken_as d p n).new_data k
+new_data_more true p n k some = omega arith
+new_data_more false p n k some = some
 
 -- a run of none
 pub taken_none : (d : Bool) (p : Pending) (first n : ℕ) → n ≡ 0 → taken_as d p (run_at first n) ≡ p
@@ -94,8 +94,8 @@ taken_none d p first n is = nothing_taken d p (λ k. none first n k is)
     none first n k is = elim (cases_lt k first) [ inl below ↦ run_before first n k below | inr above ↦ run_after first n k (omega arith) ]
 
     nothing_taken : (d : Bool) (p : Pending) → ((k : ℕ) → run_at first n k ≡ 0) → taken_as d p (run_at first n) ≡ p
-    nothing_taken true p zero = pending_same (with_held p (run_at first n)) p (λ k. let z = zero k in omega arith) (λ k. refl) (λ k. refl) (λ k. refl) (λ k. refl)
-    nothing_taken false p zero = pending_same (with_fresh p (run_at first n)) p (λ k. refl) (λ k. let z = zero k in omega arith) (λ k. refl) (λ k. refl) (λ k. refl)
+    nothing_taken true p zero = pending_same (with_new_data p (run_at first n)) p (λ k. let z = zero k in omega arith) (λ k. refl) (λ k. refl) (λ k. refl) (λ k. refl)
+    nothing_taken false p zero = pending_same (with_new_tables p (run_at first n)) p (λ k. refl) (λ k. let z = zero k in omega arith) (λ k. refl) (λ k. refl) (λ k. refl)
 
 -- a run of one
 pub taken_alone : (d : Bool) (p : Pending) (c : ℕ) → taken_as d p (one_at c) ≡ taken_as d p (run_at c 1)

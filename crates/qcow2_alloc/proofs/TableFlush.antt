@@ -3,7 +3,7 @@ use Rattle.std.proofs.Common.{◌≡◌, ◌⊎◌, inl, inr, ℕ, ◌*◌, ◌^
 use Rattle.image_access.specs.Contents.{overwritten}
 use Rattle.image_access.specs.Moments.{StorageView, Changes, Calls}
 use Rattle.image_access.specs.declared.error.StorageError.{StorageError}
-use Rattle.image_access.proofs.Passing.{whole_or_nothing}
+use Rattle.image_access.proofs.EachMomentSince.{whole_or_nothing}
 use Rattle.qcow2_metadata.specs.declared.error.MetadataError.TheVariants.{Storage}
 use Rattle.qcow2_alloc.specs.TableSteps.{FailsToFlush}
 

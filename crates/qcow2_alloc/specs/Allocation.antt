@@ -10,7 +10,7 @@ use Rattle.qcow2_metadata.specs.TableBytes.{entry_at}
 use Rattle.qcow2_alloc.specs.TableCaches.{cleared_rb}
 use Rattle.qcow2_metadata.specs.Entries.{reftable_entry, block_offset}
 use Rattle.qcow2_laws.specs.Clusters.{L2DependsOnRb, RbDependsOnL2}
-use Rattle.qcow2_laws.specs.Changes.{one_at, with_held, with_fresh}
+use Rattle.qcow2_laws.specs.Changes.{one_at, with_new_data, with_new_tables}
 use Rattle.qcow2_laws.specs.CrashInvariant.{Pending}
 use Rattle.qcow2_alloc.specs.MetadataCaches.{order_of, rb_at}
 use Rattle.qcow2_alloc.specs.ImageError.{IsFault}
@@ -32,8 +32,8 @@ is_data Metadata = false
 
 -- clusters that are taken for data are held, those for tables are fresh
 abbrev pub taken_as : Bool → Pending → (ℕ → ℕ) → Pending
-taken_as true p n = with_held p n
-taken_as false p n = with_fresh p n
+taken_as true p n = with_new_data p n
+taken_as false p n = with_new_tables p n
 
 -- no cluster more couldn't be freed
 abbrev pub SameLeaks : Allocator → Allocator → Type 0
@@ -41,8 +41,8 @@ SameLeaks old new = new.leaked_clusters ≡ old.leaked_clusters
 
 -- clusters on the list of those to be freed were data, or tables
 abbrev pub listed_as : ClusterKind → Pending → (ℕ → ℕ) → Pending
-listed_as Data p n = record p { dropped = λ k. p.dropped k + n k }
-listed_as Metadata p n = record p { spent = λ k. p.spent k + n k }
+listed_as Data p n = record p { old_data = λ k. p.old_data k + n k }
+listed_as Metadata p n = record p { old_tables = λ k. p.old_tables k + n k }
 
 -- why a cluster is counted once less: it was taken in the same call, or it is on that list
 pub data Owed : Type 0 where
@@ -139,7 +139,7 @@ module _ {S : Type 0} where
 
       -- a refblock stands in its cluster and in its cache
       pub record HoldsBlock (block : RefBlockView) (at : ℕ) : Type 0 where
-        pub held : rb_at new.caches at ≡ Some (cleared_rb block)
+        pub new_data : rb_at new.caches at ≡ Some (cleared_rb block)
         pub stands : StandAt (contents_in view new) (at * cluster_size new.header.fields) block.bytes
 
       -- so it does after it was written
@@ -233,5 +233,5 @@ module _ {S : Type 0} where
     -- the run that was taken since a start is given back, after a change was noted; p' is what is pending beside it
     abbrev pub GivesBackRun : Allocator → ImageFile S → Allocator → ImageFile S → ℕ → ℕ → Result (Unit {0}) ImageError → Type 0
     GivesBackRun allocator old allocator' new first n result =
-        (p p' : Pending) (is_data : Bool) (start : ImageFile S) → ((k : ℕ) → 0 < p.held k → 0 < p'.held k)
+        (p p' : Pending) (is_data : Bool) (start : ImageFile S) → ((k : ℕ) → 0 < p.new_data k → 0 < p'.new_data k)
         → UnseenAllocatorGrowth p start allocator old (taken_as is_data p' (run_at first n)) → (0 < n → IsTrue old.caches.is_changed) → GivesBackAs p start allocator' new p' result

@@ -27,13 +27,13 @@ to_free kind (e ∷ es) k = kind e.kind (run_of e k) + to_free kind es k
 
 -- what is pending, with what is listed
 abbrev pub with_listed : Pending → List ClustersToFreeEntry → Pending
-with_listed p list = record p { spent = λ k. p.spent k + to_free of_tables list k; dropped = λ k. p.dropped k + to_free of_data list k }
+with_listed p list = record p { old_tables = λ k. p.old_tables k + to_free of_tables list k; old_data = λ k. p.old_data k + to_free of_data list k }
 
 -- what is pending, with what was listed since
 abbrev pub pending_then : Pending → List ClustersToFreeEntry → List ClustersToFreeEntry → Pending
 pending_then p old new = record p {
-  spent = λ k. p.spent k + (to_free of_tables new k - to_free of_tables old k);
-  dropped = λ k. p.dropped k + (to_free of_data new k - to_free of_data old k);
+  old_tables = λ k. p.old_tables k + (to_free of_tables new k - to_free of_tables old k);
+  old_data = λ k. p.old_data k + (to_free of_data new k - to_free of_data old k);
 }
 
 abbrev pub is_same : ClusterKind → ClusterKind → Bool

@@ -9,7 +9,7 @@ use Rattle.qcow2_metadata.specs.EntryTable.{EntryTableView, entry_count}
 use Rattle.qcow2_metadata.specs.Named.{in_run, table_in}
 use Rattle.qcow2_metadata.specs.TableBytes.{entry_at}
 use Rattle.qcow2_laws.specs.Caches.{AreClean, BlocksMayGo}
-use Rattle.qcow2_laws.specs.Changes.{with_fresh}
+use Rattle.qcow2_laws.specs.Changes.{with_new_tables}
 use Rattle.qcow2_laws.specs.CrashInvariant.{Pending}
 use Rattle.qcow2_alloc.specs.Allocation.{run_at, StandAt, HasNone, UnseenAllocatorGrowth, RefusedGrowth}
 use Rattle.qcow2_alloc.specs.ImageFile.{contents_in, InterruptedFileStep}
@@ -28,11 +28,11 @@ counted_run h t first n c = if block_offset (entry_at t.bytes (c / counts_per_bl
 
 -- these clusters are taken
 abbrev pub with_run : Pending → HeaderFields → EntryTableView → ℕ → ℕ → Pending
-with_run p h t first n = with_fresh p (counted_run h t first n)
+with_run p h t first n = with_new_tables p (counted_run h t first n)
 
 -- the clusters of the reftable are to be freed
 abbrev pub without_reftable : Pending → HeaderFields → Pending
-without_reftable p h = record p { spent = λ c. p.spent c + reftable_at h c }
+without_reftable p h = record p { old_tables = λ c. p.old_tables c + reftable_at h c }
 
 -- how often entries of the reftable name a cluster
 abbrev pub named_by_reftable_entries : HeaderFields → EntryTableView → ℕ → ℕ

@@ -7,11 +7,11 @@ use Rattle.qcow2_metadata.specs.Entries.{count}
 use Rattle.qcow2_metadata.specs.EntryTable.{EntryTableView, IsRefTableOf, entry_count}
 use Rattle.qcow2_disk.specs.Stops.{GivenBytes, SafeThroughout}
 use Rattle.qcow2_laws.specs.CrashInvariant.{Pending}
-use Rattle.qcow2_laws.specs.Caches.{AreSettled}
+use Rattle.qcow2_laws.specs.Caches.{AreNamedBlocks}
 use Rattle.qcow2_laws.specs.SafeSteps.{DriverState, SafeStep}
 use Rattle.qcow2_laws.specs.Unseen.{IsUnseen, SameL1Table}
 pub use Rattle.qcow2_alloc.specs.ImageError.{IsFault}
-pub use Rattle.qcow2_alloc.specs.CacheMarks.{l2_pins, CachesHaveRoom, KeepsMarks}
+pub use Rattle.qcow2_alloc.specs.CachePins.{l2_pins, CachesHaveRoom, KeepsPinsAndNotes}
 use Rattle.qcow2_alloc.specs.ImageStorage.{storage_of}
 use Rattle.qcow2_alloc.specs.MetadataCaches.{order_of, refblocks, known_of, CacheInvariant}
 use Rattle.qcow2_alloc.specs.declared.allocation.Allocator.{Allocator}
@@ -28,7 +28,7 @@ nothing_given backing = []
 
 -- how often a cluster is pending
 abbrev pub pending_at : Pending → ℕ → ℕ
-pending_at p k = p.held k + p.fresh k + p.spent k + p.dropped k
+pending_at p k = p.new_data k + p.new_tables k + p.old_tables k + p.old_data k
 
 module _ {S : Type 0} where
   module _ (view : S → StorageView) where
@@ -50,7 +50,7 @@ module _ {S : Type 0} where
     pub record FileInvariant (p : Pending) (file : ImageFile S) : Type 0 where
       pub honest : (view_in file).is_honest
       pub caches : CacheInvariant file.header.fields p file.caches (contents_in file)
-      pub settled : AreSettled file.header.fields (refblocks file.caches) (contents_in file)
+      pub settled : AreNamedBlocks file.header.fields (refblocks file.caches) (contents_in file)
       pub room : CachesHaveRoom file.caches
 
     -- the allocator's reftable is the one on the storage

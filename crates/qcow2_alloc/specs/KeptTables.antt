@@ -1,6 +1,6 @@
 -- Cached tables over the bytes of the storage: what is known, and what is kept of both caches.
 use Rattle.std.specs.Prelude.{ℕ, ◌+◌, ◌*◌, ◌/◌, ◌%◌, ◌^◌, ◌<◌, ◌≡◌, ◌≢◌, Bool, false, List, [], ◌∷◌, map}
-use Rattle.image_access.specs.Moments.{StorageView, Passing}
+use Rattle.image_access.specs.Moments.{StorageView, EachMomentSince}
 use Rattle.qcow2_metadata.specs.Bytes.{Bytes, byte_at}
 use Rattle.qcow2_metadata.specs.declared.header.HeaderFields.{HeaderFields}
 use Rattle.qcow2_metadata.specs.Header.{cluster_size}
@@ -45,11 +45,11 @@ pub record AreKept (h : HeaderFields) (d : Direction) (p : Pending) (l2s rbs : L
 
 -- Since an earlier view of a storage, at each moment and now, a stop is as safe as it was of the contents then and of what was known.
 pub record IsSafeSince (old new : StorageView) (known : Bytes) : Type 0 where
-  pub moments : Passing old new (λ c. IsSafeBetween (byte_at old.contents) known (byte_at c))
+  pub moments : EachMomentSince old new (λ c. IsSafeBetween (byte_at old.contents) known (byte_at c))
   pub contents : IsSafeBetween (byte_at old.contents) known (byte_at new.contents)
 
 -- Since an earlier view of a storage, at each moment and now, each cluster is as it was then or as was known. Of the kind of tables that the direction has written last, none is written
 -- before all of the other kind are.
 pub record IsInOrderSince (h : HeaderFields) (d : Direction) (old new : StorageView) (known : Bytes) : Type 0 where
-  pub moments : Passing old new (λ c. IsMixed h d (byte_at old.contents) known (byte_at c))
+  pub moments : EachMomentSince old new (λ c. IsMixed h d (byte_at old.contents) known (byte_at c))
   pub contents : IsMixed h d (byte_at old.contents) known (byte_at new.contents)

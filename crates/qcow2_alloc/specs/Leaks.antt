@@ -21,7 +21,7 @@ module _ {S : Type 0} where
     pub before : MetadataCaches S
     pub at : ℕ
     pub block : RefBlockView
-    pub held : rb_at before at ≡ Some block
+    pub new_data : rb_at before at ≡ Some block
     pub some : 0 < count_at block (cluster % counts_per_block file.header.fields)
     pub falls : SetsCount before file.caches at (cluster % counts_per_block file.header.fields) block (count_at block (cluster % counts_per_block file.header.fields) - 1)
 

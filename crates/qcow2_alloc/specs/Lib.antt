@@ -13,7 +13,7 @@ pub mod KeptTables
 pub mod MetadataCaches
 pub mod Quiet
 pub mod TableChanges
-pub mod CacheMarks
+pub mod CachePins
 pub mod ImageFile
 pub mod Allocation
 pub mod LowestRuns

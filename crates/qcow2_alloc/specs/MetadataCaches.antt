@@ -6,7 +6,7 @@ use Rattle.qcow2_metadata.specs.declared.header.HeaderFields.{HeaderFields}
 use Rattle.qcow2_metadata.specs.Header.{cluster_size, entries_per_cluster, counts_per_block, has_data_file}
 use Rattle.qcow2_metadata.specs.Entries.{count, is_copied, l1_entry, l2_entry}
 use Rattle.qcow2_metadata.specs.Cover.{entry_cover}
-use Rattle.qcow2_metadata.specs.L2Mapping.{IsHostCluster, dropped_run}
+use Rattle.qcow2_metadata.specs.L2Mapping.{IsHostCluster, old_data_run}
 use Rattle.qcow2_metadata.specs.L2Table.{L2TableView, copied_entry, zero_entry, copied_host}
 use Rattle.qcow2_metadata.specs.RefBlock.{RefBlockView}
 use Rattle.qcow2_metadata.specs.TableBytes.{entry_at}
@@ -15,7 +15,7 @@ use Rattle.qcow2_laws.specs.Clusters as Order
 use Rattle.qcow2_laws.specs.CrashInvariant.{Pending, CrashInvariant, IsPartly}
 use Rattle.qcow2_laws.specs.Steps.{block_of, CountRises, CountFalls}
 use Rattle.qcow2_laws.specs.Writes.{IsUnnamed}
-use Rattle.qcow2_laws.specs.Caches.{known_bytes, IsFreeOf, AreClean, AreSettled, HasOwnL2, HasBlock}
+use Rattle.qcow2_laws.specs.Caches.{known_bytes, IsFreeOf, AreClean, AreNamedBlocks, HasOwnL2, HasBlock}
 use Rattle.qcow2_laws.specs.Guests.{table_at}
 use Rattle.qcow2_laws.specs.Tops.{IsSameOutside}
 use Rattle.qcow2_alloc.specs.AsyncLruCache.{value_at}
@@ -106,7 +106,7 @@ module _ {S : Type 0} where
     pub honest : new.is_honest
     pub sound : CacheInvariant h p caches' (byte_at new.contents)
     pub known : known_of h caches' (byte_at new.contents) ≡ known_of h caches (byte_at old.contents)
-    pub settled : AreSettled h (refblocks caches) (byte_at old.contents) → AreSettled h (refblocks caches') (byte_at new.contents)
+    pub settled : AreNamedBlocks h (refblocks caches) (byte_at old.contents) → AreNamedBlocks h (refblocks caches') (byte_at new.contents)
     pub since : IsSafeSince old new (known_of h caches (byte_at old.contents))
 
   -- a table holds what is known in the cluster
@@ -137,12 +137,12 @@ module _ {S : Type 0} where
   -- a call refuses for such a cause
   abbrev pub RefusesBy : (ImageError → Type 0) → (S → StorageView) → ImageStorage S → MetadataCaches S → HeaderFields → Result (Unit {0}) ImageError → Type 0
   RefusesBy IsCause view old caches h result =
-      (p : Pending) → (view (storage_of old)).is_honest → CacheInvariant h p caches (byte_at (view (storage_of old)).contents) → AreSettled h (refblocks caches) (byte_at (view (storage_of old)).contents) → IfErr result IsCause
+      (p : Pending) → (view (storage_of old)).is_honest → CacheInvariant h p caches (byte_at (view (storage_of old)).contents) → AreNamedBlocks h (refblocks caches) (byte_at (view (storage_of old)).contents) → IfErr result IsCause
 
   -- so does one that puts in such a table as is said above
   abbrev pub PutRefusesBy : (ImageError → Type 0) → (S → StorageView) → ImageStorage S → MetadataCaches S → (HeaderFields → Type 0) → Option ℕ → List ℕ → Bool → Result (Unit {0}) ImageError → Type 0
   PutRefusesBy IsCause view old caches IsFitFor cluster bytes is_modified result =
-      (h : HeaderFields) (p : Pending) → (view (storage_of old)).is_honest → CacheInvariant h p caches (byte_at (view (storage_of old)).contents) → AreSettled h (refblocks caches) (byte_at (view (storage_of old)).contents)
+      (h : HeaderFields) (p : Pending) → (view (storage_of old)).is_honest → CacheInvariant h p caches (byte_at (view (storage_of old)).contents) → AreNamedBlocks h (refblocks caches) (byte_at (view (storage_of old)).contents)
       → IsFitFor h → is_modified ≡ false → IfSome cluster (HoldsKnown h caches (byte_at (view (storage_of old)).contents) bytes) → IfErr result IsCause
 
   -- ---- counts of held refblocks
@@ -150,7 +150,7 @@ module _ {S : Type 0} where
   -- the change was made, and the caches are sound again, whatever is pending, where the order of writes is kept
   pub record Made (Change : Type 0) (h : HeaderFields) (caches caches' : MetadataCaches S) (on_storage : Bytes) : Type 0 where
     pub change : Change
-    pub settled : AreSettled h (refblocks caches) on_storage → AreSettled h (refblocks caches') on_storage
+    pub settled : AreNamedBlocks h (refblocks caches) on_storage → AreNamedBlocks h (refblocks caches') on_storage
     pub sound : (p : Pending) → CrashInvariant h (order_of caches') p on_storage (known_of h caches' on_storage) → CacheInvariant h p caches' on_storage
 
   -- the count at this place of the refblock of a cluster rises from 0
@@ -189,9 +189,9 @@ module _ {S : Type 0} where
   -- pending, where the order of writes is kept and each modified refblock is named.
   pub record MadeEntry (h : HeaderFields) (caches caches' : MetadataCaches S) (on_storage : Bytes) (i j entry : ℕ) (answer : Option (ℕ × ℕ)) : Type 0 where
     pub change : ChangesKnownEntry h (known_of h caches on_storage) (known_of h caches' on_storage) i j entry
-    pub settled : AreSettled h (refblocks caches) on_storage → AreSettled h (refblocks caches') on_storage
-    pub answered : answer ≡ dropped_run h.cluster_bits (entry_cover h (l2_entry (known_of h caches on_storage) (table_at h (known_of h caches on_storage) i) j)) (entry_cover h entry)
-    pub sound : (p : Pending) → AreSettled h (refblocks caches) on_storage → CrashInvariant h (order_of caches') p on_storage (known_of h caches' on_storage) → CacheInvariant h p caches' on_storage
+    pub settled : AreNamedBlocks h (refblocks caches) on_storage → AreNamedBlocks h (refblocks caches') on_storage
+    pub answered : answer ≡ old_data_run h.cluster_bits (entry_cover h (l2_entry (known_of h caches on_storage) (table_at h (known_of h caches on_storage) i) j)) (entry_cover h entry)
+    pub sound : (p : Pending) → AreNamedBlocks h (refblocks caches) on_storage → CrashInvariant h (order_of caches') p on_storage (known_of h caches' on_storage) → CacheInvariant h p caches' on_storage
 
   -- an entry of the held table of a cluster, whose L1 entry is marked copied, becomes copied data at a host cluster
   abbrev pub MapsCachedEntry : MetadataCaches S → MetadataCaches S → ℕ → ℕ → ℕ → Option (ℕ × ℕ) → Type 0
@@ -234,7 +234,7 @@ module _ {S : Type 0} where
   pub record TakenOff (Unmodified : Type 0) (h : HeaderFields) (caches caches' : MetadataCaches S) (on_storage : Bytes) : Type 0 where
     pub known : IsPartly (cluster_size h) on_storage (known_of h caches on_storage) (known_of h caches' on_storage)
     pub same : Unmodified → known_of h caches' on_storage ≡ known_of h caches on_storage
-    pub settled : AreSettled h (refblocks caches) on_storage → AreSettled h (refblocks caches') on_storage
+    pub settled : AreNamedBlocks h (refblocks caches) on_storage → AreNamedBlocks h (refblocks caches') on_storage
     pub sound : (p : Pending) → CrashInvariant h (order_of caches') p on_storage (known_of h caches' on_storage) → CacheInvariant h p caches' on_storage
 
   -- so on sound caches
@@ -258,7 +258,7 @@ module _ {S : Type 0} where
     pub honest : new.is_honest
     pub known : known_of h caches' (byte_at new.contents) ≡ known (cluster_size h) (t ∷ []) (known_of h caches (byte_at old.contents))
     pub since : IsSafeSince old new (known_of h caches (byte_at old.contents))
-    pub settled : IsNamed (byte_at new.contents) → AreSettled h (refblocks caches) (byte_at old.contents) → AreSettled h (refblocks caches') (byte_at new.contents)
+    pub settled : IsNamed (byte_at new.contents) → AreNamedBlocks h (refblocks caches) (byte_at old.contents) → AreNamedBlocks h (refblocks caches') (byte_at new.contents)
     pub sound : (p : Pending) → Stands (byte_at new.contents) (known_of h caches' (byte_at new.contents)) → CrashInvariant h (order_of caches') p (byte_at new.contents) (known_of h caches' (byte_at new.contents))
         → CacheInvariant h p caches' (byte_at new.contents)
 
@@ -266,7 +266,7 @@ module _ {S : Type 0} where
   abbrev pub LaysTable : (S → StorageView) → ImageStorage S → MetadataCaches S → ImageStorage S → MetadataCaches S → L2TableView → Type 0
   LaysTable view old caches new caches' t =
       (h : HeaderFields) (p : Pending) → (view (storage_of old)).is_honest → CacheInvariant h p caches (byte_at (view (storage_of old)).contents) → IsTableOf h t → t.is_modified ≡ true
-      → IfSome t.cluster (λ cluster. LaidOver (λ on_storage known. AreSettled h (refblocks caches') on_storage × HasOwnL2 h on_storage cluster) (λ on_storage. Unit {0}) h (view (storage_of old)) caches (view (storage_of new)) caches' (laid_at h cluster t.bytes))
+      → IfSome t.cluster (λ cluster. LaidOver (λ on_storage known. AreNamedBlocks h (refblocks caches') on_storage × HasOwnL2 h on_storage cluster) (λ on_storage. Unit {0}) h (view (storage_of old)) caches (view (storage_of new)) caches' (laid_at h cluster t.bytes))
 
   -- a refblock, whose cluster the reftable names, or nothing does, where no modified L2 table lies
   abbrev pub LaysBlock : (S → StorageView) → ImageStorage S → MetadataCaches S → ImageStorage S → MetadataCaches S → RefBlockView → Type 0

@@ -8,7 +8,7 @@ use Rattle.qcow2_metadata.specs.Entries.{block_offset, block_count}
 use Rattle.qcow2_metadata.specs.EntryTable.{EntryTableView, entry_count}
 use Rattle.qcow2_metadata.specs.RefBlock.{RefBlockView, count_at}
 use Rattle.qcow2_metadata.specs.TableBytes.{entry_at}
-use Rattle.qcow2_laws.specs.Changes.{one_at, with_fresh}
+use Rattle.qcow2_laws.specs.Changes.{one_at, with_new_tables}
 use Rattle.qcow2_laws.specs.CrashInvariant.{Pending, SameIn}
 use Rattle.qcow2_laws.specs.Tops.{IsSameOutside}
 use Rattle.qcow2_alloc.specs.Allocation.{run_at, StandAt, HasNone, UnseenAllocatorStep}
@@ -44,7 +44,7 @@ room_length room = room.blocks + room.clusters
 module _ {S : Type 0} (view : S → StorageView) (p : Pending) (old : ImageFile S) (allocator' : Allocator) (new : ImageFile S) where
   -- a cluster is taken where it is counted anywhere, or it is in use
   abbrev pub TakesFree : EntryTableView → ℕ → Result Bool ImageError → Type 0
-  TakesFree t cluster (Ok true) = UnseenAllocatorStep view p old allocator' new (with_fresh p (counted_one old.header.fields t cluster))
+  TakesFree t cluster (Ok true) = UnseenAllocatorStep view p old allocator' new (with_new_tables p (counted_one old.header.fields t cluster))
   TakesFree t cluster (Ok false) = UnseenAllocatorStep view p old allocator' new p
   TakesFree t cluster (Err e) = IsFault e × RefusedFileStep view p old allocator' new e
 

@@ -1,6 +1,6 @@
 -- What a change of one held table leaves of the caches, whatever else they hold.
 use Rattle.std.specs.Prelude.{ℕ, ◌+◌, ◌-◌, ◌≡◌, ◌<◌, ◌==◌, Bool, true, false, List, Option, Some, IsTrue}
-use Rattle.qcow2_metadata.specs.L2Mapping.{dropped_run}
+use Rattle.qcow2_metadata.specs.L2Mapping.{old_data_run}
 use Rattle.qcow2_metadata.specs.L2Table.{L2TableView, cover_at}
 use Rattle.qcow2_metadata.specs.RefBlock.{RefBlockView, count_at, counts_of, count_limit, ChangesCount}
 use Rattle.qcow2_metadata.specs.TableBytes.{ChangesEntry}
@@ -40,6 +40,6 @@ module _ {S : Type 0} (caches caches' : MetadataCaches S) (cluster index : ℕ) 
   -- The L2 table of a cluster has another entry at this place, and what it names no longer is answered. No other entry changes, no other L2 table and no refblock.
   pub record SetsEntry (t : L2TableView) (entry : ℕ) (answer : Option (ℕ × ℕ)) : Type 0 where
     pub change : ChangesHeld (l2_at caches) (l2_at caches') cluster (changed_table t)
-        (λ bytes. ChangesEntry t.bytes bytes index entry × (answer ≡ dropped_run t.cluster_bits (cover_at t index) (cover_at (changed_table t bytes) index)))
+        (λ bytes. ChangesEntry t.bytes bytes index entry × (answer ≡ old_data_run t.cluster_bits (cover_at t index) (cover_at (changed_table t bytes) index)))
     pub blocks : caches'.rb ≡ caches.rb
     pub noted : IsTrue caches'.is_changed

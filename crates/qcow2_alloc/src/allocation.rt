@@ -1,11 +1,11 @@
 //! Taking clusters of the image's file.
 ghost use Rattle.std.specs.Prelude.{◌≡◌, ◌≢◌, false, ◌+◌, ◌*◌, ◌/◌, ◌^◌, ◌<◌, ◌≤◌, ◌⊎◌, Bool, IsNone, IfOk, IfErr, OnOk, IsErrOf, IsSome, IsTrue, MatchResult};
-ghost use Rattle.image_access.specs.Moments.{ContentsStay, Passing};
+ghost use Rattle.image_access.specs.Moments.{ContentsStay, EachMomentSince};
 ghost use Rattle.qcow2_laws.specs.Clusters.{L2DependsOnRb};
 ghost use Rattle.qcow2_laws.specs.CrashInvariant.{Pending};
 ghost use Rattle.qcow2_alloc.specs.Allocation.{MayTake, IsUnaligned, TakesCluster, TakesRun, TakesSomeRun, is_data, Allocates, AllocatesAt};
 ghost use Rattle.qcow2_alloc.specs.FreeList.{pending_then, ListsTables, ListsReftables};
-ghost use Rattle.qcow2_alloc.specs.CacheMarks.{KeepsMarks};
+ghost use Rattle.qcow2_alloc.specs.CachePins.{KeepsPinsAndNotes};
 ghost use Rattle.qcow2_alloc.specs.Faults.{CountsFaults};
 ghost use Rattle.qcow2_alloc.specs.Limits.{IsFaultOr, HasNoPlace, CantCount, CantCountRun, nameable_clusters};
 ghost use Rattle.qcow2_alloc.specs.SoundAllocators.{SoundAllocator};
@@ -41,7 +41,7 @@ impl Allocator {
         ensures rest { file.new ≡ record file.old { storage = file.new.storage } }
         ensures honest { (view_in S.view file.old).is_honest → (view_in S.view file.new).is_honest }
         ensures same { ContentsStay (view_in S.view file.old) (view_in S.view file.new) }
-        ensures time { Passing (view_in S.view file.old) (view_in S.view file.new) (λ c. c ≡ (view_in S.view file.new).contents) }
+        ensures time { EachMomentSince (view_in S.view file.old) (view_in S.view file.new) (λ c. c ≡ (view_in S.view file.new).contents) }
         ensures reftable { (view_in S.view file.old).is_honest → IfOk result (λ allocator. HasReftable S.view file.new allocator.reftable) }
         ensures first { IfOk result (λ allocator. allocator.first_free_cluster ≡ 0) }
         ensures leaks { IfOk result (λ allocator. allocator.leaked_clusters ≡ 0) }
@@ -85,7 +85,7 @@ impl Allocator {
         file: &mut ImageFile<S>,
         count: ClusterCount,
     ) -> Result<PendingClusters, ImageError>
-        ensures marks { KeepsMarks file.old.caches file.new.caches }
+        ensures marks { KeepsPinsAndNotes file.old.caches file.new.caches }
         ensures order { order_of file.new.caches ≡ order_of file.old.caches }
         ensures noted { OnOk result (IsTrue file.new.caches.is_changed) }
         ensures sound { (p : Pending) → AllocatorInvariant S.view self.old p file.old → Allocates S.view p file.old self.new file.new (pending_then p file.old.free_list file.new.free_list) ClusterKind.Metadata count result }
@@ -109,7 +109,7 @@ impl Allocator {
         file: &mut ImageFile<S>,
         count: ClusterCount,
     ) -> Result<PendingClusters, ImageError>
-        ensures marks { KeepsMarks file.old.caches file.new.caches }
+        ensures marks { KeepsPinsAndNotes file.old.caches file.new.caches }
         ensures order { OnOk result (order_of file.new.caches ≡ L2DependsOnRb) }
         ensures noted { OnOk result (IsTrue file.new.caches.is_changed) }
         ensures sound { (p : Pending) → AllocatorInvariant S.view self.old p file.old → Allocates S.view p file.old self.new file.new (pending_then p file.old.free_list file.new.free_list) ClusterKind.Data count result }
@@ -135,7 +135,7 @@ impl Allocator {
         file: &mut ImageFile<S>,
         cluster: HostCluster,
     ) -> Result<Option<PendingClusters>, ImageError>
-        ensures marks { KeepsMarks file.old.caches file.new.caches }
+        ensures marks { KeepsPinsAndNotes file.old.caches file.new.caches }
         ensures order { OnOk result (order_of file.new.caches ≡ L2DependsOnRb) }
         ensures noted { IfOk result (λ run. IsSome run → IsTrue file.new.caches.is_changed) }
         ensures sound { (p : Pending) → AllocatorInvariant S.view self.old p file.old → AllocatesAt S.view p file.old self.new file.new (pending_then p file.old.free_list file.new.free_list) cluster result }
@@ -183,7 +183,7 @@ impl Allocator {
         count: ClusterCount,
         kind: ClusterKind,
     ) -> Result<PendingClusters, ImageError>
-        ensures marks { KeepsMarks file.old.caches file.new.caches }
+        ensures marks { KeepsPinsAndNotes file.old.caches file.new.caches }
         ensures order { order_of file.new.caches ≡ order_of file.old.caches }
         ensures noted { OnOk result (IsTrue file.new.caches.is_changed) }
         ensures sound { (p : Pending) → AllocatorInvariant S.view self.old p file.old → MayTake (is_data kind) file.old → Allocates S.view p file.old self.new file.new (pending_then p file.old.free_list file.new.free_list) kind count result }
@@ -217,7 +217,7 @@ impl Allocator {
 
     // Takes the lowest run of n clusters that fits below the greatest offset. Cluster 0 is the header's, whatever its count is.
     fn lowest_run<S: Storage>(&mut self, file: &mut ImageFile<S>, n: u64) -> Result<u64, ImageError>
-        ensures marks { KeepsMarks file.old.caches file.new.caches }
+        ensures marks { KeepsPinsAndNotes file.old.caches file.new.caches }
         ensures order { order_of file.new.caches ≡ order_of file.old.caches }
         ensures noted { OnOk result (IsTrue file.new.caches.is_changed) }
         ensures sound { (p : Pending) (is_data : Bool) → AllocatorInvariant S.view self.old p file.old → MayTake is_data file.old → TakesSomeRun S.view p file.old self.new file.new (pending_then p file.old.free_list file.new.free_list) is_data n result }
@@ -253,7 +253,7 @@ impl Allocator {
         n: u64,
     ) -> Result<u64, ImageError>
         requires { first + n < 2 ^ 63 }
-        ensures marks { KeepsMarks file.old.caches file.new.caches }
+        ensures marks { KeepsPinsAndNotes file.old.caches file.new.caches }
         ensures order { order_of file.new.caches ≡ order_of file.old.caches }
         ensures noted { IfOk result (λ taken. taken ≡ n → 0 < n → IsTrue file.new.caches.is_changed) }
         ensures sound { (p : Pending) (is_data : Bool) → AllocatorInvariant S.view self.old p file.old → MayTake is_data file.old → TakesRun S.view p file.old self.new file.new (pending_then p file.old.free_list file.new.free_list) is_data first n result }
@@ -293,7 +293,7 @@ impl Allocator {
         cluster: u64,
     ) -> Result<bool, ImageError>
         requires { cluster < 2 ^ 63 }
-        ensures marks { KeepsMarks file.old.caches file.new.caches }
+        ensures marks { KeepsPinsAndNotes file.old.caches file.new.caches }
         ensures order { order_of file.new.caches ≡ order_of file.old.caches }
         ensures noted { IfOk result (λ taken. IsTrue taken → IsTrue file.new.caches.is_changed) }
         ensures sound { (p : Pending) (is_data : Bool) → AllocatorInvariant S.view self.old p file.old → MayTake is_data file.old → TakesCluster S.view p file.old self.new file.new (pending_then p file.old.free_list file.new.free_list) is_data cluster result }

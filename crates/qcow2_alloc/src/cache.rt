@@ -5,7 +5,7 @@ ghost use Rattle.qcow2_metadata.specs.declared.header.HeaderFields.{HeaderFields
 ghost use Rattle.qcow2_metadata.specs.TableBytes.{HasPlace};
 ghost use Rattle.qcow2_laws.specs.CrashInvariant.{Pending, CrashInvariant};
 ghost use Rattle.qcow2_laws.specs.Clusters.{Neither, L2DependsOnRb, RbDependsOnL2};
-ghost use Rattle.qcow2_laws.specs.Caches.{IsFreeOf, AreClean, AreSettled, BlocksMayGo, TablesMayGo};
+ghost use Rattle.qcow2_laws.specs.Caches.{IsFreeOf, AreClean, AreNamedBlocks, BlocksMayGo, TablesMayGo};
 ghost use Rattle.qcow2_alloc.specs.ImageError.{IsOfTables, IsFault};
 ghost use Rattle.qcow2_alloc.specs.ImageStorage.{storage_of};
 ghost use Rattle.qcow2_alloc.specs.AsyncLruCache.{can_remove};
@@ -16,7 +16,7 @@ ghost use Rattle.qcow2_metadata.specs.L2Table.{entries_of, cover_at, copied_entr
 ghost use Rattle.qcow2_alloc.specs.TableChanges.{CountsMore, CountsLess, SetsEntry};
 ghost use Rattle.qcow2_alloc.specs.Quiet.{WritesNothing, GetsTableQuietly, GetsBlockQuietly, PutsTableQuietly, PutsBlockQuietly, OtherTablesStay, OtherBlocksStay};
 ghost use Rattle.qcow2_alloc.specs.Faults.{CountsFaults};
-ghost use Rattle.qcow2_alloc.specs.CacheMarks.{l2_pins, CachesHaveRoom, KeepsMarks, SameTables, SetsPins, IsInUseOrFault, LeavesPinned};
+ghost use Rattle.qcow2_alloc.specs.CachePins.{l2_pins, CachesHaveRoom, KeepsPinsAndNotes, SameTables, SetsPins, IsInUseOrFault, LeavesPinned};
 
 mod backends;
 
@@ -55,7 +55,7 @@ impl<S: Storage> MetadataCaches<S> {
     ) -> Result<Self, AllocError>
         ensures sound { IfOk result (λ caches. (p : Pending) (on_storage : Bytes) → CrashInvariant header.now.fields Neither p on_storage on_storage → CacheInvariant header.now.fields p caches on_storage) }
         ensures known { IfOk result (λ caches. (on_storage : Bytes) → known_of header.now.fields caches on_storage ≡ on_storage) }
-        ensures settled { IfOk result (λ caches. (on_storage : Bytes) → AreSettled header.now.fields (refblocks caches) on_storage) }
+        ensures settled { IfOk result (λ caches. (on_storage : Bytes) → AreNamedBlocks header.now.fields (refblocks caches) on_storage) }
         ensures order { IfOk result (λ caches. order_of caches ≡ Neither) }
         ensures sizes { IfOk result (λ caches. (caches.l2.size ≡ l2_entries) × (caches.rb.size ≡ rb_entries)) }
         ensures room { IfOk result (λ caches. 0 < l2_entries → 0 < rb_entries → CachesHaveRoom caches) }
@@ -79,7 +79,7 @@ impl<S: Storage> MetadataCaches<S> {
         ensures direction { self.new.direction ≡ self.old.direction }
         ensures refblocks { self.new.rb ≡ self.old.rb }
         ensures written { OnOk result (AreClean (l2_tables self.new)) }
-        ensures marks { KeepsMarks self.old self.new }
+        ensures marks { KeepsPinsAndNotes self.old self.new }
         ensures faults { (h : HeaderFields) → RefusesBy IsFault S.view storage.old self.old h result }
         ensures keeps { TablesMayGo (order_of self.old) (refblocks self.old) → KeepSound S.view storage.old self.old storage.new self.new }
         ensures free { (size cluster : ℕ) → IsFreeOf size (l2_tables self.old) cluster → IsFreeOf size (l2_tables self.new) cluster }
@@ -97,7 +97,7 @@ impl<S: Storage> MetadataCaches<S> {
         ensures direction { self.new.direction ≡ self.old.direction }
         ensures tables { self.new.l2 ≡ self.old.l2 }
         ensures written { OnOk result (AreClean (refblocks self.new)) }
-        ensures marks { KeepsMarks self.old self.new }
+        ensures marks { KeepsPinsAndNotes self.old self.new }
         ensures faults { (h : HeaderFields) → RefusesBy IsFault S.view storage.old self.old h result }
         ensures keeps { BlocksMayGo (order_of self.old) (l2_tables self.old) → KeepSound S.view storage.old self.old storage.new self.new }
         ensures clean { AreClean (refblocks self.old) → AreClean (refblocks self.new) }
@@ -114,7 +114,7 @@ impl<S: Storage> MetadataCaches<S> {
         ensures storage_faults { CountsFaults S.view storage.old storage.new result }
         ensures order { OnOk result (order_of self.new ≡ L2DependsOnRb) }
         ensures refused { OnErr result (order_of self.new ≡ order_of self.old) }
-        ensures marks { KeepsMarks self.old self.new }
+        ensures marks { KeepsPinsAndNotes self.old self.new }
         ensures faults { (h : HeaderFields) → RefusesBy IsFault S.view storage.old self.old h result }
         ensures keeps { KeepSound S.view storage.old self.old storage.new self.new }
         ensures ordered { WritesInOrder S.view storage.old self.old storage.new }
@@ -138,7 +138,7 @@ impl<S: Storage> MetadataCaches<S> {
         ensures storage_faults { CountsFaults S.view storage.old storage.new result }
         ensures order { OnOk result (order_of self.new ≡ RbDependsOnL2) }
         ensures refused { OnErr result (order_of self.new ≡ order_of self.old) }
-        ensures marks { KeepsMarks self.old self.new }
+        ensures marks { KeepsPinsAndNotes self.old self.new }
         ensures faults { (h : HeaderFields) → RefusesBy IsFault S.view storage.old self.old h result }
         ensures keeps { KeepSound S.view storage.old self.old storage.new self.new }
         ensures ordered { WritesInOrder S.view storage.old self.old storage.new }
@@ -162,7 +162,7 @@ impl<S: Storage> MetadataCaches<S> {
         ensures storage_faults { CountsFaults S.view storage.old storage.new result }
         ensures order { order_of self.new ≡ order_of self.old }
         ensures written { OnOk result (AreAllWritten self.new) }
-        ensures marks { KeepsMarks self.old self.new }
+        ensures marks { KeepsPinsAndNotes self.old self.new }
         ensures faults { (h : HeaderFields) → RefusesBy IsFault S.view storage.old self.old h result }
         ensures keeps { KeepSound S.view storage.old self.old storage.new self.new }
         ensures ordered { WritesInOrder S.view storage.old self.old storage.new }
@@ -187,7 +187,7 @@ impl<S: Storage> MetadataCaches<S> {
         ensures order { order_of self.new ≡ order_of self.old }
         ensures written { OnOk result (AreClean (refblocks self.new)) }
         ensures first { OnOk result (BlocksMayGo (order_of self.new) (l2_tables self.new)) }
-        ensures marks { KeepsMarks self.old self.new }
+        ensures marks { KeepsPinsAndNotes self.old self.new }
         ensures faults { (h : HeaderFields) → RefusesBy IsFault S.view storage.old self.old h result }
         ensures keeps { KeepSound S.view storage.old self.old storage.new self.new }
         ensures ordered { WritesInOrder S.view storage.old self.old storage.new }
@@ -211,7 +211,7 @@ impl<S: Storage> MetadataCaches<S> {
         ensures tables { self.new.l2 ≡ self.old.l2 }
         ensures blocks { AreClean (refblocks self.old) → AreClean (refblocks self.new) }
         ensures first { OnOk result (TablesMayGo (order_of self.new) (refblocks self.new)) }
-        ensures marks { KeepsMarks self.old self.new }
+        ensures marks { KeepsPinsAndNotes self.old self.new }
         ensures faults { (h : HeaderFields) → RefusesBy IsFault S.view storage.old self.old h result }
         ensures keeps { KeepSound S.view storage.old self.old storage.new self.new }
         ensures ordered { WritesInOrder S.view storage.old self.old storage.new }
@@ -232,7 +232,7 @@ impl<S: Storage> MetadataCaches<S> {
         ensures refblocks { self.new.rb ≡ self.old.rb }
         ensures free { (size cluster : ℕ) → IsFreeOf size (l2_tables self.old) cluster → IsFreeOf size (l2_tables self.new) cluster }
         ensures first { OnOk result (BlocksMayGo (order_of self.new) (l2_tables self.new)) }
-        ensures marks { KeepsMarks self.old self.new }
+        ensures marks { KeepsPinsAndNotes self.old self.new }
         ensures faults { (h : HeaderFields) → RefusesBy IsFault S.view storage.old self.old h result }
         ensures keeps { KeepSound S.view storage.old self.old storage.new self.new }
         ensures ordered { WritesInOrder S.view storage.old self.old storage.new }
@@ -254,8 +254,8 @@ impl<S: Storage> MetadataCaches<S> {
         ensures cause { IfErr result IsOfTables }
         ensures storage_faults { CountsFaults S.view storage.old storage.new result }
         ensures order { order_of self.new ≡ order_of self.old }
-        ensures held { OnOk result (IsSome (l2_at self.new cluster)) }
-        ensures marks { KeepsMarks self.old self.new }
+        ensures cached { OnOk result (IsSome (l2_at self.new cluster)) }
+        ensures marks { KeepsPinsAndNotes self.old self.new }
         ensures refusals { (h : HeaderFields) → HasPlace h.cluster_bits cluster → RefusesBy (IsInUseOrFault self.old) S.view storage.old self.old h result }
         ensures keeps { KeepSound S.view storage.old self.old storage.new self.new }
         ensures ordered { WritesInOrder S.view storage.old self.old storage.new }
@@ -280,8 +280,8 @@ impl<S: Storage> MetadataCaches<S> {
         ensures cause { IfErr result IsOfTables }
         ensures storage_faults { CountsFaults S.view storage.old storage.new result }
         ensures order { order_of self.new ≡ order_of self.old }
-        ensures held { OnOk result (IsSome (rb_at self.new cluster)) }
-        ensures marks { KeepsMarks self.old self.new }
+        ensures cached { OnOk result (IsSome (rb_at self.new cluster)) }
+        ensures marks { KeepsPinsAndNotes self.old self.new }
         ensures faults { CachesHaveRoom self.old → (h : HeaderFields) → HasPlace h.cluster_bits cluster → RefusesBy IsFault S.view storage.old self.old h result }
         ensures keeps { KeepSound S.view storage.old self.old storage.new self.new }
         ensures ordered { WritesInOrder S.view storage.old self.old storage.new }
@@ -307,8 +307,8 @@ impl<S: Storage> MetadataCaches<S> {
         ensures cause { IfErr result IsOfTables }
         ensures storage_faults { CountsFaults S.view storage.old storage.new result }
         ensures order { order_of self.new ≡ order_of self.old }
-        ensures held { OnOk result (IfSome table.cluster (λ cluster. l2_at self.new cluster ≡ Some table)) }
-        ensures marks { KeepsMarks self.old self.new }
+        ensures cached { OnOk result (IfSome table.cluster (λ cluster. l2_at self.new cluster ≡ Some table)) }
+        ensures marks { KeepsPinsAndNotes self.old self.new }
         ensures refusals { PutRefusesBy (IsInUseOrFault self.old) S.view storage.old self.old (λ h. IsTableOf h table) table.cluster table.bytes table.is_modified result }
         ensures keeps { PutSound S.view storage.old self.old storage.new self.new (λ h. IsTableOf h table) table.cluster table.bytes table.is_modified }
         ensures laid { OnOk result (LaysTable S.view storage.old self.old storage.new self.new table) }
@@ -344,8 +344,8 @@ impl<S: Storage> MetadataCaches<S> {
         ensures cause { IfErr result IsOfTables }
         ensures storage_faults { CountsFaults S.view storage.old storage.new result }
         ensures order { order_of self.new ≡ order_of self.old }
-        ensures held { OnOk result (IfSome block.cluster (λ cluster. rb_at self.new cluster ≡ Some block)) }
-        ensures marks { KeepsMarks self.old self.new }
+        ensures cached { OnOk result (IfSome block.cluster (λ cluster. rb_at self.new cluster ≡ Some block)) }
+        ensures marks { KeepsPinsAndNotes self.old self.new }
         ensures faults { CachesHaveRoom self.old → PutRefusesBy IsFault S.view storage.old self.old (λ h. IsBlockOf h block) block.cluster block.bytes block.is_modified result }
         ensures keeps { PutSound S.view storage.old self.old storage.new self.new (λ h. IsBlockOf h block) block.cluster block.bytes block.is_modified }
         ensures laid { OnOk result (LaysBlock S.view storage.old self.old storage.new self.new block) }
@@ -388,7 +388,7 @@ impl<S: Storage> MetadataCaches<S> {
     pub fn l2_pin(&mut self, cluster: HostCluster) -> bool
         ensures tables { SameTables self.old self.new }
         ensures changed { self.new.is_changed ≡ self.old.is_changed }
-        ensures held { IsTrue result → IsSome (l2_at self.old cluster) }
+        ensures cached { IsTrue result → IsSome (l2_at self.old cluster) }
         ensures pinned { IsTrue result → SetsPins self.old self.new cluster (l2_pins self.old cluster + 1) }
         ensures refused { IsFalse result → IsNone (l2_at self.old cluster) ⊎ (2 ^ 64 - 1 ≤ l2_pins self.old cluster) }
         ensures same { IsFalse result → self.new ≡ self.old }
@@ -414,7 +414,7 @@ impl<S: Storage> MetadataCaches<S> {
         ensures answer { result ≡ can_remove (λ k. cluster == k) self.old.rb.entries }
         ensures same { IsFalse result → self.new ≡ self.old }
         ensures others { (c : ℕ) → cluster == c ≡ false → rb_at self.new c ≡ rb_at self.old c }
-        ensures marks { KeepsMarks self.old self.new }
+        ensures marks { KeepsPinsAndNotes self.old self.new }
         ensures taken { IsTrue result → TakesBlock self.old self.new cluster }
         ensures clean { AreClean (refblocks self.old) → AreClean (refblocks self.new) }
         ensures gone { (h : HeaderFields) (p : Pending) (on_storage : Bytes) → CacheInvariant h p self.old on_storage → CachesHaveRoom self.old → rb_at self.new cluster ≡ None }
@@ -428,7 +428,7 @@ impl<S: Storage> MetadataCaches<S> {
         ensures order { order_of self.new ≡ order_of self.old }
         ensures blocks { refblocks self.new ≡ refblocks self.old }
         ensures left { LeavesPinned self.old.l2.entries result self.new.l2.entries }
-        ensures marks { KeepsMarks self.old self.new }
+        ensures marks { KeepsPinsAndNotes self.old self.new }
         ensures taken { TakesOff (AreClean (l2_tables self.old)) self.old self.new }
     {
         self.l2.invalidate()?;
@@ -441,7 +441,7 @@ impl<S: Storage> MetadataCaches<S> {
         ensures order { order_of self.new ≡ order_of self.old }
         ensures tables { l2_tables self.new ≡ l2_tables self.old }
         ensures left { LeavesPinned self.old.rb.entries result self.new.rb.entries }
-        ensures marks { KeepsMarks self.old self.new }
+        ensures marks { KeepsPinsAndNotes self.old self.new }
         ensures taken { TakesOff (AreClean (refblocks self.old)) self.old self.new }
     {
         self.rb.invalidate()?;
@@ -477,7 +477,7 @@ impl<S: Storage> MetadataCaches<S> {
         ensures changed { IsTrue self.new.is_changed }
         ensures same { self.new ≡ record self.old { is_changed = true } }
         ensures tables { SameTables self.old self.new }
-        ensures marks { KeepsMarks self.old self.new }
+        ensures marks { KeepsPinsAndNotes self.old self.new }
     {
         self.is_changed = true;
     }
@@ -497,7 +497,7 @@ impl<S: Storage> MetadataCaches<S> {
         host: HostCluster,
     ) -> Option<(HostCluster, ClusterCount)>
         ensures order { order_of self.new ≡ order_of self.old }
-        ensures marks { KeepsMarks self.old self.new }
+        ensures marks { KeepsPinsAndNotes self.old self.new }
         ensures mapped { MapsCachedEntry self.old self.new cluster index host result }
         ensures noted { NotesEntry self.old self.new cluster index host }
         ensures entry { IfSome (l2_at self.old cluster) (λ t. index < entries_of t → IsHostCluster t.cluster_bits host → SetsEntry self.old self.new cluster index t (copied_entry (host * 2 ^ t.cluster_bits)) result) }
@@ -520,7 +520,7 @@ impl<S: Storage> MetadataCaches<S> {
         keep: bool,
     ) -> Option<(HostCluster, ClusterCount)>
         ensures order { order_of self.new ≡ order_of self.old }
-        ensures marks { KeepsMarks self.old self.new }
+        ensures marks { KeepsPinsAndNotes self.old self.new }
         ensures zeroed { ZeroesEntry self.old self.new cluster index keep result }
         ensures noted { NotesHeld self.old self.new cluster index }
         ensures entry { IfSome (l2_at self.old cluster) (λ t. index < entries_of t → SetsEntry self.old self.new cluster index t (zero_entry (if keep then copied_host (cover_at t index) else None)) result) }
@@ -541,7 +541,7 @@ impl<S: Storage> MetadataCaches<S> {
         index: usize,
     ) -> Option<(HostCluster, ClusterCount)>
         ensures order { order_of self.new ≡ order_of self.old }
-        ensures marks { KeepsMarks self.old self.new }
+        ensures marks { KeepsPinsAndNotes self.old self.new }
         ensures discarded { DiscardsEntry self.old self.new cluster index result }
         ensures noted { NotesHeld self.old self.new cluster index }
         ensures entry { IfSome (l2_at self.old cluster) (λ t. index < entries_of t → SetsEntry self.old self.new cluster index t 0 result) }
@@ -570,7 +570,7 @@ impl<S: Storage> MetadataCaches<S> {
         ensures order { order_of self.new ≡ order_of self.old }
         ensures counted { IsTrue result → RaisesCount self.old self.new cluster index }
         ensures refused { IsFalse result → self.new ≡ self.old }
-        ensures marks { KeepsMarks self.old self.new }
+        ensures marks { KeepsPinsAndNotes self.old self.new }
         ensures noted { IsTrue result → IsTrue self.new.is_changed }
         ensures made { RaisesZero self.old cluster index result }
         ensures counts { IfSome (rb_at self.old cluster) (λ b. CountsMore self.old self.new cluster index b result) }
@@ -591,10 +591,10 @@ impl<S: Storage> MetadataCaches<S> {
         ensures order { order_of self.new ≡ order_of self.old }
         ensures counted { IsTrue result → LowersCount self.old self.new cluster index }
         ensures refused { IsFalse result → self.new ≡ self.old }
-        ensures marks { KeepsMarks self.old self.new }
+        ensures marks { KeepsPinsAndNotes self.old self.new }
         ensures noted { IsTrue result → IsTrue self.new.is_changed }
         ensures made { LowersSome self.old cluster index result }
-        ensures held { IsTrue result → IsSome (rb_at self.new cluster) }
+        ensures cached { IsTrue result → IsSome (rb_at self.new cluster) }
         ensures counts { IfSome (rb_at self.old cluster) (λ b. CountsLess self.old self.new cluster index b result) }
         ensures missing { IsNone (rb_at self.old cluster) → IsFalse result }
     {

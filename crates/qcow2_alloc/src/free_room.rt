@@ -3,7 +3,7 @@ ghost use Rattle.std.specs.Prelude.{◌≡◌, ◌≢◌, ◌⊎◌, ℕ, ◌+�
 ghost use Rattle.qcow2_metadata.specs.Header.{counts_per_block};
 ghost use Rattle.qcow2_laws.specs.CrashInvariant.{Pending};
 ghost use Rattle.qcow2_alloc.specs.Allocation.{run_at, UnseenAllocatorStep, GivesBack};
-ghost use Rattle.qcow2_alloc.specs.CacheMarks.{KeepsMarks};
+ghost use Rattle.qcow2_alloc.specs.CachePins.{KeepsPinsAndNotes};
 ghost use Rattle.qcow2_alloc.specs.Faults.{CountsFaults};
 ghost use Rattle.qcow2_alloc.specs.GrownTables.{counted_run, with_run};
 ghost use Rattle.qcow2_alloc.specs.ImageError.{IsOfTables};
@@ -42,7 +42,7 @@ impl Allocator {
         requires some { 0 < clusters }
         requires few { clusters ≤ 2 ^ 32 }
         requires near { end ≤ 2 ^ 60 }
-        ensures marks { KeepsMarks file.old.caches file.new.caches }
+        ensures marks { KeepsPinsAndNotes file.old.caches file.new.caches }
         ensures order { order_of file.new.caches ≡ order_of file.old.caches }
         ensures reftable { self.new.reftable ≡ self.old.reftable }
         ensures first { self.new.first_free_cluster ≡ self.old.first_free_cluster }
@@ -85,7 +85,7 @@ impl Allocator {
         requires below { first < end }
         requires few { clusters ≤ 2 ^ 32 }
         requires near { end ≤ 2 ^ 60 }
-        ensures marks { KeepsMarks file.old.caches file.new.caches }
+        ensures marks { KeepsPinsAndNotes file.old.caches file.new.caches }
         ensures order { order_of file.new.caches ≡ order_of file.old.caches }
         ensures same { self.new ≡ self.old }
         ensures sound { (p : Pending) → AllocatorInvariant S.view self.old p file.old → ReachesRoom S.view p file.old self.new file.new self.old.reftable first result }
@@ -123,7 +123,7 @@ impl Allocator {
     ) -> Result<bool, ImageError>
         requires counts { counts_per_block file.old.header.fields ≡ 2 ^ bits }
         requires few { bits < 64 }
-        ensures marks { KeepsMarks file.old.caches file.new.caches }
+        ensures marks { KeepsPinsAndNotes file.old.caches file.new.caches }
         ensures order { order_of file.new.caches ≡ order_of file.old.caches }
         ensures same { self.new ≡ self.old }
         ensures sound { (p : Pending) → AllocatorInvariant S.view self.old p file.old → TakesFree S.view p file.old self.new file.new self.old.reftable cluster result }
@@ -157,7 +157,7 @@ impl Allocator {
     ) -> Result<(), ImageError>
         requires near { first + n < 2 ^ 63 }
         requires free { self.old.first_free_cluster ≤ first }
-        ensures marks { KeepsMarks file.old.caches file.new.caches }
+        ensures marks { KeepsPinsAndNotes file.old.caches file.new.caches }
         ensures order { order_of file.new.caches ≡ order_of file.old.caches }
         ensures reftable { self.new.reftable ≡ self.old.reftable }
         ensures first { self.new.first_free_cluster ≡ self.old.first_free_cluster }

@@ -4,7 +4,7 @@ ghost use Rattle.qcow2_laws.specs.Changes.{one_at};
 ghost use Rattle.qcow2_laws.specs.CrashInvariant.{Pending};
 ghost use Rattle.qcow2_alloc.specs.Allocation.{run_at, taken_as, MayFree, Owed, listed_as, owed_as, MayLower, SameLeaks, Frees, LowersOne, GivesBack, GivesBackRun};
 ghost use Rattle.qcow2_alloc.specs.FreeList.{run_of, with_listed, but, GoOffInOrder};
-ghost use Rattle.qcow2_alloc.specs.CacheMarks.{KeepsMarks};
+ghost use Rattle.qcow2_alloc.specs.CachePins.{KeepsPinsAndNotes};
 ghost use Rattle.qcow2_alloc.specs.Faults.{CountsFaults};
 ghost use Rattle.qcow2_alloc.specs.Leaks.{TriesToLower, LowersOrLeaks};
 ghost use Rattle.qcow2_alloc.specs.SoundAllocators.{SoundAllocator};
@@ -27,7 +27,7 @@ impl Allocator {
         n: u64,
     ) -> Result<(), ImageError>
         requires { first + n < 2 ^ 63 }
-        ensures marks { KeepsMarks file.old.caches file.new.caches }
+        ensures marks { KeepsPinsAndNotes file.old.caches file.new.caches }
         ensures order { order_of file.new.caches ≡ order_of file.old.caches }
         ensures reftable { self.new.reftable ≡ self.old.reftable }
         ensures sound { GivesBackRun S.view self.old file.old self.new file.new first n result }
@@ -53,7 +53,7 @@ impl Allocator {
         file: &mut ImageFile<S>,
         cluster: u64,
     ) -> Result<(), ImageError>
-        ensures marks { KeepsMarks file.old.caches file.new.caches }
+        ensures marks { KeepsPinsAndNotes file.old.caches file.new.caches }
         ensures order { order_of file.new.caches ≡ order_of file.old.caches }
         ensures reftable { self.new.reftable ≡ self.old.reftable }
         ensures first { self.old.first_free_cluster ≤ cluster → self.new.first_free_cluster ≡ self.old.first_free_cluster }
@@ -84,7 +84,7 @@ impl Allocator {
     /// Works off the list of clusters that are to be freed: metadata first, then data. From then on L2 tables are written before refblocks.
     /// Refused, the clusters that aren't freed yet stay listed.
     pub fn free<S: Storage>(&mut self, file: &mut ImageFile<S>) -> Result<(), ImageError>
-        ensures marks { KeepsMarks file.old.caches file.new.caches }
+        ensures marks { KeepsPinsAndNotes file.old.caches file.new.caches }
         ensures emptied { OnOk result (file.new.free_list ≡ []) }
         ensures in_order { GoOffInOrder file.old.free_list file.new.free_list }
         ensures sound { (p : Pending) → AllocatorInvariant S.view self.old (with_listed p file.old.free_list) file.old
@@ -110,7 +110,7 @@ impl Allocator {
         file: &mut ImageFile<S>,
         kind: ClusterKind,
     ) -> Result<(), ImageError>
-        ensures marks { KeepsMarks file.old.caches file.new.caches }
+        ensures marks { KeepsPinsAndNotes file.old.caches file.new.caches }
         ensures order { order_of file.new.caches ≡ order_of file.old.caches }
         ensures left { OnOk result (file.new.free_list ≡ but kind file.old.free_list) }
         ensures others { but kind file.new.free_list ≡ but kind file.old.free_list }
@@ -136,7 +136,7 @@ impl Allocator {
         taken: &mut TakenClusters,
         kind: ClusterKind,
     ) -> Result<(), ImageError>
-        ensures marks { KeepsMarks file.old.caches file.new.caches }
+        ensures marks { KeepsPinsAndNotes file.old.caches file.new.caches }
         ensures order { order_of file.new.caches ≡ order_of file.old.caches }
         ensures all { OnOk result (taken.new ≡ []) }
         ensures left { OnOk result (file.new.free_list ≡ file.old.free_list ++ but kind taken.old) }
@@ -163,7 +163,7 @@ impl Allocator {
         pending: PendingClusters,
         kind: ClusterKind,
     ) -> Result<(), ImageError>
-        ensures marks { KeepsMarks file.old.caches file.new.caches }
+        ensures marks { KeepsPinsAndNotes file.old.caches file.new.caches }
         ensures order { order_of file.new.caches ≡ order_of file.old.caches }
         ensures left { OnOk result (file.new.free_list ≡ file.old.free_list ++ but kind (pending ∷ [])) }
         ensures others { but kind file.new.free_list ≡ but kind (file.old.free_list ++ pending ∷ []) }
@@ -189,7 +189,7 @@ impl Allocator {
         file: &mut ImageFile<S>,
         pending: PendingClusters,
     ) -> Result<(), ImageError>
-        ensures marks { KeepsMarks file.old.caches file.new.caches }
+        ensures marks { KeepsPinsAndNotes file.old.caches file.new.caches }
         ensures order { order_of file.new.caches ≡ order_of file.old.caches }
         ensures left { OnOk result (file.new.free_list ≡ file.old.free_list) }
         ensures others { but pending.kind file.new.free_list ≡ but pending.kind file.old.free_list }
@@ -221,7 +221,7 @@ impl Allocator {
         file: &mut ImageFile<S>,
         run: &mut PendingClusters,
     ) -> Result<(), ImageError>
-        ensures marks { KeepsMarks file.old.caches file.new.caches }
+        ensures marks { KeepsPinsAndNotes file.old.caches file.new.caches }
         ensures order { order_of file.new.caches ≡ order_of file.old.caches }
         ensures kind { run.new.kind ≡ run.old.kind }
         ensures all { OnOk result (run.new.count ≡ 0) }
@@ -248,7 +248,7 @@ impl Allocator {
         file: &mut ImageFile<S>,
         cluster: u64,
     ) -> Result<bool, ImageError>
-        ensures marks { KeepsMarks file.old.caches file.new.caches }
+        ensures marks { KeepsPinsAndNotes file.old.caches file.new.caches }
         ensures order { order_of file.new.caches ≡ order_of file.old.caches }
         ensures reftable { self.new.reftable ≡ self.old.reftable }
         ensures leaked { self.new.leaked_clusters ≡ self.old.leaked_clusters }

@@ -15,7 +15,7 @@ pub struct ImageFile<S: Storage> {
 
 impl<S: Storage> ImageFile<S> {
     ghost use Rattle.std.specs.Prelude.{◌≡◌, ◌||◌, false};
-    ghost use Rattle.qcow2_alloc.specs.CacheMarks.{SameTables};
+    ghost use Rattle.qcow2_alloc.specs.CachePins.{SameTables};
     ghost use Rattle.qcow2_alloc.specs.ImageStorage.{storage_of, is_changed_of};
 
     /// From here on it is noted anew whether anything changes.

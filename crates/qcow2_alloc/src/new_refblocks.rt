@@ -8,7 +8,7 @@ ghost use Rattle.qcow2_metadata.specs.TableBytes.{HasPlace};
 ghost use Rattle.qcow2_laws.specs.Caches.{AreClean, BlocksMayGo};
 ghost use Rattle.qcow2_laws.specs.CrashInvariant.{Pending};
 ghost use Rattle.qcow2_alloc.specs.Allocation.{run_at};
-ghost use Rattle.qcow2_alloc.specs.CacheMarks.{KeepsMarks};
+ghost use Rattle.qcow2_alloc.specs.CachePins.{KeepsPinsAndNotes};
 ghost use Rattle.qcow2_alloc.specs.Faults.{CountsFaults};
 ghost use Rattle.qcow2_alloc.specs.GrownTables.{with_run, NamesReftable};
 ghost use Rattle.qcow2_alloc.specs.ImageError.{IsOfTables};
@@ -63,7 +63,7 @@ fn write_new_block<S: Storage>(
 ) -> Result<(), ImageError>
     requires place { block.now.cluster ≡ Some cluster }
     requires whole { IsRefBlock block.now }
-    ensures marks { KeepsMarks file.old.caches file.new.caches }
+    ensures marks { KeepsPinsAndNotes file.old.caches file.new.caches }
     ensures order { order_of file.new.caches ≡ order_of file.old.caches }
     ensures tables { l2_tables file.new.caches ≡ l2_tables file.old.caches }
     ensures clean { AreClean (refblocks file.old.caches) → AreClean (refblocks file.new.caches) }
@@ -121,7 +121,7 @@ impl Allocator {
         requires near { room.first + room_length room ≤ greatest_offset / 2 ^ file.old.header.fields.cluster_bits + 1 }
         requires bits { table.old.cluster_bits ≡ file.old.header.fields.cluster_bits }
         requires blocks { room.blocks ≡ opened self.now.reftable (counts_per_block file.old.header.fields) room.first (room_length room) }
-        ensures marks { KeepsMarks file.old.caches file.new.caches }
+        ensures marks { KeepsPinsAndNotes file.old.caches file.new.caches }
         ensures order { order_of file.new.caches ≡ order_of file.old.caches }
         ensures tables { l2_tables file.new.caches ≡ l2_tables file.old.caches }
         ensures clean { AreClean (refblocks file.old.caches) → AreClean (refblocks file.new.caches) }
@@ -172,7 +172,7 @@ impl Allocator {
         requires bits { table.cluster_bits ≡ file.old.header.fields.cluster_bits }
         requires blocks { room.blocks ≡ opened self.old.reftable (counts_per_block file.old.header.fields) room.first (room_length room) }
         requires noted { IsTrue file.old.caches.is_changed }
-        ensures marks { KeepsMarks file.old.caches file.new.caches }
+        ensures marks { KeepsPinsAndNotes file.old.caches file.new.caches }
         ensures order { order_of file.new.caches ≡ order_of file.old.caches }
         ensures table { OnOk result (entry_count self.new.reftable ≡ entry_count table) }
         ensures place { OnOk result (self.new.reftable.cluster ≡ Some (room.first + room.blocks)) }

@@ -3,7 +3,7 @@ ghost use Rattle.std.specs.Prelude.{◌≡◌, ◌≢◌, ◌/◌, false, ℕ, �
 ghost use Rattle.qcow2_laws.specs.CrashInvariant.{Pending};
 ghost use Rattle.qcow2_alloc.specs.Allocation.{placing, first_counts, HasPlaceFor, KeepsEntries, MayTake, LoadsBlock, WritesBlock, PlacesBlock, NamesBlock, IsUnaligned, TakesOne, HasNone, GetsBlock, TakesLowest, GrowsTable};
 ghost use Rattle.qcow2_alloc.specs.FreeList.{pending_then, ListsTables, SamePlace, ListsReftables};
-ghost use Rattle.qcow2_alloc.specs.CacheMarks.{KeepsMarks, LeavesPinned};
+ghost use Rattle.qcow2_alloc.specs.CachePins.{KeepsPinsAndNotes, LeavesPinned};
 ghost use Rattle.qcow2_alloc.specs.Faults.{CountsFaults};
 ghost use Rattle.qcow2_alloc.specs.Limits.{IsFaultOr, CantCount};
 ghost use Rattle.qcow2_alloc.specs.LowestRuns.{NoFreeBelowHint, IsUsed, KeepsNoFreeBelowHint, KeepsUsed};
@@ -51,7 +51,7 @@ fn new_block(
 #[tactic(auto, using(crate::proofs::TableErrors::storage_of_tables))]
 fn write_block<S: Storage>(file: &mut ImageFile<S>, mut block: RefBlock) -> Result<(), ImageError>
     requires { IsSome block.cluster }
-    ensures marks { KeepsMarks file.old.caches file.new.caches }
+    ensures marks { KeepsPinsAndNotes file.old.caches file.new.caches }
     ensures order { order_of file.new.caches ≡ order_of file.old.caches }
     ensures sound { (p : Pending) (counts_itself : Bool) (allocator : Allocator) (range at : ℕ) → AllocatorInvariant S.view allocator (placing counts_itself p at) file.old
         → HasPlaceFor counts_itself file.old.header.fields allocator.reftable range at → IsBlockOf file.old.header.fields block → block.cluster ≡ Some at
@@ -82,7 +82,7 @@ impl Allocator {
         ensures order { order_of file.new.caches ≡ order_of file.old.caches }
         ensures tables { l2_tables file.new.caches ≡ l2_tables file.old.caches }
         ensures left { LeavesPinned file.old.caches.rb.entries result file.new.caches.rb.entries }
-        ensures marks { KeepsMarks file.old.caches file.new.caches }
+        ensures marks { KeepsPinsAndNotes file.old.caches file.new.caches }
         ensures taken { TakesOff (AreClean (refblocks file.old.caches)) file.old.caches file.new.caches }
         ensures rest { file.new ≡ record file.old { caches = file.new.caches } }
         ensures anew { self.new ≡ record self.old { first_free_cluster = 0 } }
@@ -97,7 +97,7 @@ impl Allocator {
         file: &mut ImageFile<S>,
         range: u64,
     ) -> Result<Option<HostCluster>, ImageError>
-        ensures marks { KeepsMarks file.old.caches file.new.caches }
+        ensures marks { KeepsPinsAndNotes file.old.caches file.new.caches }
         ensures order { order_of file.new.caches ≡ order_of file.old.caches }
         ensures sound { (p : Pending) → AllocatorInvariant S.view self.now p file.old → LoadsBlock S.view p file.old self.now file.new range result }
         ensures header { file.new.header ≡ file.old.header }
@@ -123,7 +123,7 @@ impl Allocator {
         file: &mut ImageFile<S>,
         cluster: u64,
     ) -> Result<bool, ImageError>
-        ensures marks { KeepsMarks file.old.caches file.new.caches }
+        ensures marks { KeepsPinsAndNotes file.old.caches file.new.caches }
         ensures order { order_of file.new.caches ≡ order_of file.old.caches }
         ensures noted { IfOk result (λ taken. IsTrue taken → IsTrue file.new.caches.is_changed) }
         ensures same { self.new ≡ self.old }
@@ -151,7 +151,7 @@ impl Allocator {
         cluster: u64,
     ) -> Result<(), ImageError>
         requires { cluster < 2 ^ 63 }
-        ensures marks { KeepsMarks file.old.caches file.new.caches }
+        ensures marks { KeepsPinsAndNotes file.old.caches file.new.caches }
         ensures order { order_of file.new.caches ≡ order_of file.old.caches }
         ensures sound { (p : Pending) → AllocatorInvariant S.view self.old p file.old → GrowsTable S.view p file.old self.new file.new (pending_then p file.old.free_list file.new.free_list) result }
         ensures header { KeepsHeader file.old.header file.new.header }
@@ -180,7 +180,7 @@ impl Allocator {
         cluster: u64,
     ) -> Result<(), ImageError>
         requires { cluster < 2 ^ 63 }
-        ensures marks { KeepsMarks file.old.caches file.new.caches }
+        ensures marks { KeepsPinsAndNotes file.old.caches file.new.caches }
         ensures order { order_of file.new.caches ≡ order_of file.old.caches }
         ensures sound { (p : Pending) → AllocatorInvariant S.view self.old p file.old → GetsBlock S.view p file.old self.new file.new result }
         ensures header { file.new.header ≡ file.old.header }
@@ -221,7 +221,7 @@ impl Allocator {
         end: u64,
     ) -> Result<Option<u64>, ImageError>
         requires { end < 2 ^ 63 }
-        ensures marks { KeepsMarks file.old.caches file.new.caches }
+        ensures marks { KeepsPinsAndNotes file.old.caches file.new.caches }
         ensures order { order_of file.new.caches ≡ order_of file.old.caches }
         ensures noted { IfOk result (λ at. IsSome at → IsTrue file.new.caches.is_changed) }
         ensures below { IfOk result (λ at. IfSome at (λ at. (0 < at) × (at < end))) }
@@ -254,7 +254,7 @@ impl Allocator {
         range: u64,
     ) -> Result<(), ImageError>
         requires { range * counts_per_block file.old.header.fields < 2 ^ 63 }
-        ensures marks { KeepsMarks file.old.caches file.new.caches }
+        ensures marks { KeepsPinsAndNotes file.old.caches file.new.caches }
         ensures order { order_of file.new.caches ≡ order_of file.old.caches }
         ensures entries { KeepsEntries (λ k. k ≢ range) self.old.reftable self.new.reftable }
         ensures sound { (p : Pending) → AllocatorInvariant S.view self.old p file.old → GetsBlock S.view p file.old self.new file.new result }
@@ -291,7 +291,7 @@ impl Allocator {
         requires elsewhere { 0 < at }
         requires nameable { IsHostCluster self.old.reftable.cluster_bits at }
         requires nameable_here { IsHostCluster file.old.header.fields.cluster_bits at }
-        ensures marks { KeepsMarks file.old.caches file.new.caches }
+        ensures marks { KeepsPinsAndNotes file.old.caches file.new.caches }
         ensures order { order_of file.new.caches ≡ order_of file.old.caches }
         ensures noted { OnOk result (IsTrue file.new.caches.is_changed) }
         ensures entries { KeepsEntries (λ k. k ≢ range) self.old.reftable self.new.reftable }

@@ -5,7 +5,7 @@ ghost use Rattle.qcow2_metadata.specs.EntryTable.{entry_count, IsRefTable};
 ghost use Rattle.qcow2_metadata.specs.Header.{entries_per_cluster, counts_per_block};
 ghost use Rattle.qcow2_metadata.specs.TableBytes.{entry_at};
 ghost use Rattle.qcow2_alloc.specs.Allocation.{GrowsTable};
-ghost use Rattle.qcow2_alloc.specs.CacheMarks.{KeepsMarks};
+ghost use Rattle.qcow2_alloc.specs.CachePins.{KeepsPinsAndNotes};
 ghost use Rattle.qcow2_alloc.specs.Faults.{CountsFaults};
 ghost use Rattle.qcow2_alloc.specs.ClustersToFree.{metadata_entry};
 ghost use Rattle.qcow2_alloc.specs.declared.clusters_to_free.ClusterKind.TheVariants.{Metadata};
@@ -36,7 +36,7 @@ impl Allocator {
         file: &mut ImageFile<S>,
         index: usize,
     ) -> Result<(), ImageError>
-        ensures marks { KeepsMarks file.old.caches file.new.caches }
+        ensures marks { KeepsPinsAndNotes file.old.caches file.new.caches }
         ensures order { order_of file.new.caches ≡ order_of file.old.caches }
         ensures noted { OnOk result (IsTrue file.new.caches.is_changed) }
         ensures sound { (p : Pending) → AllocatorInvariant S.view self.old p file.old → GrowsTable S.view p file.old self.new file.new (pending_then p file.old.free_list file.new.free_list) result }
@@ -119,7 +119,7 @@ impl Allocator {
         table: RefTable,
     ) -> Result<(), ImageError>
         requires some { 0 < entry_count table }
-        ensures marks { KeepsMarks file.old.caches file.new.caches }
+        ensures marks { KeepsPinsAndNotes file.old.caches file.new.caches }
         ensures order { order_of file.new.caches ≡ order_of file.old.caches }
         ensures noted { OnOk result (IsTrue file.new.caches.is_changed) }
         ensures enters { (p : Pending) → AllocatorInvariant S.view self.old p file.old → IsCloneOf self.old.reftable table → entry_count table % entries_per_cluster file.old.header.fields ≡ 0 → EntersReftable S.view p file.old self.new file.new result }

@@ -1,7 +1,7 @@
 //! The header's pointer to a longer reftable.
 ghost use Rattle.std.specs.Prelude.{◌≡◌, ℕ, ◌+◌, OnOk, OnErr, IfErr, IsTrue};
 ghost use Rattle.qcow2_laws.specs.CrashInvariant.{Pending};
-ghost use Rattle.qcow2_alloc.specs.CacheMarks.{KeepsMarks};
+ghost use Rattle.qcow2_alloc.specs.CachePins.{KeepsPinsAndNotes};
 ghost use Rattle.qcow2_alloc.specs.Faults.{CountsFaults};
 ghost use Rattle.qcow2_alloc.specs.GrownTables.{with_run, StandsGrown, NamesReftable};
 ghost use Rattle.qcow2_alloc.specs.ImageError.{IsOfTables};
@@ -20,7 +20,7 @@ impl Allocator {
         file: &mut ImageFile<S>,
         table: RefTable,
     ) -> Result<(), ImageError>
-        ensures marks { KeepsMarks file.old.caches file.new.caches }
+        ensures marks { KeepsPinsAndNotes file.old.caches file.new.caches }
         ensures order { order_of file.new.caches ≡ order_of file.old.caches }
         ensures noted { OnOk result (IsTrue file.new.caches.is_changed) }
         ensures names { (p : Pending) (first blocks clusters : ℕ) → AllocatorInvariant S.view self.old (with_run p file.old.header.fields self.old.reftable first (blocks + clusters)) file.old

@@ -1,7 +1,7 @@
 -- Reads one after the other.
 use Rattle.std.proofs.Common.{◌≡◌, Result, Ok, ◌∙◌, refl, arith}
 use Rattle.image_access.specs.Moments.{StorageView}
-use Rattle.image_access.proofs.Passing.{passes_none, passes_on, cause_since}
+use Rattle.image_access.proofs.EachMomentSince.{passes_none, passes_on, cause_since}
 use Rattle.qcow2_metadata.specs.declared.error.MetadataError.{MetadataError}
 use Rattle.qcow2_metadata.specs.MetadataError.{OnlyReads}
 

@@ -1,13 +1,13 @@
 -- Calls one after another, as a session's read or write makes them, and where stops may find an image on the way. Each of these moments is built here.
 use Rattle.std.proofs.Common.{◌≡◌, ◌⊎◌, ⊎_elim, inl, inr, ℕ, List, IsTrue, sym, ap, ◌∙◌, subst}
-use Rattle.image_access.specs.Moments.{StorageView, Passing}
-use Rattle.image_access.proofs.Passing.{passes_none, passes_if, passes_on}
+use Rattle.image_access.specs.Moments.{StorageView, EachMomentSince}
+use Rattle.image_access.proofs.EachMomentSince.{passes_none, passes_if, passes_on}
 use Rattle.qcow2_metadata.specs.Bytes.{Bytes, byte_at}
 use Rattle.qcow2_metadata.specs.Guest.{Value}
 use Rattle.qcow2_disk.specs.Disk.{disk, disk_with}
 use Rattle.qcow2_disk.specs.Stops.{GivenBytes, IsGiven, Checkpoint, checkpoint_with, StopOkEverywhere, SafeThroughout}
 use Rattle.qcow2_disk.specs.AbstractImages.{Setting, AbstractImage, stored_bytes, guest_of}
-use Rattle.qcow2_disk.specs.Calls.{StartsAt, Stops, Works, Rests}
+use Rattle.qcow2_disk.specs.Calls.{StartsAt, Stops, EffectOnSound, EffectOnFailed}
 use Rattle.qcow2_disk.proofs.Stops.{given_more, given_front, given_split, kept_more, kept_twice}
 
 -- ---- where a stop may find an image, for each step of a call
@@ -17,7 +17,7 @@ pub stops_none : (old new : AbstractImage) (gs : List GivenBytes) (asked : List 
 stops_none old new gs asked same known m starts =
     let here = kept_more old.setting.backing gs asked m (stored_bytes old) starts.0 in
     record {
-      moments = subst (λ (v : StorageView). Passing old.storage v (λ c. StopOkEverywhere old.setting.backing (checkpoint_with gs asked m) (byte_at c))) (sym same) (passes_none old.storage _);
+      moments = subst (λ (v : StorageView). EachMomentSince old.storage v (λ c. StopOkEverywhere old.setting.backing (checkpoint_with gs asked m) (byte_at c))) (sym same) (passes_none old.storage _);
       contents = subst (λ (v : StorageView). StopOkEverywhere old.setting.backing (checkpoint_with gs asked m) (byte_at v.contents)) (sym same) here;
       known = λ h. subst (λ b. StopOkEverywhere old.setting.backing (checkpoint_with gs asked m) b) (sym (known h)) (kept_more old.setting.backing gs asked m old.known starts.1);
     }
@@ -39,11 +39,11 @@ pub stops_as : (old new old' new' : AbstractImage) (gs : List GivenBytes) (asked
     → (m : Checkpoint) → Stops old new gs asked m → Stops old' new' gs asked m
 stops_as old new old' new' gs asked setting from to still m s =
     let back = λ (b : Bytes) (k : StopOkEverywhere old.setting.backing (checkpoint_with gs asked m) b). subst (λ (x : Setting). StopOkEverywhere x.backing (checkpoint_with gs asked m) b) (sym setting) k in
-    let moments : Passing old.storage new.storage (λ c. StopOkEverywhere old'.setting.backing (checkpoint_with gs asked m) (byte_at c)) =
+    let moments : EachMomentSince old.storage new.storage (λ c. StopOkEverywhere old'.setting.backing (checkpoint_with gs asked m) (byte_at c)) =
     passes_if (λ c. StopOkEverywhere old'.setting.backing (checkpoint_with gs asked m) (byte_at c)) (λ c k. back (byte_at c) k) s.moments in
     record {
-      moments = subst (λ (v : StorageView). Passing v new'.storage (λ c. StopOkEverywhere old'.setting.backing (checkpoint_with gs asked m) (byte_at c))) (sym from)
-          (subst (λ (v : StorageView). Passing old.storage v (λ c. StopOkEverywhere old'.setting.backing (checkpoint_with gs asked m) (byte_at c))) (sym to) moments);
+      moments = subst (λ (v : StorageView). EachMomentSince v new'.storage (λ c. StopOkEverywhere old'.setting.backing (checkpoint_with gs asked m) (byte_at c))) (sym from)
+          (subst (λ (v : StorageView). EachMomentSince old.storage v (λ c. StopOkEverywhere old'.setting.backing (checkpoint_with gs asked m) (byte_at c))) (sym to) moments);
       contents = subst (λ (v : StorageView). StopOkEverywhere old'.setting.backing (checkpoint_with gs asked m) (byte_at v.contents)) (sym to) (back (stored_bytes new) s.contents);
       known = λ h. let there = still h in subst (λ b. StopOkEverywhere old'.setting.backing (checkpoint_with gs asked m) b) (sym there.1) (back new.known (s.known there.0));
     }
@@ -58,7 +58,7 @@ stops_less old new gs gs' asked asked' m weaker s = record {
 }
 
 -- a failed image writes nothing more
-pub stops_resting : (old mid new : AbstractImage) (gs : List GivenBytes) (asked : List ℕ) → Rests mid new → (new.is_sound → ⊥) → (m : Checkpoint) → Stops old mid gs asked m → Stops old new gs asked m
+pub stops_resting : (old mid new : AbstractImage) (gs : List GivenBytes) (asked : List ℕ) → EffectOnFailed mid new → (new.is_sound → ⊥) → (m : Checkpoint) → Stops old mid gs asked m → Stops old new gs asked m
 stops_resting old mid new gs asked rests never m s = record {
   moments = passes_on (λ c. StopOkEverywhere old.setting.backing (checkpoint_with gs asked m) (byte_at c)) s.moments rests.moments
       (λ c is. subst (λ k. StopOkEverywhere old.setting.backing (checkpoint_with gs asked m) (byte_at k)) (sym is) s.contents);
@@ -67,12 +67,12 @@ stops_resting old mid new gs asked rests never m s = record {
 }
 
 -- a failed image on the same storage
-pub rests_none : (old new : AbstractImage) → new.setting ≡ old.setting → new.storage ≡ old.storage → IsTrue new.is_failed → Rests old new
+pub rests_none : (old new : AbstractImage) → new.setting ≡ old.setting → new.storage ≡ old.storage → IsTrue new.is_failed → EffectOnFailed old new
 rests_none old new setting same failed = record {
   setting = setting;
   failed = failed;
   contents = ap (λ (v : StorageView). v.contents) same;
-  moments = subst (λ (v : StorageView). Passing old.storage v (λ c. c ≡ old.storage.contents)) (sym same) (passes_none old.storage _);
+  moments = subst (λ (v : StorageView). EachMomentSince old.storage v (λ c. c ≡ old.storage.contents)) (sym same) (passes_none old.storage _);
 }
 
 -- ---- calls
@@ -101,7 +101,7 @@ module _ (v : AbstractImage) (gs fewer : List GivenBytes) (asked : List ℕ) (wi
 
 -- a call that gives only what is there already or is one of fewer gifts, gives those
 pub works_less : (old new : AbstractImage) (gs fewer : List GivenBytes) (asked : List ℕ) → ((o : ℕ) (w : Value) → IsGiven gs o w → (w ≡ (disk old.known old.setting.backing).value o) ⊎ IsGiven fewer o w)
-    → Works old new gs asked → Works old new fewer asked
+    → EffectOnSound old new gs asked → EffectOnSound old new fewer asked
 works_less old new gs fewer asked within w = record {
   setting = w.setting;
   surplus = w.surplus;
@@ -109,7 +109,7 @@ works_less old new gs fewer asked within w = record {
 }
 
 -- two calls that give the same
-pub works_then : (old mid new : AbstractImage) (gs : List GivenBytes) (asked : List ℕ) → mid.is_sound → Works old mid gs asked → Works mid new gs asked → Works old new gs asked
+pub works_then : (old mid new : AbstractImage) (gs : List GivenBytes) (asked : List ℕ) → mid.is_sound → EffectOnSound old mid gs asked → EffectOnSound mid new gs asked → EffectOnSound old new gs asked
 works_then old mid new gs asked there a b =
     let same : mid.setting.backing ≡ old.setting.backing = ap (λ (y : Setting). y.backing) a.setting in
     record {
@@ -126,7 +126,7 @@ works_then old mid new gs asked there a b =
           };
     }
 
-pub rests_then : (old mid new : AbstractImage) → Rests old mid → Rests mid new → Rests old new
+pub rests_then : (old mid new : AbstractImage) → EffectOnFailed old mid → EffectOnFailed mid new → EffectOnFailed old new
 rests_then old mid new a b = record {
   setting = b.setting ∙ a.setting;
   failed = b.failed;

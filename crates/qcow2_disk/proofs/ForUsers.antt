@@ -8,7 +8,7 @@ use Rattle.qcow2_disk.specs.Disk.{Disk, disk, with_bytes}
 use Rattle.qcow2_disk.specs.AbstractImages.{Guest}
 use Rattle.qcow2_disk.specs.Runs.{given_at}
 use Rattle.qcow2_disk.specs.Stops.{IsGiven}
-use Rattle.qcow2_disk.specs.Mappings.{PreparedMapping, gift_of_put, put_disk, put_mapping, committed}
+use Rattle.qcow2_disk.specs.Mappings.{PreparedMapping, given_by_put, put_disk, put_mapping, committed}
 use Rattle.qcow2_disk.specs.ForUsers.{PrivateBytesAreUnseen, CommittedIsReadBack, PutIsReadInPlace, HiddenBytesAreNotGiven, FlushedIsExact}
 
 pub exact : FlushedIsExact
@@ -95,7 +95,7 @@ read_in_place x found g0 g1 g2 m slot at offset n i bytes answer there put read 
     )
 
 -- what a put gives: a byte of those that were put, or where they are hidden what the disk shows
-pub put_given : (d : Disk) (m : PreparedMapping) (at : ℕ) (bytes : List ℕ) (o : ℕ) (v : Value) → IsGiven (gift_of_put d m at bytes ∷ []) o v
+pub put_given : (d : Disk) (m : PreparedMapping) (at : ℕ) (bytes : List ℕ) (o : ℕ) (v : Value) → IsGiven (given_by_put d m at bytes ∷ []) o v
     → (m.from + at ≤ o) × (o < m.from + at + length bytes) × (v ≡ (if m.is_hidden o then d.value o else known_byte (byte_at bytes (o - (m.from + at)))))
 put_given d m at bytes o v (inr none) = absurd none
 put_given d m at bytes o v (inl given) =
@@ -104,5 +104,5 @@ put_given d m at bytes o v (inl given) =
 
 pub hidden_given : HiddenBytesAreNotGiven
 hidden_given x g m slot at o bytes v there hidden given =
-    let is = put_given g.disk m at bytes o v (subst (λ (n : Option PreparedMapping). IsGiven (given_at n (λ k. gift_of_put g.disk k at bytes)) o v) there given) in
+    let is = put_given g.disk m at bytes o v (subst (λ (n : Option PreparedMapping). IsGiven (given_at n (λ k. given_by_put g.disk k at bytes)) o v) there given) in
     is.2 ∙ cond-true (m.is_hidden o) (g.disk.value o) (known_byte (byte_at bytes (o - (m.from + at)))) hidden

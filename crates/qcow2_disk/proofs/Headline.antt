@@ -1,8 +1,8 @@
 -- A run of an image that was opened from bytes.
 use Rattle.std.proofs.Common.{◌≡◌, ⊎_elim, inl, ℕ, List, [], ◌∷◌, refl, sym, ap, ◌∙◌, subst, arith}
 use mathlib.Core.Path.{fun_ext}
-use Rattle.image_access.specs.Moments.{StorageView, Passing}
-use Rattle.image_access.proofs.Passing.{passes_if, passes_on}
+use Rattle.image_access.specs.Moments.{StorageView, EachMomentSince}
+use Rattle.image_access.proofs.EachMomentSince.{passes_if, passes_on}
 use Rattle.qcow2_metadata.specs.Bytes.{Bytes, byte_at}
 use Rattle.qcow2_metadata.specs.Consistent.{IsConsistent}
 use Rattle.qcow2_disk.specs.Disk.{Disk, disk, disk_with}
@@ -24,9 +24,9 @@ at_once : (backing b : Bytes) → IsConsistent b → StopOkEverywhere backing (c
 at_once backing b consistent = record { consistent = consistent; size = inl refl; values = λ o. inl refl }
 
 -- what a stop may leave where a run begins falls under its first command, or its end
-first_stop : (x : Setting) (s end : State) (commands : List Command) (replies : List Reply) (run : Run x s commands replies end) (b : Bytes) → StopOk x.backing s.mark b → IsStopIn x s end commands replies run b
-first_stop x s end [] [] run b at = subst (λ (t : State). StopOk x.backing t.mark b) (sym run) at
-first_stop x s end (command ∷ commands) (reply ∷ replies) run b at = inl (stop_more x.backing (given_by x s.guest command) (asked_by command) s.mark b at)
+first_stop : (x : Setting) (s end : State) (commands : List Command) (replies : List Reply) (run : Run x s commands replies end) (b : Bytes) → StopOk x.backing s.checkpoint b → IsStopIn x s end commands replies run b
+first_stop x s end [] [] run b at = subst (λ (t : State). StopOk x.backing t.checkpoint b) (sym run) at
+first_stop x s end (command ∷ commands) (reply ∷ replies) run b at = inl (stop_more x.backing (given_by x s.guest command) (asked_by command) s.checkpoint b at)
 first_stop x s end [] (reply ∷ replies) run b at = absurd run
 first_stop x s end (command ∷ commands) [] run b at = absurd run
 
@@ -58,10 +58,10 @@ module _ {D P : Type 0} (spec : Abstraction D P) (before : StorageView) (opened 
       (subst (λ (g : Guest). StopOk (spec.setting opened).backing (checkpoint_at g.disk) (byte_at c)) (sym shows)
       (subst (λ (k : Bytes). StopOk k (checkpoint_at (disk b nothing_below)) (byte_at c)) (sym backing-is) (stop_of_kept nothing_below (checkpoint_at (disk b nothing_below)) (byte_at c) kept)))
 
-  opening : Passing before (spec.storage opened) In
+  opening : EachMomentSince before (spec.storage opened) In
   opening = passes_if In (λ c kept. kept_in c (kept nothing_below (checkpoint_at (disk b nothing_below)) start start)) since.moments
 
-  whole : Passing before (spec.storage new) In
+  whole : EachMomentSince before (spec.storage new) In
   whole = passes_on In opening (passes_run spec opened new commands replies refines) (λ c h. h)
 
   pub from_bytes : IsHeadline spec before new commands replies

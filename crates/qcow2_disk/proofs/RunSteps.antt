@@ -1,8 +1,8 @@
 -- One call is one step of a run.
 use Rattle.std.proofs.Common.{◌≡◌, ◌⊎◌, ⊎_elim, inl, inr, ℕ, List, [], ◌∷◌, ◌++◌, Bool, true, false, IsTrue, refl, sym, ap, ◌∙◌, subst, Option, None}
 use mathlib.Core.Path.{fun_ext}
-use Rattle.image_access.specs.Moments.{Passing}
-use Rattle.image_access.proofs.Passing.{passes_none, passes_if, passes_more, passes_on, since_start as since_began}
+use Rattle.image_access.specs.Moments.{EachMomentSince}
+use Rattle.image_access.proofs.EachMomentSince.{passes_none, passes_if, passes_more, passes_on, since_start as since_began}
 use Rattle.qcow2_metadata.specs.Bytes.{Bytes, byte_at}
 use Rattle.qcow2_metadata.specs.Consistent.{IsConsistent}
 use Rattle.qcow2_metadata.specs.Guest.{Value}
@@ -10,8 +10,8 @@ use Rattle.qcow2_disk.specs.Disk.{Disk, disk, disk_with}
 use Rattle.qcow2_disk.specs.Stops.{GivenBytes, IsGiven, Checkpoint, checkpoint_at, checkpoint_with, StopOkEverywhere, StopOk}
 use Rattle.qcow2_disk.specs.Mappings.{PreparedMapping}
 use Rattle.qcow2_disk.specs.AbstractImages.{Setting, Guest, Abstraction, AbstractImage, abstract_image, guest_of, stored_bytes, IsWhole}
-use Rattle.qcow2_disk.specs.Calls.{Refusal, Acts, Does, Refuses, IsRefusalByFault, Works, Rests, Stops}
-use Rattle.qcow2_disk.specs.Runs.{Command, Reply, Found, CommandMeaning, IsFaultReply, MayAnswer, IsAnswerOfFailed, IsRightlyTold, ResizesLast, State, CommandStep, Run, IsSafeWhile, IsStretch, RefinesGuest, RefinesAlong, IsStopIn, RefinesState, RefinesCommand, RefinesRun, RefinesWholeRun, RefinesDisk, IsOwnStretch, started, checkpoint_during, checkpoint_after, stepped, given_by, asked_by, flush, shrink, done, number_is}
+use Rattle.qcow2_disk.specs.Calls.{Refusal, CallEffect, AnsweredEffect, RefusedEffect, IsRefusalByFault, EffectOnSound, EffectOnFailed, Stops}
+use Rattle.qcow2_disk.specs.Runs.{Command, Reply, Found, CommandMeaning, IsFaultReply, MayAnswer, IsAnswerOfFailed, IsRightlyTold, ResizesLast, State, CommandStep, Run, IsSafeWhile, IsCommandInterval, RefinesGuest, RefinesAlong, IsStopIn, RefinesState, RefinesCommand, RefinesRun, RefinesWholeRun, RefinesDisk, IsOwnInterval, started, checkpoint_during, checkpoint_after, stepped, given_by, asked_by, flush, shrink, done, number_is}
 use Rattle.qcow2_disk.proofs.Compose.{works_less, stops_none, rests_none}
 use Rattle.qcow2_disk.proofs.Stops.{stop_of_kept, stop_more}
 
@@ -23,7 +23,7 @@ bool_cases false = inr refl
 pub record Ends (found : ℕ → Option Found) (old new : AbstractImage) (command : Command) (reply : Reply) : Type 0 where
   pub ends : (new.is_sound × CommandMeaning old.setting found (guest_of old) command reply (guest_of new)) ⊎ (IsFaultReply reply × IsTrue new.is_failed)
   pub finds : new.is_sound → IsRightlyTold new.setting old.known new command reply
-  pub mark : (x : Setting) (s : State) → RefinesState x old s → s.is_failed ≡ false → new.is_sound → (checkpoint_after x s command reply (guest_of new) ≡ checkpoint_during x s command)
+  pub checkpoint : (x : Setting) (s : State) → RefinesState x old s → s.is_failed ≡ false → new.is_sound → (checkpoint_after x s command reply (guest_of new) ≡ checkpoint_during x s command)
       ⊎ (StopOkEverywhere new.setting.backing (checkpoint_after x s command reply (guest_of new)) new.known × StopOkEverywhere new.setting.backing (checkpoint_after x s command reply (guest_of new)) (stored_bytes new))
 
 -- what a command may be answered, on an image that failed and on one that works, and how a resize passes
@@ -39,10 +39,10 @@ mark_of_fault x s (shrink size) (number_is answer) new fault = absurd fault
 mark_of_fault x s command reply new fault = refl
 
 module _ (x : Setting) (old new : AbstractImage) (s : State) (command : Command) (reply : Reply) (stands : RefinesState x old s) where
-  rested : IsTrue s.is_failed → IsAnswerOfFailed command reply → Rests old new → RefinesCommand x old new s command reply
+  rested : IsTrue s.is_failed → IsAnswerOfFailed command reply → EffectOnFailed old new → RefinesCommand x old new s command reply
   rested failed answer rests =
       let not_ok : s.is_failed ≡ false → ⊥ = λ e. let t : s.is_failed ≡ true = failed in cc in
-      let at : StopOk x.backing s.mark (stored_bytes new) = subst (λ c. StopOk x.backing s.mark (byte_at c)) (sym rests.contents) stands.at_rest in
+      let at : StopOk x.backing s.checkpoint (stored_bytes new) = subst (λ c. StopOk x.backing s.checkpoint (byte_at c)) (sym rests.contents) stands.at_rest in
       record {
         end = s;
         step = inl (failed, answer, refl);
@@ -55,7 +55,7 @@ module _ (x : Setting) (old new : AbstractImage) (s : State) (command : Command)
           contents = λ e. absurd (not_ok e);
           at_rest = at;
         };
-        stretch = record {
+        interval = record {
           safe = record { moments = λ e. absurd (not_ok e); at_return = at; silent = λ _. rests.moments; unchanged = λ _. rests.contents };
           own = λ e. absurd (not_ok e);
           sized = λ e. absurd (not_ok e);
@@ -65,7 +65,7 @@ module _ (x : Setting) (old new : AbstractImage) (s : State) (command : Command)
         since = λ e. e;
       }
 
-  module _ (ok : s.is_failed ≡ false) (may : MayAnswer s.guest.disk command reply) (sized : ResizesLast s.guest.disk.size old.storage new.storage command) (acts : Works old new (given_by x s.guest command) (asked_by command)) where
+  module _ (ok : s.is_failed ≡ false) (may : MayAnswer s.guest.disk command reply) (sized : ResizesLast s.guest.disk.size old.storage new.storage command) (acts : EffectOnSound old new (given_by x s.guest command) (asked_by command)) where
     not_failed : IsTrue s.is_failed → ⊥
     not_failed failed = let t : s.is_failed ≡ true = failed in cc
 
@@ -75,8 +75,8 @@ module _ (x : Setting) (old new : AbstractImage) (s : State) (command : Command)
     new_backing : new.setting.backing ≡ x.backing
     new_backing = ap (λ (y : Setting). y.backing) (acts.setting ∙ stands.setting)
 
-    stops : Stops old new (given_by x s.guest command) (asked_by command) s.mark
-    stops = acts.stops s.mark (subst (λ b. StopOkEverywhere b s.mark (stored_bytes old)) (sym backing-is) (stands.contents ok), subst (λ b. StopOkEverywhere b s.mark old.known) (sym backing-is) (stands.known ok))
+    stops : Stops old new (given_by x s.guest command) (asked_by command) s.checkpoint
+    stops = acts.stops s.checkpoint (subst (λ b. StopOkEverywhere b s.checkpoint (stored_bytes old)) (sym backing-is) (stands.contents ok), subst (λ b. StopOkEverywhere b s.checkpoint old.known) (sym backing-is) (stands.known ok))
 
     kept_contents : StopOkEverywhere x.backing (checkpoint_during x s command) (stored_bytes new)
     kept_contents = subst (λ b. StopOkEverywhere b (checkpoint_during x s command) (stored_bytes new)) backing-is stops.contents
@@ -84,13 +84,13 @@ module _ (x : Setting) (old new : AbstractImage) (s : State) (command : Command)
     kept_known : new.is_sound → StopOkEverywhere x.backing (checkpoint_during x s command) new.known
     kept_known sound = subst (λ b. StopOkEverywhere b (checkpoint_during x s command) new.known) backing-is (stops.known sound)
 
-    moments : Passing old.storage new.storage (λ c. StopOk x.backing (checkpoint_during x s command) (byte_at c))
+    moments : EachMomentSince old.storage new.storage (λ c. StopOk x.backing (checkpoint_during x s command) (byte_at c))
     moments =
         passes_if (λ c. StopOk x.backing (checkpoint_during x s command) (byte_at c))
         (λ c k. stop_of_kept x.backing (checkpoint_during x s command) (byte_at c) (subst (λ b. StopOkEverywhere b (checkpoint_during x s command) (byte_at c)) backing-is k)) stops.moments
 
-    own : IsOwnStretch x.backing old.storage new.storage old.known (given_by x s.guest command) (asked_by command)
-    own m contents known = subst (λ b. Passing old.storage new.storage (λ c. StopOkEverywhere b (checkpoint_with (given_by x s.guest command) (asked_by command) m) (byte_at c))) backing-is
+    own : IsOwnInterval x.backing old.storage new.storage old.known (given_by x s.guest command) (asked_by command)
+    own m contents known = subst (λ b. EachMomentSince old.storage new.storage (λ c. StopOkEverywhere b (checkpoint_with (given_by x s.guest command) (asked_by command) m) (byte_at c))) backing-is
         (acts.stops m (subst (λ b. StopOkEverywhere b m (stored_bytes old)) (sym backing-is) contents, subst (λ b. StopOkEverywhere b m old.known) (sym backing-is) known)).moments
 
     safe_to : (after : Checkpoint) → StopOk x.backing after (stored_bytes new) → IsSafeWhile x.backing old.storage new.storage s.is_failed (checkpoint_during x s command) after
@@ -112,7 +112,7 @@ module _ (x : Setting) (old new : AbstractImage) (s : State) (command : Command)
             contents = λ e. absurd (cc);
             at_rest = at;
           };
-          stretch = record { safe = safe_to (checkpoint_after x s command reply s.guest) at; own = λ _. own; sized = λ _. sized; told = λ e. absurd (cc) };
+          interval = record { safe = safe_to (checkpoint_after x s command reply s.guest) at; own = λ _. own; sized = λ _. sized; told = λ e. absurd (cc) };
           surplus = λ e. absurd (cc);
           since = λ _. ok;
         }
@@ -121,13 +121,13 @@ module _ (x : Setting) (old new : AbstractImage) (s : State) (command : Command)
         → ((checkpoint_after x s command reply (guest_of new) ≡ checkpoint_during x s command)
         ⊎ (StopOkEverywhere new.setting.backing (checkpoint_after x s command reply (guest_of new)) new.known × StopOkEverywhere new.setting.backing (checkpoint_after x s command reply (guest_of new)) (stored_bytes new)))
         → RefinesCommand x old new s command reply
-    going sound means finds mark =
+    going sound means finds checkpoint =
         let after = checkpoint_after x s command reply (guest_of new) in
         let kept : StopOkEverywhere x.backing after (stored_bytes new) =
         ⊎_elim
         (λ (e : checkpoint_after x s command reply (guest_of new) ≡ checkpoint_during x s command). subst (λ m. StopOkEverywhere x.backing m (stored_bytes new)) (sym e) kept_contents)
         (λ (f : StopOkEverywhere new.setting.backing (checkpoint_after x s command reply (guest_of new)) new.known × StopOkEverywhere new.setting.backing (checkpoint_after x s command reply (guest_of new)) (stored_bytes new)).
-        subst (λ b. StopOkEverywhere b (checkpoint_after x s command reply (guest_of new)) (stored_bytes new)) new_backing f.1) mark in
+        subst (λ b. StopOkEverywhere b (checkpoint_after x s command reply (guest_of new)) (stored_bytes new)) new_backing f.1) checkpoint in
         let at = stop_of_kept x.backing after (stored_bytes new) kept in
         record {
           end = stepped x s command reply (guest_of new) false;
@@ -140,62 +140,62 @@ module _ (x : Setting) (old new : AbstractImage) (s : State) (command : Command)
             known = λ _. ⊎_elim
                 (λ (e : checkpoint_after x s command reply (guest_of new) ≡ checkpoint_during x s command). subst (λ m. StopOkEverywhere x.backing m new.known) (sym e) (kept_known sound))
                 (λ (f : StopOkEverywhere new.setting.backing (checkpoint_after x s command reply (guest_of new)) new.known × StopOkEverywhere new.setting.backing (checkpoint_after x s command reply (guest_of new)) (stored_bytes new)).
-                subst (λ b. StopOkEverywhere b (checkpoint_after x s command reply (guest_of new)) new.known) new_backing f.0) mark;
+                subst (λ b. StopOkEverywhere b (checkpoint_after x s command reply (guest_of new)) new.known) new_backing f.0) checkpoint;
             contents = λ _. kept;
             at_rest = at;
           };
-          stretch = record { safe = safe_to after at; own = λ _. own; sized = λ _. sized; told = λ _. subst (λ y. IsRightlyTold y old.known new command reply) (acts.setting ∙ stands.setting) finds };
+          interval = record { safe = safe_to after at; own = λ _. own; sized = λ _. sized; told = λ _. subst (λ y. IsRightlyTold y old.known new command reply) (acts.setting ∙ stands.setting) finds };
           surplus = λ _. acts.surplus sound;
           since = λ _. ok;
         }
 
   -- the whole step, from what the call's contract says
-  pub called : IsAnswer old new command reply → Acts old new (given_by old.setting (guest_of old) command) (asked_by command) → (old.is_sound → Ends s.found old new command reply) → RefinesCommand x old new s command reply
+  pub called : IsAnswer old new command reply → CallEffect old new (given_by old.setting (guest_of old) command) (asked_by command) → (old.is_sound → Ends s.found old new command reply) → RefinesCommand x old new s command reply
   called answer acts ends = elim (bool_cases s.is_failed) [
     | inl failed ↦ rested failed (answer.failed (stands.failed failed)) (acts.rests (stands.failed failed))
     | inr ok ↦
         let sound = stands.works ok in
         let may : MayAnswer s.guest.disk command reply = subst (λ (h : Guest). MayAnswer h.disk command reply) (stands.guest ok) (answer.may sound) in
         let sized : ResizesLast s.guest.disk.size old.storage new.storage command = subst (λ (h : Guest). ResizesLast h.disk.size old.storage new.storage command) (stands.guest ok) (answer.sized sound) in
-        let worked : Works old new (given_by x s.guest command) (asked_by command) =
-        subst (λ y. Works old new (given_by y s.guest command) (asked_by command)) stands.setting
-        (subst (λ h. Works old new (given_by old.setting h command) (asked_by command)) (stands.guest ok) (acts.works sound)) in
+        let worked : EffectOnSound old new (given_by x s.guest command) (asked_by command) =
+        subst (λ y. EffectOnSound old new (given_by y s.guest command) (asked_by command)) stands.setting
+        (subst (λ h. EffectOnSound old new (given_by old.setting h command) (asked_by command)) (stands.guest ok) (acts.works sound)) in
         ⊎_elim
         (λ (done : new.is_sound × CommandMeaning old.setting s.found (guest_of old) command reply (guest_of new)).
         going ok may sized worked done.0
         (subst (λ y. CommandMeaning y s.found s.guest command reply (guest_of new)) stands.setting (subst (λ h. CommandMeaning old.setting s.found h command reply (guest_of new)) (stands.guest ok) done.1))
-        ((ends sound).finds done.0) ((ends sound).mark x s stands ok done.0))
+        ((ends sound).finds done.0) ((ends sound).checkpoint x s stands ok done.0))
         (λ (broke : IsFaultReply reply × IsTrue new.is_failed). failing ok may sized worked broke.0 broke.1)
         (ends sound).ends
   ]
 
 -- a call that was answered, and one that was refused
 pub done_as : (x : Setting) (old new : AbstractImage) (s : State) (command is : Command) (reply : Reply) → command ≡ is → RefinesState x old s → IsAnswer old new is reply
-    → Does old new (given_by old.setting (guest_of old) is) (asked_by is) (CommandMeaning old.setting s.found (guest_of old) is reply (guest_of new))
+    → AnsweredEffect old new (given_by old.setting (guest_of old) is) (asked_by is) (CommandMeaning old.setting s.found (guest_of old) is reply (guest_of new))
     → ((x' : Setting) (s' : State) → checkpoint_after x' s' is reply (guest_of new) ≡ checkpoint_during x' s' is) → (old.is_sound → IsRightlyTold new.setting old.known new is reply) → RefinesCommand x old new s command reply
-done_as x old new s command is reply e stands answer does mark finds =
+done_as x old new s command is reply e stands answer does checkpoint finds =
     subst (λ q. RefinesCommand x old new s q reply) (sym e) (called x old new s is reply stands answer does.acts
-    (λ sound. record { ends = inl (does.answer sound); finds = λ _. finds sound; mark = λ x' s' _ _ _. inl (mark x' s') }))
+    (λ sound. record { ends = inl (does.answer sound); finds = λ _. finds sound; checkpoint = λ x' s' _ _ _. inl (checkpoint x' s') }))
 
 pub refused_told : (x : Setting) (old new : AbstractImage) (s : State) (command is : Command) (reply : Reply) (error : Refusal) → command ≡ is → RefinesState x old s → IsAnswer old new is reply
-    → Refuses old new (given_by old.setting (guest_of old) is) (asked_by is) error (CommandMeaning old.setting s.found (guest_of old) is reply (guest_of new)) → (IsRefusalByFault error → IsFaultReply reply)
+    → RefusedEffect old new (given_by old.setting (guest_of old) is) (asked_by is) error (CommandMeaning old.setting s.found (guest_of old) is reply (guest_of new)) → (IsRefusalByFault error → IsFaultReply reply)
     → ((x' : Setting) (s' : State) → checkpoint_after x' s' is reply (guest_of new) ≡ checkpoint_during x' s' is) → (old.is_sound → IsRightlyTold new.setting old.known new is reply) → RefinesCommand x old new s command reply
-refused_told x old new s command is reply error e stands answer refuses fault mark finds =
+refused_told x old new s command is reply error e stands answer refuses fault checkpoint finds =
     subst (λ q. RefinesCommand x old new s q reply) (sym e) (called x old new s is reply stands answer refuses.acts
     (λ sound. record {
       ends = ⊎_elim (λ h. inl h) (λ (b : IsRefusalByFault error × IsTrue new.is_failed). inr (fault b.0, b.1)) (refuses.answer sound);
       finds = λ _. finds sound;
-      mark = λ x' s' _ _ _. inl (mark x' s');
+      checkpoint = λ x' s' _ _ _. inl (checkpoint x' s');
     }))
 
 -- one that tells nothing but its refusal
 pub refused_as : (x : Setting) (old new : AbstractImage) (s : State) (command is : Command) (reply : Reply) (error : Refusal) → command ≡ is → RefinesState x old s → IsAnswer old new is reply
-    → Refuses old new (given_by old.setting (guest_of old) is) (asked_by is) error (CommandMeaning old.setting s.found (guest_of old) is reply (guest_of new)) → (IsRefusalByFault error → IsFaultReply reply)
+    → RefusedEffect old new (given_by old.setting (guest_of old) is) (asked_by is) error (CommandMeaning old.setting s.found (guest_of old) is reply (guest_of new)) → (IsRefusalByFault error → IsFaultReply reply)
     → ((x' : Setting) (s' : State) → checkpoint_after x' s' is reply (guest_of new) ≡ checkpoint_during x' s' is) → IsRightlyTold new.setting old.known new is reply → RefinesCommand x old new s command reply
-refused_as x old new s command is reply error e stands answer refuses fault mark finds = refused_told x old new s command is reply error e stands answer refuses fault mark (λ _. finds)
+refused_as x old new s command is reply error e stands answer refuses fault checkpoint finds = refused_told x old new s command is reply error e stands answer refuses fault checkpoint (λ _. finds)
 
 -- no call at all
-pub acts_none : (v : AbstractImage) (given : List GivenBytes) (asked : List ℕ) → Acts v v given asked
+pub acts_none : (v : AbstractImage) (given : List GivenBytes) (asked : List ℕ) → CallEffect v v given asked
 acts_none v given asked = record {
   number = refl;
   works = λ _. record {
@@ -217,26 +217,26 @@ kept_at_once v b whole same =
     }
 
 pub flushed_as : (x : Setting) (old new : AbstractImage) (s : State) (command is : Command) (reply : Reply) → command ≡ is → RefinesState x old s → IsAnswer old new is reply
-    → Does old new (given_by old.setting (guest_of old) is) (asked_by is) ((new.known ≡ stored_bytes new) × CommandMeaning old.setting s.found (guest_of old) is reply (guest_of new))
+    → AnsweredEffect old new (given_by old.setting (guest_of old) is) (asked_by is) ((new.known ≡ stored_bytes new) × CommandMeaning old.setting s.found (guest_of old) is reply (guest_of new))
     → (new.is_sound → IsWhole new)
     → ((x' : Setting) (s' : State) → checkpoint_after x' s' is reply (guest_of new) ≡ checkpoint_at (guest_of new).disk) → IsRightlyTold new.setting old.known new is reply → RefinesCommand x old new s command reply
-flushed_as x old new s command is reply e stands answer does whole mark finds =
+flushed_as x old new s command is reply e stands answer does whole checkpoint finds =
     subst (λ q. RefinesCommand x old new s q reply) (sym e) (called x old new s is reply stands answer does.acts
     (λ sound. let a = does.answer sound in record {
       ends = inl (a.0, a.1.1);
       finds = λ _. finds;
-      mark = λ x' s' _ _ _. inr (
-        subst (λ m. StopOkEverywhere new.setting.backing m new.known) (sym (mark x' s')) (kept_at_once new new.known (whole a.0) refl),
-        subst (λ m. StopOkEverywhere new.setting.backing m (stored_bytes new)) (sym (mark x' s')) (kept_at_once new (stored_bytes new) (whole a.0) (sym a.1.0)),
+      checkpoint = λ x' s' _ _ _. inr (
+        subst (λ m. StopOkEverywhere new.setting.backing m new.known) (sym (checkpoint x' s')) (kept_at_once new new.known (whole a.0) refl),
+        subst (λ m. StopOkEverywhere new.setting.backing m (stored_bytes new)) (sym (checkpoint x' s')) (kept_at_once new (stored_bytes new) (whole a.0) (sym a.1.0)),
       );
     }))
 
 -- One that was answered, and gave less than it might have given. Its mark afterwards has what it gave alone.
 pub gave_less : (x : Setting) (old new : AbstractImage) (s : State) (command is : Command) (reply : Reply) (given : Setting → Guest → List GivenBytes) → command ≡ is → RefinesState x old s → IsAnswer old new is reply
-    → (does : Does old new (given old.setting (guest_of old)) (asked_by is) (CommandMeaning old.setting s.found (guest_of old) is reply (guest_of new)))
+    → (does : AnsweredEffect old new (given old.setting (guest_of old)) (asked_by is) (CommandMeaning old.setting s.found (guest_of old) is reply (guest_of new)))
     → (old.is_sound → (o : ℕ) (w : Value) → IsGiven (given old.setting (guest_of old)) o w → IsGiven (given_by old.setting (guest_of old) is) o w)
-    → ((x' : Setting) (s' : State) → checkpoint_after x' s' is reply (guest_of new) ≡ checkpoint_with (given x' s'.guest) (asked_by is) s'.mark) → IsRightlyTold new.setting old.known new is reply → RefinesCommand x old new s command reply
-gave_less x old new s command is reply given e stands answer does within mark finds =
+    → ((x' : Setting) (s' : State) → checkpoint_after x' s' is reply (guest_of new) ≡ checkpoint_with (given x' s'.guest) (asked_by is) s'.checkpoint) → IsRightlyTold new.setting old.known new is reply → RefinesCommand x old new s command reply
+gave_less x old new s command is reply given e stands answer does within checkpoint finds =
     let gs = given old.setting (guest_of old) in
     subst (λ q. RefinesCommand x old new s q reply) (sym e) (called x old new s is reply stands answer
     (record {
@@ -247,13 +247,13 @@ gave_less x old new s command is reply given e stands answer does within mark fi
     (λ sound. record {
       ends = inl (does.answer sound);
       finds = λ _. finds;
-      mark = λ x' s' there ok sound'.
+      checkpoint = λ x' s' there ok sound'.
           let works = does.acts.works sound in
           let below : old.setting.backing ≡ x'.backing = ap (λ (y : Setting). y.backing) there.setting in
-          let stops = works.stops s'.mark (subst (λ b. StopOkEverywhere b s'.mark (stored_bytes old)) (sym below) (there.contents ok), subst (λ b. StopOkEverywhere b s'.mark old.known) (sym below) (there.known ok)) in
+          let stops = works.stops s'.checkpoint (subst (λ b. StopOkEverywhere b s'.checkpoint (stored_bytes old)) (sym below) (there.contents ok), subst (λ b. StopOkEverywhere b s'.checkpoint old.known) (sym below) (there.known ok)) in
           let gave : gs ≡ given x' s'.guest = ap (λ (y : Setting). given y (guest_of old)) there.setting ∙ ap (λ (h : Guest). given x' h) (there.guest ok) in
-          let marked : checkpoint_with gs (asked_by is) s'.mark ≡ checkpoint_after x' s' is reply (guest_of new) = ap (λ (l : List GivenBytes). checkpoint_with l (asked_by is) s'.mark) gave ∙ sym (mark x' s') in
-          let as_marked : (b : Bytes) → StopOkEverywhere old.setting.backing (checkpoint_with gs (asked_by is) s'.mark) b → StopOkEverywhere new.setting.backing (checkpoint_after x' s' is reply (guest_of new)) b = λ b kept.
+          let marked : checkpoint_with gs (asked_by is) s'.checkpoint ≡ checkpoint_after x' s' is reply (guest_of new) = ap (λ (l : List GivenBytes). checkpoint_with l (asked_by is) s'.checkpoint) gave ∙ sym (checkpoint x' s') in
+          let as_marked : (b : Bytes) → StopOkEverywhere old.setting.backing (checkpoint_with gs (asked_by is) s'.checkpoint) b → StopOkEverywhere new.setting.backing (checkpoint_after x' s' is reply (guest_of new)) b = λ b kept.
           subst (λ (y : Setting). StopOkEverywhere y.backing (checkpoint_after x' s' is reply (guest_of new)) b) (sym works.setting) (subst (λ m. StopOkEverywhere old.setting.backing m b) marked kept) in
           inr (as_marked new.known (stops.known sound'), as_marked (stored_bytes new) stops.contents);
     }))
@@ -262,10 +262,10 @@ gave_less x old new s command is reply given e stands answer does within mark fi
 pub none_as : (x : Setting) (v : AbstractImage) (s : State) (command is : Command) (reply : Reply) → command ≡ is → RefinesState x v s → IsAnswer v v is reply
     → (v.is_sound → CommandMeaning v.setting s.found (guest_of v) is reply (guest_of v))
     → ((x' : Setting) (s' : State) → checkpoint_after x' s' is reply (guest_of v) ≡ checkpoint_during x' s' is) → IsRightlyTold v.setting v.known v is reply → RefinesCommand x v v s command reply
-none_as x v s command is reply e stands answer means mark finds =
+none_as x v s command is reply e stands answer means checkpoint finds =
     subst (λ q. RefinesCommand x v v s q reply) (sym e) (called x v v s is reply stands answer
     (acts_none v (given_by v.setting (guest_of v) is) (asked_by is))
-    (λ sound. record { ends = inl (sound, means sound); finds = λ _. finds; mark = λ x' s' _ _ _. inl (mark x' s') }))
+    (λ sound. record { ends = inl (sound, means sound); finds = λ _. finds; checkpoint = λ x' s' _ _ _. inl (checkpoint x' s') }))
 
 -- where a run begins
 pub begins : (v : AbstractImage) → v.is_sound → IsWhole v → v.known ≡ stored_bytes v → RefinesState v.setting v (started (guest_of v))
@@ -295,65 +295,65 @@ said_at before stands same = record { works = stands.works; failed = stands.fail
 module _ {D P : Type 0} (spec : Abstraction D P) (x : Setting) (before : ℕ → ℕ) where
   -- so does the image along it
   along_push : (old mid new : D) (out : List (Option P)) (s t end : State) (commands : List Command) (replies : List Reply) (command : Command) (reply : Reply) (run : Run x s commands replies t) (step : CommandStep x t command reply end)
-      → RefinesAlong spec x before old mid s t commands replies run → RefinesGuest (abstract_image spec new out) end before → IsStretch x (spec.storage mid) (spec.known mid) (abstract_image spec new out) t command reply end
+      → RefinesAlong spec x before old mid s t commands replies run → RefinesGuest (abstract_image spec new out) end before → IsCommandInterval x (spec.storage mid) (spec.known mid) (abstract_image spec new out) t command reply end
       → RefinesAlong spec x before old new s end (commands ++ command ∷ []) (replies ++ reply ∷ []) (Run-push x s t end commands replies command reply run step)
   unfolding Run-push
-  along_push old mid new out s t end [] [] command reply run step same said stretch = (
+  along_push old mid new out s t end [] [] command reply run step same said interval = (
     new,
     out,
     said,
-    subst (λ (d : D). IsStretch x (spec.storage d) (spec.known d) (abstract_image spec new out) s command reply end) same
-        (subst (λ (r : State). IsStretch x (spec.storage mid) (spec.known mid) (abstract_image spec new out) r command reply end) run stretch),
+    subst (λ (d : D). IsCommandInterval x (spec.storage d) (spec.known d) (abstract_image spec new out) s command reply end) same
+        (subst (λ (r : State). IsCommandInterval x (spec.storage mid) (spec.known mid) (abstract_image spec new out) r command reply end) run interval),
     refl,
   )
-  along_push old mid new out s t end (c ∷ commands) (r ∷ replies) command reply run step so_far said stretch =
-      (so_far.0, so_far.1, so_far.2, so_far.3, along_push so_far.0 mid new out run.0 t end commands replies command reply run.2 step so_far.4 said stretch)
-  along_push old mid new out s t end [] (r ∷ replies) command reply run step so_far said stretch = absurd run
-  along_push old mid new out s t end (c ∷ commands) [] command reply run step so_far said stretch = absurd run
+  along_push old mid new out s t end (c ∷ commands) (r ∷ replies) command reply run step so_far said interval =
+      (so_far.0, so_far.1, so_far.2, so_far.3, along_push so_far.0 mid new out run.0 t end commands replies command reply run.2 step so_far.4 said interval)
+  along_push old mid new out s t end [] (r ∷ replies) command reply run step so_far said interval = absurd run
+  along_push old mid new out s t end (c ∷ commands) [] command reply run step so_far said interval = absurd run
 
   -- the moments of a run fall under its commands
   within : (old new : D) (s end : State) (commands : List Command) (replies : List Reply) (run : Run x s commands replies end) → RefinesAlong spec x before old new s end commands replies run
-      → StopOk x.backing s.mark (byte_at (spec.storage old).contents) → Passing (spec.storage old) (spec.storage new) (λ c. IsStopIn x s end commands replies run (byte_at c))
-  within old new s end [] [] run same at = subst (λ (d : D). Passing (spec.storage old) (spec.storage d) (λ c. StopOk x.backing end.mark (byte_at c))) (sym same) (passes_none (spec.storage old) (λ c. StopOk x.backing end.mark (byte_at c)))
+      → StopOk x.backing s.checkpoint (byte_at (spec.storage old).contents) → EachMomentSince (spec.storage old) (spec.storage new) (λ c. IsStopIn x s end commands replies run (byte_at c))
+  within old new s end [] [] run same at = subst (λ (d : D). EachMomentSince (spec.storage old) (spec.storage d) (λ c. StopOk x.backing end.checkpoint (byte_at c))) (sym same) (passes_none (spec.storage old) (λ c. StopOk x.backing end.checkpoint (byte_at c)))
   within old new s end (command ∷ commands) (reply ∷ replies) run safe at =
-      let here : Passing (spec.storage old) (spec.storage safe.0) (λ c. StopOk x.backing (checkpoint_during x s command) (byte_at c)) = elim (bool_cases s.is_failed) [
+      let here : EachMomentSince (spec.storage old) (spec.storage safe.0) (λ c. StopOk x.backing (checkpoint_during x s command) (byte_at c)) = elim (bool_cases s.is_failed) [
         | inl failed ↦ passes_if (λ c. StopOk x.backing (checkpoint_during x s command) (byte_at c))
-            (λ c e. subst (λ k. StopOk x.backing (checkpoint_during x s command) (byte_at k)) (sym e) (stop_more x.backing (given_by x s.guest command) (asked_by command) s.mark (byte_at (spec.storage old).contents) at)) (safe.3.safe.silent failed)
+            (λ c e. subst (λ k. StopOk x.backing (checkpoint_during x s command) (byte_at k)) (sym e) (stop_more x.backing (given_by x s.guest command) (asked_by command) s.checkpoint (byte_at (spec.storage old).contents) at)) (safe.3.safe.silent failed)
         | inr ok ↦ safe.3.safe.moments ok
       ] in
       passes_more here (within safe.0 new run.0 end commands replies run.2 safe.4 safe.3.safe.at_return)
   within old new s end [] (reply ∷ replies) run safe at = absurd run
   within old new s end (command ∷ commands) [] run safe at = absurd run
 
-  stop_at_end : (s end : State) (commands : List Command) (replies : List Reply) (run : Run x s commands replies end) (b : Bytes) → StopOk x.backing end.mark b → IsStopIn x s end commands replies run b
+  stop_at_end : (s end : State) (commands : List Command) (replies : List Reply) (run : Run x s commands replies end) (b : Bytes) → StopOk x.backing end.checkpoint b → IsStopIn x s end commands replies run b
   stop_at_end s end [] [] run b at = at
   stop_at_end s end (command ∷ commands) (reply ∷ replies) run b at = inr (stop_at_end run.0 end commands replies run.2 b at)
   stop_at_end s end [] (reply ∷ replies) run b at = absurd run
   stop_at_end s end (command ∷ commands) [] run b at = absurd run
 
   rest_at_end : (old new : D) (s end : State) (commands : List Command) (replies : List Reply) (run : Run x s commands replies end) → RefinesAlong spec x before old new s end commands replies run
-      → StopOk x.backing s.mark (byte_at (spec.storage old).contents) → StopOk x.backing end.mark (byte_at (spec.storage new).contents)
-  rest_at_end old new s end [] [] run same at = subst (λ (d : D). StopOk x.backing end.mark (byte_at (spec.storage d).contents)) (sym same) (subst (λ (t : State). StopOk x.backing t.mark (byte_at (spec.storage old).contents)) (sym run) at)
+      → StopOk x.backing s.checkpoint (byte_at (spec.storage old).contents) → StopOk x.backing end.checkpoint (byte_at (spec.storage new).contents)
+  rest_at_end old new s end [] [] run same at = subst (λ (d : D). StopOk x.backing end.checkpoint (byte_at (spec.storage d).contents)) (sym same) (subst (λ (t : State). StopOk x.backing t.checkpoint (byte_at (spec.storage old).contents)) (sym run) at)
   rest_at_end old new s end (command ∷ commands) (reply ∷ replies) run safe at = rest_at_end safe.0 new run.0 end commands replies run.2 safe.4 safe.3.safe.at_return
   rest_at_end old new s end [] (reply ∷ replies) run safe at = absurd run
   rest_at_end old new s end (command ∷ commands) [] run safe at = absurd run
 
   -- what stood at its start falls under the first, or the end
   first_in : (old new : D) (s end : State) (commands : List Command) (replies : List Reply) (run : Run x s commands replies end) → RefinesAlong spec x before old new s end commands replies run
-      → StopOk x.backing s.mark (byte_at (spec.storage old).contents) → IsStopIn x s end commands replies run (byte_at (spec.storage old).contents)
-  first_in old new s end [] [] run same at = subst (λ (t : State). StopOk x.backing t.mark (byte_at (spec.storage old).contents)) (sym run) at
-  first_in old new s end (command ∷ commands) (reply ∷ replies) run safe at = inl (stop_more x.backing (given_by x s.guest command) (asked_by command) s.mark (byte_at (spec.storage old).contents) at)
+      → StopOk x.backing s.checkpoint (byte_at (spec.storage old).contents) → IsStopIn x s end commands replies run (byte_at (spec.storage old).contents)
+  first_in old new s end [] [] run same at = subst (λ (t : State). StopOk x.backing t.checkpoint (byte_at (spec.storage old).contents)) (sym run) at
+  first_in old new s end (command ∷ commands) (reply ∷ replies) run safe at = inl (stop_more x.backing (given_by x s.guest command) (asked_by command) s.checkpoint (byte_at (spec.storage old).contents) at)
   first_in old new s end [] (reply ∷ replies) run safe at = absurd run
   first_in old new s end (command ∷ commands) [] run safe at = absurd run
 
   -- and so do those while its mappings are let go
   pub whole_passes : (old last new : D) (s end : State) (commands : List Command) (replies : List Reply) (run : Run x s commands replies end)
-      → StopOk x.backing s.mark (byte_at (spec.storage old).contents) → RefinesAlong spec x before old last s end commands replies run → IsSafeWhile x.backing (spec.storage last) (spec.storage new) end.is_failed end.mark end.mark
-      → Passing (spec.storage old) (spec.storage new) (λ c. IsStopIn x s end commands replies run (byte_at c))
+      → StopOk x.backing s.checkpoint (byte_at (spec.storage old).contents) → RefinesAlong spec x before old last s end commands replies run → IsSafeWhile x.backing (spec.storage last) (spec.storage new) end.is_failed end.checkpoint end.checkpoint
+      → EachMomentSince (spec.storage old) (spec.storage new) (λ c. IsStopIn x s end commands replies run (byte_at c))
   whole_passes old last new s end commands replies run at stops leaves =
       let In = λ (k : List ℕ). IsStopIn x s end commands replies run (byte_at k) in
       let there = rest_at_end old last s end commands replies run stops at in
-      let ending : Passing (spec.storage last) (spec.storage new) In = elim (bool_cases end.is_failed) [
+      let ending : EachMomentSince (spec.storage last) (spec.storage new) In = elim (bool_cases end.is_failed) [
         | inl failed ↦ passes_if In (λ k e. subst In (sym e) (stop_at_end s end commands replies run (byte_at (spec.storage last).contents) there)) (leaves.silent failed)
         | inr ok ↦ passes_if In (λ k stop. stop_at_end s end commands replies run (byte_at k) stop) (leaves.moments ok)
       ] in
@@ -361,7 +361,7 @@ module _ {D P : Type 0} (spec : Abstraction D P) (x : Setting) (before : ℕ →
 
   -- and none but these since its start
   pub since_start : (old last new : D) (s end : State) (commands : List Command) (replies : List Reply) (run : Run x s commands replies end) → ((c : List ℕ) → (spec.storage old).had_since (spec.storage old).moment c → c ≡ (spec.storage old).contents)
-      → StopOk x.backing s.mark (byte_at (spec.storage old).contents) → RefinesAlong spec x before old last s end commands replies run → IsSafeWhile x.backing (spec.storage last) (spec.storage new) end.is_failed end.mark end.mark
+      → StopOk x.backing s.checkpoint (byte_at (spec.storage old).contents) → RefinesAlong spec x before old last s end commands replies run → IsSafeWhile x.backing (spec.storage last) (spec.storage new) end.is_failed end.checkpoint end.checkpoint
       → (c : List ℕ) → (spec.storage new).had_since (spec.storage old).moment c → IsStopIn x s end commands replies run (byte_at c)
   since_start old last new s end commands replies run only at stops leaves c had =
       let In = λ (k : List ℕ). IsStopIn x s end commands replies run (byte_at k) in
@@ -379,21 +379,21 @@ module _ {D P : Type 0} (spec : Abstraction D P) where
     end = goes.end;
     run = Run-push x s ran.end goes.end commands replies command reply ran.run goes.step;
     along = along_push spec x (spec.surplus old before) old mid new out' s ran.end goes.end commands replies command reply ran.run goes.step ran.along
-        (said_at (spec.surplus old before) goes.stands (λ e. goes.surplus e ∙ ran.surplus (goes.since e))) goes.stretch;
+        (said_at (spec.surplus old before) goes.stands (λ e. goes.surplus e ∙ ran.surplus (goes.since e))) goes.interval;
     stands = goes.stands;
     surplus = λ e. goes.surplus e ∙ ran.surplus (goes.since e);
   }
 
   -- a run whose mappings are let go at its end
   module _ (x : Setting) (old last new : D) (before out : List (Option P)) (s : State) (commands : List Command) (replies : List Reply) (ran : RefinesRun spec x old before last out s commands replies)
-      (does : Does (abstract_image spec last out) (abstract_image spec new []) [] [] ((guest_of (abstract_image spec new [])).disk ≡ (guest_of (abstract_image spec last out)).disk)) where
+      (does : AnsweredEffect (abstract_image spec last out) (abstract_image spec new []) [] [] ((guest_of (abstract_image spec new [])).disk ≡ (guest_of (abstract_image spec last out)).disk)) where
     backing_then : (spec.setting last).backing ≡ x.backing
     backing_then = ap (λ (y : Setting). y.backing) ran.stands.setting
 
-    at_end : ran.end.is_failed ≡ false → Stops (abstract_image spec last out) (abstract_image spec new []) [] [] ran.end.mark
+    at_end : ran.end.is_failed ≡ false → Stops (abstract_image spec last out) (abstract_image spec new []) [] [] ran.end.checkpoint
     at_end ok =
-        (does.acts.works (ran.stands.works ok)).stops ran.end.mark
-        (subst (λ b. StopOkEverywhere b ran.end.mark (byte_at (spec.storage last).contents)) (sym backing_then) (ran.stands.contents ok), subst (λ b. StopOkEverywhere b ran.end.mark (spec.known last)) (sym backing_then) (ran.stands.known ok))
+        (does.acts.works (ran.stands.works ok)).stops ran.end.checkpoint
+        (subst (λ b. StopOkEverywhere b ran.end.checkpoint (byte_at (spec.storage last).contents)) (sym backing_then) (ran.stands.contents ok), subst (λ b. StopOkEverywhere b ran.end.checkpoint (spec.known last)) (sym backing_then) (ran.stands.known ok))
 
     setting_then : spec.setting new ≡ x
     setting_then = elim (bool_cases ran.end.is_failed) [
@@ -401,13 +401,13 @@ module _ {D P : Type 0} (spec : Abstraction D P) where
       | inr ok ↦ (does.acts.works (ran.stands.works ok)).setting ∙ ran.stands.setting
     ]
 
-    kept_then : ran.end.is_failed ≡ false → StopOkEverywhere x.backing ran.end.mark (byte_at (spec.storage new).contents)
-    kept_then ok = subst (λ b. StopOkEverywhere b ran.end.mark (byte_at (spec.storage new).contents)) backing_then (at_end ok).contents
+    kept_then : ran.end.is_failed ≡ false → StopOkEverywhere x.backing ran.end.checkpoint (byte_at (spec.storage new).contents)
+    kept_then ok = subst (λ b. StopOkEverywhere b ran.end.checkpoint (byte_at (spec.storage new).contents)) backing_then (at_end ok).contents
 
-    resting : StopOk x.backing ran.end.mark (byte_at (spec.storage new).contents)
+    resting : StopOk x.backing ran.end.checkpoint (byte_at (spec.storage new).contents)
     resting = elim (bool_cases ran.end.is_failed) [
-      | inl failed ↦ subst (λ k. StopOk x.backing ran.end.mark (byte_at k)) (sym (does.acts.rests (ran.stands.failed failed)).contents) ran.stands.at_rest
-      | inr ok ↦ stop_of_kept x.backing ran.end.mark (byte_at (spec.storage new).contents) (kept_then ok)
+      | inl failed ↦ subst (λ k. StopOk x.backing ran.end.checkpoint (byte_at k)) (sym (does.acts.rests (ran.stands.failed failed)).contents) ran.stands.at_rest
+      | inr ok ↦ stop_of_kept x.backing ran.end.checkpoint (byte_at (spec.storage new).contents) (kept_then ok)
     ]
 
     pub completes : ((k : ℕ) → (abstract_image spec new []).slots k ≡ None) → spec.surplus old before ≡ spec.surplus old [] → RefinesWholeRun spec x old new s commands replies
@@ -417,8 +417,8 @@ module _ {D P : Type 0} (spec : Abstraction D P) where
       last = last;
       along = subst (λ (k : ℕ → ℕ). RefinesAlong spec x k old last s ran.end commands replies ran.run) same ran.along;
       leaves = record {
-        moments = λ ok. passes_if (λ c. StopOk x.backing ran.end.mark (byte_at c))
-            (λ c k. stop_of_kept x.backing ran.end.mark (byte_at c) (subst (λ b. StopOkEverywhere b ran.end.mark (byte_at c)) backing_then k)) (at_end ok).moments;
+        moments = λ ok. passes_if (λ c. StopOk x.backing ran.end.checkpoint (byte_at c))
+            (λ c k. stop_of_kept x.backing ran.end.checkpoint (byte_at c) (subst (λ b. StopOkEverywhere b ran.end.checkpoint (byte_at c)) backing_then k)) (at_end ok).moments;
         at_return = resting;
         silent = λ failed. (does.acts.rests (ran.stands.failed failed)).moments;
         unchanged = λ failed. (does.acts.rests (ran.stands.failed failed)).contents;
@@ -430,7 +430,7 @@ module _ {D P : Type 0} (spec : Abstraction D P) where
         guest = λ ok.
             ap (λ (f : ℕ → Option PreparedMapping). record (guest_of (abstract_image spec new [])) { slots = f }) (fun_ext empty)
             ∙ ap (λ (d : Disk). record { disk = d; slots = λ _. None }) ((does.answer (ran.stands.works ok)).1 ∙ ap (λ (g : Guest). g.disk) (ran.stands.guest ok));
-        known = λ ok. subst (λ b. StopOkEverywhere b ran.end.mark (spec.known new)) backing_then ((at_end ok).known (does.answer (ran.stands.works ok)).0);
+        known = λ ok. subst (λ b. StopOkEverywhere b ran.end.checkpoint (spec.known new)) backing_then ((at_end ok).known (does.answer (ran.stands.works ok)).0);
         contents = kept_then;
         at_rest = resting;
       };
@@ -455,6 +455,6 @@ module _ {D P : Type 0} (spec : Abstraction D P) where
 
   -- the moments of a whole run, with what is let go at its end
   pub passes_run : (old new : D) (commands : List Command) (replies : List Reply) (all : RefinesDisk spec old new commands replies)
-      → Passing (spec.storage old) (spec.storage new) (λ c. IsStopIn (spec.setting old) (started (guest_of (abstract_image spec old []))) all.end commands replies all.run (byte_at c))
+      → EachMomentSince (spec.storage old) (spec.storage new) (λ c. IsStopIn (spec.setting old) (started (guest_of (abstract_image spec old []))) all.end commands replies all.run (byte_at c))
   passes_run old new commands replies all =
       whole_passes spec (spec.setting old) (spec.surplus old []) old all.last new (started (guest_of (abstract_image spec old []))) all.end commands replies all.run all.at_start all.along all.leaves

@@ -1,6 +1,6 @@
 -- What each call does to an image.
 use Rattle.std.specs.Prelude.{ℕ, ◌+◌, ◌≡◌, ◌⊎◌, ◌≤◌, ◌<◌, ◌==◌, ◌||◌, Bool, true, false, IsTrue, List, [], ◌∷◌, length, take, Option, nat_le, if◌then◌else◌}
-use Rattle.image_access.specs.Moments.{Passing}
+use Rattle.image_access.specs.Moments.{EachMomentSince}
 use Rattle.image_access.specs.declared.storage.PreallocateMode.{PreallocateMode}
 use Rattle.image_access.specs.declared.storage.PreallocateMode.TheVariants as Mode
 use Rattle.qcow2_metadata.specs.Bytes.{byte_at}
@@ -8,7 +8,7 @@ use Rattle.qcow2_metadata.specs.Header.{rounded_up}
 use Rattle.qcow2_metadata.specs.Guest.{known_byte}
 use Rattle.qcow2_disk.specs.Disk.{Disk, with_bytes, zeroed_between, uncovered, grown, shrunk}
 use Rattle.qcow2_disk.specs.Stops.{GivenBytes, Checkpoint, checkpoint_with, StopOkEverywhere}
-use Rattle.qcow2_disk.specs.Mappings.{PreparedMapping, gift_shown}
+use Rattle.qcow2_disk.specs.Mappings.{PreparedMapping, given_shown}
 use Rattle.qcow2_disk.specs.Rules.{touched_from, touched_to}
 use Rattle.qcow2_disk.specs.AbstractImages.{Setting, Guest, AbstractImage, guest_of, stored_bytes}
 
@@ -31,7 +31,7 @@ IsRefusalByFault (another number) = ⊥
 
 -- where a stop may find the image, with what a call gives and asks
 pub record Stops (old new : AbstractImage) (given : List GivenBytes) (asked : List ℕ) (m : Checkpoint) : Type 0 where
-  pub moments : Passing old.storage new.storage (λ c. StopOkEverywhere old.setting.backing (checkpoint_with given asked m) (byte_at c))
+  pub moments : EachMomentSince old.storage new.storage (λ c. StopOkEverywhere old.setting.backing (checkpoint_with given asked m) (byte_at c))
   pub contents : StopOkEverywhere old.setting.backing (checkpoint_with given asked m) (stored_bytes new)
   pub known : new.is_sound → StopOkEverywhere old.setting.backing (checkpoint_with given asked m) new.known
 
@@ -39,32 +39,32 @@ abbrev pub StartsAt : AbstractImage → Checkpoint → Type 0
 StartsAt v m = StopOkEverywhere v.setting.backing m (stored_bytes v) × StopOkEverywhere v.setting.backing m v.known
 
 -- what a call does to a sound image
-pub record Works (old new : AbstractImage) (given : List GivenBytes) (asked : List ℕ) : Type 0 where
+pub record EffectOnSound (old new : AbstractImage) (given : List GivenBytes) (asked : List ℕ) : Type 0 where
   pub setting : new.setting ≡ old.setting
   pub surplus : new.is_sound → new.surplus ≡ old.surplus
   pub stops : (m : Checkpoint) → StartsAt old m → Stops old new given asked m
 
 -- a failed image writes nothing more
-pub record Rests (old new : AbstractImage) : Type 0 where
+pub record EffectOnFailed (old new : AbstractImage) : Type 0 where
   pub setting : new.setting ≡ old.setting
   pub failed : IsTrue new.is_failed
   pub contents : new.storage.contents ≡ old.storage.contents
-  pub moments : Passing old.storage new.storage (λ c. c ≡ old.storage.contents)
+  pub moments : EachMomentSince old.storage new.storage (λ c. c ≡ old.storage.contents)
 
 -- a call that gives these values and asks for these sizes
-pub record Acts (old new : AbstractImage) (given : List GivenBytes) (asked : List ℕ) : Type 0 where
+pub record CallEffect (old new : AbstractImage) (given : List GivenBytes) (asked : List ℕ) : Type 0 where
   pub number : new.number ≡ old.number
-  pub works : old.is_sound → Works old new given asked
-  pub rests : IsTrue old.is_failed → Rests old new
+  pub works : old.is_sound → EffectOnSound old new given asked
+  pub rests : IsTrue old.is_failed → EffectOnFailed old new
 
 -- it was answered: the image is sound, and this was done
-pub record Does (old new : AbstractImage) (given : List GivenBytes) (asked : List ℕ) (done : Type 0) : Type 0 where
-  pub acts : Acts old new given asked
+pub record AnsweredEffect (old new : AbstractImage) (given : List GivenBytes) (asked : List ℕ) (done : Type 0) : Type 0 where
+  pub acts : CallEffect old new given asked
   pub answer : old.is_sound → new.is_sound × done
 
 -- it was refused: the image is sound, and this is so; or it failed, by a fault or want of memory. A fault always fails it.
-pub record Refuses (old new : AbstractImage) (given : List GivenBytes) (asked : List ℕ) (e : Refusal) (still : Type 0) : Type 0 where
-  pub acts : Acts old new given asked
+pub record RefusedEffect (old new : AbstractImage) (given : List GivenBytes) (asked : List ℕ) (e : Refusal) (still : Type 0) : Type 0 where
+  pub acts : CallEffect old new given asked
   pub answer : old.is_sound → (new.is_sound × still) ⊎ (IsRefusalByFault e × IsTrue new.is_failed)
   pub fault : e ≡ storage → IsTrue new.is_failed
 
@@ -107,8 +107,8 @@ cleared x d to_kept_zero from to = zeroed_between d from to
 abbrev pub cleared_at : Setting → Disk → Clearing → ℕ → ℕ → Disk
 cleared_at x d how offset n = cleared x d how (touched_from x.cluster_size offset) (touched_to x.cluster_size d.size offset n)
 
-abbrev pub gift_of_clear : Setting → Disk → Clearing → ℕ → ℕ → GivenBytes
-gift_of_clear x d how offset n = gift_shown (cleared_at x d how offset n) (touched_from x.cluster_size offset) (touched_to x.cluster_size d.size offset n)
+abbrev pub given_by_clear : Setting → Disk → Clearing → ℕ → ℕ → GivenBytes
+given_by_clear x d how offset n = given_shown (cleared_at x d how offset n) (touched_from x.cluster_size offset) (touched_to x.cluster_size d.size offset n)
 
 abbrev pub shows_old : PreallocateMode → Bool
 shows_old Mode.None = true
@@ -124,9 +124,9 @@ pub record MayGrow (x : Setting) (old : Disk) (size : ℕ) (mode : PreallocateMo
       ⊎ ((shows_old mode ≡ false) × (old.size < size) × (old.size ≤ o) × (o < rounded_up x.cluster_size size) × (new.value o ≡ known_byte 0))
 
 -- a size that isn't larger gives nothing
-abbrev pub gift_of_grow : Setting → Disk → ℕ → PreallocateMode → List GivenBytes
-gift_of_grow x d size mode =
-    if nat_le size d.size || shows_old mode then [] else gift_shown (zeroed_between d d.size (rounded_up x.cluster_size size)) d.size (rounded_up x.cluster_size size) ∷ []
+abbrev pub given_by_grow : Setting → Disk → ℕ → PreallocateMode → List GivenBytes
+given_by_grow x d size mode =
+    if nat_le size d.size || shows_old mode then [] else given_shown (zeroed_between d d.size (rounded_up x.cluster_size size)) d.size (rounded_up x.cluster_size size) ∷ []
 
 -- Where a shrink may end: at the old size; at the new one, where nothing was uncovered; or between, at the end of the clusters that were.
 abbrev pub IsShrinkEnd : ℕ → (old size answer : ℕ) → Type 0
@@ -138,10 +138,10 @@ pub record IsShrunk (x : Setting) (old : Disk) (size answer : ℕ) (new : Disk) 
   pub smaller : size < old.size → IsShrinkEnd x.cluster_size old.size size answer × (new ≡ shrunk x.cluster_size old x.backing size answer)
 
 -- what it uncovers at most
-abbrev pub gift_of_shrink : Setting → Disk → ℕ → GivenBytes
-gift_of_shrink x d size = gift_shown (uncovered d x.backing (rounded_up x.cluster_size size) (rounded_up x.cluster_size d.size)) (rounded_up x.cluster_size size) (rounded_up x.cluster_size d.size)
+abbrev pub given_by_shrink : Setting → Disk → ℕ → GivenBytes
+given_by_shrink x d size = given_shown (uncovered d x.backing (rounded_up x.cluster_size size) (rounded_up x.cluster_size d.size)) (rounded_up x.cluster_size size) (rounded_up x.cluster_size d.size)
 
 -- what an answered one uncovered: the old size counts to its cluster's end
-abbrev pub gift_of_shrunk : Setting → Disk → (size answer : ℕ) → GivenBytes
-gift_of_shrunk x d size answer =
-    gift_shown (shrunk x.cluster_size d x.backing size answer) (rounded_up x.cluster_size size) (if answer == d.size then rounded_up x.cluster_size answer else answer)
+abbrev pub given_by_shrunk : Setting → Disk → (size answer : ℕ) → GivenBytes
+given_by_shrunk x d size answer =
+    given_shown (shrunk x.cluster_size d x.backing size answer) (rounded_up x.cluster_size size) (if answer == d.size then rounded_up x.cluster_size answer else answer)

@@ -62,20 +62,20 @@ committed d m = record d { value = λ o. if m.is_private o then m.shown o else d
 -- ---- what calls give
 
 -- bytes that are written
-abbrev pub gift_of : ℕ → List ℕ → GivenBytes
-gift_of offset bytes = record { from = offset; count = length bytes; value = λ i. known_byte (byte_at bytes i) }
+abbrev pub given_of : ℕ → List ℕ → GivenBytes
+given_of offset bytes = record { from = offset; count = length bytes; value = λ i. known_byte (byte_at bytes i) }
 
 -- what a disk shows from one offset up to another
-abbrev pub gift_shown : Disk → ℕ → ℕ → GivenBytes
-gift_shown d from to = record { from = from; count = to - from; value = λ i. d.value (from + i) }
+abbrev pub given_shown : Disk → ℕ → ℕ → GivenBytes
+given_shown d from to = record { from = from; count = to - from; value = λ i. d.value (from + i) }
 
 -- of bytes that are put into a mapping, those that aren't hidden; where they are, what the disk shows
-abbrev pub gift_of_put : Disk → PreparedMapping → ℕ → List ℕ → GivenBytes
-gift_of_put d m at bytes = record {
+abbrev pub given_by_put : Disk → PreparedMapping → ℕ → List ℕ → GivenBytes
+given_by_put d m at bytes = record {
   from = m.from + at;
   count = length bytes;
   value = λ i. if m.is_hidden (m.from + at + i) then d.value (m.from + at + i) else known_byte (byte_at bytes i);
 }
 
-abbrev pub gift_of_commit : ℕ → Disk → PreparedMapping → GivenBytes
-gift_of_commit cluster_size d m = gift_shown (committed d m) (first_of cluster_size m) (end_of cluster_size m)
+abbrev pub given_by_commit : ℕ → Disk → PreparedMapping → GivenBytes
+given_by_commit cluster_size d m = given_shown (committed d m) (first_of cluster_size m) (end_of cluster_size m)

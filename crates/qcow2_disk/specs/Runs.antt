@@ -1,6 +1,6 @@
 -- A run of commands with its replies.
 use Rattle.std.specs.Prelude.{ℕ, ◌+◌, ◌≡◌, ◌≢◌, ◌⊎◌, ◌≤◌, ◌<◌, ◌==◌, Bool, true, false, IsTrue, List, [], ◌∷◌, length, Option, Some, None, MatchOption, slice_get, if◌then◌else◌}
-use Rattle.image_access.specs.Moments.{StorageView, Passing}
+use Rattle.image_access.specs.Moments.{StorageView, EachMomentSince}
 use Rattle.image_access.specs.declared.storage.PreallocateMode.{PreallocateMode}
 use Rattle.qcow2_metadata.specs.Bytes.{Bytes, byte_at}
 use Rattle.qcow2_metadata.specs.Consistent.{IsConsistent}
@@ -8,12 +8,12 @@ use Rattle.qcow2_metadata.specs.Header.{header}
 use Rattle.qcow2_disk.specs.Disk.{Disk, with_bytes}
 use Rattle.qcow2_disk.specs.Stops.{GivenBytes, Checkpoint, checkpoint_at, checkpoint_with, StopOkEverywhere, StopOk}
 use Rattle.qcow2_disk.specs.Rules.{answered}
-use Rattle.qcow2_disk.specs.Mappings.{PreparedMapping, IsPrepared, put_mapping, put_disk, committed, IsPrivateIn, IsHiddenIn, gift_of, gift_of_put, gift_of_commit}
+use Rattle.qcow2_disk.specs.Mappings.{PreparedMapping, IsPrepared, put_mapping, put_disk, committed, IsPrivateIn, IsHiddenIn, given_of, given_by_put, given_by_commit}
 use Rattle.qcow2_disk.specs.Found.{Kind, IsFoundIn, IsCompressedAt}
 use Rattle.qcow2_disk.specs.AbstractImages.{Setting, HostRange, Guest, Abstraction, AbstractImage, abstract_image, guest_of, stored_bytes}
 use Rattle.qcow2_disk.specs.ClearedCovers.{IsRightlyCleared}
 use Rattle.qcow2_disk.specs.GrownCovers.{IsRightlyGrown}
-use Rattle.qcow2_disk.specs.Calls.{Refusal, memory, storage, not_compressed, another, IsRefusalByFault, Shows, with_disk, with_slot, MayWrite, Clearing, cleared_at, gift_of_clear, grown_to, gift_of_grow, MayGrow, IsShrunk, gift_of_shrink, gift_of_shrunk}
+use Rattle.qcow2_disk.specs.Calls.{Refusal, memory, storage, not_compressed, another, IsRefusalByFault, Shows, with_disk, with_slot, MayWrite, Clearing, cleared_at, given_by_clear, grown_to, given_by_grow, MayGrow, IsShrunk, given_by_shrink, given_by_shrunk}
 
 pub data Command : Type 0 where
   read : (offset length : ℕ) → Command
@@ -57,17 +57,17 @@ pub record Found : Type 0 where
   pub length : ℕ
 
 abbrev pub given_at : Option PreparedMapping → (PreparedMapping → GivenBytes) → List GivenBytes
-given_at None gift = []
-given_at (Some m) gift = gift m ∷ []
+given_at None bytes_given = []
+given_at (Some m) bytes_given = bytes_given m ∷ []
 
 -- what a command gives, and which sizes it asks for
 abbrev pub given_by : Setting → Guest → Command → List GivenBytes
-given_by x g (write offset bytes) = gift_of offset bytes ∷ []
-given_by x g (put slot at bytes) = given_at (g.slots slot) (λ m. gift_of_put g.disk m at bytes)
-given_by x g (commit slot) = given_at (g.slots slot) (gift_of_commit x.cluster_size g.disk)
-given_by x g (clear how offset n) = gift_of_clear x g.disk how offset n ∷ []
-given_by x g (grow size mode) = gift_of_grow x g.disk size mode
-given_by x g (shrink size) = gift_of_shrink x g.disk size ∷ []
+given_by x g (write offset bytes) = given_of offset bytes ∷ []
+given_by x g (put slot at bytes) = given_at (g.slots slot) (λ m. given_by_put g.disk m at bytes)
+given_by x g (commit slot) = given_at (g.slots slot) (given_by_commit x.cluster_size g.disk)
+given_by x g (clear how offset n) = given_by_clear x g.disk how offset n ∷ []
+given_by x g (grow size mode) = given_by_grow x g.disk size mode
+given_by x g (shrink size) = given_by_shrink x g.disk size ∷ []
 given_by x g command = []
 
 abbrev pub asked_by : Command → List ℕ
@@ -163,10 +163,10 @@ pub record State : Type 0 where
   pub guest : Guest
   pub found : ℕ → Option Found
   pub is_failed : Bool
-  pub mark : Checkpoint
+  pub checkpoint : Checkpoint
 
 abbrev pub started : Guest → State
-started g = record { guest = g; found = λ _. None; is_failed = false; mark = checkpoint_at g.disk }
+started g = record { guest = g; found = λ _. None; is_failed = false; checkpoint = checkpoint_at g.disk }
 
 -- the same with nothing found yet
 abbrev pub begun : State → State
@@ -178,12 +178,12 @@ over s = record s { guest = record s.guest { slots = λ _. None } }
 
 -- the checkpoint of the command under way: what it gives and asks for is added before it returns
 abbrev pub checkpoint_during : Setting → State → Command → Checkpoint
-checkpoint_during x old command = checkpoint_with (given_by x old.guest command) (asked_by command) old.mark
+checkpoint_during x old command = checkpoint_with (given_by x old.guest command) (asked_by command) old.checkpoint
 
 -- a flush that succeeded is the last one from then on; a shrink that was answered gave what it uncovered
 abbrev pub checkpoint_after : Setting → State → Command → Reply → Guest → Checkpoint
 checkpoint_after x old flush done new = checkpoint_at new.disk
-checkpoint_after x old (shrink size) (number_is answer) new = checkpoint_with (gift_of_shrunk x old.guest.disk size answer ∷ []) (asked_by (shrink size)) old.mark
+checkpoint_after x old (shrink size) (number_is answer) new = checkpoint_with (given_by_shrunk x old.guest.disk size answer ∷ []) (asked_by (shrink size)) old.checkpoint
 checkpoint_after x old command reply new = checkpoint_during x old command
 
 abbrev pub stepped : Setting → State → Command → Reply → Guest → Bool → State
@@ -191,7 +191,7 @@ stepped x old command reply new failed = record {
   guest = new;
   found = found_after old.found command reply;
   is_failed = failed;
-  mark = checkpoint_after x old command reply new;
+  checkpoint = checkpoint_after x old command reply new;
 }
 
 -- A fault or refused memory alone makes the image fail. From then on it answers as a failed one.
@@ -211,9 +211,9 @@ Run x old (command ∷ commands) [] new = ⊥
 
 -- While a call is under way, at each moment the bytes are what a stop may leave at its checkpoint; at its return, at the checkpoint then. An image that has failed writes nothing.
 pub record IsSafeWhile (backing : Bytes) (old new : StorageView) (failed : Bool) (under after : Checkpoint) : Type 0 where
-  pub moments : failed ≡ false → Passing old new (λ c. StopOk backing under (byte_at c))
+  pub moments : failed ≡ false → EachMomentSince old new (λ c. StopOk backing under (byte_at c))
   pub at_return : StopOk backing after (byte_at new.contents)
-  pub silent : IsTrue failed → Passing old new (λ c. c ≡ old.contents)
+  pub silent : IsTrue failed → EachMomentSince old new (λ c. c ≡ old.contents)
   pub unchanged : IsTrue failed → new.contents ≡ old.contents
 
 -- An image at the return of a command, where it didn't fail: it is sound, and the guest sees what the run says. The known image is consistent, and no cluster was lost or gained since the start.
@@ -225,9 +225,9 @@ pub record RefinesGuest (v : AbstractImage) (s : State) (before : ℕ → ℕ) :
   pub surplus : s.is_failed ≡ false → v.surplus ≡ before
 
 -- The moments on the way are the call's own. At whatever checkpoint a stop was safe as it began, each of them is safe with no more than it gives and asks.
-abbrev pub IsOwnStretch : Bytes → (old new : StorageView) → (known : Bytes) → List GivenBytes → List ℕ → Type 0
-IsOwnStretch backing old new known given asked = (m : Checkpoint) → StopOkEverywhere backing m (byte_at old.contents) → StopOkEverywhere backing m known
-    → Passing old new (λ c. StopOkEverywhere backing (checkpoint_with given asked m) (byte_at c))
+abbrev pub IsOwnInterval : Bytes → (old new : StorageView) → (known : Bytes) → List GivenBytes → List ℕ → Type 0
+IsOwnInterval backing old new known given asked = (m : Checkpoint) → StopOkEverywhere backing m (byte_at old.contents) → StopOkEverywhere backing m known
+    → EachMomentSince old new (λ c. StopOkEverywhere backing (checkpoint_with given asked m) (byte_at c))
 
 -- What preparing answers is where the mapping in its slot is to be written. Of that mapping all is private but what was copied data, and hidden but where a zero cluster keeps its host cluster.
 pub record IsPreparedRightly (before : Bytes) (new : AbstractImage) (slot n : ℕ) (host : HostRange) : Type 0 where
@@ -261,14 +261,14 @@ IsRightlyTold x before new command reply = Unit {0}
 
 -- A resize writes its size last: each moment on the way has the size from before it, or is what stands at its return.
 abbrev pub ResizesLast : (size : ℕ) → (old new : StorageView) → Command → Type 0
-ResizesLast size old new (grow asked mode) = Passing old new (λ c. ((header (byte_at c)).size ≡ size) ⊎ (c ≡ new.contents))
-ResizesLast size old new (shrink asked) = Passing old new (λ c. ((header (byte_at c)).size ≡ size) ⊎ (c ≡ new.contents))
+ResizesLast size old new (grow asked mode) = EachMomentSince old new (λ c. ((header (byte_at c)).size ≡ size) ⊎ (c ≡ new.contents))
+ResizesLast size old new (shrink asked) = EachMomentSince old new (λ c. ((header (byte_at c)).size ≡ size) ⊎ (c ≡ new.contents))
 ResizesLast size old new command = Unit {0}
 
 -- The stretch of one command, from a storage with what was known over it. Each moment on the way is safe and its own, and the reply is as it is then.
-pub record IsStretch (x : Setting) (old : StorageView) (known : Bytes) (new : AbstractImage) (s : State) (command : Command) (reply : Reply) (end : State) : Type 0 where
-  pub safe : IsSafeWhile x.backing old new.storage s.is_failed (checkpoint_during x s command) end.mark
-  pub own : s.is_failed ≡ false → IsOwnStretch x.backing old new.storage known (given_by x s.guest command) (asked_by command)
+pub record IsCommandInterval (x : Setting) (old : StorageView) (known : Bytes) (new : AbstractImage) (s : State) (command : Command) (reply : Reply) (end : State) : Type 0 where
+  pub safe : IsSafeWhile x.backing old new.storage s.is_failed (checkpoint_during x s command) end.checkpoint
+  pub own : s.is_failed ≡ false → IsOwnInterval x.backing old new.storage known (given_by x s.guest command) (asked_by command)
   pub sized : s.is_failed ≡ false → ResizesLast s.guest.disk.size old new.storage command
   pub told : end.is_failed ≡ false → IsRightlyTold x known new command reply
 
@@ -277,14 +277,14 @@ abbrev pub RefinesAlong : {D P : Type 0} (spec : Abstraction D P) (x : Setting) 
 RefinesAlong spec x before old new s end [] [] run = new ≡ old
 RefinesAlong {D = D} {P = P} spec x before old new s end (command ∷ commands) (reply ∷ replies) run =
     (mid : D) × (out : List (Option P)) × RefinesGuest (abstract_image spec mid out) run.0 before
-    × IsStretch x (spec.storage old) (spec.known old) (abstract_image spec mid out) s command reply run.0
+    × IsCommandInterval x (spec.storage old) (spec.known old) (abstract_image spec mid out) s command reply run.0
     × RefinesAlong spec x before mid new run.0 end commands replies run.2
 RefinesAlong spec x before old new s end [] (reply ∷ replies) run = ⊥
 RefinesAlong spec x before old new s end (command ∷ commands) [] run = ⊥
 
 -- the bytes are what a stop may leave at the checkpoint of one of a run's commands, or at its end
 abbrev pub IsStopIn : (x : Setting) (s end : State) (commands : List Command) (replies : List Reply) → Run x s commands replies end → Bytes → Type 0
-IsStopIn x s end [] [] run b = StopOk x.backing end.mark b
+IsStopIn x s end [] [] run b = StopOk x.backing end.checkpoint b
 IsStopIn x s end (command ∷ commands) (reply ∷ replies) run b = StopOk x.backing (checkpoint_during x s command) b ⊎ IsStopIn x run.0 end commands replies run.2 b
 IsStopIn x s end [] (reply ∷ replies) run b = ⊥
 IsStopIn x s end (command ∷ commands) [] run b = ⊥
@@ -297,17 +297,17 @@ pub record RefinesState (x : Setting) (v : AbstractImage) (s : State) : Type 0 w
   pub works : s.is_failed ≡ false → v.is_sound
   pub failed : IsTrue s.is_failed → IsTrue v.is_failed
   pub guest : s.is_failed ≡ false → guest_of v ≡ s.guest
-  pub known : s.is_failed ≡ false → StopOkEverywhere x.backing s.mark v.known
-  pub contents : s.is_failed ≡ false → StopOkEverywhere x.backing s.mark (stored_bytes v)
+  pub known : s.is_failed ≡ false → StopOkEverywhere x.backing s.checkpoint v.known
+  pub contents : s.is_failed ≡ false → StopOkEverywhere x.backing s.checkpoint (stored_bytes v)
   -- what a stop now leaves
-  pub at_rest : StopOk x.backing s.mark (stored_bytes v)
+  pub at_rest : StopOk x.backing s.checkpoint (stored_bytes v)
 
 -- one step of a run, with the moments on the way
 pub record RefinesCommand (x : Setting) (old new : AbstractImage) (s : State) (command : Command) (reply : Reply) : Type 0 where
   pub end : State
   pub step : CommandStep x s command reply end
   pub stands : RefinesState x new end
-  pub stretch : IsStretch x old.storage old.known new s command reply end
+  pub interval : IsCommandInterval x old.storage old.known new s command reply end
   pub surplus : end.is_failed ≡ false → new.surplus ≡ old.surplus
   pub since : end.is_failed ≡ false → s.is_failed ≡ false
 
@@ -327,7 +327,7 @@ module _ {D P : Type 0} (spec : Abstraction D P) where
     -- the image at the return of the last command
     pub last : D
     pub along : RefinesAlong spec x (spec.surplus old []) old last s end commands replies run
-    pub leaves : IsSafeWhile x.backing (spec.storage last) (spec.storage new) end.is_failed end.mark end.mark
+    pub leaves : IsSafeWhile x.backing (spec.storage last) (spec.storage new) end.is_failed end.checkpoint end.checkpoint
     pub stands : RefinesState x (abstract_image spec new []) (over end)
     pub surplus : end.is_failed ≡ false → spec.surplus new [] ≡ spec.surplus old []
 
@@ -341,7 +341,7 @@ module _ {D P : Type 0} (spec : Abstraction D P) where
     pub last : D
     pub along : RefinesAlong spec (spec.setting old) (spec.surplus old []) old last (started (guest_of (abstract_image spec old []))) end commands replies run
     -- Then the mappings that are left are let go, as safely, and the guest still sees it.
-    pub leaves : IsSafeWhile (spec.setting old).backing (spec.storage last) (spec.storage new) end.is_failed end.mark end.mark
+    pub leaves : IsSafeWhile (spec.setting old).backing (spec.storage last) (spec.storage new) end.is_failed end.checkpoint end.checkpoint
     pub at_end : RefinesGuest (abstract_image spec new []) (over end) (spec.surplus old [])
     pub setting : spec.setting new ≡ spec.setting old
     -- There is no other moment since it began.

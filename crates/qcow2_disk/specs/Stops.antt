@@ -1,6 +1,6 @@
 -- What a stop may leave: nothing but what was flushed, or given by calls since.
 use Rattle.std.specs.Prelude.{ℕ, ◌+◌, ◌-◌, ◌≡◌, ◌<◌, ◌≤◌, ◌⊎◌, ◌++◌, List, [], ◌∷◌}
-use Rattle.image_access.specs.Moments.{StorageView, Passing}
+use Rattle.image_access.specs.Moments.{StorageView, EachMomentSince}
 use Rattle.qcow2_metadata.specs.Bytes.{Bytes, byte_at}
 use Rattle.qcow2_metadata.specs.Guest.{Value}
 use Rattle.qcow2_metadata.specs.Consistent.{IsConsistent}
@@ -17,7 +17,7 @@ IsIn g o v = (g.from ≤ o) × (o < g.from + g.count) × (v ≡ g.value (o - g.f
 
 abbrev pub IsGiven : List GivenBytes → ℕ → Value → Type 0
 IsGiven [] o v = ⊥
-IsGiven (g ∷ gifts) o v = IsIn g o v ⊎ IsGiven gifts o v
+IsGiven (g ∷ given_bytes) o v = IsIn g o v ⊎ IsGiven given_bytes o v
 
 abbrev pub IsAsked : List ℕ → ℕ → Type 0
 IsAsked [] size = ⊥
@@ -51,5 +51,5 @@ pub record StopOkEverywhere (backing : Bytes) (m : Checkpoint) (image : Bytes) :
 
 -- At each moment of a storage since, what was kept of it and of what was known is kept.
 pub record SafeThroughout (old new : StorageView) (known : Bytes) (given : Bytes → List GivenBytes) (asked : List ℕ) : Type 0 where
-  pub moments : Passing old new (λ c. (backing : Bytes) (m : Checkpoint) → StopOkEverywhere backing m (byte_at old.contents) → StopOkEverywhere backing m known → StopOkEverywhere backing (checkpoint_with (given backing) asked m) (byte_at c))
+  pub moments : EachMomentSince old new (λ c. (backing : Bytes) (m : Checkpoint) → StopOkEverywhere backing m (byte_at old.contents) → StopOkEverywhere backing m known → StopOkEverywhere backing (checkpoint_with (given backing) asked m) (byte_at c))
   pub contents : (backing : Bytes) (m : Checkpoint) → StopOkEverywhere backing m (byte_at old.contents) → StopOkEverywhere backing m known → StopOkEverywhere backing (checkpoint_with (given backing) asked m) (byte_at new.contents)

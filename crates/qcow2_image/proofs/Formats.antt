@@ -29,7 +29,7 @@ module _ (h : HeaderFields) (offset clusters : ℕ) (known on_storage : Bytes) w
   unfolding cover cover_under l1_entry
   share_with q i InPlace is = is
   share_with q i Kept is = record { first = is.first; place = is.place; nameable = is.nameable; entry = is.entry }
-  share_with q i (New taken dropped) is = record { first = is.first; is = is.is; place = is.place; nameable = is.nameable; entry = is.entry; reach = is.reach; drops = is.drops }
+  share_with q i (New taken old_data) is = record { first = is.first; is = is.is; place = is.place; nameable = is.nameable; entry = is.entry; reach = is.reach; drops = is.drops }
 
   ready_with : (q : Prepared) (t : Option ℕ) → IsReadyWith h known on_storage q t → IsReadyWith (with_reftable h offset clusters) known on_storage q t
   unfolding l1_entry

@@ -17,7 +17,7 @@ use Rattle.qcow2_alloc.specs.ImageFile.{state_in, view_in, known_in, FileInvaria
 use Rattle.qcow2_alloc.specs.ImageStorage.{storage_of}
 use Rattle.qcow2_image.specs.declared.image.Qcow2.{Qcow2}
 use Rattle.qcow2_image.specs.declared.prepared.Prepared.{Prepared}
-use Rattle.qcow2_image.specs.ImageInvariant.{over_all, held_by, pins_by, to_free, of_tables, of_data, pending_in, ImageInvariant, image_abstraction, abstract_of}
+use Rattle.qcow2_image.specs.ImageInvariant.{over_all, new_data_by, pins_by, to_free, of_tables, of_data, pending_in, ImageInvariant, image_abstraction, abstract_of}
 
 over_all_free : (f : Prepared → ℕ → ℕ) (a b : List (Option Prepared)) (k : ℕ) → over_all f (a ++ None ∷ b) k ≡ over_all f (a ++ b) k
 over_all_free f [] b k = omega arith
@@ -36,16 +36,16 @@ get_out (p ∷ a) b (suc k) q e = let there = get_out a b k q e in (suc there.0,
 
 module _ {S F : Type 0} (view : S → StorageView) (backing : F → BackingView) where
   module _ (image : Qcow2 S F) where
-    abbrev counted : (k held : ℕ) → ℕ
-    counted k held =
+    abbrev counted : (k new_data : ℕ) → ℕ
+    counted k new_data =
         count image.file.header.fields (known_in view image.file) k
-        - (named image.file.header.fields (known_in view image.file) k + held + to_free of_tables image.file.free_list k + to_free of_data image.file.free_list k)
+        - (named image.file.header.fields (known_in view image.file) k + new_data + to_free of_tables image.file.free_list k + to_free of_data image.file.free_list k)
 
-    abbrev with_held : (ℕ → ℕ) → Pending
-    with_held held = record { held = held; fresh = λ k. 0; spent = to_free of_tables image.file.free_list; dropped = to_free of_data image.file.free_list; surplus = λ k. counted k (held k) }
+    abbrev with_new_data : (ℕ → ℕ) → Pending
+    with_new_data new_data = record { new_data = new_data; new_tables = λ k. 0; old_tables = to_free of_tables image.file.free_list; old_data = to_free of_data image.file.free_list; surplus = λ k. counted k (new_data k) }
 
     pending_free : (a b : List (Option Prepared)) → pending_in view backing image (a ++ None ∷ b) ≡ pending_in view backing image (a ++ b)
-    pending_free a b = ap with_held (fun_ext (λ k. over_all_free held_by a b k))
+    pending_free a b = ap with_new_data (fun_ext (λ k. over_all_free new_data_by a b k))
 
     -- the same mappings at other places
     moved : (p p' : Pending) (out out' : List (Option Prepared)) → p ≡ p' → ((t : ℕ) → over_all pins_by out t ≡ over_all pins_by out' t)
@@ -65,7 +65,7 @@ module _ {S F : Type 0} (view : S → StorageView) (backing : F → BackingView)
   free_places = record {
     free = λ image a b. moved image _ _ (a ++ b) (a ++ None ∷ b) (sym (pending_free image a b)) (λ t. sym (over_all_free pins_by a b t)) (get_in a b);
     left = λ image a b. moved image _ _ (a ++ None ∷ b) (a ++ b) (pending_free image a b) (over_all_free pins_by a b) (get_out a b);
-    surplus = λ image a b. fun_ext (λ k. ap (counted image k) (over_all_free held_by a b k));
+    surplus = λ image a b. fun_ext (λ k. ap (counted image k) (over_all_free new_data_by a b k));
     works = λ image out sound. sound.works;
   }
 

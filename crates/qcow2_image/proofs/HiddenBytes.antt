@@ -35,7 +35,7 @@ module _ {S F : Type 0} (view : S → StorageView) (backing : F → BackingView)
         → IsTrue (is_entered share) → IsShareAt s.header s.known s.on_storage q i share → IsHere
     hidden_as i InPlace is here entered at = absurd (let e : false ≡ true = entered in cc)
     hidden_as i Kept is here entered at = inr (host_begin_of s.header q i, here ∙ at.entry)
-    hidden_as i (New taken dropped) is here entered at = inl (ap (λ m. option_map_or is_new m false) is)
+    hidden_as i (New taken old_data) is here entered at = inl (ap (λ m. option_map_or is_new m false) is)
 
     hidden_at : IsTrue (is_private view backing image q o) → IsHere
     hidden_at private =

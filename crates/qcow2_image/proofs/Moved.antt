@@ -43,7 +43,7 @@ module _ (h : HeaderFields) (offset entries : ℕ) (known on_storage known' on_s
   moved_share : (i : ℕ) (share : Share) → IsShareAt h known on_storage q i share → IsShareAt (with_l1_table h offset entries) known' on_storage' q i share
   moved_share i InPlace is = sym (covers (cluster_of h q + i)) ∙ is
   moved_share i Kept is = record { first = is.first; place = is.place; nameable = is.nameable; entry = sym (covers (cluster_of h q + i)) ∙ is.entry }
-  moved_share i (New taken dropped) is = record {
+  moved_share i (New taken old_data) is = record {
     first = is.first;
     is = is.is;
     place = is.place;

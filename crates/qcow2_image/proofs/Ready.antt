@@ -19,7 +19,7 @@ use Rattle.qcow2_image.specs.ImageInvariant.{cluster_of, listed_run, IsShareAt, 
 pub still_share : (h : HeaderFields) (known on_storage known' on_storage' : Bytes) (q : Prepared) (i : ℕ) → cover h known (cluster_of h q + i) ≡ cover h known' (cluster_of h q + i) → (share : Share) → IsShareAt h known on_storage q i share → IsShareAt h known' on_storage' q i share
 still_share h known on_storage known' on_storage' q i same InPlace is = sym same ∙ is
 still_share h known on_storage known' on_storage' q i same Kept is = record { first = is.first; place = is.place; nameable = is.nameable; entry = sym same ∙ is.entry }
-still_share h known on_storage known' on_storage' q i same (New taken dropped) is = record {
+still_share h known on_storage known' on_storage' q i same (New taken old_data) is = record {
   first = is.first;
   is = is.is;
   place = is.place;

@@ -31,48 +31,48 @@ use Rattle.qcow2_image.specs.declared.prepared.Prepared.{Prepared}
 use Rattle.qcow2_image.specs.declared.prepared.Share.{Share}
 use Rattle.qcow2_image.specs.declared.prepared.Share.TheVariants.{InPlace, Kept, New}
 use Rattle.qcow2_image.specs.UnseenSteps.{freed_by, HoldsAll}
-use Rattle.qcow2_image.specs.ImageInvariant.{of_data, of_tables, to_free, held_in, held_by, over_all, is_entered, cluster_of, begin_of, host_begin_of, place_of, share_of, IsShareAt, IsPending, IsReadyWith, is_private, ImageInvariant}
+use Rattle.qcow2_image.specs.ImageInvariant.{of_data, of_tables, to_free, new_data_in, new_data_by, over_all, is_entered, cluster_of, begin_of, host_begin_of, place_of, share_of, IsShareAt, IsPending, IsReadyWith, is_private, ImageInvariant}
 use Rattle.qcow2_image.proofs.Sound.{free_more}
 
 -- ---- lists of shares
 
 -- one of them holds no more than all
-pub held_at : (shares : List Share) (i : ℕ) (taken dropped : List ClustersToFreeEntry) → slice_get shares i ≡ Some (New taken dropped) → (c : ℕ) → to_free of_data taken c ≤ held_in shares c
-held_at [] i taken dropped is c = absurd cc
-held_at (s ∷ shares) zero taken gone is c = let e : s ≡ New taken gone = cc in subst (λ (x : Share). to_free of_data taken c ≤ held_in (x ∷ shares) c) (sym e) (omega arith)
-held_at (InPlace ∷ shares) (suc i) taken dropped is c = held_at shares i taken dropped is c
-held_at (Kept ∷ shares) (suc i) taken dropped is c = held_at shares i taken dropped is c
-held_at (New more gone ∷ shares) (suc i) taken dropped is c = let rest = held_at shares i taken dropped is c in omega arith
+pub new_data_at : (shares : List Share) (i : ℕ) (taken old_data : List ClustersToFreeEntry) → slice_get shares i ≡ Some (New taken old_data) → (c : ℕ) → to_free of_data taken c ≤ new_data_in shares c
+new_data_at [] i taken old_data is c = absurd cc
+new_data_at (s ∷ shares) zero taken gone is c = let e : s ≡ New taken gone = cc in subst (λ (x : Share). to_free of_data taken c ≤ new_data_in (x ∷ shares) c) (sym e) (omega arith)
+new_data_at (InPlace ∷ shares) (suc i) taken old_data is c = new_data_at shares i taken old_data is c
+new_data_at (Kept ∷ shares) (suc i) taken old_data is c = new_data_at shares i taken old_data is c
+new_data_at (New more gone ∷ shares) (suc i) taken old_data is c = let rest = new_data_at shares i taken old_data is c in omega arith
 
 -- what one holds that is in place from then on is held no longer
-pub held_less : (shares : List Share) (i : ℕ) (share : Share) → slice_get shares i ≡ Some share → (c : ℕ) → held_in (slice_set shares i InPlace) c + held_in (share ∷ []) c ≡ held_in shares c
-held_less [] i share is c = absurd cc
-held_less (InPlace ∷ shares) zero share is c = let e : InPlace ≡ share = cc in subst (λ (x : Share). held_in shares c + held_in (x ∷ []) c ≡ held_in shares c) e (omega arith)
-held_less (Kept ∷ shares) zero share is c = let e : Kept ≡ share = cc in subst (λ (x : Share). held_in shares c + held_in (x ∷ []) c ≡ held_in shares c) e (omega arith)
-held_less (New taken dropped ∷ shares) zero share is c = let e : New taken dropped ≡ share = cc in subst (λ (x : Share). held_in shares c + held_in (x ∷ []) c ≡ held_in (New taken dropped ∷ shares) c) e (omega arith)
-held_less (InPlace ∷ shares) (suc i) share is c = held_less shares i share is c
-held_less (Kept ∷ shares) (suc i) share is c = held_less shares i share is c
-held_less (New taken dropped ∷ shares) (suc i) share is c = let rest = held_less shares i share is c in omega arith
+pub new_data_less : (shares : List Share) (i : ℕ) (share : Share) → slice_get shares i ≡ Some share → (c : ℕ) → new_data_in (slice_set shares i InPlace) c + new_data_in (share ∷ []) c ≡ new_data_in shares c
+new_data_less [] i share is c = absurd cc
+new_data_less (InPlace ∷ shares) zero share is c = let e : InPlace ≡ share = cc in subst (λ (x : Share). new_data_in shares c + new_data_in (x ∷ []) c ≡ new_data_in shares c) e (omega arith)
+new_data_less (Kept ∷ shares) zero share is c = let e : Kept ≡ share = cc in subst (λ (x : Share). new_data_in shares c + new_data_in (x ∷ []) c ≡ new_data_in shares c) e (omega arith)
+new_data_less (New taken old_data ∷ shares) zero share is c = let e : New taken old_data ≡ share = cc in subst (λ (x : Share). new_data_in shares c + new_data_in (x ∷ []) c ≡ new_data_in (New taken old_data ∷ shares) c) e (omega arith)
+new_data_less (InPlace ∷ shares) (suc i) share is c = new_data_less shares i share is c
+new_data_less (Kept ∷ shares) (suc i) share is c = new_data_less shares i share is c
+new_data_less (New taken old_data ∷ shares) (suc i) share is c = let rest = new_data_less shares i share is c in omega arith
 
 -- what is dropped of them comes to the list of those to be freed, as data
-pub freed_data : (shares : List Share) (c : ℕ) → to_free of_data (freed_by shares) c ≡ held_in shares c
+pub freed_data : (shares : List Share) (c : ℕ) → to_free of_data (freed_by shares) c ≡ new_data_in shares c
 freed_data [] c = refl
 freed_data (InPlace ∷ shares) c = freed_data shares c
 freed_data (Kept ∷ shares) c = freed_data shares c
-freed_data (New taken dropped ∷ shares) c = let both = free_more of_data taken (freed_by shares) c in let rest = freed_data shares c in omega arith
+freed_data (New taken old_data ∷ shares) c = let both = free_more of_data taken (freed_by shares) c in let rest = freed_data shares c in omega arith
 
 abbrev pub IsOfData : Share → Type 0
 IsOfData InPlace = Unit {0}
 IsOfData Kept = Unit {0}
-IsOfData (New taken dropped) = (c : ℕ) → to_free of_tables taken c ≡ 0
+IsOfData (New taken old_data) = (c : ℕ) → to_free of_tables taken c ≡ 0
 
 pub freed_tables : (shares : List Share) → ((i : ℕ) (share : Share) → slice_get shares i ≡ Some share → IsOfData share) → (c : ℕ) → to_free of_tables (freed_by shares) c ≡ 0
 freed_tables [] each c = refl
 freed_tables (InPlace ∷ shares) each c = freed_tables shares (λ i share is. each (suc i) share is) c
 freed_tables (Kept ∷ shares) each c = freed_tables shares (λ i share is. each (suc i) share is) c
-freed_tables (New taken dropped ∷ shares) each c =
+freed_tables (New taken old_data ∷ shares) each c =
     let both = free_more of_tables taken (freed_by shares) c in
-    let none = each 0 (New taken dropped) refl c in
+    let none = each 0 (New taken old_data) refl c in
     let rest = freed_tables shares (λ i share is. each (suc i) share is) c in
     omega arith
 
@@ -81,19 +81,19 @@ pub freed_none : (shares : List Share) → ((j : ℕ) → j < length shares → 
 freed_none [] each = refl
 freed_none (InPlace ∷ shares) each = freed_none shares (λ j lt. each (suc j) (omega arith))
 freed_none (Kept ∷ shares) each = absurd (let e : Some Kept ≡ Some InPlace = each 0 (omega arith) in cc)
-freed_none (New taken dropped ∷ shares) each = absurd (let e : Some (New taken dropped) ≡ Some InPlace = each 0 (omega arith) in cc)
+freed_none (New taken old_data ∷ shares) each = absurd (let e : Some (New taken old_data) ≡ Some InPlace = each 0 (omega arith) in cc)
 
 pub of_data_at : (h : HeaderFields) (known on_storage : Bytes) (p : Prepared) (i : ℕ) (share : Share) → IsShareAt h known on_storage p i share → IsOfData share
 of_data_at h known on_storage p i InPlace at = tt
 of_data_at h known on_storage p i Kept at = tt
-of_data_at h known on_storage p i (New taken dropped) at = λ c. ap (λ l. to_free of_tables l c) at.is
+of_data_at h known on_storage p i (New taken old_data) at = λ c. ap (λ l. to_free of_tables l c) at.is
 
 -- one behind others
 pub freed_behind : (shares : List Share) (share : Share) → freed_by (shares ++ share ∷ []) ≡ freed_by shares ++ freed_by (share ∷ [])
 freed_behind [] share = refl
 freed_behind (InPlace ∷ shares) share = freed_behind shares share
 freed_behind (Kept ∷ shares) share = freed_behind shares share
-freed_behind (New taken dropped ∷ shares) share = ap (λ l. taken ++ l) (freed_behind shares share) ∙ sym (append_assoc taken (freed_by shares) (freed_by (share ∷ [])))
+freed_behind (New taken old_data ∷ shares) share = ap (λ l. taken ++ l) (freed_behind shares share) ∙ sym (append_assoc taken (freed_by shares) (freed_by (share ∷ [])))
 
 -- ---- where the guest clusters of a mapping stand
 
@@ -188,8 +188,8 @@ module _ (h : HeaderFields) (p : Prepared) (i first : ℕ) (place : first * clus
   host_cluster o = ap (λ n. (n + o % cluster_size h) / cluster_size h) (sym place) ∙ div-mul-add first (cluster_size h) (o % cluster_size h) (mod_below o (cluster_size h) (pow_pos h.cluster_bits))
 
 -- a new cluster is held once
-pub held_once : (first : ℕ) → to_free of_data (data_entry first 1 ∷ []) first ≡ 1
-held_once first = let one = run_in first 1 first (omega arith) (omega arith) in omega arith
+pub new_data_once : (first : ℕ) → to_free of_data (data_entry first 1 ∷ []) first ≡ 1
+new_data_once first = let one = run_in first 1 first (omega arith) (omega arith) in omega arith
 
 -- ---- private bytes
 
@@ -235,7 +235,7 @@ over_all_at f (p ∷ out) (suc k) q at c = let rest = over_all_at f out k q at c
 
 -- where a private byte stands: in a cluster that its mapping holds, or that a zero entry keeps
 pub data Standing (h : HeaderFields) (known : Bytes) (q : Prepared) (o : ℕ) : Type 0 where
-  in_new : 0 < held_by q (place_of h q o / cluster_size h) → Standing h known q o
+  in_new : 0 < new_data_by q (place_of h q o / cluster_size h) → Standing h known q o
   in_kept : (host : ℕ) → cover h known (o / cluster_size h) ≡ Zero (Some (host, true)) → place_of h q o ≡ host + o % cluster_size h → Standing h known q o
 
 module _ (h : HeaderFields) (known on_storage : Bytes) (q : Prepared) (o : ℕ) (shared : IsShared h q o) where
@@ -245,12 +245,12 @@ module _ (h : HeaderFields) (known on_storage : Bytes) (q : Prepared) (o : ℕ) 
   stands_as : (share : Share) → IsTrue (is_entered share) → slice_get q.shares.items shared.index ≡ Some share → IsShareAt h known on_storage q shared.index share → Standing h known q o
   stands_as InPlace entered is at = absurd (let e : false ≡ true = entered in cc)
   stands_as Kept entered is at = in_kept (host_begin_of h q shared.index) (ap (cover h known) shared.here ∙ at.entry) place_there
-  stands_as (New taken dropped) entered is at =
+  stands_as (New taken old_data) entered is at =
       in_new (
       let there : place_of h q o / cluster_size h ≡ at.first = ap (λ n. n / cluster_size h) place_there ∙ host_cluster h q shared.index at.first at.place o in
-      let one : to_free of_data taken at.first ≡ 1 = ap (λ l. to_free of_data l at.first) at.is ∙ held_once at.first in
-      let all = held_at q.shares.items shared.index taken dropped is at.first in
-      subst (λ c. 0 < held_by q c) (sym there) (omega (arith, one, all)))
+      let one : to_free of_data taken at.first ≡ 1 = ap (λ l. to_free of_data l at.first) at.is ∙ new_data_once at.first in
+      let all = new_data_at q.shares.items shared.index taken old_data is at.first in
+      subst (λ c. 0 < new_data_by q c) (sym there) (omega (arith, one, all)))
 
   pub stands_shared : IsReadyWith h known on_storage q q.table → Standing h known q o
   stands_shared ready = by_table q.table ready where
@@ -267,12 +267,12 @@ kept_used s sound g host is =
 
 -- no table is laid over what is used
 pub used_unlaid : (s : DriverState) → StateInvariant s → (o : ℕ) → 0 < used_by_guests s (o / cluster_size s.header) → s.on_storage o ≡ s.known o
-used_unlaid s sound o some = let t = (tied s.header s.pending s.on_storage s.known (o / cluster_size s.header)).known in sound.unlaid o (omega arith)
+used_unlaid s sound o some = let t = (tied s.header s.pending s.on_storage s.known (o / cluster_size s.header)).known in sound.not_overlaid o (omega arith)
 
 -- so is where a private byte of a mapping stands that is out
-pub standing_used : (s : DriverState) → StateInvariant s → (q : Prepared) (o : ℕ) → held_by q (place_of s.header q o / cluster_size s.header) ≤ s.pending.held (place_of s.header q o / cluster_size s.header) → Standing s.header s.known q o
+pub standing_used : (s : DriverState) → StateInvariant s → (q : Prepared) (o : ℕ) → new_data_by q (place_of s.header q o / cluster_size s.header) ≤ s.pending.new_data (place_of s.header q o / cluster_size s.header) → Standing s.header s.known q o
     → 0 < used_by_guests s (place_of s.header q o / cluster_size s.header)
-standing_used s sound q o holds (in_new held) = omega arith
+standing_used s sound q o holds (in_new new_data) = omega arith
 standing_used s sound q o holds (in_kept host is place) =
     let aligned = kept_aligned s sound (o / cluster_size s.header) host is in
     let here : place_of s.header q o / cluster_size s.header ≡ host / cluster_size s.header = ap (λ n. n / cluster_size s.header) place ∙ in_one (cluster_size s.header) host (o % cluster_size s.header) aligned (mod_below o (cluster_size s.header) (pow_pos s.header.cluster_bits)) in
@@ -287,6 +287,6 @@ module _ {S F : Type 0} (view : S → StorageView) (backing : F → BackingView)
       → 0 < used_by_guests (state_in view image.file p) (place_of image.file.header.fields q o / cluster_size image.file.header.fields)
   private_used holds k q at o private =
       let place = place_of image.file.header.fields q o / cluster_size image.file.header.fields in
-      let all = over_all_at held_by out k q at (place_of image.file.header.fields q o / cluster_size image.file.header.fields) in
-      let held = holds (place_of image.file.header.fields q o / cluster_size image.file.header.fields) in
+      let all = over_all_at new_data_by out k q at (place_of image.file.header.fields q o / cluster_size image.file.header.fields) in
+      let new_data = holds (place_of image.file.header.fields q o / cluster_size image.file.header.fields) in
       standing_used (state_in view image.file p) sound.file.caches.kept.kept.guarded q o (omega arith) (private_stands k q at o private)

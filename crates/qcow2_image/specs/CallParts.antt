@@ -5,18 +5,18 @@ use Rattle.qcow2_alloc.specs.ImageError.{IsFault as IsFaultOfTables}
 use Rattle.std.specs.Prelude.{Bool, true, false, ℕ, ◌+◌, ◌*◌, ◌/◌, ◌≡◌, ◌<◌, ◌≤◌, ◌==◌, ◌⊎◌, List, [], ◌∷◌, length, Option, Some, None, IsSome, IsTrue, Result, Ok, Err, slice_get, slice_set, if◌then◌else◌}
 use Rattle.image_access.specs.Backing.{BackingView}
 use Rattle.image_access.specs.Contents.{overwritten}
-use Rattle.image_access.specs.Moments.{StorageView, Passing}
-use Rattle.qcow2_disk.specs.Calls.{IsRefusalByFault, IsSame, Refuses, Works, with_disk, with_slot}
+use Rattle.image_access.specs.Moments.{StorageView, EachMomentSince}
+use Rattle.qcow2_disk.specs.Calls.{IsRefusalByFault, IsSame, RefusedEffect, EffectOnSound, with_disk, with_slot}
 use Rattle.qcow2_metadata.specs.Cover.{cover}
 use Rattle.qcow2_image.specs.declared.prepared.Share.TheVariants.{InPlace}
-use Rattle.qcow2_disk.specs.Mappings.{is_copied_data, PreparedMapping, IsPrepared, gift_of_commit, put_mapping, put_disk, committed}
+use Rattle.qcow2_disk.specs.Mappings.{is_copied_data, PreparedMapping, IsPrepared, given_by_commit, put_mapping, put_disk, committed}
 use Rattle.qcow2_disk.specs.AbstractImages.{Guest, guest_of}
 use Rattle.qcow2_alloc.specs.declared.error.ImageError.{ImageError}
 use Rattle.qcow2_alloc.specs.declared.error.ImageError.TheVariants as I
 use Rattle.qcow2_alloc.specs.ImageFile.{view_in, known_in}
 use Rattle.qcow2_image.specs.declared.image.Qcow2.{Qcow2}
 use Rattle.qcow2_image.specs.declared.prepared.Prepared.{Prepared}
-use Rattle.qcow2_image.specs.Calls.{refusal_of, gifts_of_put}
+use Rattle.qcow2_image.specs.Calls.{refusal_of, all_given_by_put}
 use Rattle.qcow2_image.specs.Image.{is_failed}
 use Rattle.qcow2_image.specs.ImageInvariant.{meaning, pending_in, abstract_of, ImageInvariant}
 use Rattle.qcow2_image.specs.MovedTables.{MovesTables, CoversStay}
@@ -74,19 +74,19 @@ module _ {S F : Type 0} (view : S → StorageView) where
   pub record WritesBytes (old new : Qcow2 S F) (host : ℕ) (bytes : List ℕ) (result : Result (Unit {0}) ImageError) : Type 0 where
     pub rest : new ≡ record old { file = record old.file { storage = new.file.storage } }
     pub honest : (view_in view old.file).is_honest → (view_in view new.file).is_honest
-    pub time : Passing (view_in view old.file) (view_in view new.file) (λ c. c ≡ (view_in view new.file).contents)
+    pub time : EachMomentSince (view_in view old.file) (view_in view new.file) (λ c. c ≡ (view_in view new.file).contents)
     pub written : (view_in view old.file).is_honest → IsWriteOutcome result (view_in view old.file).contents (overwritten (view_in view old.file).contents host bytes) (view_in view new.file).contents
 
   module _ (backing : F → BackingView) where
     -- bytes are put into a mapping that is out
     pub record PutsPart (old new : Qcow2 S F) (out : List (Option Prepared)) (k : ℕ) (p : Prepared) (at : ℕ) (bytes : List ℕ) (result : Result (Unit {0}) ImageError) : Type 0 where
-      pub works : Works (abstract_of view backing old out) (abstract_of view backing new out) (gifts_of_put view backing old new (abstract_of view backing old out) p at bytes) []
+      pub works : EffectOnSound (abstract_of view backing old out) (abstract_of view backing new out) (all_given_by_put view backing old new (abstract_of view backing old out) p at bytes) []
       pub sound : ImageInvariant view backing (pending_in view backing new out) new out
       pub is : IsPut result (guest_of (abstract_of view backing old out)) (put_guest (guest_of (abstract_of view backing old out)) k (meaning view backing old p) at bytes) (guest_of (abstract_of view backing new out))
 
     -- A mapping that is out is committed in part, and is out still as what is left of it.
     pub record CommitsPart (old new : Qcow2 S F) (out : List (Option Prepared)) (k : ℕ) (p q : Prepared) : Type 0 where
-      pub works : Works (abstract_of view backing old out) (abstract_of view backing new (slice_set out k (Some q))) (gift_of_commit (abstract_of view backing old out).setting.cluster_size (guest_of (abstract_of view backing old out)).disk (meaning view backing old p) ∷ []) []
+      pub works : EffectOnSound (abstract_of view backing old out) (abstract_of view backing new (slice_set out k (Some q))) (given_by_commit (abstract_of view backing old out).setting.cluster_size (guest_of (abstract_of view backing old out)).disk (meaning view backing old p) ∷ []) []
       pub sound : ImageInvariant view backing (pending_in view backing new (slice_set out k (Some q))) new (slice_set out k (Some q))
       pub shows : ShowsPart (guest_of (abstract_of view backing old out)) (guest_of (abstract_of view backing new (slice_set out k (Some q)))) k (meaning view backing old p) (meaning view backing new q)
       pub beside : StaysBeside p.guest (p.guest + p.length) old new
@@ -103,7 +103,7 @@ module _ {S F : Type 0} (view : S → StorageView) where
 
     -- The image is sound, and the guest sees what it saw: the same stands for each guest cluster. The L1 table and the reftable may have moved.
     pub record UnseenCall (old new : Qcow2 S F) (out : List (Option Prepared)) : Type 0 where
-      pub works : Works (abstract_of view backing old out) (abstract_of view backing new out) [] []
+      pub works : EffectOnSound (abstract_of view backing old out) (abstract_of view backing new out) [] []
       pub sound : ImageInvariant view backing (pending_in view backing new out) new out
       pub same : IsSame (abstract_of view backing old out) (abstract_of view backing new out)
       pub header : MovesTables old.file.header.fields new.file.header.fields
@@ -113,7 +113,7 @@ module _ {S F : Type 0} (view : S → StorageView) where
     pub record InterruptedCall (old new : Qcow2 S F) (out : List (Option Prepared)) (e : ImageError) : Type 0 where
       pub fault : IsFaultOfTables e
       pub noted : e ≡ I.Memory → IsTrue new.file.caches.is_changed
-      pub works : Works (abstract_of view backing old out) (abstract_of view backing (record new { is_failed = true }) out) [] []
+      pub works : EffectOnSound (abstract_of view backing old out) (abstract_of view backing (record new { is_failed = true }) out) [] []
 
     -- what a refused part leaves
     abbrev pub RefusedCall : Qcow2 S F → Qcow2 S F → List (Option Prepared) → ImageError → Type 0
@@ -123,7 +123,7 @@ module _ {S F : Type 0} (view : S → StorageView) where
     abbrev pub EndsFreeing : Qcow2 S F → Qcow2 S F → List (Option Prepared) → Result (Unit {0}) ImageError → Type 0
     EndsFreeing old new out (Ok _) = UnseenCall old new out
     EndsFreeing old new out (Err e) =
-        Refuses (abstract_of view backing old out) (abstract_of view backing new out) [] [] (refusal_of e) (IsSame (abstract_of view backing old out) (abstract_of view backing new out))
+        RefusedEffect (abstract_of view backing old out) (abstract_of view backing new out) [] [] (refusal_of e) (IsSame (abstract_of view backing old out) (abstract_of view backing new out))
         × IsRefusalByFault (refusal_of e) × (IsTrue old.file.caches.is_changed → IsTrue (is_failed new))
 
     -- the L2 table of an offset is found or made
@@ -133,7 +133,7 @@ module _ {S F : Type 0} (view : S → StorageView) where
 
     -- a range is prepared, and put at a place that was free
     pub record IsReadied (old new : Qcow2 S F) (out : List (Option Prepared)) (k offset n : ℕ) (overwrite : Bool) (p : Prepared) : Type 0 where
-      pub works : Works (abstract_of view backing old out) (abstract_of view backing new (slice_set out k (Some p))) [] []
+      pub works : EffectOnSound (abstract_of view backing old out) (abstract_of view backing new (slice_set out k (Some p))) [] []
       pub sound : ImageInvariant view backing (pending_in view backing new (slice_set out k (Some p))) new (slice_set out k (Some p))
       pub header : MovesTables old.file.header.fields new.file.header.fields
       pub covers : CoversStay old.file.header.fields (known_in view old.file) new.file.header.fields (known_in view new.file)

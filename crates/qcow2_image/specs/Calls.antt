@@ -5,9 +5,9 @@ use Rattle.image_access.specs.Moments.{StorageView}
 use Rattle.qcow2_alloc.specs.declared.error.ImageError.{ImageError}
 use Rattle.qcow2_alloc.specs.declared.error.ImageError.TheVariants as I
 use Rattle.qcow2_disk.specs.Stops.{GivenBytes}
-use Rattle.qcow2_disk.specs.Mappings.{IsPrepared, put_mapping, put_disk, committed, gift_of_put, gift_of_commit}
+use Rattle.qcow2_disk.specs.Mappings.{IsPrepared, put_mapping, put_disk, committed, given_by_put, given_by_commit}
 use Rattle.qcow2_disk.specs.AbstractImages.{Guest, AbstractImage, guest_of, stored_bytes}
-use Rattle.qcow2_disk.specs.Calls.{Refusal, memory, storage, not_compressed, another, IsRefusalByFault, Does, Refuses, IsSame, with_disk, with_slot}
+use Rattle.qcow2_disk.specs.Calls.{Refusal, memory, storage, not_compressed, another, IsRefusalByFault, AnsweredEffect, RefusedEffect, IsSame, with_disk, with_slot}
 use Rattle.qcow2_image.specs.declared.image.Qcow2.{Qcow2}
 use Rattle.qcow2_image.specs.declared.prepared.Prepared.{Prepared}
 use Rattle.qcow2_image.specs.declared.prepared.CommitRefused.{CommitRefused}
@@ -46,31 +46,31 @@ reason_of (Spent e) = e
 module _ {S F : Type 0} (view : S → StorageView) (backing : F → BackingView) (old new : Qcow2 S F) where
   -- a call that leaves the prepared mappings at their places, and gives these values: what it did, or the guest sees what it saw
   abbrev pub AnswersCall : {A : Type 0} → List GivenBytes → (A → Guest → Guest → Type 0) → Result A ImageError → Type 0
-  AnswersCall given Done (Ok a) = (out : List (Option Prepared)) → let v = abstract_of view backing old out in let w = abstract_of view backing new out in Does v w given [] (Done a (guest_of v) (guest_of w))
-  AnswersCall given Done (Err e) = (out : List (Option Prepared)) → let v = abstract_of view backing old out in let w = abstract_of view backing new out in Refuses v w given [] (refusal_of e) (IsSame v w)
+  AnswersCall given Done (Ok a) = (out : List (Option Prepared)) → let v = abstract_of view backing old out in let w = abstract_of view backing new out in AnsweredEffect v w given [] (Done a (guest_of v) (guest_of w))
+  AnswersCall given Done (Err e) = (out : List (Option Prepared)) → let v = abstract_of view backing old out in let w = abstract_of view backing new out in RefusedEffect v w given [] (refusal_of e) (IsSame v w)
 
   -- a range is prepared, and put at a place that was free
   abbrev pub Prepares : ℕ → ℕ → Bool → Result Prepared ImageError → Type 0
   Prepares offset n overwrite (Ok p) = (out : List (Option Prepared)) (k : ℕ) → slice_get out k ≡ Some None
-      → let v = abstract_of view backing old out in let w = abstract_of view backing new (slice_set out k (Some p)) in Does v w [] []
+      → let v = abstract_of view backing old out in let w = abstract_of view backing new (slice_set out k (Some p)) in AnsweredEffect v w [] []
       (IsPrepared v.setting.cluster_size (guest_of v).disk offset n overwrite (meaning view backing new p) × (guest_of w ≡ with_slot (guest_of v) k (Some (meaning view backing new p))))
-  Prepares offset n overwrite (Err e) = (out : List (Option Prepared)) → let v = abstract_of view backing old out in let w = abstract_of view backing new out in Refuses v w [] [] (refusal_of e) (IsSame v w)
+  Prepares offset n overwrite (Err e) = (out : List (Option Prepared)) → let v = abstract_of view backing old out in let w = abstract_of view backing new out in RefusedEffect v w [] [] (refusal_of e) (IsSame v w)
 
   -- what a put gives: nothing that is hidden until the commit
-  abbrev pub gifts_of_put : AbstractImage → Prepared → ℕ → List ℕ → List GivenBytes
-  gifts_of_put v p at bytes = gift_of_put (guest_of v).disk (meaning view backing old p) at bytes ∷ []
+  abbrev pub all_given_by_put : AbstractImage → Prepared → ℕ → List ℕ → List GivenBytes
+  all_given_by_put v p at bytes = given_by_put (guest_of v).disk (meaning view backing old p) at bytes ∷ []
 
   -- bytes are put into a mapping that is out: private ones are kept for the commit, all others are written to the disk
   abbrev pub Puts : Prepared → ℕ → List ℕ → Result (Unit {0}) ImageError → Type 0
   Puts p at bytes (Ok _) = (out : List (Option Prepared)) (k : ℕ) → slice_get out k ≡ Some (Some p)
-      → let v = abstract_of view backing old out in let w = abstract_of view backing new out in let m = meaning view backing old p in Does v w (gifts_of_put v p at bytes) []
+      → let v = abstract_of view backing old out in let w = abstract_of view backing new out in let m = meaning view backing old p in AnsweredEffect v w (all_given_by_put v p at bytes) []
       (guest_of w ≡ with_slot (with_disk (guest_of v) (put_disk (guest_of v).disk m at bytes)) k (Some (put_mapping m at bytes)))
   Puts p at bytes (Err e) = (out : List (Option Prepared)) (k : ℕ) → slice_get out k ≡ Some (Some p)
-      → let v = abstract_of view backing old out in let w = abstract_of view backing new out in Refuses v w (gifts_of_put v p at bytes) [] (refusal_of e) (IsSame v w)
+      → let v = abstract_of view backing old out in let w = abstract_of view backing new out in RefusedEffect v w (all_given_by_put v p at bytes) [] (refusal_of e) (IsSame v w)
 
   -- what a commit gives: what the disk shows in the mapping's whole clusters
-  abbrev pub gifts_of_commit : AbstractImage → Prepared → List GivenBytes
-  gifts_of_commit v p = gift_of_commit v.setting.cluster_size (guest_of v).disk (meaning view backing old p) ∷ []
+  abbrev pub all_given_by_commit : AbstractImage → Prepared → List GivenBytes
+  all_given_by_commit v p = given_by_commit v.setting.cluster_size (guest_of v).disk (meaning view backing old p) ∷ []
 
   -- what a refused commit hands back
   abbrev pub handed_back : CommitRefused → Option Prepared
@@ -80,18 +80,18 @@ module _ {S F : Type 0} (view : S → StorageView) (backing : F → BackingView)
   -- Its private bytes become visible, and its place is free. On a sound image a fault or want of memory alone refuses it, and then it is at its place again, or the image failed.
   abbrev pub Commits : Prepared → Result (Unit {0}) CommitRefused → Type 0
   Commits p (Ok _) = (out : List (Option Prepared)) (k : ℕ) → slice_get out k ≡ Some (Some p)
-      → let v = abstract_of view backing old out in let w = abstract_of view backing new (slice_set out k None) in Does v w (gifts_of_commit v p) []
+      → let v = abstract_of view backing old out in let w = abstract_of view backing new (slice_set out k None) in AnsweredEffect v w (all_given_by_commit v p) []
       (guest_of w ≡ with_slot (with_disk (guest_of v) (committed (guest_of v).disk (meaning view backing old p))) k None)
   Commits p (Err r) = (out : List (Option Prepared)) (k : ℕ) → slice_get out k ≡ Some (Some p)
       → let v = abstract_of view backing old out in let w = abstract_of view backing new (slice_set out k (handed_back r)) in
-      (v.is_sound → IsRefusalByFault (refusal_of (reason_of r))) × Refuses v w (gifts_of_commit v p) [] (refusal_of (reason_of r)) (IsSame v w)
+      (v.is_sound → IsRefusalByFault (refusal_of (reason_of r))) × RefusedEffect v w (all_given_by_commit v p) [] (refusal_of (reason_of r)) (IsSame v w)
 
   -- it is dropped, and its place is free
   abbrev pub Discards : Prepared → Type 0
   Discards p = (out : List (Option Prepared)) (k : ℕ) → slice_get out k ≡ Some (Some p)
-      → let v = abstract_of view backing old out in let w = abstract_of view backing new (slice_set out k None) in Does v w [] [] (guest_of w ≡ with_slot (guest_of v) k None)
+      → let v = abstract_of view backing old out in let w = abstract_of view backing new (slice_set out k None) in AnsweredEffect v w [] [] (guest_of w ≡ with_slot (guest_of v) k None)
 
   -- all that is known is on the storage
   abbrev pub FlushesImage : Result (Unit {0}) ImageError → Type 0
-  FlushesImage (Ok _) = (out : List (Option Prepared)) → let v = abstract_of view backing old out in let w = abstract_of view backing new out in Does v w [] [] ((w.known ≡ stored_bytes w) × IsSame v w)
-  FlushesImage (Err e) = (out : List (Option Prepared)) → let v = abstract_of view backing old out in let w = abstract_of view backing new out in Refuses v w [] [] (refusal_of e) (IsSame v w)
+  FlushesImage (Ok _) = (out : List (Option Prepared)) → let v = abstract_of view backing old out in let w = abstract_of view backing new out in AnsweredEffect v w [] [] ((w.known ≡ stored_bytes w) × IsSame v w)
+  FlushesImage (Err e) = (out : List (Option Prepared)) → let v = abstract_of view backing old out in let w = abstract_of view backing new out in RefusedEffect v w [] [] (refusal_of e) (IsSame v w)

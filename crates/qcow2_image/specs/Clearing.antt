@@ -10,21 +10,21 @@ use Rattle.qcow2_metadata.specs.declared.l2_mapping.L2Mapping.TheVariants as M
 use Rattle.qcow2_metadata.specs.Header.{cluster_size, entries_per_cluster}
 use Rattle.qcow2_metadata.specs.Cover.{cover, entry_cover}
 use Rattle.qcow2_metadata.specs.Entries.{is_copied, l1_entry, l2_entry}
-use Rattle.qcow2_metadata.specs.L2Mapping.{IsInReach, dropped_run}
+use Rattle.qcow2_metadata.specs.L2Mapping.{IsInReach, old_data_run}
 use Rattle.qcow2_metadata.specs.L2Table.{copied_host, zero_entry}
 use Rattle.qcow2_disk.specs.AbstractImages.{Setting, guest_of}
 use Rattle.qcow2_disk.specs.ClearedCovers.{cleared_cover as cover_by, needs_zeros as zeros_for, ClearsCovers as ClearsBy}
 pub use Rattle.qcow2_disk.specs.ClearedCovers.{is_between, rounds_past}
-use Rattle.qcow2_disk.specs.Calls.{Clearing, to_zero, to_kept_zero, to_backing, IsRefusalByFault, IsSame, Refuses, Works, cleared, cleared_at, gift_of_clear, with_disk}
+use Rattle.qcow2_disk.specs.Calls.{Clearing, to_zero, to_kept_zero, to_backing, IsRefusalByFault, IsSame, RefusedEffect, EffectOnSound, cleared, cleared_at, given_by_clear, with_disk}
 use Rattle.qcow2_laws.specs.CrashInvariant.{Pending}
 use Rattle.qcow2_disk.specs.Found.{rest_of_table}
 use Rattle.qcow2_laws.specs.GuestLaws.{IsZeros, MapsInTurn}
 use Rattle.qcow2_laws.specs.Guests.{table_at}
-use Rattle.qcow2_disk.specs.Mappings.{gift_shown}
+use Rattle.qcow2_disk.specs.Mappings.{given_shown}
 use Rattle.qcow2_disk.specs.Rules.{answered, touched_from, touched_to}
 use Rattle.qcow2_laws.specs.Steps.{guest_at}
 use Rattle.qcow2_disk.specs.Stops.{GivenBytes}
-use Rattle.qcow2_alloc.specs.CacheMarks.{KeepsMarks, l2_pins}
+use Rattle.qcow2_alloc.specs.CachePins.{KeepsPinsAndNotes, l2_pins}
 use Rattle.qcow2_alloc.specs.declared.cache.MetadataCaches.{MetadataCaches}
 use Rattle.qcow2_alloc.specs.declared.clusters_to_free.ClustersToFreeEntry.{ClustersToFreeEntry}
 use Rattle.qcow2_alloc.specs.declared.error.ImageError.{ImageError}
@@ -104,18 +104,18 @@ module _ {S F : Type 0} (view : S → StorageView) (backing : F → BackingView)
   setting_of image = (abstract_of view backing image []).setting
 
   -- what clearing a range gives
-  abbrev pub gifts_of_clear : Qcow2 S F → Clearance → ℕ → ℕ → List GivenBytes
-  gifts_of_clear image how offset n = gift_of_clear (setting_of image) (disk_of view backing image) (shown_by how) offset n ∷ []
+  abbrev pub all_given_by_clear : Qcow2 S F → Clearance → ℕ → ℕ → List GivenBytes
+  all_given_by_clear image how offset n = given_by_clear (setting_of image) (disk_of view backing image) (shown_by how) offset n ∷ []
 
   -- Its whole clusters are cleared, and how much of it that was is answered; or it was refused.
   abbrev pub Clears : Clearance → Qcow2 S F → Qcow2 S F → ℕ → ℕ → Result (ℕ × ℕ) ImageError → Type 0
   Clears how old new offset n result =
-      AnswersCall view backing old new (gifts_of_clear old how offset n)
+      AnswersCall view backing old new (all_given_by_clear old how offset n)
       (λ range was is. (range ≡ answered (setting_of old).cluster_size was.disk.size offset n) × (is ≡ with_disk was (cleared_at (setting_of old) was.disk (shown_by how) offset n))) result
 
   -- A refusal that is no fault gives nothing.
   abbrev pub RefusesUngiven : Qcow2 S F → Qcow2 S F → ImageError → Type 0
-  RefusesUngiven old new e = (IsRefusalByFault (refusal_of e) → ⊥) → (out : List (Option Prepared)) → let v = abstract_of view backing old out in let w = abstract_of view backing new out in Refuses v w [] [] (refusal_of e) (IsSame v w)
+  RefusesUngiven old new e = (IsRefusalByFault (refusal_of e) → ⊥) → (out : List (Option Prepared)) → let v = abstract_of view backing old out in let w = abstract_of view backing new out in RefusedEffect v w [] [] (refusal_of e) (IsSame v w)
 
   -- A refusal that is no fault gives nothing. Where nothing refused the range at once, and no mapping is prepared, its first offset has no L2 table of its own then.
   pub record RefusesClearing (how : Clearance) (old new : Qcow2 S F) (offset n : ℕ) (e : ImageError) : Type 0 where
@@ -125,12 +125,12 @@ module _ {S F : Type 0} (view : S → StorageView) (backing : F → BackingView)
   -- ---- parts of the work
 
   -- what clearing gives between two offsets
-  abbrev pub gifts_between : Qcow2 S F → Clearance → (from to : ℕ) → List GivenBytes
-  gifts_between image how from to = gift_shown (cleared (setting_of image) (disk_of view backing image) (shown_by how) from to) from to ∷ []
+  abbrev pub given_bytes_between : Qcow2 S F → Clearance → (from to : ℕ) → List GivenBytes
+  given_bytes_between image how from to = given_shown (cleared (setting_of image) (disk_of view backing image) (shown_by how) from to) from to ∷ []
 
   -- the clusters between two offsets are cleared, and what they named is to be freed
   pub record ClearsPart (how : Clearance) (from to : ℕ) (old new : Qcow2 S F) (out : List (Option Prepared)) : Type 0 where
-    pub works : Works (abstract_of view backing old out) (abstract_of view backing new out) (gifts_between old how from to) []
+    pub works : EffectOnSound (abstract_of view backing old out) (abstract_of view backing new out) (given_bytes_between old how from to) []
     pub sound : ImageInvariant view backing (pending_in view backing new out) new out
     pub shows : guest_of (abstract_of view backing new out) ≡ with_disk (guest_of (abstract_of view backing old out)) (cleared (setting_of old) (disk_of view backing old) (shown_by how) from to)
     pub header : MovesTables old.file.header.fields new.file.header.fields
@@ -144,14 +144,14 @@ module _ {S F : Type 0} (view : S → StorageView) (backing : F → BackingView)
 -- what n guest clusters from one on name no longer once they are cleared
 abbrev pub listed_by : Clearance → HeaderFields → Bytes → (first n : ℕ) → List ClustersToFreeEntry
 listed_by how h known first zero = []
-listed_by how h known first (suc n) = listed_by how h known first n ++ listed_run (dropped_run h.cluster_bits (cover h known (first + n)) (cover_once_cleared how (cover h known (first + n))))
+listed_by how h known first (suc n) = listed_by how h known first n ++ listed_run (old_data_run h.cluster_bits (cover h known (first + n)) (cover_once_cleared how (cover h known (first + n))))
 
 -- an entry of a held table is cleared, and nothing else changes
 pub record ClearsEntry {S F : Type 0} (how : Clearance) (table index : ℕ) (old new : Qcow2 S F) : Type 0 where
   pub rest : new ≡ record old { file = record old.file { caches = new.file.caches } }
   pub order : order_of new.file.caches ≡ order_of old.file.caches
-  pub marks : KeepsMarks old.file.caches new.file.caches
-  pub held : IsSome (l2_at old.file.caches table) → IsSome (l2_at new.file.caches table)
+  pub marks : KeepsPinsAndNotes old.file.caches new.file.caches
+  pub new_data : IsSome (l2_at old.file.caches table) → IsSome (l2_at new.file.caches table)
   pub answer : Option (ℕ × ℕ)
   pub cleared : (h : HeaderFields) (p : Pending) (on_storage : Bytes) (i : ℕ) → CacheInvariant h p old.file.caches on_storage → IsEntryAt h (known_of h old.file.caches on_storage) i table index → is_copied (l1_entry h on_storage i) ≡ true → IsSome (l2_at old.file.caches table)
       → MadeEntry h old.file.caches new.file.caches on_storage i index (cleared_entry how (entry_cover h (l2_entry (known_of h old.file.caches on_storage) (table_at h (known_of h old.file.caches on_storage) i) index))) answer
@@ -187,17 +187,17 @@ module _ {S F : Type 0} (view : S → StorageView) (backing : F → BackingView)
     pub cleared_all : (i : ℕ) → i < n → cover a.file.header.fields (known_in view (with_caches a caches).file) (guest_at a.file.header.fields row column + i) ≡ cover_once_cleared how (cover a.file.header.fields (known_in view a.file) (guest_at a.file.header.fields row column + i))
     pub stays : (g : ℕ) → (g < guest_at a.file.header.fields row column) ⊎ (guest_at a.file.header.fields row column + n ≤ g) → cover a.file.header.fields (known_in view a.file) g ≡ cover a.file.header.fields (known_in view (with_caches a caches).file) g
     pub table_stays : table_at a.file.header.fields (known_in view (with_caches a caches).file) row ≡ table_at a.file.header.fields (known_in view a.file) row
-    pub held : (k : ℕ) → now.held k ≡ p.held k
-    pub fresh : (k : ℕ) → now.fresh k ≡ p.fresh k
-    pub spent : (k : ℕ) → now.spent k ≡ p.spent k
+    pub new_data : (k : ℕ) → now.new_data k ≡ p.new_data k
+    pub new_tables : (k : ℕ) → now.new_tables k ≡ p.new_tables k
+    pub old_tables : (k : ℕ) → now.old_tables k ≡ p.old_tables k
     pub surplus : now.surplus ≡ p.surplus
-    pub dropped : (k : ℕ) → now.dropped k ≡ p.dropped k + to_free of_data (listed_by how a.file.header.fields (known_in view a.file) (guest_at a.file.header.fields row column) n) k
+    pub old_data : (k : ℕ) → now.old_data k ≡ p.old_data k + to_free of_data (listed_by how a.file.header.fields (known_in view a.file) (guest_at a.file.header.fields row column) n) k
 
   -- n entries of a table are cleared, from one on
   pub record ClearsTable (how : Clearance) (t column n : ℕ) (a b : Qcow2 S F) : Type 0 where
     pub rest : b ≡ with_caches a b.file.caches
-    pub marks : KeepsMarks a.file.caches b.file.caches
-    pub held : IsSome (l2_at a.file.caches t) → IsSome (l2_at b.file.caches t)
+    pub marks : KeepsPinsAndNotes a.file.caches b.file.caches
+    pub new_data : IsSome (l2_at a.file.caches t) → IsSome (l2_at b.file.caches t)
     pub part : (out : List (Option Prepared)) (p : Pending) (row : ℕ) → MayClear how t row column n a out p → AreCleared how row column n a b.file.caches out p
     pub noted : (out : List (Option Prepared)) (p : Pending) (row : ℕ) → MayClear how t row column n a out p → 0 < n → IsTrue b.file.caches.is_changed
 
@@ -208,7 +208,7 @@ module _ {S F : Type 0} (view : S → StorageView) (backing : F → BackingView)
       let h = image.file.header.fields in
       let known = known_in view image.file in
       (p : Pending) (i : ℕ) → FileInvariant view p image.file → IsEntryAt h known i table (cluster % entries_per_cluster h) → cluster / entries_per_cluster h ≡ i
-      → (new ≡ old ++ listed_run (dropped_run h.cluster_bits (cover h known cluster) (cover_once_cleared how (cover h known cluster)))) × IsInReach (cover h known cluster)
+      → (new ≡ old ++ listed_run (old_data_run h.cluster_bits (cover h known cluster) (cover_once_cleared how (cover h known cluster)))) × IsInReach (cover h known cluster)
 
   -- so for n of them, from one on
   abbrev pub ReadsAll : Clearance → (table first n : ℕ) → Qcow2 S F → List ClustersToFreeEntry → Type 0

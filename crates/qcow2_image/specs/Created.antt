@@ -1,7 +1,7 @@
 -- What creating an image makes of a storage, and what a stop may leave of it.
 use Rattle.std.specs.Prelude.{ℕ, ◌≡◌, ◌==◌, ◌&&◌, ◌||◌, ◌⊎◌, ◌*◌, ◌^◌, ◌<◌, ◌≤◌, Bool, true, false, None, Some, Result, Ok, Err, [], length, nat_lt, if◌then◌else◌}
 use Rattle.image_access.specs.Backing.{BackingView}
-use Rattle.image_access.specs.Moments.{StorageView, Passing}
+use Rattle.image_access.specs.Moments.{StorageView, EachMomentSince}
 use Rattle.image_access.specs.declared.storage.PreallocateMode.{PreallocateMode}
 use Rattle.image_access.specs.declared.storage.PreallocateMode.TheVariants as Mode
 use Rattle.qcow2_metadata.specs.Bytes.{Bytes, byte_at, number_at}
@@ -67,7 +67,7 @@ IsStopOfCreating mode n b = (begins_image b ≡ false) ⊎ (IsNewDisk mode 0 b �
 
 -- so does one at each moment since
 abbrev pub StopsCreating : PreallocateMode → ℕ → StorageView → StorageView → Type 0
-StopsCreating mode n old new = Passing old new (λ c. IsStopOfCreating mode n (byte_at c))
+StopsCreating mode n old new = EachMomentSince old new (λ c. IsStopOfCreating mode n (byte_at c))
 
 -- and the storage is still honest
 pub record StaysCreating (mode : PreallocateMode) (n : ℕ) (old new : StorageView) : Type 0 where

@@ -38,15 +38,15 @@ abbrev pub pins_of : Option ℕ → ℕ → ℕ
 pins_of pinned table = option_map_or (λ t. one_if (t == table)) pinned 0
 
 -- how often shares hold a cluster
-abbrev pub held_in : List Share → ℕ → ℕ
-held_in [] k = 0
-held_in (InPlace ∷ shares) k = held_in shares k
-held_in (Kept ∷ shares) k = held_in shares k
-held_in (New taken dropped ∷ shares) k = to_free of_data taken k + held_in shares k
+abbrev pub new_data_in : List Share → ℕ → ℕ
+new_data_in [] k = 0
+new_data_in (InPlace ∷ shares) k = new_data_in shares k
+new_data_in (Kept ∷ shares) k = new_data_in shares k
+new_data_in (New taken old_data ∷ shares) k = to_free of_data taken k + new_data_in shares k
 
 -- how often a prepared mapping holds the cluster, and how often it pins the L2 table of a cluster
-abbrev pub held_by : Prepared → ℕ → ℕ
-held_by p k = held_in p.shares.items k
+abbrev pub new_data_by : Prepared → ℕ → ℕ
+new_data_by p k = new_data_in p.shares.items k
 
 abbrev pub pins_by : Prepared → ℕ → ℕ
 pins_by p table = pins_of p.table table
@@ -67,13 +67,13 @@ over_all f (p ∷ out) k = option_map_or (λ q. f q k) p 0 + over_all f out k
 abbrev pub is_entered : Share → Bool
 is_entered InPlace = false
 is_entered Kept = true
-is_entered (New taken dropped) = true
+is_entered (New taken old_data) = true
 
 -- nothing on the storage names a new cluster
 abbrev pub is_new : Share → Bool
 is_new InPlace = false
 is_new Kept = false
-is_new (New taken dropped) = true
+is_new (New taken old_data) = true
 
 module _ (h : HeaderFields) where
   -- the first guest cluster of a mapping, and where its cluster begins in the file
@@ -97,14 +97,14 @@ module _ (h : HeaderFields) where
 
   module _ (known on_storage : Bytes) (p : Prepared) where
     -- what the L2 entry of its i-th guest cluster says: for a new cluster, what isn't copied data; what it names is dropped
-    pub record IsNewAt (i : ℕ) (taken dropped : List ClustersToFreeEntry) : Type 0 where
+    pub record IsNewAt (i : ℕ) (taken old_data : List ClustersToFreeEntry) : Type 0 where
       pub first : ℕ
       pub is : taken ≡ data_entry first 1 ∷ []
       pub place : first * cluster_size h ≡ host_begin_of p i
       pub nameable : IsHostCluster h.cluster_bits first
       pub entry : is_copied_data (cover h known (cluster_of p + i)) ≡ false
       pub reach : IsInReach (cover h known (cluster_of p + i))
-      pub drops : dropped ≡ listed_run (named_run h.cluster_bits (cover h known (cluster_of p + i)))
+      pub drops : old_data ≡ listed_run (named_run h.cluster_bits (cover h known (cluster_of p + i)))
 
     -- zeros, whose entry keeps the host cluster
     pub record IsKeptAt (i : ℕ) : Type 0 where
@@ -117,7 +117,7 @@ module _ (h : HeaderFields) where
     abbrev pub IsShareAt : ℕ → Share → Type 0
     IsShareAt i InPlace = cover h known (cluster_of p + i) ≡ Data (host_begin_of p i) true
     IsShareAt i Kept = IsKeptAt i
-    IsShareAt i (New taken dropped) = IsNewAt i taken dropped
+    IsShareAt i (New taken old_data) = IsNewAt i taken old_data
 
     -- a mapping that isn't existing has a share for each cluster that it touches, all under one L2 table, which is the pinned one and marked copied
     pub record IsPending (table : ℕ) : Type 0 where
@@ -201,15 +201,15 @@ module _ {S F : Type 0} (view : S → StorageView) (backing : F → BackingView)
   abbrev pub surplus_in : Qcow2 S F → List (Option Prepared) → ℕ → ℕ
   surplus_in image out k =
       count image.file.header.fields (known_in view image.file) k
-      - (named image.file.header.fields (known_in view image.file) k + over_all held_by out k + to_free of_tables image.file.free_list k + to_free of_data image.file.free_list k)
+      - (named image.file.header.fields (known_in view image.file) k + over_all new_data_by out k + to_free of_tables image.file.free_list k + to_free of_data image.file.free_list k)
 
   -- what is pending: clusters of prepared mappings, and those to be freed
   abbrev pub pending_in : Qcow2 S F → List (Option Prepared) → Pending
   pending_in image out = record {
-    held = over_all held_by out;
-    fresh = λ k. 0;
-    spent = to_free of_tables image.file.free_list;
-    dropped = to_free of_data image.file.free_list;
+    new_data = over_all new_data_by out;
+    new_tables = λ k. 0;
+    old_tables = to_free of_tables image.file.free_list;
+    old_data = to_free of_data image.file.free_list;
     surplus = surplus_in image out;
   }
 

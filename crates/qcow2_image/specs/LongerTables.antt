@@ -9,7 +9,7 @@ use Rattle.qcow2_metadata.specs.Entries.{l1_entry}
 use Rattle.qcow2_metadata.specs.EntryTable.{EntryTableView, entry_count}
 use Rattle.qcow2_metadata.specs.Named.{in_run}
 use Rattle.qcow2_metadata.specs.TableBytes.{entry_at}
-use Rattle.qcow2_laws.specs.Changes.{with_fresh}
+use Rattle.qcow2_laws.specs.Changes.{with_new_tables}
 use Rattle.qcow2_laws.specs.Clusters.{RbDependsOnL2}
 use Rattle.qcow2_laws.specs.CrashInvariant.{Pending, SameCovers, SameCounts}
 use Rattle.qcow2_disk.specs.Disk.{disk}
@@ -46,11 +46,11 @@ listed (Some e) = e ∷ []
 
 -- the clusters of the L1 table are to be freed
 abbrev pub without_l1 : Pending → HeaderFields → Pending
-without_l1 p h = record p { spent = λ k. p.spent k + in_run h k h.l1_offset (8 * h.l1_entries) }
+without_l1 p h = record p { old_tables = λ k. p.old_tables k + in_run h k h.l1_offset (8 * h.l1_entries) }
 
 -- clusters are taken for a table
 abbrev pub with_table : Pending → EntryTableView → ℕ → Pending
-with_table p t cluster = with_fresh p (run_at cluster (clusters_of t))
+with_table p t cluster = with_new_tables p (run_at cluster (clusters_of t))
 
 module _ {S F : Type 0} where
   -- a table has the entries of the image's L1 table, and maybe more, which name nothing

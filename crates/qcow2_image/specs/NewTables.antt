@@ -11,7 +11,7 @@ use Rattle.qcow2_metadata.specs.L2Table.{L2TableView}
 use Rattle.qcow2_metadata.specs.Named.{table_in}
 use Rattle.qcow2_metadata.specs.TableBytes.{entry_at}
 use Rattle.qcow2_laws.specs.Caches.{AreClean, BlocksMayGo}
-use Rattle.qcow2_laws.specs.Changes.{one_at, with_fresh}
+use Rattle.qcow2_laws.specs.Changes.{one_at, with_new_tables}
 use Rattle.qcow2_laws.specs.CrashInvariant.{Pending}
 use Rattle.qcow2_laws.specs.Guests.{table_at}
 use Rattle.qcow2_alloc.specs.Allocation.{StandAt}
@@ -44,7 +44,7 @@ module _ {S F : Type 0} (view : S → StorageView) where
   -- then the table's bytes stand in a cluster, and are held for it
   pub record StandsReady (image : Qcow2 S F) (cluster : ℕ) (bytes : List ℕ) : Type 0 where
     pub stored : IsStored image
-    pub held : (t : L2TableView) × (l2_at image.file.caches cluster ≡ Some t) × (t.bytes ≡ bytes)
+    pub new_data : (t : L2TableView) × (l2_at image.file.caches cluster ≡ Some t) × (t.bytes ≡ bytes)
     pub stands : StandAt (contents_in view image.file) (cluster * cluster_size image.file.header.fields) bytes
 
   -- an L1 entry may be written: it names no table that is marked copied
@@ -72,7 +72,7 @@ module _ {S F : Type 0} (view : S → StorageView) where
 
   -- what is pending where a new table was named in the place of the one that an L1 entry named, if it named one
   abbrev pub replacing : Pending → Qcow2 S F → ℕ → Pending
-  replacing p old index = record p { spent = λ k. p.spent k + table_in old.file.header.fields k (table_at old.file.header.fields (contents_in view old.file) index) }
+  replacing p old index = record p { old_tables = λ k. p.old_tables k + table_in old.file.header.fields k (table_at old.file.header.fields (contents_in view old.file) index) }
 
   module _ (backing : F → BackingView) where
     -- all is written that has to stand before an L1 entry
@@ -87,13 +87,13 @@ module _ {S F : Type 0} (view : S → StorageView) where
 
     -- an L1 entry is written that names a new table
     abbrev pub NamesNew : Pending → Qcow2 S F → Qcow2 S F → List (Option Prepared) → ℕ → ℕ → Result (Unit {0}) ImageError → Type 0
-    NamesNew p old new out index cluster (Ok _) = UnseenStep view backing (with_fresh p (one_at cluster)) (replacing p old index) old new out × NamesCopied new index cluster
+    NamesNew p old new out index cluster (Ok _) = UnseenStep view backing (with_new_tables p (one_at cluster)) (replacing p old index) old new out × NamesCopied new index cluster
     NamesNew p old new out index cluster (Err e) = InterruptedFileStep view old.file new.file e
 
     -- both; where it is refused, the cluster is fresh still, or it broke off
     abbrev pub WritesNew : Pending → Qcow2 S F → Qcow2 S F → List (Option Prepared) → ℕ → ℕ → Result (Unit {0}) ImageError → Type 0
-    WritesNew p old new out index cluster (Ok _) = UnseenStep view backing (with_fresh p (one_at cluster)) (replacing p old index) old new out × NamesCopied new index cluster
-    WritesNew p old new out index cluster (Err e) = UnseenStep view backing (with_fresh p (one_at cluster)) (with_fresh p (one_at cluster)) old new out ⊎ InterruptedFileStep view old.file new.file e
+    WritesNew p old new out index cluster (Ok _) = UnseenStep view backing (with_new_tables p (one_at cluster)) (replacing p old index) old new out × NamesCopied new index cluster
+    WritesNew p old new out index cluster (Err e) = UnseenStep view backing (with_new_tables p (one_at cluster)) (with_new_tables p (one_at cluster)) old new out ⊎ InterruptedFileStep view old.file new.file e
 
     -- a new table gets its cluster, and is named
     abbrev pub EntersTable : Pending → Qcow2 S F → Qcow2 S F → List (Option Prepared) → ℕ → Result ℕ ImageError → Type 0

@@ -67,13 +67,13 @@ module _ {S F : Type 0} (view : S → StorageView) (backing : F → BackingView)
 
   -- so it still is, and tables that were those on the storage still are
   pub record StaysFresh (p : Pending) (old new : ImageFile S) : Type 0 where
-    pub fresh : IsFresh p new
+    pub new_tables : IsFresh p new
     pub l1_table : (t : EntryTableView) → HasL1Table view backing old t → HasL1Table view backing new t
     pub reftable : (t : EntryTableView) → HasReftable view old t → HasReftable view new t
 
   -- its tables are loaded
   pub record IsLoaded (p : Pending) (file : ImageFile S) (table : EntryTableView) (allocator : Option Allocator) : Type 0 where
-    pub fresh : IsFresh p file
+    pub new_tables : IsFresh p file
     pub l1_table : HasL1Table view backing file table
     pub reftable : IfSome allocator (IsAllocatorOf view file)
 

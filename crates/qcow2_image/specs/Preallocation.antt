@@ -7,10 +7,10 @@ use Rattle.qcow2_metadata.specs.declared.header.HeaderFields.{HeaderFields}
 use Rattle.qcow2_metadata.specs.Guest.{known_byte}
 use Rattle.qcow2_metadata.specs.Header.{cluster_size, rounded_up}
 use Rattle.qcow2_disk.specs.AbstractImages.{guest_of}
-use Rattle.qcow2_disk.specs.Calls.{MayGrow, Works, gift_of_grow, shows_old, with_disk, with_slot}
+use Rattle.qcow2_disk.specs.Calls.{MayGrow, EffectOnSound, given_by_grow, shows_old, with_disk, with_slot}
 use Rattle.qcow2_disk.specs.Disk.{Disk, zeroed_between}
 pub use Rattle.qcow2_disk.specs.GrownCovers.{Touches, FilledCovers, GrownCovers, first_zeros}
-use Rattle.qcow2_disk.specs.Mappings.{committed, gift_of_commit}
+use Rattle.qcow2_disk.specs.Mappings.{committed, given_by_commit}
 use Rattle.qcow2_disk.specs.Stops.{GivenBytes}
 use Rattle.qcow2_alloc.specs.ImageError.{IsFault as IsFaultOfTables}
 use Rattle.qcow2_alloc.specs.declared.error.ImageError.{ImageError}
@@ -28,8 +28,8 @@ use Rattle.qcow2_image.specs.MovedTables.{CoversStay, MovesTables}
 use Rattle.qcow2_alloc.specs.ImageFile.{known_in}
 
 -- zeros from one offset up to another
-abbrev pub gift_of_zeros : (from to : ℕ) → GivenBytes
-gift_of_zeros from to = record { from = from; count = to - from; value = λ i. known_byte 0 }
+abbrev pub given_by_zeros : (from to : ℕ) → GivenBytes
+given_by_zeros from to = record { from = from; count = to - from; value = λ i. known_byte 0 }
 
 -- of the bytes from one offset up to another any may be zeros now; all others are as before
 pub record MayBeZero (from to : ℕ) (old new : Disk) : Type 0 where
@@ -66,7 +66,7 @@ AreZeros (Plain zeros) = zeros.items ≡ replicate (length zeros.items) 0
 module _ {S F : Type 0} (view : S → StorageView) (backing : F → BackingView) where
   -- a part of a call: zeros stand from one offset up to another
   pub record FillsPart (first from to : ℕ) (old new : Qcow2 S F) (out : List (Option Prepared)) : Type 0 where
-    pub works : Works (abstract_of view backing old out) (abstract_of view backing new out) (gift_of_zeros from to ∷ []) []
+    pub works : EffectOnSound (abstract_of view backing old out) (abstract_of view backing new out) (given_by_zeros from to ∷ []) []
     pub sound : ImageInvariant view backing (pending_in view backing new out) new out
     pub shows : guest_of (abstract_of view backing new out) ≡ with_disk (guest_of (abstract_of view backing old out)) (zeroed_between (disk_of view backing old) from to)
     pub header : MovesTables old.file.header.fields new.file.header.fields
@@ -75,7 +75,7 @@ module _ {S F : Type 0} (view : S → StorageView) (backing : F → BackingView)
 
   -- it was refused on its way: all is sound, and any of these bytes may be zeros
   pub record FillsSome (from to : ℕ) (old new : Qcow2 S F) (out : List (Option Prepared)) : Type 0 where
-    pub works : Works (abstract_of view backing old out) (abstract_of view backing new out) (gift_of_zeros from to ∷ []) []
+    pub works : EffectOnSound (abstract_of view backing old out) (abstract_of view backing new out) (given_by_zeros from to ∷ []) []
     pub sound : ImageInvariant view backing (pending_in view backing new out) new out
     pub now : Disk
     pub may : MayBeZero from to (disk_of view backing old) now
@@ -85,11 +85,11 @@ module _ {S F : Type 0} (view : S → StorageView) (backing : F → BackingView)
   pub record InterruptedGiving (given : List GivenBytes) (old new : Qcow2 S F) (out : List (Option Prepared)) (e : ImageError) : Type 0 where
     pub fault : IsFaultOfTables e
     pub noted : e ≡ I.Memory → IsTrue new.file.caches.is_changed
-    pub works : Works (abstract_of view backing old out) (abstract_of view backing (record new { is_failed = true }) out) given []
+    pub works : EffectOnSound (abstract_of view backing old out) (abstract_of view backing (record new { is_failed = true }) out) given []
 
   -- a refused part: one or the other, and that a table is prepared only where one of the range is
   pub record RefusedFill (from to : ℕ) (old new : Qcow2 S F) (out : List (Option Prepared)) (e : ImageError) : Type 0 where
-    pub left : FillsSome from to old new out ⊎ InterruptedGiving (gift_of_zeros from to ∷ []) old new out e
+    pub left : FillsSome from to old new out ⊎ InterruptedGiving (given_by_zeros from to ∷ []) old new out e
     pub taken : e ≡ I.TablePrepared → IsUnderMappingIn old.file.header.fields from to out
 
   abbrev pub FillsOrRefuses : (first from to : ℕ) → Qcow2 S F → Qcow2 S F → List (Option Prepared) → Result (Unit {0}) ImageError → Type 0
@@ -103,7 +103,7 @@ module _ {S F : Type 0} (view : S → StorageView) (backing : F → BackingView)
 
   -- a mapping that is out is committed, and its place is free
   pub record CommitsWhole (old new : Qcow2 S F) (out : List (Option Prepared)) (k : ℕ) (p : Prepared) (free : List (Option Prepared)) : Type 0 where
-    pub works : Works (abstract_of view backing old out) (abstract_of view backing new free) (gift_of_commit (abstract_of view backing old out).setting.cluster_size (guest_of (abstract_of view backing old out)).disk (meaning view backing old p) ∷ []) []
+    pub works : EffectOnSound (abstract_of view backing old out) (abstract_of view backing new free) (given_by_commit (abstract_of view backing old out).setting.cluster_size (guest_of (abstract_of view backing old out)).disk (meaning view backing old p) ∷ []) []
     pub sound : ImageInvariant view backing (pending_in view backing new free) new free
     pub shows : guest_of (abstract_of view backing new free) ≡ with_slot (with_disk (guest_of (abstract_of view backing old out)) (committed (guest_of (abstract_of view backing old out)).disk (meaning view backing old p))) k None
     pub beside : StaysBeside view p.guest (p.guest + p.length) old new
@@ -112,12 +112,12 @@ module _ {S F : Type 0} (view : S → StorageView) (backing : F → BackingView)
 
   -- ---- behind the end of a disk that grows
 
-  abbrev pub gifts_of_growing : Qcow2 S F → ℕ → PreallocateMode → List GivenBytes
-  gifts_of_growing image size mode = gift_of_grow (setting_of view backing image) (disk_of view backing image) size mode
+  abbrev pub all_given_by_growing : Qcow2 S F → ℕ → PreallocateMode → List GivenBytes
+  all_given_by_growing image size mode = given_by_grow (setting_of view backing image) (disk_of view backing image) size mode
 
   -- zeros stand behind the end of the disk, as a mode asks; its size is as it was
   pub record FillsGrown (size : ℕ) (mode : PreallocateMode) (old new : Qcow2 S F) (out : List (Option Prepared)) : Type 0 where
-    pub works : Works (abstract_of view backing old out) (abstract_of view backing new out) (gifts_of_growing old size mode) []
+    pub works : EffectOnSound (abstract_of view backing old out) (abstract_of view backing new out) (all_given_by_growing old size mode) []
     pub sound : ImageInvariant view backing (pending_in view backing new out) new out
     pub shows : guest_of (abstract_of view backing new out) ≡ with_disk (guest_of (abstract_of view backing old out)) (filled_to (cluster_size old.file.header.fields) (disk_of view backing old) size mode)
     pub header : MovesTables old.file.header.fields new.file.header.fields
@@ -126,7 +126,7 @@ module _ {S F : Type 0} (view : S → StorageView) (backing : F → BackingView)
 
   -- it was refused: each byte behind the end is as before or zero, and all others are as before
   pub record FillsGrownInPart (size : ℕ) (mode : PreallocateMode) (old new : Qcow2 S F) (out : List (Option Prepared)) : Type 0 where
-    pub works : Works (abstract_of view backing old out) (abstract_of view backing new out) (gifts_of_growing old size mode) []
+    pub works : EffectOnSound (abstract_of view backing old out) (abstract_of view backing new out) (all_given_by_growing old size mode) []
     pub sound : ImageInvariant view backing (pending_in view backing new out) new out
     pub now : Disk
     pub may : MayGrow (setting_of view backing old) (disk_of view backing old) size mode now
@@ -134,7 +134,7 @@ module _ {S F : Type 0} (view : S → StorageView) (backing : F → BackingView)
 
   -- or it broke off; that a table is prepared refuses it only where one of the range behind the end is
   pub record RefusedGrown (size : ℕ) (mode : PreallocateMode) (old new : Qcow2 S F) (out : List (Option Prepared)) (e : ImageError) : Type 0 where
-    pub left : FillsGrownInPart size mode old new out ⊎ InterruptedGiving (gifts_of_growing old size mode) old new out e
+    pub left : FillsGrownInPart size mode old new out ⊎ InterruptedGiving (all_given_by_growing old size mode) old new out e
     pub taken : e ≡ I.TablePrepared → IsUnderMappingIn old.file.header.fields (disk_of view backing old).size (rounded_up (cluster_size old.file.header.fields) size) out
 
   abbrev pub FillsGrownOrRefuses : ℕ → PreallocateMode → Qcow2 S F → Qcow2 S F → List (Option Prepared) → Result (Unit {0}) ImageError → Type 0

@@ -13,8 +13,8 @@ use Rattle.qcow2_metadata.specs.declared.l2_mapping.L2Mapping.TheVariants.{Zero}
 use Rattle.qcow2_metadata.specs.Cover.{cover}
 use Rattle.qcow2_disk.specs.AbstractImages.{guest_of}
 use Rattle.qcow2_disk.specs.Alike.{IsDataAt}
-use Rattle.qcow2_disk.specs.Calls.{Works, with_slot}
-use Rattle.qcow2_laws.specs.Changes.{with_held}
+use Rattle.qcow2_disk.specs.Calls.{EffectOnSound, with_slot}
+use Rattle.qcow2_laws.specs.Changes.{with_new_data}
 use Rattle.qcow2_laws.specs.CrashInvariant.{Pending, SameCovers}
 use Rattle.qcow2_disk.specs.Found.{rest_of_table}
 use Rattle.qcow2_disk.specs.Mappings.{IsPrepared}
@@ -28,7 +28,7 @@ use Rattle.qcow2_image.specs.declared.prepared.Prepared.{Prepared}
 use Rattle.qcow2_image.specs.declared.prepared.Share.{Share}
 use Rattle.qcow2_image.specs.declared.prepared.Share.TheVariants.{New}
 use Rattle.qcow2_image.specs.CallParts.{IsReadied, RefusedCall, UnseenCall}
-use Rattle.qcow2_image.specs.ImageInvariant.{run_of, of_data, of_tables, to_free, held_in, held_by, over_all, is_entered, cluster_of, place_of, listed_run, disk_of, pending_in, abstract_of, meaning, IsShareAt, ImageInvariant}
+use Rattle.qcow2_image.specs.ImageInvariant.{run_of, of_data, of_tables, to_free, new_data_in, new_data_by, over_all, is_entered, cluster_of, place_of, listed_run, disk_of, pending_in, abstract_of, meaning, IsShareAt, ImageInvariant}
 use Rattle.qcow2_image.specs.UnseenSteps.{IsGained, RefusedFillingStep, UnseenFillingStep, pending_with_listed}
 
 module _ (h : HeaderFields) where
@@ -104,7 +104,7 @@ module _ {S F : Type 0} (view : S → StorageView) where
   module _ (backing : F → BackingView) where
     -- just this cluster is taken for data, or it can't be named, or is in use
     abbrev pub TakesDataAt : Pending → Qcow2 S F → Qcow2 S F → List (Option Prepared) → ℕ → Result (Option ClustersToFreeEntry) ImageError → Type 0
-    TakesDataAt p old new out cluster (Ok (Some n)) = (n.first_cluster ≡ cluster) × (n.count ≡ 1) × (n.kind ≡ Kind.Data) × UnseenFillingStep view backing p (with_held (pending_with_listed p old new) (run_of n)) old new out
+    TakesDataAt p old new out cluster (Ok (Some n)) = (n.first_cluster ≡ cluster) × (n.count ≡ 1) × (n.kind ≡ Kind.Data) × UnseenFillingStep view backing p (with_new_data (pending_with_listed p old new) (run_of n)) old new out
     TakesDataAt p old new out cluster (Ok None) =
         UnseenFillingStep view backing p (pending_with_listed p old new) old new out × ((IsHostCluster old.file.header.fields.cluster_bits cluster → ⊥) ⊎ (count new.file.header.fields (known_in view new.file) cluster ≢ 0))
     TakesDataAt p old new out cluster (Err e) = RefusedFillingStep view backing p old new out e
@@ -135,10 +135,10 @@ module _ {S F : Type 0} (view : S → StorageView) where
     pub record StandsBehind (old new : Qcow2 S F) (out : List (Option Prepared)) (n : ℕ) (overwrite : Bool) (p : Prepared) (share : Share) : Type 0 where
       pub pending : Pending
       pub goes : UnseenFillingStep view backing (pending_in view backing old out) pending old new out
-      pub held : (c : ℕ) → pending.held c ≡ over_all held_by out c + held_in (share ∷ []) c
-      pub fresh : (c : ℕ) → pending.fresh c ≡ 0
-      pub spent : (c : ℕ) → pending.spent c ≡ to_free of_tables new.file.free_list c
-      pub dropped : (c : ℕ) → pending.dropped c ≡ to_free of_data new.file.free_list c
+      pub new_data : (c : ℕ) → pending.new_data c ≡ over_all new_data_by out c + new_data_in (share ∷ []) c
+      pub new_tables : (c : ℕ) → pending.new_tables c ≡ 0
+      pub old_tables : (c : ℕ) → pending.old_tables c ≡ to_free of_tables new.file.free_list c
+      pub old_data : (c : ℕ) → pending.old_data c ≡ to_free of_data new.file.free_list c
       pub surplus : pending.surplus ≡ (pending_in view backing old out).surplus
       pub stands : IsShareAt new.file.header.fields (known_in view new.file) (contents_in view new.file) p (length p.shares.items) share
       pub filled : (o : ℕ) → o / cluster_size new.file.header.fields ≡ cluster_of new.file.header.fields p + length p.shares.items → IsTrue (is_entered share)
@@ -152,7 +152,7 @@ module _ {S F : Type 0} (view : S → StorageView) where
 
     -- a mapping that is out at a place is there as a longer one, of which is private what isn't copied data
     pub record IsExtended (old new : Qcow2 S F) (out : List (Option Prepared)) (k n : ℕ) (overwrite : Bool) (p q : Prepared) : Type 0 where
-      pub works : Works (abstract_of view backing old out) (abstract_of view backing new (slice_set out k (Some q))) [] []
+      pub works : EffectOnSound (abstract_of view backing old out) (abstract_of view backing new (slice_set out k (Some q))) [] []
       pub sound : ImageInvariant view backing (pending_in view backing new (slice_set out k (Some q))) new (slice_set out k (Some q))
       pub header : KeepsFormat old.file.header.fields new.file.header.fields
       pub covers : SameCovers old.file.header.fields (known_in view old.file) (known_in view new.file)

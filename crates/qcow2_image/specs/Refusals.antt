@@ -77,8 +77,8 @@ failed_by (Err e) before noted now = failed_after e before noted now
 
 module _ {S F : Type 0} (old new : Qcow2 S F) where
   -- a call marks the image as failed exactly so, by what was noted in it
-  abbrev pub Marks : {A : Type 0} → Result A ImageError → Type 0
-  Marks result = failed_by result (is_failed old) (has_noted_change new) (is_failed new)
+  abbrev pub MarksFailed : {A : Type 0} → Result A ImageError → Type 0
+  MarksFailed result = failed_by result (is_failed old) (has_noted_change new) (is_failed new)
 
   -- so does one that is refused
   abbrev pub MarksRefused : ImageError → Type 0

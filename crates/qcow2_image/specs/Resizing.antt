@@ -2,13 +2,13 @@
 use Rattle.std.specs.Prelude.{ℕ, ◌-◌, ◌^◌, ◌≡◌, ◌⊎◌, ◌<◌, ◌≤◌, Bool, false, is_some, not, true, List, [], ◌∷◌, Option, Some, None, IsTrue, Result, Ok, Err}
 use Rattle.std.specs.Option.{option_or}
 use Rattle.image_access.specs.Backing.{BackingView}
-use Rattle.image_access.specs.Moments.{StorageView, Passing}
+use Rattle.image_access.specs.Moments.{StorageView, EachMomentSince}
 use Rattle.image_access.specs.declared.storage.PreallocateMode.{PreallocateMode}
 use Rattle.image_access.specs.declared.storage.PreallocateMode.TheVariants as Mode
 use Rattle.qcow2_metadata.specs.Bytes.{byte_at}
 use Rattle.qcow2_metadata.specs.Header.{header, cluster_size, rounded_up}
 use Rattle.qcow2_disk.specs.AbstractImages.{guest_of}
-use Rattle.qcow2_disk.specs.Calls.{Does, Refuses, Works, IsSame, IsShrinkEnd, IsShrunk, MayGrow, cleared, gift_of_grow, gift_of_shrink, gift_of_shrunk, grown_to, to_backing, with_disk}
+use Rattle.qcow2_disk.specs.Calls.{AnsweredEffect, RefusedEffect, EffectOnSound, IsSame, IsShrinkEnd, IsShrunk, MayGrow, cleared, given_by_grow, given_by_shrink, given_by_shrunk, grown_to, to_backing, with_disk}
 use Rattle.qcow2_disk.specs.Disk.{Disk}
 use Rattle.qcow2_disk.specs.GrownCovers.{GrownCovers}
 use Rattle.qcow2_disk.specs.Stops.{GivenBytes}
@@ -19,7 +19,7 @@ use Rattle.qcow2_alloc.specs.declared.error.ImageError.TheVariants as I
 use Rattle.qcow2_image.specs.Backings.{HasPrepared}
 use Rattle.qcow2_image.specs.CallParts.{UnseenCall}
 use Rattle.qcow2_image.specs.Calls.{refusal_of}
-use Rattle.qcow2_image.specs.Clearing.{RefusesUngiven, gifts_between, setting_of}
+use Rattle.qcow2_image.specs.Clearing.{RefusesUngiven, given_bytes_between, setting_of}
 use Rattle.qcow2_image.specs.declared.discarding.Clearance.TheVariants.{Uncovered}
 use Rattle.qcow2_image.specs.declared.image.Qcow2.{Qcow2}
 use Rattle.qcow2_image.specs.declared.prepared.Prepared.{Prepared}
@@ -87,32 +87,32 @@ module _ {S F : Type 0} (view : S → StorageView) where
 module _ {S F : Type 0} (view : S → StorageView) (backing : F → BackingView) where
   -- The size is written last: each moment since has the old size, or is what stands on the storage then.
   abbrev pub WritesSizeLast : Qcow2 S F → Qcow2 S F → Type 0
-  WritesSizeLast old new = Passing (view_in view old.file) (view_in view new.file) (λ c. ((header (byte_at c)).size ≡ size_of old) ⊎ (c ≡ (view_in view new.file).contents))
+  WritesSizeLast old new = EachMomentSince (view_in view old.file) (view_in view new.file) (λ c. ((header (byte_at c)).size ≡ size_of old) ⊎ (c ≡ (view_in view new.file).contents))
 
   -- what a smaller disk gives at most, and what it gives where the tail was uncovered up to an answer
-  abbrev pub gifts_of_shrink : Qcow2 S F → ℕ → List GivenBytes
-  gifts_of_shrink image size = gift_of_shrink (setting_of view backing image) (disk_of view backing image) size ∷ []
+  abbrev pub all_given_by_shrink : Qcow2 S F → ℕ → List GivenBytes
+  all_given_by_shrink image size = given_by_shrink (setting_of view backing image) (disk_of view backing image) size ∷ []
 
-  abbrev pub gifts_of_shrunk : Qcow2 S F → (size answer : ℕ) → List GivenBytes
-  gifts_of_shrunk image size answer = gift_of_shrunk (setting_of view backing image) (disk_of view backing image) size answer ∷ []
+  abbrev pub all_given_by_shrunk : Qcow2 S F → (size answer : ℕ) → List GivenBytes
+  all_given_by_shrunk image size answer = given_by_shrunk (setting_of view backing image) (disk_of view backing image) size answer ∷ []
 
   -- The disk has this size, and its tail is uncovered up to the answer; or that was refused.
   abbrev pub Shrinks : Qcow2 S F → Qcow2 S F → ℕ → Result ℕ ImageError → Type 0
   Shrinks old new size (Ok answer) = (out : List (Option Prepared)) → let v = abstract_of view backing old out in let w = abstract_of view backing new out in
-      Does v w (gifts_of_shrunk old size answer) (size ∷ []) ((d : Disk) × IsShrunk v.setting (guest_of v).disk size answer d × (guest_of w ≡ with_disk (guest_of v) d))
+      AnsweredEffect v w (all_given_by_shrunk old size answer) (size ∷ []) ((d : Disk) × IsShrunk v.setting (guest_of v).disk size answer d × (guest_of w ≡ with_disk (guest_of v) d))
   Shrinks old new size (Err e) = (out : List (Option Prepared)) → let v = abstract_of view backing old out in let w = abstract_of view backing new out in
-      Refuses v w (gifts_of_shrink old size) (size ∷ []) (refusal_of e) (IsSame v w)
+      RefusedEffect v w (all_given_by_shrink old size) (size ∷ []) (refusal_of e) (IsSame v w)
 
   -- what a larger disk gives: zeros behind the old end, where the mode asks for them
-  abbrev pub gifts_of_grow : Qcow2 S F → ℕ → PreallocateMode → List GivenBytes
-  gifts_of_grow image size mode = gift_of_grow (setting_of view backing image) (disk_of view backing image) size mode
+  abbrev pub all_given_by_grow : Qcow2 S F → ℕ → PreallocateMode → List GivenBytes
+  all_given_by_grow image size mode = given_by_grow (setting_of view backing image) (disk_of view backing image) size mode
 
   -- The disk has this size; or that was refused. Then bytes behind its end may be zeros, where the mode asks for them.
   abbrev pub GrowsTo : Qcow2 S F → Qcow2 S F → ℕ → PreallocateMode → Result (Unit {0}) ImageError → Type 0
   GrowsTo old new size mode (Ok _) = (out : List (Option Prepared)) → let v = abstract_of view backing old out in let w = abstract_of view backing new out in
-      Does v w (gifts_of_grow old size mode) (size ∷ []) (guest_of w ≡ with_disk (guest_of v) (grown_to v.setting (guest_of v).disk size mode))
+      AnsweredEffect v w (all_given_by_grow old size mode) (size ∷ []) (guest_of w ≡ with_disk (guest_of v) (grown_to v.setting (guest_of v).disk size mode))
   GrowsTo old new size mode (Err e) = (out : List (Option Prepared)) → let v = abstract_of view backing old out in let w = abstract_of view backing new out in
-      Refuses v w (gifts_of_grow old size mode) (size ∷ []) (refusal_of e) ((d : Disk) × MayGrow v.setting (guest_of v).disk size mode d × (guest_of w ≡ with_disk (guest_of v) d))
+      RefusedEffect v w (all_given_by_grow old size mode) (size ∷ []) (refusal_of e) ((d : Disk) × MayGrow v.setting (guest_of v).disk size mode d × (guest_of w ≡ with_disk (guest_of v) d))
 
   -- What a larger disk leaves of the tables: a header of the same format, an L1 table with an entry for each byte and no more than that and the old one need, and for each guest cluster what the mode asks for.
   pub record LeavesTables (mode : PreallocateMode) (size : ℕ) (old new : Qcow2 S F) : Type 0 where
@@ -129,7 +129,7 @@ module _ {S F : Type 0} (view : S → StorageView) (backing : F → BackingView)
   -- it is refused, and no byte of the disk changes
   abbrev pub RefusesUnchanged : Qcow2 S F → Qcow2 S F → List (Option Prepared) → Result (Unit {0}) ImageError → Type 0
   RefusesUnchanged old new out (Ok _) = ⊥
-  RefusesUnchanged old new out (Err e) = Refuses (abstract_of view backing old out) (abstract_of view backing new out) [] [] (refusal_of e) (IsSame (abstract_of view backing old out) (abstract_of view backing new out))
+  RefusesUnchanged old new out (Err e) = RefusedEffect (abstract_of view backing old out) (abstract_of view backing new out) [] [] (refusal_of e) (IsSame (abstract_of view backing old out) (abstract_of view backing new out))
 
   -- ---- parts of the work
 
@@ -139,7 +139,7 @@ module _ {S F : Type 0} (view : S → StorageView) (backing : F → BackingView)
 
   -- they are uncovered
   pub record UncoversPart (at next : ℕ) (old new : Qcow2 S F) (out : List (Option Prepared)) : Type 0 where
-    pub works : Works (abstract_of view backing old out) (abstract_of view backing new out) (gifts_between view backing old Uncovered (boundary_in old at) (boundary_in old next)) []
+    pub works : EffectOnSound (abstract_of view backing old out) (abstract_of view backing new out) (given_bytes_between view backing old Uncovered (boundary_in old at) (boundary_in old next)) []
     pub sound : ImageInvariant view backing (pending_in view backing new out) new out
     pub shows : ShowsBelow at next old new out
 
@@ -149,24 +149,24 @@ module _ {S F : Type 0} (view : S → StorageView) (backing : F → BackingView)
       → UncoversPart at next old new out × IsTurnEnd (cluster_size old.file.header.fields) (size_of old) at next
   UncoversNext old new at (Err e) =
       ((out : List (Option Prepared)) → let v = abstract_of view backing old out in let w = abstract_of view backing new out in
-      Refuses v w (gifts_between view backing old Uncovered (boundary_in old at) (boundary_in old (size_of old))) [] (refusal_of e) (IsSame v w))
+      RefusedEffect v w (given_bytes_between view backing old Uncovered (boundary_in old at) (boundary_in old (size_of old))) [] (refusal_of e) (IsSame v w))
       × RefusesUngiven view backing old new e
 
   -- All turns: up to an offset the tail is uncovered. A fault ended them, and the image failed then, unless memory was refused before the last turn changed anything.
   abbrev pub UncoversTail : Qcow2 S F → Qcow2 S F → (size at : ℕ) → Option ImageError → List (Option Prepared) → Type 0
   UncoversTail old new size at None out = UncoversPart size at old new out × IsShrinkEnd (cluster_size old.file.header.fields) (size_of old) size at
   UncoversTail old new size at (Some e) out =
-      Works (abstract_of view backing old out) (abstract_of view backing new out) (gifts_between view backing old Uncovered (boundary_in old size) (boundary_in old (size_of old))) []
+      EffectOnSound (abstract_of view backing old out) (abstract_of view backing new out) (given_bytes_between view backing old Uncovered (boundary_in old size) (boundary_in old (size_of old))) []
       × ((ImageInvariant view backing (pending_in view backing new out) new out × ShowsBelow size at old new out × IsShrinkEnd (cluster_size old.file.header.fields) (size_of old) size at) ⊎ IsTrue (is_failed new))
 
   -- a refused write of the size: it may stand on the storage, where that failed
   pub record MayStand (old new : Qcow2 S F) (out : List (Option Prepared)) (size : ℕ) (e : ImageError) : Type 0 where
     pub fault : e ≡ I.Storage
-    pub works : Works (abstract_of view backing old out) (abstract_of view backing (record new { is_failed = true }) out) [] (size ∷ [])
+    pub works : EffectOnSound (abstract_of view backing old out) (abstract_of view backing (record new { is_failed = true }) out) [] (size ∷ [])
 
   -- the disk has another size, and else shows what it showed; the same stands for each guest cluster
   pub record SetsSize (size : ℕ) (old new : Qcow2 S F) (out : List (Option Prepared)) : Type 0 where
-    pub works : Works (abstract_of view backing old out) (abstract_of view backing new out) [] (size ∷ [])
+    pub works : EffectOnSound (abstract_of view backing old out) (abstract_of view backing new out) [] (size ∷ [])
     pub sound : ImageInvariant view backing (pending_in view backing new out) new out
     pub shows : guest_of (abstract_of view backing new out) ≡ with_disk (guest_of (abstract_of view backing old out)) (record (disk_of view backing old) { size = size })
     pub covers : CoversStay old.file.header.fields (known_in view old.file) new.file.header.fields (known_in view new.file)

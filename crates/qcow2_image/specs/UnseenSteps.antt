@@ -15,7 +15,7 @@ use Rattle.qcow2_alloc.specs.ImageFile.{view_in, contents_in, known_in, state_in
 use Rattle.qcow2_image.specs.Found.{l1_index_of, l2_index_of}
 use Rattle.qcow2_image.specs.declared.image.Qcow2.{Qcow2}
 use Rattle.qcow2_image.specs.declared.prepared.Prepared.{Prepared}
-use Rattle.qcow2_alloc.specs.CacheMarks.{l2_pins, KeepsMarks, SameTables}
+use Rattle.qcow2_alloc.specs.CachePins.{l2_pins, KeepsPinsAndNotes, SameTables}
 use Rattle.qcow2_alloc.specs.FreeList.{with_listed, pending_then as since_listed}
 use Rattle.qcow2_alloc.specs.MetadataCaches.{order_of, l2_at, IsEntryAt, MapsCachedEntry, NotesEntry}
 use Rattle.qcow2_image.specs.declared.prepared.Share.{Share}
@@ -27,9 +27,9 @@ use Rattle.qcow2_metadata.specs.Guest.{known_byte}
 use Rattle.qcow2_metadata.specs.Header.{cluster_size}
 use Rattle.qcow2_metadata.specs.declared.l2_mapping.L2Mapping.{L2Mapping}
 use Rattle.qcow2_metadata.specs.declared.l2_mapping.L2Mapping.TheVariants.{Zero}
-use Rattle.qcow2_laws.specs.Changes.{with_held}
+use Rattle.qcow2_laws.specs.Changes.{with_new_data}
 use Rattle.qcow2_alloc.specs.declared.clusters_to_free.ClusterKind.TheVariants as Kind
-use Rattle.qcow2_image.specs.ImageInvariant.{run_of, held_by, is_entered, over_all, pins_of, share_of, below_of, disk_of, abstract_of, ImageInvariant}
+use Rattle.qcow2_image.specs.ImageInvariant.{run_of, new_data_by, is_entered, over_all, pins_of, share_of, below_of, disk_of, abstract_of, ImageInvariant}
 
 -- an L1 entry names a table and is marked copied
 abbrev pub NamesOwn : ℕ → Type 0
@@ -52,17 +52,17 @@ abbrev pub freed_by : List Share → List ClustersToFreeEntry
 freed_by [] = []
 freed_by (InPlace ∷ shares) = freed_by shares
 freed_by (Kept ∷ shares) = freed_by shares
-freed_by (New taken dropped ∷ shares) = taken ++ freed_by shares
+freed_by (New taken old_data ∷ shares) = taken ++ freed_by shares
 
 -- what stood there before a share is entered
-abbrev pub dropped_by : Share → List ClustersToFreeEntry
-dropped_by InPlace = []
-dropped_by Kept = []
-dropped_by (New taken dropped) = dropped
+abbrev pub old_data_by : Share → List ClustersToFreeEntry
+old_data_by InPlace = []
+old_data_by Kept = []
+old_data_by (New taken old_data) = old_data
 
 -- nothing stands where its shares are entered, or what stands there is kept
 abbrev pub DropsNothing : Prepared → Type 0
-DropsNothing p = (i : ℕ) (share : Share) → slice_get p.shares.items i ≡ Some share → dropped_by share ≡ []
+DropsNothing p = (i : ℕ) (share : Share) → slice_get p.shares.items i ≡ Some share → old_data_by share ≡ []
 
 module _ {S F : Type 0} where
   -- clusters are put on the list of those to be freed, and nothing else changes
@@ -73,7 +73,7 @@ module _ {S F : Type 0} where
   pub record EntersCluster (table : Option ℕ) (index host : ℕ) (old new : Qcow2 S F) : Type 0 where
     pub rest : new ≡ record old { file = record old.file { caches = new.file.caches } }
     pub order : order_of new.file.caches ≡ order_of old.file.caches
-    pub marks : KeepsMarks old.file.caches new.file.caches
+    pub marks : KeepsPinsAndNotes old.file.caches new.file.caches
     pub entered : (t : ℕ) → table ≡ Some t → (answer : Option (ℕ × ℕ)) × MapsCachedEntry old.file.caches new.file.caches t index host answer
     pub noted : (t : ℕ) → table ≡ Some t → NotesEntry old.file.caches new.file.caches t index host
 
@@ -86,7 +86,7 @@ module _ {S F : Type 0} where
     pub shares : p'.shares.items ≡ slice_set p.shares.items i InPlace
     pub mid : Qcow2 S F
     pub enters : EntersCluster p.table (min (l2_index_of old.file.header.fields p.guest + i) (2 ^ 64 - 1)) (min (p.offset / cluster_size old.file.header.fields + i) (2 ^ 64 - 1)) old mid
-    pub lists : FreesLater (dropped_by share) mid new
+    pub lists : FreesLater (old_data_by share) mid new
 
   -- an L2 table has one pin less, where one is named, and nothing else changes
   pub record Unpins (table : Option ℕ) (old new : Qcow2 S F) : Type 0 where
@@ -138,7 +138,7 @@ module _ {S F : Type 0} where
     pub record HoldsTable (image : Qcow2 S F) (offset table : ℕ) : Type 0 where
       pub entry : IsEntryAt image.file.header.fields (known_in view image.file) (l1_index_of image.file.header.fields offset) table (l2_index_of image.file.header.fields offset)
       pub copied : is_copied (l1_entry image.file.header.fields (contents_in view image.file) (l1_index_of image.file.header.fields offset)) ≡ true
-      pub held : IsSome (l2_at image.file.caches table)
+      pub new_data : IsSome (l2_at image.file.caches table)
 
     -- a part of a call that sees to it: no guest sees it
     abbrev pub Ensures : Pending → Qcow2 S F → Qcow2 S F → List (Option Prepared) → ℕ → Result ℕ ImageError → Type 0
@@ -174,16 +174,16 @@ module _ {S F : Type 0} where
 
     -- clusters that are held have the bytes that they had
     abbrev pub SameHeld : Pending → Qcow2 S F → Qcow2 S F → Type 0
-    SameHeld p old new = (o : ℕ) → 0 < p.held (o / cluster_size old.file.header.fields) → contents_in view new.file o ≡ contents_in view old.file o
+    SameHeld p old new = (o : ℕ) → 0 < p.new_data (o / cluster_size old.file.header.fields) → contents_in view new.file o ≡ contents_in view old.file o
 
     -- what mappings hold is pending
     abbrev pub HoldsAll : Pending → List (Option Prepared) → Type 0
-    HoldsAll p out = (k : ℕ) → over_all held_by out k ≤ p.held k
+    HoldsAll p out = (k : ℕ) → over_all new_data_by out k ≤ p.new_data k
 
     -- a range of the file lies in a cluster that is held, and that no mapping has yet
     pub record IsInHeldCluster (p : Pending) (image : Qcow2 S F) (out : List (Option Prepared)) (cluster at n : ℕ) : Type 0 where
-      pub held : 0 < p.held cluster
-      pub unused : over_all held_by out cluster ≡ 0
+      pub new_data : 0 < p.new_data cluster
+      pub unused : over_all new_data_by out cluster ≡ 0
       pub inside : (i : ℕ) → i < n → (at + i) / cluster_size image.file.header.fields ≡ cluster
 
     -- the zero entry of the guest cluster of an offset keeps the host cluster at a place, and no mapping has that guest cluster
@@ -203,15 +203,15 @@ module _ {S F : Type 0} where
 
     -- a cluster is taken for data
     abbrev pub TakesData : Pending → Qcow2 S F → Qcow2 S F → List (Option Prepared) → Result ClustersToFreeEntry ImageError → Type 0
-    TakesData p old new out (Ok n) = (n.count ≡ 1) × (n.kind ≡ Kind.Data) × UnseenFillingStep p (with_held (pending_with_listed p old new) (run_of n)) old new out
+    TakesData p old new out (Ok n) = (n.count ≡ 1) × (n.kind ≡ Kind.Data) × UnseenFillingStep p (with_new_data (pending_with_listed p old new) (run_of n)) old new out
     TakesData p old new out (Err e) = RefusedFillingStep p old new out e
 
     -- a new cluster that no mapping has yet
     pub record IsGained (p : Pending) (old new : Qcow2 S F) (out : List (Option Prepared)) (offset length : ℕ) (overwrite : Bool) (mapping : L2Mapping) (n : ClustersToFreeEntry) : Type 0 where
       pub one : n.count ≡ 1
       pub kind : n.kind ≡ Kind.Data
-      pub unused : over_all held_by out n.first_cluster ≡ 0
-      pub goes : UnseenFillingStep p (with_held (pending_with_listed p old new) (run_of n)) old new out
+      pub unused : over_all new_data_by out n.first_cluster ≡ 0
+      pub goes : UnseenFillingStep p (with_new_data (pending_with_listed p old new) (run_of n)) old new out
       pub filled : cover old.file.header.fields (known_in view old.file) (offset / cluster_size old.file.header.fields) ≡ mapping → IsFilled old new n.first_cluster offset length overwrite
 
     abbrev pub Gains : Pending → Qcow2 S F → Qcow2 S F → List (Option Prepared) → ℕ → ℕ → Bool → L2Mapping → Result ClustersToFreeEntry ImageError → Type 0

@@ -1,7 +1,7 @@
 -- An image that is only read: what stands on its storage stays.
 use Rattle.std.specs.Prelude.{◌≡◌, List, Option}
 use Rattle.image_access.specs.Backing.{BackingView}
-use Rattle.image_access.specs.Moments.{StorageView, Passing}
+use Rattle.image_access.specs.Moments.{StorageView, EachMomentSince}
 use Rattle.qcow2_metadata.specs.Bytes.{byte_at}
 use Rattle.qcow2_laws.specs.CrashInvariant.{Pending}
 use Rattle.qcow2_alloc.specs.ImageFile.{view_in, contents_in, known_in}
@@ -11,7 +11,7 @@ use Rattle.qcow2_image.specs.ImageInvariant.{ImageInvariant}
 
 -- at each moment since, and now, the same bytes stand there
 pub record HoldsSame (old new : StorageView) : Type 0 where
-  pub moments : Passing old new (λ c. byte_at c ≡ byte_at old.contents)
+  pub moments : EachMomentSince old new (λ c. byte_at c ≡ byte_at old.contents)
   pub contents : byte_at new.contents ≡ byte_at old.contents
 
 module _ {S F : Type 0} (view : S → StorageView) where

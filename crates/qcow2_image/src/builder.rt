@@ -1,6 +1,6 @@
 //! Making a new image.
 ghost use Rattle.std.specs.Prelude.{ℕ, ◌≡◌, ◌≢◌, ◌^◌, ◌<◌, [], None, IfSome, IfNone, IfOk, IfErr, OnOk, IsSome, IsTrue, is_some, false};
-ghost use Rattle.image_access.specs.Moments.{Passing};
+ghost use Rattle.image_access.specs.Moments.{EachMomentSince};
 ghost use Rattle.qcow2_metadata.specs.Bytes.{byte_at};
 ghost use Rattle.qcow2_alloc.specs.ImageStorage.{storage_of};
 ghost use Rattle.qcow2_alloc.specs.ImageFile.{view_in};
@@ -9,7 +9,7 @@ ghost use Rattle.qcow2_alloc.specs.Faults.{CountsFaults, FaultsTold};
 ghost use Rattle.qcow2_image.specs.CountedOpening.{OpeningCounts};
 ghost use Rattle.qcow2_image.specs.Faults.{CountsImageFaults, IsNotOfStorage};
 ghost use Rattle.qcow2_image.specs.Image.{is_failed, is_writable};
-ghost use Rattle.qcow2_image.specs.Refusals.{IsMet, IsMetPreparing, Marks};
+ghost use Rattle.qcow2_image.specs.Refusals.{IsMet, IsMetPreparing, MarksFailed};
 ghost use Rattle.qcow2_image.specs.Resizing.{refuses_to_resize};
 ghost use Rattle.qcow2_image.specs.ImageInvariant.{abstract_of};
 ghost use Rattle.qcow2_image.specs.Created.{IsUnwritten, IsNewHeader, CountsThree, NamesOne, WritesThree, Enlarges, GrowsBy};
@@ -198,7 +198,7 @@ impl<S: Storage> Qcow2CreateBuilder<S> {
 #[tactic(auto, using(crate::proofs::Call::MetErrors::storage_met, crate::proofs::Call::MetErrors::metadata_met))]
 fn clear<S: Storage>(storage: &mut ImageStorage<S>) -> Result<(), ImageError>
     ensures honest { (S.view (storage_of storage.old)).is_honest → (S.view (storage_of storage.new)).is_honest }
-    ensures time { (S.view (storage_of storage.old)).is_honest → Passing (S.view (storage_of storage.old)) (S.view (storage_of storage.new)) (λ c. c ≡ []) }
+    ensures time { (S.view (storage_of storage.old)).is_honest → EachMomentSince (S.view (storage_of storage.old)) (S.view (storage_of storage.new)) (λ c. c ≡ []) }
     ensures cleared { (S.view (storage_of storage.old)).is_honest → OnOk result ((S.view (storage_of storage.new)).contents ≡ []) }
     ensures cause { IfErr result IsMet }
     ensures faults { CountsFaults S.view storage.old storage.new result }
@@ -320,7 +320,7 @@ fn grow_by<S: Storage, F: WrappedFormat<S>>(
 ) -> Result<(), ImageError>
     ensures grows { GrowsBy S.view F.backing mode image.old image.new size result }
     ensures cause { refuses_to_resize image.old ≡ None → IsTrue (is_writable image.old) → is_some image.old.backing ≡ false → IfErr result IsMetPreparing }
-    ensures marks { Marks image.old image.new result }
+    ensures marks { MarksFailed image.old image.new result }
     ensures faults { CountsImageFaults S.view F.backing image.old image.new result }
 {
     match mode {

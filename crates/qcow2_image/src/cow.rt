@@ -5,7 +5,7 @@ ghost use Rattle.qcow2_alloc.specs.ImageFile.{known_in};
 ghost use Rattle.qcow2_image.specs.CallParts.{WritesBytes};
 ghost use Rattle.qcow2_image.specs.UnseenSteps.{UnseenFillingStep, HoldsAll, IsCopied, IsFilled, IsKeptAlone, IsInHeldCluster, is_announced};
 ghost use Rattle.qcow2_image.specs.CopyRange.{HasByte};
-ghost use Rattle.qcow2_image.specs.ImageInvariant.{ImageInvariant, held_by, over_all};
+ghost use Rattle.qcow2_image.specs.ImageInvariant.{ImageInvariant, new_data_by, over_all};
 ghost use Rattle.qcow2_image.specs.Found.{IsMappedAs};
 ghost use Rattle.qcow2_image.specs.declared.prepared.Prepared.{Prepared};
 ghost use Rattle.qcow2_image.specs.Image.{ImageStays};
@@ -37,9 +37,9 @@ impl<S: Storage, F: WrappedFormat<S>> Qcow2<S, F> {
         ensures value { self.new.file.header ≡ self.old.file.header }
         ensures stays { ImageStays self.old self.new }
         ensures cause { IfErr result IsMet }
-        ensures goes { (p : Pending) (out : List (Option Prepared)) → ImageInvariant S.view F.backing p self.old out → HoldsAll S.view F.backing p out → 0 < p.held cluster → over_all held_by out cluster ≡ 0 → UnseenFillingStep S.view F.backing p p self.old self.new out }
+        ensures goes { (p : Pending) (out : List (Option Prepared)) → ImageInvariant S.view F.backing p self.old out → HoldsAll S.view F.backing p out → 0 < p.new_data cluster → over_all new_data_by out cluster ≡ 0 → UnseenFillingStep S.view F.backing p p self.old self.new out }
         ensures list { self.new.file.free_list ≡ self.old.file.free_list }
-        ensures fills { (p : Pending) (out : List (Option Prepared)) → ImageInvariant S.view F.backing p self.old out → HoldsAll S.view F.backing p out → 0 < p.held cluster → over_all held_by out cluster ≡ 0
+        ensures fills { (p : Pending) (out : List (Option Prepared)) → ImageInvariant S.view F.backing p self.old out → HoldsAll S.view F.backing p out → 0 < p.new_data cluster → over_all new_data_by out cluster ≡ 0
             → cover self.old.file.header.fields (known_in S.view self.old.file) (offset / cluster_size self.old.file.header.fields) ≡ old.now → IfOk result (λ done. IsFilled S.view F.backing self.old self.new cluster offset length overwrite) }
         ensures faults { CountsImageFaults S.view F.backing self.old self.new result }
     {

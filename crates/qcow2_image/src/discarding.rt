@@ -2,11 +2,11 @@
 ghost use Rattle.std.specs.Prelude.{ℕ, List, Option, ◌≡◌, ◌+◌, ◌-◌, ◌*◌, ◌/◌, ◌%◌, ◌^◌, ◌<◌, ◌≤◌, ◌≢◌, ◌++◌, true, false, not, Some, None, Ok, Err, IfOk, IfErr, IfSome, OnOk, IsOk, IsSome, IsTrue, MatchOption, nat_le, nat_lt, if◌then◌else◌};
 ghost use Rattle.qcow2_metadata.specs.Header.{cluster_size, entries_per_cluster, rounded_up as rounded_up_to};
 ghost use Rattle.qcow2_metadata.specs.Cover.{cover};
-ghost use Rattle.qcow2_metadata.specs.L2Mapping.{IsInReach, dropped_run};
+ghost use Rattle.qcow2_metadata.specs.L2Mapping.{IsInReach, old_data_run};
 ghost use Rattle.qcow2_metadata.specs.L2Table.{copied_host};
 ghost use Rattle.qcow2_laws.specs.CrashInvariant.{Pending};
 ghost use Rattle.qcow2_disk.specs.Rules.{touched_from, touched_to};
-ghost use Rattle.qcow2_alloc.specs.CacheMarks.{l2_pins};
+ghost use Rattle.qcow2_alloc.specs.CachePins.{l2_pins};
 ghost use Rattle.qcow2_alloc.specs.ImageError.{IsFault};
 ghost use Rattle.qcow2_alloc.specs.ImageFile.{known_in, FileInvariant};
 ghost use Rattle.qcow2_alloc.specs.MetadataCaches.{IsEntryAt, l2_at};
@@ -18,7 +18,7 @@ ghost use Rattle.qcow2_image.specs.NewTables.{IsFaultOrLacksTable};
 ghost use Rattle.qcow2_image.specs.Image.{HasNothingToFree, IsSameImage, ImageStays, is_failed, is_writable, size_of};
 ghost use Rattle.qcow2_image.specs.ImageInvariant.{ImageInvariant, abstract_of, pending_in, listed_run};
 ghost use Rattle.qcow2_image.specs.UnseenSteps.{FreesLater, HoldsTable};
-ghost use Rattle.qcow2_image.specs.Refusals.{IsMet, IsMetPreparing, Marks, passes as passes_size};
+ghost use Rattle.qcow2_image.specs.Refusals.{IsMet, IsMetPreparing, MarksFailed, passes as passes_size};
 ghost use Rattle.qcow2_image.specs.Clearing.{Clears, ClearsImageCovers, ClearsEntry, ClearsOrRefuses, ClearsTable, IsUnderMapping, IsClearable, ReadsAll, ReadsDropped, RefusesClearing, cover_once_cleared, from_in, to_in, listed_by, needs_zero_entries, refuses_to_clear, rounds_past};
 ghost use Rattle.qcow2_image.specs.Faults.{CountsImageFaults, IsNotOfStorage};
 
@@ -52,10 +52,10 @@ impl Clearance {
     }
 
     // The host clusters that an entry names no longer once it is cleared.
-    fn dropped(self, old: L2Mapping, bits: u32) -> Option<(HostCluster, ClusterCount)>
+    fn old_data(self, old: L2Mapping, bits: u32) -> Option<(HostCluster, ClusterCount)>
         requires bits { bits < 64 }
         requires reach { IsInReach old }
-        ensures { result ≡ dropped_run bits old (cover_once_cleared self old) }
+        ensures { result ≡ old_data_run bits old (cover_once_cleared self old) }
     {
         match self {
             Clearance::Uncovered | Clearance::Zeros => old.host_clusters(bits),
@@ -112,7 +112,7 @@ impl<S: Storage, F: WrappedFormat<S>> Qcow2<S, F> {
         ensures early { IfSome (refuses_to_clear self.old offset length Clearance.Uncovered) (λ e. (result ≡ Err e) × (self.new ≡ self.old)) }
         ensures late { refuses_to_clear self.old offset length Clearance.Uncovered ≡ None → IfErr result IsMetPreparing }
         ensures nothing { refuses_to_clear self.old offset length Clearance.Uncovered ≡ None → to_in self.old offset length ≤ from_in self.old offset length → (result ≡ Ok (from_in self.old offset length, 0)) × (self.new ≡ self.old) }
-        ensures marks { Marks self.old self.new result }
+        ensures marks { MarksFailed self.old self.new result }
         ensures image { IsSameImage self.old self.new }
         ensures under { refuses_to_clear self.old offset length Clearance.Uncovered ≡ None → from_in self.old offset length < to_in self.old offset length → (out : List (Option Prepared)) → (abstract_of S.view F.backing self.old out).is_sound
             → IfErr result (λ e. e ≡ TablePrepared → IsUnderMapping self.old.file.header.fields (from_in self.old offset length) out) × IfOk result (λ range. IsUnderMapping self.old.file.header.fields (from_in self.old offset length) out → ⊥) }
@@ -136,7 +136,7 @@ impl<S: Storage, F: WrappedFormat<S>> Qcow2<S, F> {
         ensures early { IfSome (refuses_to_clear self.old offset length Clearance.Zeros) (λ e. (result ≡ Err e) × (self.new ≡ self.old)) }
         ensures late { refuses_to_clear self.old offset length Clearance.Zeros ≡ None → IfErr result IsMetPreparing }
         ensures nothing { refuses_to_clear self.old offset length Clearance.Zeros ≡ None → to_in self.old offset length ≤ from_in self.old offset length → (result ≡ Ok (from_in self.old offset length, 0)) × (self.new ≡ self.old) }
-        ensures marks { Marks self.old self.new result }
+        ensures marks { MarksFailed self.old self.new result }
         ensures image { IsSameImage self.old self.new }
         ensures under { refuses_to_clear self.old offset length Clearance.Zeros ≡ None → from_in self.old offset length < to_in self.old offset length → (out : List (Option Prepared)) → (abstract_of S.view F.backing self.old out).is_sound
             → IfErr result (λ e. e ≡ TablePrepared → IsUnderMapping self.old.file.header.fields (from_in self.old offset length) out) × IfOk result (λ range. IsUnderMapping self.old.file.header.fields (from_in self.old offset length) out → ⊥) }
@@ -160,7 +160,7 @@ impl<S: Storage, F: WrappedFormat<S>> Qcow2<S, F> {
         ensures early { IfSome (refuses_to_clear self.old offset length Clearance.Zeros) (λ e. (result ≡ Err e) × (self.new ≡ self.old)) }
         ensures late { refuses_to_clear self.old offset length Clearance.Zeros ≡ None → IfErr result IsMetPreparing }
         ensures nothing { refuses_to_clear self.old offset length Clearance.Zeros ≡ None → to_in self.old offset length ≤ from_in self.old offset length → (result ≡ Ok (from_in self.old offset length, 0)) × (self.new ≡ self.old) }
-        ensures marks { Marks self.old self.new result }
+        ensures marks { MarksFailed self.old self.new result }
         ensures image { IsSameImage self.old self.new }
         ensures under { refuses_to_clear self.old offset length Clearance.Zeros ≡ None → from_in self.old offset length < to_in self.old offset length → (out : List (Option Prepared)) → (abstract_of S.view F.backing self.old out).is_sound
             → IfErr result (λ e. e ≡ TablePrepared → IsUnderMapping self.old.file.header.fields (from_in self.old offset length) out) × IfOk result (λ range. IsUnderMapping self.old.file.header.fields (from_in self.old offset length) out → ⊥) }
@@ -184,7 +184,7 @@ impl<S: Storage, F: WrappedFormat<S>> Qcow2<S, F> {
         ensures early { IfSome (refuses_to_clear self.old offset length Clearance.KeptZeros) (λ e. (result ≡ Err e) × (self.new ≡ self.old)) }
         ensures late { refuses_to_clear self.old offset length Clearance.KeptZeros ≡ None → IfErr result IsMetPreparing }
         ensures nothing { refuses_to_clear self.old offset length Clearance.KeptZeros ≡ None → to_in self.old offset length ≤ from_in self.old offset length → (result ≡ Ok (from_in self.old offset length, 0)) × (self.new ≡ self.old) }
-        ensures marks { Marks self.old self.new result }
+        ensures marks { MarksFailed self.old self.new result }
         ensures image { IsSameImage self.old self.new }
         ensures under { refuses_to_clear self.old offset length Clearance.KeptZeros ≡ None → from_in self.old offset length < to_in self.old offset length → (out : List (Option Prepared)) → (abstract_of S.view F.backing self.old out).is_sound
             → IfErr result (λ e. e ≡ TablePrepared → IsUnderMapping self.old.file.header.fields (from_in self.old offset length) out) × IfOk result (λ range. IsUnderMapping self.old.file.header.fields (from_in self.old offset length) out → ⊥) }
@@ -209,7 +209,7 @@ impl<S: Storage, F: WrappedFormat<S>> Qcow2<S, F> {
         ensures early { IfSome (refuses_to_clear self.old offset length how) (λ e. (result ≡ Err e) × (self.new ≡ self.old)) }
         ensures late { refuses_to_clear self.old offset length how ≡ None → IfErr result IsMetPreparing }
         ensures nothing { refuses_to_clear self.old offset length how ≡ None → to_in self.old offset length ≤ from_in self.old offset length → (result ≡ Ok (from_in self.old offset length, 0)) × (self.new ≡ self.old) }
-        ensures image { IsSameImage self.old self.new × Marks self.old self.new result }
+        ensures image { IsSameImage self.old self.new × MarksFailed self.old self.new result }
         ensures under { refuses_to_clear self.old offset length how ≡ None → from_in self.old offset length < to_in self.old offset length → (out : List (Option Prepared)) → (abstract_of S.view F.backing self.old out).is_sound
             → IfErr result (λ e. e ≡ TablePrepared → IsUnderMapping self.old.file.header.fields (from_in self.old offset length) out) × IfOk result (λ range. IsUnderMapping self.old.file.header.fields (from_in self.old offset length) out → ⊥) }
         ensures sees { Clears S.view F.backing how self.old self.new offset length result }
@@ -306,14 +306,14 @@ impl<S: Storage, F: WrappedFormat<S>> Qcow2<S, F> {
         let bits = self.file.header.cluster_bits();
         let first = GuestOffset::new(from).cluster(bits);
         let count = (to - from) >> bits;
-        let mut dropped = self.dropped_in(table, first, count, how)?;
+        let mut old_data = self.old_data_in(table, first, count, how)?;
         self.clear_entries(table, first.l2_index(bits), count as usize, how);
-        dropped.take().hand_back(&mut self.file.free_list);
+        old_data.take().hand_back(&mut self.file.free_list);
         Ok(())
     }
 
     // The host clusters that the entries of so many guest clusters name no longer once they are cleared.
-    fn dropped_in(
+    fn old_data_in(
         &self,
         table: HostCluster,
         first: GuestCluster,
@@ -327,16 +327,16 @@ impl<S: Storage, F: WrappedFormat<S>> Qcow2<S, F> {
         ensures reads { IfOk result (ReadsAll S.view F.backing how table first count self.now) }
         ensures faults { IfErr result IsNotOfStorage }
     {
-        let mut dropped = ClustersToFreeList::new();
+        let mut old_data = ClustersToFreeList::new();
         for i in 0..count {
             let cluster = GuestCluster::new(first.value() + i);
-            self.list_dropped(&mut dropped, table, cluster, how)?;
+            self.list_old_data(&mut old_data, table, cluster, how)?;
         }
-        Ok(dropped)
+        Ok(old_data)
     }
 
     // Puts the host clusters that an entry names no longer once it is cleared at the end of a list.
-    fn list_dropped(
+    fn list_old_data(
         &self,
         list: &mut ClustersToFreeList,
         table: HostCluster,
@@ -350,7 +350,7 @@ impl<S: Storage, F: WrappedFormat<S>> Qcow2<S, F> {
         ensures faults { IfErr result IsNotOfStorage }
     {
         let old = self.cover_in(table, cluster)?;
-        let run = how.dropped(old, self.file.header.cluster_bits());
+        let run = how.old_data(old, self.file.header.cluster_bits());
         list_run(self.file.alloc, list, run)
     }
 
@@ -369,7 +369,7 @@ impl<S: Storage, F: WrappedFormat<S>> Qcow2<S, F> {
         ensures { ClearsEntry how table index self.old self.new }
     {
         let caches = &mut self.file.caches;
-        let _dropped = match how {
+        let _old_data = match how {
             Clearance::Uncovered => caches.l2_discard_cluster(table, index),
             Clearance::Zeros => caches.l2_zero_cluster(table, index, false),
             Clearance::KeptZeros => caches.l2_zero_cluster(table, index, true),

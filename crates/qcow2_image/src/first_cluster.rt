@@ -5,7 +5,7 @@ ghost use Rattle.qcow2_metadata.specs.Header.{cluster_size};
 ghost use Rattle.qcow2_metadata.specs.Cover.{cover};
 ghost use Rattle.qcow2_disk.specs.Mappings.{is_copied_data};
 ghost use Rattle.qcow2_laws.specs.CrashInvariant.{Pending};
-ghost use Rattle.qcow2_alloc.specs.CacheMarks.{l2_pins};
+ghost use Rattle.qcow2_alloc.specs.CachePins.{l2_pins};
 ghost use Rattle.qcow2_alloc.specs.MetadataCaches.{l2_at};
 ghost use Rattle.qcow2_alloc.specs.ImageFile.{known_in, KeepsHeader};
 ghost use Rattle.qcow2_alloc.specs.declared.error.ImageError.TheVariants.{TablePrepared};
@@ -163,7 +163,7 @@ impl<S: Storage, F: WrappedFormat<S>> Qcow2<S, F> {
         ensures header { KeepsHeader self.old.file.header self.new.file.header }
         ensures faults { CountsImageFaults S.view F.backing self.old self.new result }
     {
-        let dropped = self.named_by(old)?;
+        let old_data = self.named_by(old)?;
         let pending = self.new_cluster(offset, length, overwrite, old)?;
         match self.load_l2(table) {
             Ok(()) => {
@@ -171,7 +171,7 @@ impl<S: Storage, F: WrappedFormat<S>> Qcow2<S, F> {
                 let host = pending.cluster().offset(bits).value();
                 let mut taken = ClustersToFreeList::new();
                 pending.hand_back(&mut taken);
-                let share = Share::New { taken, dropped };
+                let share = Share::New { taken, old_data };
                 Ok(self.prepare_at(table, offset, host, share, room))
             }
             Err(refusal) => {
@@ -189,7 +189,7 @@ impl<S: Storage, F: WrappedFormat<S>> Qcow2<S, F> {
         ensures list { self.new.file.free_list ≡ self.old.file.free_list }
         ensures keeps { (p : Pending) (out : List (Option Prepared)) → ImageInvariant S.view F.backing p self.old out → UnseenStep S.view F.backing p p self.old self.new out }
         ensures contents { (p : Pending) (out : List (Option Prepared)) → ImageInvariant S.view F.backing p self.old out → SameHeld S.view F.backing p self.old self.new }
-        ensures held { OnOk result (IsSome (l2_at self.new.file.caches table)) }
+        ensures cached { OnOk result (IsSome (l2_at self.new.file.caches table)) }
         ensures faults { CountsImageFaults S.view F.backing self.old self.new result }
     {
         self.file

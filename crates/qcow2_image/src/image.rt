@@ -72,8 +72,8 @@ impl<S: Storage, F: WrappedFormat<S>> Qcow2<S, F> {
     ghost use Rattle.qcow2_image.specs.UnseenSteps.{UnseenStep, FreesListed};
     ghost use Rattle.qcow2_alloc.specs.FreeList.{with_listed};
     ghost use Rattle.qcow2_alloc.specs.ImageStorage.{storage_of};
-    ghost use Rattle.qcow2_image.specs.Refusals.{unusable, IsMet, Marks, MarksRefused};
-    ghost use Rattle.image_access.specs.Moments.{ContentsStay, Passing};
+    ghost use Rattle.qcow2_image.specs.Refusals.{unusable, IsMet, MarksFailed, MarksRefused};
+    ghost use Rattle.image_access.specs.Moments.{ContentsStay, EachMomentSince};
     ghost use Rattle.qcow2_metadata.specs.Bytes.{byte_at};
     ghost use Rattle.qcow2_metadata.specs.Consistent.{IsConsistent};
     ghost use Rattle.qcow2_alloc.specs.ImageFile.{view_in};
@@ -91,7 +91,7 @@ impl<S: Storage, F: WrappedFormat<S>> Qcow2<S, F> {
         ensures same { ContentsStay (S.view storage.old) (S.view storage.new) }
         ensures honest { (S.view storage.old).is_honest → (S.view storage.new).is_honest }
         ensures faults { FaultsTold (S.view storage.old).faults (S.view storage.new).faults result }
-        ensures time { Passing (S.view storage.old) (S.view storage.new) (λ c. c ≡ (S.view storage.new).contents) }
+        ensures time { EachMomentSince (S.view storage.old) (S.view storage.new) (λ c. c ≡ (S.view storage.new).contents) }
         ensures cause { IfErr result IsMet }
     {
         let mut first = [0u8; 8];
@@ -206,7 +206,7 @@ impl<S: Storage, F: WrappedFormat<S>> Qcow2<S, F> {
         ensures honest { (view_in S.view file.old).is_honest → (view_in S.view file.new).is_honest }
         ensures faults { FaultsTold (view_in S.view file.old).faults (view_in S.view file.new).faults result }
         ensures same { ContentsStay (view_in S.view file.old) (view_in S.view file.new) }
-        ensures time { Passing (view_in S.view file.old) (view_in S.view file.new) (λ c. c ≡ (view_in S.view file.new).contents) }
+        ensures time { EachMomentSince (view_in S.view file.old) (view_in S.view file.new) (λ c. c ≡ (view_in S.view file.new).contents) }
         ensures table { (view_in S.view file.old).is_honest → IfOk result (HasL1Table S.view F.backing file.new) }
         ensures cause { IfErr result IsMet }
         ensures why { (view_in S.view file.old).is_honest → MatchResult result (λ table. L1TableReads file.old.header.fields (contents_in S.view file.old)) (IsReasonAgainstL1Table file.old.header.fields (contents_in S.view file.old)) }
@@ -377,7 +377,7 @@ impl<S: Storage, F: WrappedFormat<S>> Qcow2<S, F> {
     pub fn flush(&mut self) -> Result<(), ImageError>
         ensures early { IsTrue (is_failed self.old) → (result ≡ Err Failed) × (self.new ≡ self.old) }
         ensures late { is_failed self.old ≡ false → IfErr result IsMet }
-        ensures marks { Marks self.old self.new result }
+        ensures marks { MarksFailed self.old self.new result }
         ensures image { IsSameImage self.old self.new }
         ensures sees { FlushesImage S.view F.backing self.old self.new result }
         ensures emptied { IsTrue (is_writable self.old) → OnOk result (HasNothingToFree self.new) }
@@ -431,7 +431,7 @@ impl<S: Storage, F: WrappedFormat<S>> Qcow2<S, F> {
     pub(crate) fn end_freeing(&mut self) -> Result<(), ImageError>
         ensures image { IsSameImage self.old self.new }
         ensures cause { IfErr result IsMet }
-        ensures marks { Marks self.old self.new result }
+        ensures marks { MarksFailed self.old self.new result }
         ensures emptied { IsTrue (is_writable self.old) → OnOk result (HasNothingToFree self.new) }
         ensures frees { (out : List (Option Prepared)) → ImageInvariant S.view F.backing (pending_in S.view F.backing self.old out) self.old out
             → EndsFreeing S.view F.backing self.old self.new out result }
@@ -493,7 +493,7 @@ impl<S: Storage, F: WrappedFormat<S>> Qcow2<S, F> {
     pub(crate) fn mark_failure<T>(&mut self, done: Result<T, ImageError>) -> Result<T, ImageError>
         ensures answer { result ≡ done }
         ensures image { IsSameImage self.old self.new }
-        ensures marks { Marks self.old self.new done }
+        ensures marks { MarksFailed self.old self.new done }
         ensures rest { self.new ≡ record self.old { is_failed = is_failed self.new } }
     {
         if let Err(refusal) = &done {

@@ -13,7 +13,7 @@ ghost use Rattle.qcow2_image.specs.declared.mapping.Place.TheVariants.{Image};
 ghost use Rattle.qcow2_image.specs.declared.prepared.Prepared.{Prepared};
 ghost use Rattle.qcow2_image.specs.Image.{ImageStays, IsSameImage, is_failed, is_writable, size_of};
 ghost use Rattle.qcow2_image.specs.Prepared.{image_of, table_of};
-ghost use Rattle.qcow2_image.specs.Refusals.{unusable, refuses_mapping, refuses_to_read, IsMet, Marks};
+ghost use Rattle.qcow2_image.specs.Refusals.{unusable, refuses_mapping, refuses_to_read, IsMet, MarksFailed};
 ghost use Rattle.qcow2_image.specs.SpecialReads.{TellsCompressed, TellsWhether};
 ghost use Rattle.qcow2_image.specs.Unwritten.{OnlyReadsImage};
 ghost use Rattle.qcow2_alloc.specs.declared.error.ImageError.TheVariants.{NotCompressed, OutdatedMapping, ReadOnly};
@@ -50,7 +50,7 @@ impl<S: Storage, F: WrappedFormat<S>> Qcow2<S, F> {
         ensures early { IfSome (refuses_mapping self.old mapping.now.image) (λ e. (result ≡ Err e) × (self.new ≡ self.old)) }
         ensures late { refuses_mapping self.old mapping.now.image ≡ None → IfErr result IsMet }
         ensures nothing { refuses_mapping self.old mapping.now.image ≡ None → length bytes.old ≡ 0 → (result ≡ Ok tt) × (self.new ≡ self.old) }
-        ensures marks { Marks self.old self.new result }
+        ensures marks { MarksFailed self.old self.new result }
         ensures image { IsSameImage self.old self.new }
         ensures outdated { (out : List (Option Prepared)) → (abstract_of S.view F.backing self.old out).is_sound → result ≡ Err OutdatedMapping
             → ¬ IsFoundWhole S.view self.new (mapping.now.offset + at) (further_by at mapping.now.kind) (length bytes.old) }
@@ -190,7 +190,7 @@ impl<S: Storage, F: WrappedFormat<S>> Qcow2<S, F> {
         ensures late { unusable self.old ≡ None → IfErr result (λ e. IsMet e ⊎ (e ≡ NotCompressed offset)) }
         ensures nothing { unusable self.old ≡ None → length bytes.old ≡ 0 → (result ≡ Ok tt) × (self.new ≡ self.old) }
         ensures some { 0 < length bytes.old → IsErr result }
-        ensures marks { Marks self.old self.new result }
+        ensures marks { MarksFailed self.old self.new result }
         ensures image { IsSameImage self.old self.new }
         ensures slice { bytes.new ≡ bytes.old }
         ensures tells { 0 < length bytes.old → (out : List (Option Prepared)) → (abstract_of S.view F.backing self.old out).is_sound → IfErr result (TellsCompressed (known_in S.view self.old.file) offset) }
@@ -214,7 +214,7 @@ impl<S: Storage, F: WrappedFormat<S>> Qcow2<S, F> {
         ensures late { unusable self.old ≡ None → IfErr result IsMet }
         ensures nothing { unusable self.old ≡ None → length bytes.old ≡ 0 → (result ≡ Ok None) × (self.new ≡ self.old) }
         ensures some { 0 < length bytes.old → IfOk result (λ at. at ≡ Some offset) }
-        ensures marks { Marks self.old self.new result }
+        ensures marks { MarksFailed self.old self.new result }
         ensures image { IsSameImage self.old self.new }
         ensures slice { bytes.new ≡ bytes.old }
         ensures tells { 0 < length bytes.old → (out : List (Option Prepared)) → (abstract_of S.view F.backing self.old out).is_sound → TellsWhether (known_in S.view self.old.file) offset result }
@@ -262,7 +262,7 @@ impl<S: Storage, F: WrappedFormat<S>> Qcow2<S, F> {
         ensures read_only { 0 < length bytes.now → refuses_mapping self.old (image_of prepared.now) ≡ None → is_writable self.old ≡ false → (result ≡ Err ReadOnly) × (self.new ≡ self.old) }
         ensures late { refuses_mapping self.old (image_of prepared.now) ≡ None → IsTrue (is_writable self.old) → IfErr result IsMet }
         ensures nothing { refuses_mapping self.old (image_of prepared.now) ≡ None → length bytes.now ≡ 0 → (result ≡ Ok tt) × (self.new ≡ self.old) }
-        ensures marks { Marks self.old self.new result }
+        ensures marks { MarksFailed self.old self.new result }
         ensures image { IsSameImage self.old self.new }
         ensures outdated { table_of prepared.now ≡ None → (out : List (Option Prepared)) → (abstract_of S.view F.backing self.old out).is_sound → result ≡ Err OutdatedMapping
             → ¬ IsFoundWhole S.view self.new (prepared.now.guest + at) (Raw Image (prepared.now.offset + at) true) (length bytes.now) }

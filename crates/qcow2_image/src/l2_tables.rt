@@ -19,7 +19,7 @@ ghost use Rattle.qcow2_image.specs.declared.mapping.Place.TheVariants.{Image};
 ghost use Rattle.qcow2_image.specs.L1Entries.{HadOwnTableOrFrees, HasOwnTable, ReachesOffset};
 ghost use Rattle.qcow2_image.specs.NewTables.{IsFaultOrKeepsL1Table, IsFaultOrLacksTable, SaysKnown, IsStored, StandsReady, MayName, NamesShared, PlacesNewTable, Stores, NamesNew, WritesNew, EntersTable, OwnsTable};
 ghost use Rattle.qcow2_alloc.specs.TableCaches.{IsTableOf};
-ghost use Rattle.qcow2_laws.specs.Changes.{one_at, with_fresh};
+ghost use Rattle.qcow2_laws.specs.Changes.{one_at, with_new_tables};
 ghost use Rattle.qcow2_metadata.specs.L2Table.{L2TableView};
 ghost use Rattle.qcow2_image.specs.Refusals.{IsMet};
 ghost use Rattle.qcow2_image.specs.Faults.{CountsImageFaults};
@@ -37,7 +37,7 @@ impl<S: Storage, F: WrappedFormat<S>> Qcow2<S, F> {
         ensures stays { ImageStays self.old self.new }
         ensures cause { IfErr result IsMet }
         ensures lacks { (out : List (Option Prepared)) → ImageInvariant S.view F.backing (pending_in S.view F.backing self.old out) self.old out → (HasPrepared out → ⊥) → IfErr result (IsFaultOrLacksTable S.view self.new offset) }
-        ensures held { IfOk result (λ table. IsSome (l2_at self.new.file.caches table)) }
+        ensures cached { IfOk result (λ table. IsSome (l2_at self.new.file.caches table)) }
         ensures finds { (out : List (Option Prepared)) → ImageInvariant S.view F.backing (pending_in S.view F.backing self.old out) self.old out → FindsTable S.view F.backing self.old self.new out offset result }
         ensures reaches { (out : List (Option Prepared)) → ImageInvariant S.view F.backing (pending_in S.view F.backing self.old out) self.old out → OnOk result (ReachesOffset offset self.old.file.header.fields self.new.file.header.fields) }
         ensures freed { (out : List (Option Prepared)) → ImageInvariant S.view F.backing (pending_in S.view F.backing self.old out) self.old out → OnOk result (HadOwnTableOrFrees self.old self.new offset) }
@@ -70,7 +70,7 @@ impl<S: Storage, F: WrappedFormat<S>> Qcow2<S, F> {
         ensures keeps_rest { KeepsRestOn self.old self.new }
         ensures cause { IfErr result IsMet }
         ensures lacks { (p : Pending) (out : List (Option Prepared)) → ImageInvariant S.view F.backing p self.old out → (HasPrepared out → ⊥) → IfErr result (IsFaultOrLacksTable S.view self.new offset) }
-        ensures held { IfOk result (λ table. IsSome (l2_at self.new.file.caches table)) }
+        ensures cached { IfOk result (λ table. IsSome (l2_at self.new.file.caches table)) }
         ensures ready { (p : Pending) (out : List (Option Prepared)) → ImageInvariant S.view F.backing p self.old out → Ensures S.view F.backing p self.old self.new out offset result }
         ensures quiet { HasOwnTable self.old offset → self.new.file.free_list ≡ self.old.file.free_list }
         ensures faults { CountsImageFaults S.view F.backing self.old self.new result }
@@ -199,7 +199,7 @@ impl<S: Storage, F: WrappedFormat<S>> Qcow2<S, F> {
         ensures cause { IfErr result IsMet }
         ensures l1_table { IfErr result (IsFaultOrKeepsL1Table self.old self.new) }
         ensures list { self.new.file.free_list ≡ self.old.file.free_list }
-        ensures writes { (p : Pending) (out : List (Option Prepared)) → ImageInvariant S.view F.backing (with_fresh p (one_at cluster)) self.old out → MayName S.view self.old index → IsTrue self.old.file.caches.is_changed
+        ensures writes { (p : Pending) (out : List (Option Prepared)) → ImageInvariant S.view F.backing (with_new_tables p (one_at cluster)) self.old out → MayName S.view self.old index → IsTrue self.old.file.caches.is_changed
             → SaysKnown self.old.file.header.fields (known_in S.view self.old.file) index table → WritesNew S.view F.backing p self.old self.new out index cluster result }
         ensures faults { CountsImageFaults S.view F.backing self.old self.new result }
     {
@@ -233,7 +233,7 @@ impl<S: Storage, F: WrappedFormat<S>> Qcow2<S, F> {
         ensures rest { self.new ≡ record self.old { file = record self.old.file { storage = self.new.file.storage; caches = self.new.file.caches } } }
         ensures noted { IsTrue self.old.file.caches.is_changed → IsTrue self.new.file.caches.is_changed }
         ensures long { length table.bytes ≡ 2 ^ table.cluster_bits }
-        ensures places { (p : Pending) (out : List (Option Prepared)) → ImageInvariant S.view F.backing p self.old out → 0 < p.fresh cluster → IsTableOf self.old.file.header.fields table
+        ensures places { (p : Pending) (out : List (Option Prepared)) → ImageInvariant S.view F.backing p self.old out → 0 < p.new_tables cluster → IsTableOf self.old.file.header.fields table
             → IsStored S.view self.old → PlacesNewTable S.view F.backing p self.old self.new out cluster table.bytes result }
         ensures faults { CountsImageFaults S.view F.backing self.old self.new result }
     {
@@ -257,7 +257,7 @@ impl<S: Storage, F: WrappedFormat<S>> Qcow2<S, F> {
         ensures cause { IfErr result IsMet }
         ensures fault { IfErr result IsFault }
         ensures list { self.new.file.free_list ≡ self.old.file.free_list }
-        ensures names { (p : Pending) (out : List (Option Prepared)) (table : L2TableView) → ImageInvariant S.view F.backing (with_fresh p (one_at cluster)) self.old out → MayName S.view self.old index → IsTrue self.old.file.caches.is_changed
+        ensures names { (p : Pending) (out : List (Option Prepared)) (table : L2TableView) → ImageInvariant S.view F.backing (with_new_tables p (one_at cluster)) self.old out → MayName S.view self.old index → IsTrue self.old.file.caches.is_changed
             → SaysKnown self.old.file.header.fields (known_in S.view self.old.file) index table → length table.bytes ≡ 2 ^ table.cluster_bits → StandsReady S.view self.old cluster table.bytes → NamesNew S.view F.backing p self.old self.new out index cluster result }
         ensures faults { CountsImageFaults S.view F.backing self.old self.new result }
     {

@@ -15,20 +15,20 @@ ghost use Rattle.qcow2_alloc.specs.ImageStorage.{storage_of};
 ghost use Rattle.qcow2_image.specs.declared.prepared.Prepared.{Prepared};
 ghost use Rattle.qcow2_image.specs.Calls.{AnswersCall, Commits, Discards, Prepares, reason_of};
 ghost use Rattle.qcow2_image.specs.CallParts.{EntersAll, IsEntered, IsExisting, RefusedCall, PreparesRange};
-ghost use Rattle.qcow2_alloc.specs.CacheMarks.{l2_pins};
+ghost use Rattle.qcow2_alloc.specs.CachePins.{l2_pins};
 ghost use Rattle.qcow2_alloc.specs.ImageError.{IsFault, IsOfTables};
 ghost use Rattle.qcow2_disk.specs.Alike.{IsAlike};
 ghost use Rattle.qcow2_disk.specs.Found.{IsFoundIn, kind_at, rest_of_table};
 ghost use Rattle.qcow2_image.specs.Faults.{CountsImageFaults, IsNotOfStorage, NoFewerFaults, TellsFault};
 ghost use Rattle.qcow2_image.specs.declared.image.Qcow2.{Qcow2};
 ghost use Rattle.qcow2_image.specs.Found.{found_kind, mapping_of, IsRunBehind, NamesL2Table, IsRunFrom, IsFoundInImage, l1_index_of, l2_index_of};
-ghost use Rattle.qcow2_image.specs.UnseenSteps.{DropsNothing, HoldsTable, UnseenStep, EntersCluster, EntersShare, FreesLater, Unpins, dropped_by, freed_by};
+ghost use Rattle.qcow2_image.specs.UnseenSteps.{DropsNothing, HoldsTable, UnseenStep, EntersCluster, EntersShare, FreesLater, Unpins, old_data_by, freed_by};
 ghost use Rattle.qcow2_image.specs.ImageInvariant.{HasL1Table, ImageInvariant, listed_run, meaning, pending_in, abstract_of};
 ghost use Rattle.qcow2_metadata.specs.Header.{cluster_size, entries_per_cluster};
 ghost use Rattle.qcow2_metadata.specs.Cover.{cover};
 ghost use Rattle.qcow2_image.specs.declared.mapping.Place.TheVariants.{Image};
 ghost use Rattle.qcow2_image.specs.declared.mapping.MappingKind.TheVariants.{Eof};
-ghost use Rattle.qcow2_image.specs.Refusals.{FreesRefused, unusable, refuses_to_prepare, passes as passes_size, IsMet, IsMetPreparing, Marks, MarksRefused};
+ghost use Rattle.qcow2_image.specs.Refusals.{FreesRefused, unusable, refuses_to_prepare, passes as passes_size, IsMet, IsMetPreparing, MarksFailed, MarksRefused};
 ghost use Rattle.qcow2_image.specs.declared.prepared.CommitRefused.TheVariants.{Kept, Spent};
 ghost use Rattle.qcow2_image.specs.declared.prepared.Share.TheVariants.{InPlace};
 ghost use Rattle.qcow2_alloc.specs.declared.error.ImageError.TheVariants.{Failed, ForeignState, TablePrepared};
@@ -80,7 +80,7 @@ pub(crate) fn passes(size: u64, offset: u64, length: u64) -> bool
 
 // A commit that was refused. Where nothing was changed, the mapping is handed back.
 fn refused_commit(refusal: ImageError, prepared: Prepared, is_changed: bool) -> CommitRefused
-    ensures spent { IsTrue is_changed → result ≡ Spent refusal }
+    ensures failed { IsTrue is_changed → result ≡ Spent refusal }
     ensures kept { IsFalse is_changed → result ≡ Kept refusal prepared }
     ensures reason { reason_of result ≡ refusal }
 {
@@ -152,7 +152,7 @@ impl<S: Storage, F: WrappedFormat<S>> Qcow2<S, F> {
     pub fn get_mapping(&mut self, offset: u64, max: u64) -> Result<(Mapping, u64), ImageError>
         ensures early { IfSome (unusable self.old) (λ e. (result ≡ Err e) × (self.new ≡ self.old)) }
         ensures late { unusable self.old ≡ None → IfErr result IsMet }
-        ensures marks { Marks self.old self.new result }
+        ensures marks { MarksFailed self.old self.new result }
         ensures image { IsSameImage self.old self.new }
         ensures own { IfOk result (λ (mapping, n). (mapping.image ≡ number_of self.old) × (mapping.offset ≡ offset) × (mapping.length ≡ n)) }
         ensures within { IfOk result (λ (mapping, n). n ≤ max) }
@@ -253,7 +253,7 @@ impl<S: Storage, F: WrappedFormat<S>> Qcow2<S, F> {
         max: u64,
     ) -> Result<(MappingKind, u64), ImageError>
         requires near { max ≤ 2 ^ 40 }
-        requires held { IsSome (l2_at self.now.file.caches table) }
+        requires cached { IsSome (l2_at self.now.file.caches table) }
         ensures cause { IfErr result IsOfTables }
         ensures within { IfOk result (λ (kind, n). n ≤ max) }
         ensures some { IfOk result (λ (kind, n). 0 < max → 0 < n) }
@@ -345,7 +345,7 @@ impl<S: Storage, F: WrappedFormat<S>> Qcow2<S, F> {
         ensures early { IfSome (refuses_to_prepare self.old offset length) (λ e. (result ≡ Err e) × (self.new ≡ self.old)) }
         ensures late { refuses_to_prepare self.old offset length ≡ None → IfErr result IsMetPreparing }
         ensures nothing { refuses_to_prepare self.old offset 0 ≡ None → length ≡ 0 → IsOk result × IfOk result IsOfNothing × (self.new ≡ self.old) }
-        ensures marks { Marks self.old self.new result }
+        ensures marks { MarksFailed self.old self.new result }
         ensures image { IsSameImage self.old self.new }
         ensures taken { refuses_to_prepare self.old offset length ≡ None → (out : List (Option Prepared)) → (abstract_of S.view F.backing self.old out).is_sound
             → IfErr result (λ e. e ≡ TablePrepared → IsTaken self.old.file.header.fields (known_in S.view self.old.file) offset length out) }
@@ -484,7 +484,7 @@ impl<S: Storage, F: WrappedFormat<S>> Qcow2<S, F> {
         offset: u64,
         length: u64,
     ) -> Result<Option<u64>, ImageError>
-        requires held { IsSome (l2_at self.now.file.caches table) }
+        requires cached { IsSome (l2_at self.now.file.caches table) }
         ensures cause { IfErr result IsMet }
         ensures place { (p : Pending) → FileInvariant S.view p self.now.file
             → IsEntryAt self.now.file.header.fields (known_in S.view self.now.file) (l1_index_of self.now.file.header.fields offset) table (l2_index_of self.now.file.header.fields offset)
@@ -651,14 +651,14 @@ impl<S: Storage, F: WrappedFormat<S>> Qcow2<S, F> {
 
     // What stood for a share before is to be freed.
     fn drop_former(&mut self, share: Share)
-        ensures { FreesLater (dropped_by share) self.old self.new }
+        ensures { FreesLater (old_data_by share) self.old self.new }
     {
         if let Share::New {
             taken: _,
-            mut dropped,
+            mut old_data,
         } = share
         {
-            dropped.take().hand_back(&mut self.file.free_list);
+            old_data.take().hand_back(&mut self.file.free_list);
         }
     }
 
@@ -721,7 +721,7 @@ impl<S: Storage, F: WrappedFormat<S>> Qcow2<S, F> {
     {
         if let Share::New {
             mut taken,
-            dropped: _,
+            old_data: _,
         } = share
         {
             taken.take().hand_back(&mut self.file.free_list);

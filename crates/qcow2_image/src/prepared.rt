@@ -13,7 +13,7 @@ pub(crate) enum Share {
     // As data at the new cluster of the first list. What stands there else is to be freed then, as in the second.
     New {
         taken: ClustersToFreeList,
-        dropped: ClustersToFreeList,
+        old_data: ClustersToFreeList,
     },
 }
 

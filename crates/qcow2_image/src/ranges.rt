@@ -151,13 +151,13 @@ impl<S: Storage, F: WrappedFormat<S>> Qcow2<S, F> {
         let Some(cluster) = HostOffset::new(host).checked_cluster(bits) else {
             return Err(ImageError::UnalignedTable);
         };
-        let dropped = self.named_by(old)?;
+        let old_data = self.named_by(old)?;
         let Some(pending) = self.new_cluster_at(cluster, offset, length, overwrite, old)? else {
             return Ok(None);
         };
         let mut taken = ClustersToFreeList::new();
         pending.hand_back(&mut taken);
-        Ok(Some(Share::New { taken, dropped }))
+        Ok(Some(Share::New { taken, old_data }))
     }
 
     // Takes a cluster for the one at an offset, of which the old mapping is known; None where it can't be taken. Fills it with the old bytes, where they aren't announced as overwritten.

@@ -2,7 +2,7 @@
 ghost use Rattle.std.specs.Prelude.{◌≡◌, ◌<◌, [], false, IfErr, IsTrue, OnOk};
 ghost use Rattle.qcow2_image.specs.Faults.{CountsImageFaults};
 ghost use Rattle.qcow2_image.specs.Image.{is_failed, is_writable};
-ghost use Rattle.qcow2_image.specs.Refusals.{IsMet, Marks};
+ghost use Rattle.qcow2_image.specs.Refusals.{IsMet, MarksFailed};
 ghost use Rattle.qcow2_laws.specs.CrashInvariant.{Pending};
 ghost use Rattle.qcow2_image.specs.Growing.{Resizes, GrowsDisk, ReachesSize};
 ghost use Rattle.qcow2_image.specs.UnseenSteps.{ListGrows};
@@ -18,7 +18,7 @@ impl<S: Storage, F: WrappedFormat<S>> Qcow2<S, F> {
     pub(crate) fn grow(&mut self, size: u64) -> Result<(), ImageError>
         ensures grows { (abstract_of S.view F.backing self.old []).is_sound → GrowsDisk S.view F.backing self.old self.new size result }
         ensures cause { is_failed self.old ≡ false → IsTrue (is_writable self.old) → IfErr result IsMet }
-        ensures marks { Marks self.old self.new result }
+        ensures marks { MarksFailed self.old self.new result }
         ensures faults { CountsImageFaults S.view F.backing self.old self.new result }
     {
         if self.is_failed {

@@ -1,6 +1,6 @@
 //! A disk of another size: what lies behind a smaller one is dropped first, and the size is written last.
 ghost use Rattle.std.specs.Prelude.{ℕ, List, Option, ◌≡◌, ◌⊎◌, ◌+◌, ◌-◌, ◌<◌, ◌≤◌, max, nat_lt, [], Some, None, Ok, Err, IfOk, IfErr, IfSome, OnOk, OnErr, IsTrue, MatchOption, false};
-ghost use Rattle.image_access.specs.Moments.{Passing};
+ghost use Rattle.image_access.specs.Moments.{EachMomentSince};
 ghost use Rattle.image_access.specs.declared.storage.PreallocateMode.TheVariants.{Zero};
 ghost use Rattle.qcow2_metadata.specs.EntryTable.{entry_count};
 ghost use Rattle.qcow2_image.specs.Found.{l1_index_of};
@@ -16,7 +16,7 @@ ghost use Rattle.qcow2_image.specs.Growing.{Resizes};
 ghost use Rattle.qcow2_image.specs.Image.{IsSameImage, ImageStays, has_noted_change, is_failed, is_writable, size_of, with_marks};
 ghost use Rattle.qcow2_image.specs.ImageInvariant.{ImageInvariant, abstract_of, pending_in};
 ghost use Rattle.qcow2_image.specs.LongerTables.{MakesEntry};
-ghost use Rattle.qcow2_image.specs.Refusals.{IsMet, IsMetPreparing, Marks, MarksRefused};
+ghost use Rattle.qcow2_image.specs.Refusals.{IsMet, IsMetPreparing, MarksFailed, MarksRefused};
 ghost use Rattle.qcow2_image.specs.Resizing.{CantUncover, GrowsTables, GrowsTo, IsFaultOrCantUncover, IsMetShrinking, IsResized, LacksZeros, RefusesUnchanged, Shrinks, UncoversNext, UncoversTail, WritesSize, WritesSizeLast, refuses_to_resize, size_after, takes_over};
 ghost use Rattle.qcow2_image.specs.Faults.{CountsImageFaults, NoFewerFaults, TellsFault};
 
@@ -35,7 +35,7 @@ impl<S: Storage, F: WrappedFormat<S>> Qcow2<S, F> {
         ensures no_smaller { refuses_to_resize self.old ≡ None → size_of self.old ≤ size → (result ≡ Ok (size_of self.old)) × (self.new ≡ self.old) }
         ensures prepared { refuses_to_resize self.old ≡ None → size < size_of self.old → (out : List (Option Prepared)) → (abstract_of S.view F.backing self.old out).is_sound → HasPrepared out → (result ≡ Err MappingPrepared) × (self.new ≡ self.old) }
         ensures late { refuses_to_resize self.old ≡ None → IfErr result (IsMetShrinking S.view F.backing self.old self.new) }
-        ensures marks { Marks self.old self.new result }
+        ensures marks { MarksFailed self.old self.new result }
         ensures image { size < size_of self.old → IsResized (size_after result (size_of self.old) size) self.old self.new }
         ensures sees { Shrinks S.view F.backing self.old self.new size result }
         ensures stops { (out : List (Option Prepared)) → (abstract_of S.view F.backing self.old out).is_sound → IfOk result (λ answer. answer < size_of self.old → CantUncover S.view (size_of self.old) self.new answer) }
@@ -68,7 +68,7 @@ impl<S: Storage, F: WrappedFormat<S>> Qcow2<S, F> {
         requires usable { is_failed self.old ≡ false }
         requires smaller { size < size_of self.old }
         ensures cause { IfErr result IsFault }
-        ensures marks { Marks self.old self.new result }
+        ensures marks { MarksFailed self.old self.new result }
         ensures image { IsResized (size_after result (size_of self.old) size) self.old self.new }
         ensures sees { Shrinks S.view F.backing self.old self.new size result }
         ensures stops { refuses_to_resize self.old ≡ None → (out : List (Option Prepared)) → (abstract_of S.view F.backing self.old out).is_sound → (HasPrepared out → ⊥)
@@ -122,7 +122,7 @@ impl<S: Storage, F: WrappedFormat<S>> Qcow2<S, F> {
         requires inside { at < size_of self.old }
         ensures on { IfOk result (λ next. (at < next) × (next ≤ size_of self.old)) }
         ensures image { IsSameImage self.old self.new }
-        ensures marks { Marks self.old self.new result }
+        ensures marks { MarksFailed self.old self.new result }
         ensures uncovers { UncoversNext S.view F.backing self.old self.new at result }
         ensures stops { refuses_to_resize self.old ≡ None → (out : List (Option Prepared)) → (abstract_of S.view F.backing self.old out).is_sound → (HasPrepared out → ⊥)
             → IfErr result (IsFaultOrCantUncover S.view (size_of self.old) self.new at) }
@@ -155,7 +155,7 @@ impl<S: Storage, F: WrappedFormat<S>> Qcow2<S, F> {
         ensures no_larger { refuses_to_resize self.old ≡ None → size ≤ size_of self.old → (result ≡ Ok tt) × (self.new ≡ self.old) }
         ensures preallocation { refuses_to_resize self.old ≡ None → size_of self.old < size → IsTrue (takes_over self.old mode) → (result ≡ Err Preallocation) × (self.new ≡ self.old) }
         ensures late { refuses_to_resize self.old ≡ None → IfErr result (λ e. IsMetPreparing e ⊎ ((e ≡ Preallocation) × IsTrue (takes_over self.old mode))) }
-        ensures marks { Marks self.old self.new result }
+        ensures marks { MarksFailed self.old self.new result }
         ensures image { size_of self.old < size → IsResized (size_after result (size_of self.old) size) self.old self.new }
         ensures sees { GrowsTo S.view F.backing self.old self.new size mode result }
         ensures last { (out : List (Option Prepared)) → (abstract_of S.view F.backing self.old out).is_sound → WritesSizeLast S.view F.backing self.old self.new }
@@ -192,7 +192,7 @@ impl<S: Storage, F: WrappedFormat<S>> Qcow2<S, F> {
         requires writable { IsTrue (is_writable self.old) }
         requires larger { size_of self.old < size }
         ensures cause { IfErr result IsMetPreparing }
-        ensures marks { Marks self.old self.new result }
+        ensures marks { MarksFailed self.old self.new result }
         ensures image { IsResized (size_after result (size_of self.old) size) self.old self.new }
         ensures sees { GrowsTo S.view F.backing self.old self.new size mode result }
         ensures last { (out : List (Option Prepared)) → (abstract_of S.view F.backing self.old out).is_sound → WritesSizeLast S.view F.backing self.old self.new }
@@ -214,7 +214,7 @@ impl<S: Storage, F: WrappedFormat<S>> Qcow2<S, F> {
     fn mark_fault(&mut self, done: Result<(), ImageError>) -> Result<(), ImageError>
         ensures answer { result ≡ done }
         ensures image { IsSameImage self.old self.new }
-        ensures marks { Marks self.old self.new done }
+        ensures marks { MarksFailed self.old self.new done }
         ensures rest { self.new ≡ with_marks self.old (is_changed_of self.new.file.storage) (is_failed self.new) }
         ensures same { OnOk done (self.new ≡ self.old) }
         ensures fault { IfErr done (λ e. IsFault e → IsTrue (is_failed self.new)) }
@@ -260,7 +260,7 @@ impl<S: Storage, F: WrappedFormat<S>> Qcow2<S, F> {
         ensures rest { self.new ≡ record self.old { file = record self.old.file { storage = self.new.file.storage; header = self.new.file.header } } }
         ensures header { OnOk result (self.new.file.header ≡ with_fields self.old.file.header (with_size self.old.file.header.fields size)) }
         ensures restored { OnErr result (self.new.file.header ≡ self.old.file.header) }
-        ensures time { Passing (view_in S.view self.old.file) (view_in S.view self.new.file) (λ c. c ≡ (view_in S.view self.new.file).contents) }
+        ensures time { EachMomentSince (view_in S.view self.old.file) (view_in S.view self.new.file) (λ c. c ≡ (view_in S.view self.new.file).contents) }
         ensures writes { (out : List (Option Prepared)) → ImageInvariant S.view F.backing (pending_in S.view F.backing self.old out) self.old out → WritesSize S.view F.backing self.old self.new out size result }
         ensures resizes { (p : Pending) → ImageInvariant S.view F.backing p self.old [] → Resizes S.view F.backing p self.old self.new size result }
         ensures faults { CountsImageFaults S.view F.backing self.old self.new result }

@@ -17,7 +17,7 @@ use Rattle.qcow2_laws.specs.Guests.{marks, table_at}
 use Rattle.qcow2_laws.specs.CrashInvariant.{Pending, SameIn}
 use Rattle.qcow2_laws.specs.Writes.{IsUnnamed, MayChange, IsWritten}
 use Rattle.qcow2_laws.specs.Tops.{Places, with_places, IsSameBut, WritesL1Entry, WritesReftableEntry, WritesHeader}
-use Rattle.qcow2_laws.specs.Caches.{known_bytes, IsFreeOf, CacheInvariantOver, AreSettled}
+use Rattle.qcow2_laws.specs.Caches.{known_bytes, IsFreeOf, CacheInvariantOver, AreNamedBlocks}
 use Rattle.qcow2_laws.proofs.Places.{Sizes, l1-same, reftable-same, cover_none, cover_in}
 use Rattle.qcow2_laws.proofs.Consistency.{in_own}
 use Rattle.qcow2_laws.proofs.Shares.{in_l1, in_reftable, l1_has, reftable_has}
@@ -110,11 +110,11 @@ module _ (h : HeaderFields) (d : Direction) (p : Pending) (l2s rbs : List Cached
   pub same_beside : (c : ℕ) → SameIn (cluster_size h) c on_storage on_storage' → SameIn (cluster_size h) c on_storage on_storage' × SameIn (cluster_size h) c (known_bytes (cluster_size h) l2s rbs on_storage) (known_bytes (cluster_size h) l2s rbs on_storage')
   same_beside c same = (same, (λ o in_c. known_beside (cluster_size h) l2s rbs on_storage on_storage' o (same o in_c)))
 
-  pub unnamed_free : AreSettled h rbs on_storage → (c : ℕ) → IsUnnamed h on_storage (known_bytes (cluster_size h) l2s rbs on_storage) c → IsFreeOf (cluster_size h) l2s c × IsFreeOf (cluster_size h) rbs c
+  pub unnamed_free : AreNamedBlocks h rbs on_storage → (c : ℕ) → IsUnnamed h on_storage (known_bytes (cluster_size h) l2s rbs on_storage) c → IsFreeOf (cluster_size h) l2s c × IsFreeOf (cluster_size h) rbs c
   unnamed_free settled c unnamed = (unnamed_free_l2 h d p l2s rbs on_storage kept c unnamed.no_table, unnamed_free_rb h d p l2s rbs on_storage kept settled c unnamed.no_table)
 
   -- nor does one lie in a cluster that a guest cluster is known to have to itself
-  pub in_place_free : AreSettled h rbs on_storage → (c g : ℕ) → 0 < marks h (known_bytes (cluster_size h) l2s rbs on_storage) c g → IsFreeOf (cluster_size h) l2s c × IsFreeOf (cluster_size h) rbs c
+  pub in_place_free : AreNamedBlocks h rbs on_storage → (c g : ℕ) → 0 < marks h (known_bytes (cluster_size h) l2s rbs on_storage) c g → IsFreeOf (cluster_size h) l2s c × IsFreeOf (cluster_size h) rbs c
   in_place_free settled c g marked =
       let alone = marked_alone h d p on_storage (known_bytes (cluster_size h) l2s rbs on_storage) kept.guarded c g marked in
       (unnamed_free_l2 h d p l2s rbs on_storage kept c alone.0, unnamed_free_rb h d p l2s rbs on_storage kept settled c alone.0)

@@ -14,30 +14,30 @@ use Rattle.qcow2_disk.specs.Stops.{GivenBytes, IsGiven, Checkpoint, checkpoint_w
 use Rattle.qcow2_laws.specs.Clusters.{Direction, L2DependsOnRb, RbDependsOnL2}
 use Rattle.qcow2_laws.specs.Guests.{guests, names, marks, named_in_either, table_at}
 use Rattle.qcow2_laws.specs.CrashInvariant.{Pending, cluster, CrashInvariant, IsTop, SameTop, SameCovers, SameCounts, SameIn}
-use Rattle.qcow2_laws.specs.Changes.{one_at, with_held, with_fresh, without_spent, without_dropped, remapped}
+use Rattle.qcow2_laws.specs.Changes.{one_at, with_new_data, with_new_tables, without_old_tables, without_old_data, remapped}
 use Rattle.qcow2_laws.specs.Tops.{IsSameOutside}
 use Rattle.qcow2_laws.proofs.Places.{Sizes, Sizes-from, count_in, cover_in, cover_at, has_table}
 use Rattle.qcow2_laws.proofs.Tops.{IsTop-top, for_tables-top}
-use Rattle.qcow2_laws.proofs.Clusters.{held_unnamed}
+use Rattle.qcow2_laws.proofs.Clusters.{new_data_unnamed}
 use Rattle.qcow2_laws.proofs.Mixes.{tied, good}
 use Rattle.qcow2_laws.proofs.Changes.{one_at-le, at_one, data_counted, table_counted, table_freed, data_freed, covers_kept, entry_mapped, mapping_kept}
 use Rattle.qcow2_laws.proofs.Shares.{shares, block_has, table_has, block_top, block_covers, block_others, table_top, table_counts, table_others}
 
 -- a cluster that a table stands in is neither named by entries nor held, and is counted
-module _ (h : HeaderFields) (d : Direction) (p : Pending) (on_storage known : Bytes) (guarded : CrashInvariant h d p on_storage known) (c : ℕ) (fixed : 0 < named_for_tables h on_storage c) where
-  pub table_apart : named_in_either h on_storage known c + p.held c ≡ 0
+module _ (h : HeaderFields) (d : Direction) (p : Pending) (on_storage known : Bytes) (guarded : CrashInvariant h d p on_storage known) (c : ℕ) (table_refs : 0 < named_for_tables h on_storage c) where
+  pub table_apart : named_in_either h on_storage known c + p.new_data c ≡ 0
   table_apart =
-      let table = (guarded.always c).table fixed in
-      elim (cases_lt 0 (p.held c)) [
-        | inl held ↦ absurd (let none = held_unnamed d (cluster h p on_storage known c) (p.surplus c) (tied h p on_storage known c) held (good h d p on_storage known guarded c) in omega (arith, none.1))
+      let table = (guarded.each_cluster c).table table_refs in
+      elim (cases_lt 0 (p.new_data c)) [
+        | inl new_data ↦ absurd (let none = new_data_unnamed d (cluster h p on_storage known c) (p.surplus c) (tied h p on_storage known c) new_data (good h d p on_storage known guarded c) in omega (arith, none.1))
         | inr none ↦ omega arith
       ]
 
   pub table_once : named_for_tables h on_storage c ≡ 1
-  table_once = let table = (guarded.always c).table fixed in omega arith
+  table_once = let table = (guarded.each_cluster c).table table_refs in omega arith
 
   pub table_is_counted : 0 < count h known c
-  table_is_counted = let tally = (guarded.always c).tally in omega arith
+  table_is_counted = let tally = (guarded.each_cluster c).tally in omega arith
 
 -- the number of a cluster within its refblock tells it from the others there
 one_in_block : (per c0 c : ℕ) → 0 < per → c / per ≡ c0 / per → one_at (c0 % per) (c % per) ≡ one_at c0 c
@@ -69,14 +69,14 @@ module _ (h : HeaderFields) (d : Direction) (p : Pending) (on_storage known know
   same : (c : ℕ) → c ≢ block_offset (reftable_entry h known (c0 / counts_per_block h)) / cluster_size h → SameIn (cluster_size h) c known known'
   same c other o in_c = outside o (λ e. other (sym in_c ∙ e))
 
-  fixed : 0 < named_for_tables h known (block_offset (reftable_entry h known (c0 / counts_per_block h)) / cluster_size h)
-  fixed =
+  table_refs : 0 < named_for_tables h known (block_offset (reftable_entry h known (c0 / counts_per_block h)) / cluster_size h)
+  table_refs =
       let s = shares h known (block_offset (reftable_entry h known (c0 / counts_per_block h)) / cluster_size h) in
       let one = block_has h known (c0 / counts_per_block h) real in
       omega arith
 
   storage_fixed : 0 < named_for_tables h on_storage (block_offset (reftable_entry h known (c0 / counts_per_block h)) / cluster_size h)
-  storage_fixed = let e = for_tables-top h on_storage known (block_offset (reftable_entry h known (c0 / counts_per_block h)) / cluster_size h) guarded.same_top in let f = fixed in omega arith
+  storage_fixed = let e = for_tables-top h on_storage known (block_offset (reftable_entry h known (c0 / counts_per_block h)) / cluster_size h) guarded.same_top in let f = table_refs in omega arith
 
   once : named_for_tables h known (block_offset (reftable_entry h known (c0 / counts_per_block h)) / cluster_size h) ≤ 1
   once =
@@ -91,14 +91,14 @@ module _ (h : HeaderFields) (d : Direction) (p : Pending) (on_storage known know
   counted_covers = block_covers h known known' known_top (c0 / counts_per_block h) real once same
 
   -- what entries name, and what is held, isn't where the refblock stands
-  stays : (o : ℕ) → 0 < named_in_either h on_storage known (o / cluster_size h) + p.held (o / cluster_size h) → known o ≡ known' o
+  stays : (o : ℕ) → 0 < named_in_either h on_storage known (o / cluster_size h) + p.new_data (o / cluster_size h) → known o ≡ known' o
   stays o some = outside o (λ e.
       let apart = table_apart h d p on_storage known guarded (block_offset (reftable_entry h known (c0 / counts_per_block h)) / cluster_size h) storage_fixed in
-      let here = subst (λ n. 0 < named_in_either h on_storage known n + p.held n) e some in
+      let here = subst (λ n. 0 < named_in_either h on_storage known n + p.new_data n) e some in
       absurd (omega arith))
 
-  bytes : (o : ℕ) → 0 < named_in_either h on_storage known (o / cluster_size h) + p.held (o / cluster_size h) → on_storage o ≡ known' o
-  bytes o some = guarded.unlaid o some ∙ stays o some
+  bytes : (o : ℕ) → 0 < named_in_either h on_storage known (o / cluster_size h) + p.new_data (o / cluster_size h) → on_storage o ≡ known' o
+  bytes o some = guarded.not_overlaid o some ∙ stays o some
 
   -- a count in this refblock, before and after
   count_here : (c : ℕ) → c / counts_per_block h ≡ c0 / counts_per_block h → (count h known c ≡ block_count known (count_width h) (block_offset (reftable_entry h known (c0 / counts_per_block h))) (c % counts_per_block h))
@@ -129,18 +129,18 @@ module _ (h : HeaderFields) (d : Direction) (p : Pending) (on_storage known know
     table_counted_free : (c : ℕ) → 0 < one_at c0 c → count h known c ≡ 0
     table_counted_free c some = at_one c0 c (count h known) 0 free some
 
-    pub table_allocated : CrashInvariant h d (with_fresh p (one_at c0)) on_storage known'
+    pub table_allocated : CrashInvariant h d (with_new_tables p (one_at c0)) on_storage known'
     table_allocated = table_counted h p on_storage known known' (one_at c0) counted_top counted_covers (one_at-le c0) d guarded bytes table_counted_free counts_more
 
     -- the new cluster holds what it holds on the storage
-    pub data_allocated : d ≡ L2DependsOnRb → ((o : ℕ) → o / cluster_size h ≡ c0 → on_storage o ≡ known o) → CrashInvariant h L2DependsOnRb (with_held p (one_at c0)) on_storage known'
-    data_allocated is unlaid =
+    pub data_allocated : d ≡ L2DependsOnRb → ((o : ℕ) → o / cluster_size h ≡ c0 → on_storage o ≡ known o) → CrashInvariant h L2DependsOnRb (with_new_data p (one_at c0)) on_storage known'
+    data_allocated is not_overlaid =
         data_counted h p on_storage known known' (one_at c0) counted_top counted_covers (one_at-le c0) (subst (λ e. CrashInvariant h e p on_storage known) is guarded)
-        (λ o some. elim (cases_lt 0 (named_in_either h on_storage known (o / cluster_size h) + p.held (o / cluster_size h))) [
+        (λ o some. elim (cases_lt 0 (named_in_either h on_storage known (o / cluster_size h) + p.new_data (o / cluster_size h))) [
           | inl before ↦ bytes o before
           | inr none ↦
               let here : o / cluster_size h ≡ c0 = elim (cases_eq (o / cluster_size h) c0) [ inl e ↦ e | inr ne ↦ absurd (let z : one_at c0 (o / cluster_size h) ≡ 0 = cond-false {A = ℕ} _ 1 0 (ne_eqb (o / cluster_size h) c0 ne) in omega arith) ] in
-              unlaid o here ∙ outside o (λ e.
+              not_overlaid o here ∙ outside o (λ e.
               let used = table_is_counted h d p on_storage known guarded (block_offset (reftable_entry h known (c0 / counts_per_block h)) / cluster_size h) storage_fixed in
               let zero : count h known (block_offset (reftable_entry h known (c0 / counts_per_block h)) / cluster_size h) ≡ 0 = ap (count h known) (sym e ∙ here) ∙ free in
               absurd (omega arith))
@@ -163,19 +163,19 @@ module _ (h : HeaderFields) (d : Direction) (p : Pending) (on_storage known know
           omega arith
     ]
 
-    pub table_released : 0 < p.spent c0 → CrashInvariant h d (without_spent p (one_at c0)) on_storage known'
+    pub table_released : 0 < p.old_tables c0 → CrashInvariant h d (without_old_tables p (one_at c0)) on_storage known'
     table_released some =
-        table_freed h p on_storage known known' (one_at c0) counted_top counted_covers (one_at-le c0) d guarded bytes (λ c at. spent_at c at) counts_less
+        table_freed h p on_storage known known' (one_at c0) counted_top counted_covers (one_at-le c0) d guarded bytes (λ c at. old_tables_at c at) counts_less
       where
-        spent_at : (c : ℕ) → 0 < one_at c0 c → 0 < p.spent c
-        spent_at c at = let e = at_one c0 c p.spent (p.spent c0) refl at in omega arith
+        old_tables_at : (c : ℕ) → 0 < one_at c0 c → 0 < p.old_tables c
+        old_tables_at c at = let e = at_one c0 c p.old_tables (p.old_tables c0) refl at in omega arith
 
-    pub data_released : d ≡ RbDependsOnL2 → 0 < p.dropped c0 → CrashInvariant h RbDependsOnL2 (without_dropped p (one_at c0)) on_storage known'
+    pub data_released : d ≡ RbDependsOnL2 → 0 < p.old_data c0 → CrashInvariant h RbDependsOnL2 (without_old_data p (one_at c0)) on_storage known'
     data_released is some =
-        data_freed h p on_storage known known' (one_at c0) counted_top counted_covers (one_at-le c0) (subst (λ e. CrashInvariant h e p on_storage known) is guarded) bytes (λ c at. dropped_at c at) counts_less
+        data_freed h p on_storage known known' (one_at c0) counted_top counted_covers (one_at-le c0) (subst (λ e. CrashInvariant h e p on_storage known) is guarded) bytes (λ c at. old_data_at c at) counts_less
       where
-        dropped_at : (c : ℕ) → 0 < one_at c0 c → 0 < p.dropped c
-        dropped_at c at = let e = at_one c0 c p.dropped (p.dropped c0) refl at in omega arith
+        old_data_at : (c : ℕ) → 0 < one_at c0 c → 0 < p.old_data c
+        old_data_at c at = let e = at_one c0 c p.old_data (p.old_data c0) refl at in omega arith
 
   -- whatever the counts are, guests see what they saw
   pub counts_kept : (e : Direction) (p' : Pending) → CrashInvariant h e p' on_storage known' → (backing : Bytes) (m : Checkpoint) → StopOkEverywhere backing m known → StopOkEverywhere backing m known'
@@ -249,20 +249,20 @@ module _ (h : HeaderFields) (d : Direction) (p : Pending) (on_storage known know
       let rows : (i0 + 1) * entries_per_cluster h ≤ h.l1_entries * entries_per_cluster h = mul-le (i0 + 1) (entries_per_cluster h) h.l1_entries (entries_per_cluster h) (omega arith) (omega arith) in
       omega arith
 
-  entry_stays : (o : ℕ) → 0 < named_in_either h on_storage known (o / cluster_size h) + p.held (o / cluster_size h) → known o ≡ known' o
+  entry_stays : (o : ℕ) → 0 < named_in_either h on_storage known (o / cluster_size h) + p.new_data (o / cluster_size h) → known o ≡ known' o
   entry_stays o some = outside o (λ e.
       let apart = table_apart h d p on_storage known guarded (table_at h known i0 / cluster_size h) l2_fixed in
-      let here = subst (λ n. 0 < named_in_either h on_storage known n + p.held n) e some in
+      let here = subst (λ n. 0 < named_in_either h on_storage known n + p.new_data n) e some in
       absurd (omega arith))
 
-  module _ (held : (c : ℕ) → names h known' c (i0 * entries_per_cluster h + j0) - names h known c (i0 * entries_per_cluster h + j0) ≤ p.held c)
+  module _ (new_data : (c : ℕ) → names h known' c (i0 * entries_per_cluster h + j0) - names h known c (i0 * entries_per_cluster h + j0) ≤ p.new_data c)
       (marked : (c : ℕ) → marks h known' c (i0 * entries_per_cluster h + j0) ≤ marks h known c (i0 * entries_per_cluster h + j0) + (names h known' c (i0 * entries_per_cluster h + j0) - names h known c (i0 * entries_per_cluster h + j0)))
       (aligned : CoverIsAligned h (cover h known' (i0 * entries_per_cluster h + j0))) where
     pub entry_set : CrashInvariant h d (remapped p (λ c. names h known c (i0 * entries_per_cluster h + j0)) (λ c. names h known' c (i0 * entries_per_cluster h + j0))) on_storage known'
-    entry_set = entry_mapped h d p on_storage known known' guarded (i0 * entries_per_cluster h + j0) guest_within entry_top entry_others entry_counts held marked aligned entry_stays
+    entry_set = entry_mapped h d p on_storage known known' guarded (i0 * entries_per_cluster h + j0) guest_within entry_top entry_others entry_counts new_data marked aligned entry_stays
 
     pub entry_kept : (backing : Bytes) (m : Checkpoint) (given : List GivenBytes)
         → ((o : ℕ) → o / cluster_size h ≡ i0 * entries_per_cluster h + j0 → (guest_value h known' known' backing o ≡ guest_value h known known backing o) ⊎ IsGiven given o (guest_value h known' known' backing o))
         → StopOkEverywhere backing m known → StopOkEverywhere backing (checkpoint_with given [] m) known'
     entry_kept backing m given there kept =
-        mapping_kept h d p on_storage known known' guarded (i0 * entries_per_cluster h + j0) guest_within entry_top entry_others entry_counts held marked aligned entry_stays backing m given there kept
+        mapping_kept h d p on_storage known known' guarded (i0 * entries_per_cluster h + j0) guest_within entry_top entry_others entry_counts new_data marked aligned entry_stays backing m given there kept

@@ -22,7 +22,7 @@ use Rattle.qcow2_laws.specs.SafeSteps.{DriverState, StateInvariant}
 use Rattle.qcow2_laws.specs.Steps.{block_of, CountRises, CountFalls, EntryChanges, guest_at}
 use Rattle.qcow2_laws.proofs.Places.{Sizes, Sizes-from, count_in as count_found, cover_at}
 use Rattle.qcow2_laws.proofs.Guests.{guest_le, names_within}
-use Rattle.qcow2_laws.proofs.Writes.{held_is_unnamed}
+use Rattle.qcow2_laws.proofs.Writes.{new_data_is_unnamed}
 use Rattle.qcow2_laws.proofs.Blocks.{entry_top}
 
 one_here : (i : ℕ) → one_at i i ≡ 1
@@ -66,15 +66,15 @@ module _ (h : HeaderFields) (known known' : Bytes) (c : ℕ) (old new : List ℕ
 
 -- ---- what an entry takes from what is held, where its cover becomes another one
 pub record Takes (h : HeaderFields) (enough : ℕ → ℕ) (before after : L2Mapping) : Type 0 where
-  pub held : (c : ℕ) → named_by_cover h c after - named_by_cover h c before ≤ enough c
+  pub new_data : (c : ℕ) → named_by_cover h c after - named_by_cover h c before ≤ enough c
   pub marked : (c : ℕ) → marked_by_cover h c after ≤ marked_by_cover h c before + (named_by_cover h c after - named_by_cover h c before)
   pub aligned : CoverIsAligned h after
 
 -- it names nothing any more
-pub takes_nothing : (h : HeaderFields) (held : ℕ → ℕ) (before : L2Mapping) → Takes h held before Uncovered × Takes h held before (Zero None)
-takes_nothing h held before = (
-  record { held = λ c. omega arith; marked = λ c. omega arith; aligned = tt },
-  record { held = λ c. omega arith; marked = λ c. omega arith; aligned = tt },
+pub takes_nothing : (h : HeaderFields) (new_data : ℕ → ℕ) (before : L2Mapping) → Takes h new_data before Uncovered × Takes h new_data before (Zero None)
+takes_nothing h new_data before = (
+  record { new_data = λ c. omega arith; marked = λ c. omega arith; aligned = tt },
+  record { new_data = λ c. omega arith; marked = λ c. omega arith; aligned = tt },
 )
 
 -- it keeps the host cluster that it marked copied
@@ -90,7 +90,7 @@ copied_alone h host c (Zero (Some k)) is = kept_alone k is
     some_is : {a b : ℕ} → Some a ≡ Some b → a ≡ b
     some_is e = cc
 
-    by_mark : (place : ℕ) (mark : Bool) → cond mark (Some place) None ≡ Some host → (in_cluster h c place ≡ in_cluster h c host) × (cond mark (in_cluster h c place) 0 ≡ in_cluster h c host)
+    by_mark : (place : ℕ) (checkpoint : Bool) → cond checkpoint (Some place) None ≡ Some host → (in_cluster h c place ≡ in_cluster h c host) × (cond checkpoint (in_cluster h c place) 0 ≡ in_cluster h c host)
     by_mark place true e = let p : place ≡ host = some_is e in (ap (in_cluster h c) p, ap (in_cluster h c) p)
     by_mark place false e = absurd (cc)
 
@@ -99,16 +99,16 @@ copied_alone h host c (Zero (Some k)) is = kept_alone k is
 copied_alone h host c (Compressed place sectors) is = absurd (cc)
 copied_alone h host c Uncovered is = absurd (cc)
 
-pub takes_own : (h : HeaderFields) (held : ℕ → ℕ) (before : L2Mapping) (host : ℕ) → host % cluster_size h ≡ 0 → copied_host before ≡ Some host
-    → Takes h held before (Data host true) × Takes h held before (Zero (Some (host, true)))
-takes_own h held before host aligned is = (
+pub takes_own : (h : HeaderFields) (new_data : ℕ → ℕ) (before : L2Mapping) (host : ℕ) → host % cluster_size h ≡ 0 → copied_host before ≡ Some host
+    → Takes h new_data before (Data host true) × Takes h new_data before (Zero (Some (host, true)))
+takes_own h new_data before host aligned is = (
   record {
-    held = λ c. let own = copied_alone h host c before is in omega (arith, own.0);
+    new_data = λ c. let own = copied_alone h host c before is in omega (arith, own.0);
     marked = λ c. let own = copied_alone h host c before is in omega (arith, own.1);
     aligned = aligned;
   },
   record {
-    held = λ c. let own = copied_alone h host c before is in omega (arith, own.0);
+    new_data = λ c. let own = copied_alone h host c before is in omega (arith, own.0);
     marked = λ c. let own = copied_alone h host c before is in omega (arith, own.1);
     aligned = aligned;
   },
@@ -127,19 +127,19 @@ in_most h c place = elim (cases_eq (place / cluster_size h) c) [
   | inr ne ↦ let none : in_cluster h c place ≡ 0 = cond-false {A = ℕ} _ 1 0 (ne_eqb (place / cluster_size h) c ne) in omega arith
 ]
 
-pub takes_held : (s : DriverState) (g host : ℕ) → StateInvariant s → host % cluster_size s.header ≡ 0 → 0 < s.pending.held (host / cluster_size s.header) → Takes s.header s.pending.held (cover s.header s.known g) (Data host true)
-takes_held s g host sound aligned some = record {
-  held = λ c. elim (cases_lt 0 (in_cluster s.header c host)) [
+pub takes_new_data : (s : DriverState) (g host : ℕ) → StateInvariant s → host % cluster_size s.header ≡ 0 → 0 < s.pending.new_data (host / cluster_size s.header) → Takes s.header s.pending.new_data (cover s.header s.known g) (Data host true)
+takes_new_data s g host sound aligned some = record {
+  new_data = λ c. elim (cases_lt 0 (in_cluster s.header c host)) [
     | inl here ↦
         let most = in_most s.header c host in
-        let enough : 0 < s.pending.held c = subst (λ n. 0 < s.pending.held n) (in_at s.header c host here) some in
+        let enough : 0 < s.pending.new_data c = subst (λ n. 0 < s.pending.new_data n) (in_at s.header c host here) some in
         omega arith
     | inr none ↦ omega arith
   ];
   marked = λ c. elim (cases_lt 0 (in_cluster s.header c host)) [
     | inl here ↦
-        let enough : 0 < s.pending.held c = subst (λ n. 0 < s.pending.held n) (in_at s.header c host here) some in
-        let unnamed = held_is_unnamed s.header s.direction s.pending s.on_storage s.known sound c enough in
+        let enough : 0 < s.pending.new_data c = subst (λ n. 0 < s.pending.new_data n) (in_at s.header c host here) some in
+        let unnamed = new_data_is_unnamed s.header s.direction s.pending s.on_storage s.known sound c enough in
         let before : names s.header s.known c g ≡ 0 = elim (cases_lt 0 (names s.header s.known c g)) [
           | inl named ↦ absurd (
               let within = names_within s.header s.known c g (Sizes-from s.header s.on_storage sound.top.header_reads) named in
@@ -178,16 +178,16 @@ module _ (s : DriverState) (known' : Bytes) (i j entry : ℕ) (old new : List �
       ∙ ap (λ t. entry_cover s.header (l2_entry known' t j)) same_table
       ∙ ap (entry_cover s.header) (sym (now j within) ∙ changes.entry_is)
 
-  pub entry_changes : Takes s.header s.pending.held (entry_cover s.header (entry_at old j)) (entry_cover s.header entry) → EntryChanges s known' i j
+  pub entry_changes : Takes s.header s.pending.new_data (entry_cover s.header (entry_at old j)) (entry_cover s.header entry) → EntryChanges s known' i j
   entry_changes takes = record {
     real = real;
     within = within;
     outside = outside;
     entries = same_entries;
-    held = λ c.
+    new_data = λ c.
         let a : names s.header s.known c (guest_at s.header i j) ≡ named_by_cover s.header c (entry_cover s.header (entry_at old j)) = ap (named_by_cover s.header c) cover_was in
         let b : names s.header known' c (guest_at s.header i j) ≡ named_by_cover s.header c (entry_cover s.header entry) = ap (named_by_cover s.header c) cover_now in
-        let t = takes.held c in
+        let t = takes.new_data c in
         omega arith;
     marked = λ c.
         let a : names s.header s.known c (guest_at s.header i j) ≡ named_by_cover s.header c (entry_cover s.header (entry_at old j)) = ap (named_by_cover s.header c) cover_was in

@@ -14,7 +14,7 @@ use Rattle.qcow2_laws.specs.Clusters.{Direction, Neither, L2DependsOnRb, RbDepen
 use Rattle.qcow2_laws.specs.Guests.{table_at}
 use Rattle.qcow2_laws.specs.CrashInvariant.{Pending, CrashInvariant, SameTop, SameIn, IsPartly, SameCovers, SameCounts, IsInOrder, IsMixed, MayTurn}
 use Rattle.qcow2_laws.specs.Writes.{IsUnnamed}
-use Rattle.qcow2_laws.specs.Caches.{known_bytes, IsFreeAt, IsFreeOf, AreApart, AreClean, HasOwnL2, HasBlock, CacheInvariantOver, BlocksMayGo, TablesMayGo, IsWrittenSo, UnseenTableWrite, AreSettled}
+use Rattle.qcow2_laws.specs.Caches.{known_bytes, IsFreeAt, IsFreeOf, AreApart, AreClean, HasOwnL2, HasBlock, CacheInvariantOver, BlocksMayGo, TablesMayGo, IsWrittenSo, UnseenTableWrite, AreNamedBlocks}
 use Rattle.qcow2_laws.proofs.Places.{Sizes, Sizes-from}
 use Rattle.qcow2_laws.proofs.Tops.{for_tables-top}
 use Rattle.qcow2_laws.proofs.Mixes.{top_kept, mixed_guarded, mixed_either, turned_guarded}
@@ -40,7 +40,7 @@ module _ (h : HeaderFields) (d : Direction) (p : Pending) (l2s rbs : List Cached
   block_share c has = subst (λ n. 1 ≤ named_by_reftable h on_storage n) has.2 (block_has h on_storage has.0 has.1)
 
   once_at : (c : ℕ) → 0 < named_for_tables h on_storage c → named_for_tables h on_storage c ≡ 1
-  once_at c fixed = table_once h d p on_storage (known_bytes (cluster_size h) l2s rbs on_storage) kept.guarded c fixed
+  once_at c table_refs = table_once h d p on_storage (known_bytes (cluster_size h) l2s rbs on_storage) kept.guarded c table_refs
 
   pub rbs_free : (c : ℕ) → 0 < in_cluster h c 0 + in_l1 h c + in_reftable h c + named_by_l1_table h on_storage c → IsFreeOf (cluster_size h) rbs c
   rbs_free c some =
@@ -70,7 +70,7 @@ module _ (h : HeaderFields) (d : Direction) (p : Pending) (l2s rbs : List Cached
     | inr has ↦ absurd (let s = shares h on_storage c in let t = l2_share c has in omega arith)
   ]
 
-  pub unnamed_free_rb : AreSettled h rbs on_storage → (c : ℕ) → named_for_tables h on_storage c ≡ 0 → IsFreeOf (cluster_size h) rbs c
+  pub unnamed_free_rb : AreNamedBlocks h rbs on_storage → (c : ℕ) → named_for_tables h on_storage c ≡ 0 → IsFreeOf (cluster_size h) rbs c
   unnamed_free_rb settled c none = elim (settled c) [
     | inl free ↦ free
     | inr has ↦ absurd (let s = shares h on_storage c in let t = block_share c has in omega arith)

@@ -14,8 +14,8 @@ use Rattle.qcow2_disk.specs.Stops.{GivenBytes, IsGiven, Checkpoint, checkpoint_w
 use Rattle.qcow2_laws.specs.Clusters.{Direction, L2DependsOnRb, RbDependsOnL2}
 use Rattle.qcow2_laws.specs.Guests.{guests, over_guests, names, marks, named_in_either, marked_by_cover}
 use Rattle.qcow2_laws.specs.CrashInvariant.{SameTop, Pending, cluster, CrashInvariant, SameCovers, SameCounts}
-use Rattle.qcow2_laws.specs.Changes.{one_at, with_held, with_fresh, without_spent, without_dropped, held_to_dropped, held_to_spent, fresh_to_spent, remapped}
-use Rattle.qcow2_laws.proofs.Clusters.{Good, allocate_data, allocate_table, free_table, free_data, drop_held, undo, abandon, remap, held_unnamed}
+use Rattle.qcow2_laws.specs.Changes.{one_at, with_new_data, with_new_tables, without_old_tables, without_old_data, new_data_to_old_data, new_data_to_old_tables, new_tables_to_old_tables, remapped}
+use Rattle.qcow2_laws.proofs.Clusters.{Good, allocate_data, allocate_table, free_table, free_data, drop_new_data, undo, abandon, remap, new_data_unnamed}
 use Rattle.qcow2_laws.proofs.Places.{Sizes-from}
 use Rattle.qcow2_laws.proofs.Guests.{over_guests-same, over_guests-change, guest_le, names_within}
 use Rattle.qcow2_laws.proofs.Tops.{SameTop-trans, IsTop-top, SameTop-refl}
@@ -35,14 +35,14 @@ at_one c k f n is some = elim (cases_eq k c) [
 -- ---- counts and what is pending change, and covers stay
 module _ (h : HeaderFields) (d : Direction) (p p' : Pending) (on_storage known known' : Bytes) (guarded : CrashInvariant h d p on_storage known)
     (top : SameTop h known known') (covers : SameCovers h known known')
-    (bytes : (o : ℕ) → 0 < named_in_either h on_storage known (o / cluster_size h) + p'.held (o / cluster_size h) → on_storage o ≡ known' o) where
+    (bytes : (o : ℕ) → 0 < named_in_either h on_storage known (o / cluster_size h) + p'.new_data (o / cluster_size h) → on_storage o ≡ known' o) where
   sum_same : (f : L2Mapping → ℕ) → over_guests h (λ g. f (cover h known' g)) ≡ over_guests h (λ g. f (cover h known g))
   sum_same f = over_guests-same h _ _ (λ g. ap f (sym (covers g)))
 
   max_same : (f : L2Mapping → ℕ) → over_guests h (λ g. max (f (cover h on_storage g)) (f (cover h known' g))) ≡ over_guests h (λ g. max (f (cover h on_storage g)) (f (cover h known g)))
   max_same f = over_guests-same h _ _ (λ g. ap (λ v. max (f (cover h on_storage g)) (f v)) (sym (covers g)))
 
-  pub counts_changed : ((c : ℕ) → Good d (record (cluster h p on_storage known c) { known_count = count h known' c; held = p'.held c; fresh = p'.fresh c; spent = p'.spent c; dropped = p'.dropped c }) (p'.surplus c))
+  pub counts_changed : ((c : ℕ) → Good d (record (cluster h p on_storage known c) { known_count = count h known' c; new_data = p'.new_data c; new_tables = p'.new_tables c; old_tables = p'.old_tables c; old_data = p'.old_data c }) (p'.surplus c))
       → CrashInvariant h d p' on_storage known'
   counts_changed numbers =
       let now : (c : ℕ) → Good d (cluster h p' on_storage known' c) (p'.surplus c) = λ c.
@@ -54,12 +54,12 @@ module _ (h : HeaderFields) (d : Direction) (p p' : Pending) (on_storage known k
       record {
         top = guarded.top;
         same_top = SameTop-trans h on_storage known known' guarded.same_top top;
-        always = λ c. (now c).always;
+        each_cluster = λ c. (now c).each_cluster;
         ordered = λ c. (now c).ordered;
         aligned = guarded.aligned;
         known_aligned = λ g. subst (CoverIsAligned h) (covers g) (guarded.known_aligned g);
         own = λ g c marked. guarded.own g c (subst (λ v. 0 < marked_by_cover h c v) (sym (covers g)) marked);
-        unlaid = λ o some. let same = max_same (named_by_cover h (o / cluster_size h)) in bytes o (omega arith);
+        not_overlaid = λ o some. let same = max_same (named_by_cover h (o / cluster_size h)) in bytes o (omega arith);
       }
 
 -- the guest sees what it saw
@@ -79,69 +79,69 @@ module _ (h : HeaderFields) (d d' : Direction) (p p' : Pending) (on_storage know
 -- ---- counts of single clusters
 module _ (h : HeaderFields) (p : Pending) (on_storage known known' : Bytes) (n : ℕ → ℕ) (top : SameTop h known known') (covers : SameCovers h known known') (few : (c : ℕ) → n c ≤ 1) where
   pub data_counted : CrashInvariant h L2DependsOnRb p on_storage known
-      → ((o : ℕ) → 0 < named_in_either h on_storage known (o / cluster_size h) + (with_held p n).held (o / cluster_size h) → on_storage o ≡ known' o)
+      → ((o : ℕ) → 0 < named_in_either h on_storage known (o / cluster_size h) + (with_new_data p n).new_data (o / cluster_size h) → on_storage o ≡ known' o)
       → ((c : ℕ) → 0 < n c → count h known c ≡ 0) → ((c : ℕ) → count h known' c ≡ count h known c + n c)
-      → CrashInvariant h L2DependsOnRb (with_held p n) on_storage known'
+      → CrashInvariant h L2DependsOnRb (with_new_data p n) on_storage known'
   data_counted guarded bytes free checkpoint_with =
-      counts_changed h L2DependsOnRb p (with_held p n) on_storage known known' guarded top covers bytes (λ c.
+      counts_changed h L2DependsOnRb p (with_new_data p n) on_storage known known' guarded top covers bytes (λ c.
       let next = allocate_data (cluster h p on_storage known c) (p.surplus c) (n c) (tied h p on_storage known c) (few c) (free c) (good h L2DependsOnRb p on_storage known guarded c) in
       let e : count h known c + n c ≡ count h known' c = sym (checkpoint_with c) in
-      subst (λ k. Good L2DependsOnRb k (p.surplus c)) (λ j. record (cluster h p on_storage known c) { known_count = e j; held = p.held c + n c }) next)
+      subst (λ k. Good L2DependsOnRb k (p.surplus c)) (λ j. record (cluster h p on_storage known c) { known_count = e j; new_data = p.new_data c + n c }) next)
 
   pub table_counted : (d : Direction) → CrashInvariant h d p on_storage known
-      → ((o : ℕ) → 0 < named_in_either h on_storage known (o / cluster_size h) + p.held (o / cluster_size h) → on_storage o ≡ known' o)
+      → ((o : ℕ) → 0 < named_in_either h on_storage known (o / cluster_size h) + p.new_data (o / cluster_size h) → on_storage o ≡ known' o)
       → ((c : ℕ) → 0 < n c → count h known c ≡ 0) → ((c : ℕ) → count h known' c ≡ count h known c + n c)
-      → CrashInvariant h d (with_fresh p n) on_storage known'
+      → CrashInvariant h d (with_new_tables p n) on_storage known'
   table_counted d guarded bytes free checkpoint_with =
-      counts_changed h d p (with_fresh p n) on_storage known known' guarded top covers bytes (λ c.
+      counts_changed h d p (with_new_tables p n) on_storage known known' guarded top covers bytes (λ c.
       let next = allocate_table d (cluster h p on_storage known c) (p.surplus c) (n c) (tied h p on_storage known c) (few c) (free c) (good h d p on_storage known guarded c) in
       let e : count h known c + n c ≡ count h known' c = sym (checkpoint_with c) in
-      subst (λ k. Good d k (p.surplus c)) (λ j. record (cluster h p on_storage known c) { known_count = e j; fresh = p.fresh c + n c }) next)
+      subst (λ k. Good d k (p.surplus c)) (λ j. record (cluster h p on_storage known c) { known_count = e j; new_tables = p.new_tables c + n c }) next)
 
   pub table_freed : (d : Direction) → CrashInvariant h d p on_storage known
-      → ((o : ℕ) → 0 < named_in_either h on_storage known (o / cluster_size h) + p.held (o / cluster_size h) → on_storage o ≡ known' o)
-      → ((c : ℕ) → 0 < n c → 0 < p.spent c) → ((c : ℕ) → count h known' c + n c ≡ count h known c)
-      → CrashInvariant h d (without_spent p n) on_storage known'
+      → ((o : ℕ) → 0 < named_in_either h on_storage known (o / cluster_size h) + p.new_data (o / cluster_size h) → on_storage o ≡ known' o)
+      → ((c : ℕ) → 0 < n c → 0 < p.old_tables c) → ((c : ℕ) → count h known' c + n c ≡ count h known c)
+      → CrashInvariant h d (without_old_tables p n) on_storage known'
   table_freed d guarded bytes some less =
-      counts_changed h d p (without_spent p n) on_storage known known' guarded top covers bytes (λ c.
+      counts_changed h d p (without_old_tables p n) on_storage known known' guarded top covers bytes (λ c.
       let next = free_table d (cluster h p on_storage known c) (p.surplus c) (n c) (tied h p on_storage known c) (few c) (some c) (good h d p on_storage known guarded c) in
       let e : count h known c - n c ≡ count h known' c = let l = less c in omega arith in
-      subst (λ k. Good d k (p.surplus c)) (λ j. record (cluster h p on_storage known c) { known_count = e j; spent = p.spent c - n c }) next)
+      subst (λ k. Good d k (p.surplus c)) (λ j. record (cluster h p on_storage known c) { known_count = e j; old_tables = p.old_tables c - n c }) next)
 
   pub data_freed : CrashInvariant h RbDependsOnL2 p on_storage known
-      → ((o : ℕ) → 0 < named_in_either h on_storage known (o / cluster_size h) + p.held (o / cluster_size h) → on_storage o ≡ known' o)
-      → ((c : ℕ) → 0 < n c → 0 < p.dropped c) → ((c : ℕ) → count h known' c + n c ≡ count h known c)
-      → CrashInvariant h RbDependsOnL2 (without_dropped p n) on_storage known'
+      → ((o : ℕ) → 0 < named_in_either h on_storage known (o / cluster_size h) + p.new_data (o / cluster_size h) → on_storage o ≡ known' o)
+      → ((c : ℕ) → 0 < n c → 0 < p.old_data c) → ((c : ℕ) → count h known' c + n c ≡ count h known c)
+      → CrashInvariant h RbDependsOnL2 (without_old_data p n) on_storage known'
   data_freed guarded bytes some less =
-      counts_changed h RbDependsOnL2 p (without_dropped p n) on_storage known known' guarded top covers bytes (λ c.
+      counts_changed h RbDependsOnL2 p (without_old_data p n) on_storage known known' guarded top covers bytes (λ c.
       let next = free_data (cluster h p on_storage known c) (p.surplus c) (n c) (tied h p on_storage known c) (few c) (some c) (good h RbDependsOnL2 p on_storage known guarded c) in
       let e : count h known c - n c ≡ count h known' c = let l = less c in omega arith in
-      subst (λ k. Good RbDependsOnL2 k (p.surplus c)) (λ j. record (cluster h p on_storage known c) { known_count = e j; dropped = p.dropped c - n c }) next)
+      subst (λ k. Good RbDependsOnL2 k (p.surplus c)) (λ j. record (cluster h p on_storage known c) { known_count = e j; old_data = p.old_data c - n c }) next)
 
 -- ---- what is pending changes alone
 module _ (h : HeaderFields) (d : Direction) (p : Pending) (on_storage known : Bytes) (guarded : CrashInvariant h d p on_storage known) (n : ℕ → ℕ) (few : (c : ℕ) → n c ≤ 1) where
-  pub dropped_instead : ((c : ℕ) → 0 < n c → 0 < p.held c) → CrashInvariant h d (held_to_dropped p n) on_storage known
-  dropped_instead some =
-      counts_changed h d p (held_to_dropped p n) on_storage known known guarded (SameTop-refl h known) (λ g. refl) (λ o any. guarded.unlaid o (omega arith))
-      (λ c. drop_held d (cluster h p on_storage known c) (p.surplus c) (n c) (tied h p on_storage known c) (few c) (some c) (good h d p on_storage known guarded c))
+  pub old_data_instead : ((c : ℕ) → 0 < n c → 0 < p.new_data c) → CrashInvariant h d (new_data_to_old_data p n) on_storage known
+  old_data_instead some =
+      counts_changed h d p (new_data_to_old_data p n) on_storage known known guarded (SameTop-refl h known) (λ g. refl) (λ o any. guarded.not_overlaid o (omega arith))
+      (λ c. drop_new_data d (cluster h p on_storage known c) (p.surplus c) (n c) (tied h p on_storage known c) (few c) (some c) (good h d p on_storage known guarded c))
 
-  pub spent_instead : ((c : ℕ) → 0 < n c → 0 < p.held c) → CrashInvariant h d (held_to_spent p n) on_storage known
-  spent_instead some =
-      counts_changed h d p (held_to_spent p n) on_storage known known guarded (SameTop-refl h known) (λ g. refl) (λ o any. guarded.unlaid o (omega arith))
+  pub old_tables_instead : ((c : ℕ) → 0 < n c → 0 < p.new_data c) → CrashInvariant h d (new_data_to_old_tables p n) on_storage known
+  old_tables_instead some =
+      counts_changed h d p (new_data_to_old_tables p n) on_storage known known guarded (SameTop-refl h known) (λ g. refl) (λ o any. guarded.not_overlaid o (omega arith))
       (λ c. undo d (cluster h p on_storage known c) (p.surplus c) (n c) (tied h p on_storage known c) (few c) (some c) (good h d p on_storage known guarded c))
 
-  pub never_named : ((c : ℕ) → 0 < n c → 0 < p.fresh c) → CrashInvariant h d (fresh_to_spent p n) on_storage known
+  pub never_named : ((c : ℕ) → 0 < n c → 0 < p.new_tables c) → CrashInvariant h d (new_tables_to_old_tables p n) on_storage known
   never_named some =
-      counts_changed h d p (fresh_to_spent p n) on_storage known known guarded (SameTop-refl h known) (λ g. refl) (λ o any. guarded.unlaid o (omega arith))
+      counts_changed h d p (new_tables_to_old_tables p n) on_storage known known guarded (SameTop-refl h known) (λ g. refl) (λ o any. guarded.not_overlaid o (omega arith))
       (λ c. abandon d (cluster h p on_storage known c) (p.surplus c) (n c) (tied h p on_storage known c) (few c) (some c) (good h d p on_storage known guarded c))
 
 -- ---- one guest cluster is mapped anew: what it names beside the old is taken from what is held
 module _ (h : HeaderFields) (d : Direction) (p : Pending) (on_storage known known' : Bytes) (guarded : CrashInvariant h d p on_storage known) (g0 : ℕ) (within : g0 < guests h)
     (top : SameTop h known known') (others : (g : ℕ) → g ≢ g0 → cover h known g ≡ cover h known' g) (counts : SameCounts h known known')
-    (held : (c : ℕ) → names h known' c g0 - names h known c g0 ≤ p.held c)
+    (new_data : (c : ℕ) → names h known' c g0 - names h known c g0 ≤ p.new_data c)
     (marked : (c : ℕ) → marks h known' c g0 ≤ marks h known c g0 + (names h known' c g0 - names h known c g0))
     (aligned : CoverIsAligned h (cover h known' g0))
-    (bytes : (o : ℕ) → 0 < named_in_either h on_storage known (o / cluster_size h) + p.held (o / cluster_size h) → known o ≡ known' o) where
+    (bytes : (o : ℕ) → 0 < named_in_either h on_storage known (o / cluster_size h) + p.new_data (o / cluster_size h) → known o ≡ known' o) where
   sum_changed : (f : L2Mapping → ℕ) → over_guests h (λ g. f (cover h known' g)) + f (cover h known g0) ≡ over_guests h (λ g. f (cover h known g)) + f (cover h known' g0)
   sum_changed f = over_guests-change h (λ g. f (cover h known' g)) (λ g. f (cover h known g)) g0 within (λ g ne. ap f (sym (others g ne)))
 
@@ -156,8 +156,8 @@ module _ (h : HeaderFields) (d : Direction) (p : Pending) (on_storage known know
       let in_either = max_changed (named_by_cover h c) in
       let marks_known = sum_changed (marked_by_cover h c) in
       let marks_either = max_changed (marked_by_cover h c) in
-      let taken = held c in
-      let mark = marked c in
+      let taken = new_data c in
+      let checkpoint = marked c in
       let next = remap d (cluster h p on_storage known c) (p.surplus c) (names h known c g0) (names h known' c g0)
       (over_guests h (names h known' c)) (named_in_either h on_storage known' c)
       (over_guests h (marks h known' c)) (over_guests h (λ g. max (marks h on_storage c g) (marks h known' c g)))
@@ -168,10 +168,10 @@ module _ (h : HeaderFields) (d : Direction) (p : Pending) (on_storage known know
   own_there c some = elim (cases_lt 0 (marks h known c g0)) [
     | inl before ↦ guarded.own g0 c before
     | inr not ↦
-        let taken = held c in
-        let mark = marked c in
-        let from : 0 < p.held c = omega arith in
-        let none = held_unnamed d (cluster h p on_storage known c) (p.surplus c) (tied h p on_storage known c) from (good h d p on_storage known guarded c) in
+        let taken = new_data c in
+        let checkpoint = marked c in
+        let from : 0 < p.new_data c = omega arith in
+        let none = new_data_unnamed d (cluster h p on_storage known c) (p.surplus c) (tied h p on_storage known c) from (good h d p on_storage known guarded c) in
         let le = guest_le h (λ g. max (names h on_storage c g) (names h known c g)) g0 within in
         let zero_sum : named_in_either h on_storage known c ≡ 0 = none.0 in
         omega arith
@@ -181,7 +181,7 @@ module _ (h : HeaderFields) (d : Direction) (p : Pending) (on_storage known know
   entry_mapped = record {
     top = guarded.top;
     same_top = SameTop-trans h on_storage known known' guarded.same_top top;
-    always = λ c. (now c).always;
+    each_cluster = λ c. (now c).each_cluster;
     ordered = λ c. (now c).ordered;
     aligned = guarded.aligned;
     known_aligned = λ g. elim (cases_eq g g0) [
@@ -192,11 +192,11 @@ module _ (h : HeaderFields) (d : Direction) (p : Pending) (on_storage known know
       | inl e ↦ subst (λ n. names h on_storage c n ≤ marks h on_storage c n) (sym e) (own_there c (subst (λ n. 0 < marks h known' c n) e some))
       | inr ne ↦ guarded.own g c (subst (λ v. 0 < marked_by_cover h c v) (sym (others g ne)) some)
     ];
-    unlaid = λ o some.
+    not_overlaid = λ o some.
         let changed = max_changed (named_by_cover h (o / cluster_size h)) in
-        let taken = held (o / cluster_size h) in
-        let as_before : 0 < named_in_either h on_storage known (o / cluster_size h) + p.held (o / cluster_size h) = omega arith in
-        guarded.unlaid o as_before ∙ bytes o as_before;
+        let taken = new_data (o / cluster_size h) in
+        let as_before : 0 < named_in_either h on_storage known (o / cluster_size h) + p.new_data (o / cluster_size h) = omega arith in
+        guarded.not_overlaid o as_before ∙ bytes o as_before;
   }
 
   -- the other guest clusters show what they showed

@@ -1,6 +1,6 @@
 -- What each step does to the numbers of one cluster
 use Rattle.std.proofs.Common.{ℕ, ◌+◌, ◌-◌, ◌<◌, ◌≤◌, ◌≡◌, ◌⊎◌, arith}
-use Rattle.qcow2_laws.specs.Clusters.{Direction, Neither, L2DependsOnRb, RbDependsOnL2, Cluster, Always, Ordered}
+use Rattle.qcow2_laws.specs.Clusters.{Direction, Neither, L2DependsOnRb, RbDependsOnL2, Cluster, ClusterInvariant, Ordered}
 
 -- how the sums of a cluster's numbers go together
 pub record Tied (k : Cluster) : Type 0 where
@@ -13,7 +13,7 @@ pub record Tied (k : Cluster) : Type 0 where
   pub based : k.marks_in_storage ≤ k.in_storage
 
 pub record Good (d : Direction) (k : Cluster) (surplus : ℕ) : Type 0 where
-  pub always : Always k surplus
+  pub each_cluster : ClusterInvariant k surplus
   pub ordered : Ordered d k
 
 -- how the numbers of a mix go with those before
@@ -38,9 +38,9 @@ mix RbDependsOnL2 k x a b c e n tied near order good = grind arith
 
 -- what one cluster has to say of a consistent image
 pub record Fine (k : Cluster) : Type 0 where
-  pub counted : k.fixed + k.in_storage ≤ k.storage_count
-  pub tables : 0 < k.fixed → k.fixed + k.in_storage ≡ 1
-  pub copied : 0 < k.sole + k.marks_in_storage → (k.fixed + k.in_storage ≡ 1) × (k.storage_count ≡ 1)
+  pub counted : k.table_refs + k.in_storage ≤ k.storage_count
+  pub tables : 0 < k.table_refs → k.table_refs + k.in_storage ≡ 1
+  pub copied : 0 < k.copied_l1_refs + k.marks_in_storage → (k.table_refs + k.in_storage ≡ 1) × (k.storage_count ≡ 1)
 
 pub fine : (d : Direction) (k : Cluster) (x : ℕ) → Tied k → Good d k x → Fine k
 fine Neither k x tied good = grind arith
@@ -48,53 +48,53 @@ fine L2DependsOnRb k x tied good = grind arith
 fine RbDependsOnL2 k x tied good = grind arith
 
 pub allocate_data : (k : Cluster) (x i : ℕ) → Tied k → i ≤ 1 → (0 < i → k.known_count ≡ 0) → Good L2DependsOnRb k x
-    → Good L2DependsOnRb (record k { known_count = k.known_count + i; held = k.held + i }) x
+    → Good L2DependsOnRb (record k { known_count = k.known_count + i; new_data = k.new_data + i }) x
 allocate_data k x i tied one empty good = grind arith
 
 pub allocate_table : (d : Direction) (k : Cluster) (x i : ℕ) → Tied k → i ≤ 1 → (0 < i → k.known_count ≡ 0) → Good d k x
-    → Good d (record k { known_count = k.known_count + i; fresh = k.fresh + i }) x
+    → Good d (record k { known_count = k.known_count + i; new_tables = k.new_tables + i }) x
 allocate_table Neither k x i tied one empty good = grind arith
 allocate_table L2DependsOnRb k x i tied one empty good = grind arith
 allocate_table RbDependsOnL2 k x i tied one empty good = grind arith
 
 pub name_self : (d : Direction) (k : Cluster) (x i : ℕ) → Tied k → i ≤ 1 → (0 < i → k.known_count ≡ 0) → (0 < i → k.storage_count ≡ 0) → Good d k x
-    → Good d (record k { fixed = k.fixed + i; known_count = k.known_count + i; storage_count = k.storage_count + i }) x
+    → Good d (record k { table_refs = k.table_refs + i; known_count = k.known_count + i; storage_count = k.storage_count + i }) x
 name_self Neither k x i tied one empty empty_storage good = grind arith
 name_self L2DependsOnRb k x i tied one empty empty_storage good = grind arith
 name_self RbDependsOnL2 k x i tied one empty empty_storage good = grind arith
 
-pub unname : (d : Direction) (k : Cluster) (x i : ℕ) → Tied k → i ≤ 1 → (0 < i → 0 < k.fixed) → Good d k x
-    → Good d (record k { fixed = k.fixed - i; sole = k.sole - i; spent = k.spent + i }) x
+pub unname : (d : Direction) (k : Cluster) (x i : ℕ) → Tied k → i ≤ 1 → (0 < i → 0 < k.table_refs) → Good d k x
+    → Good d (record k { table_refs = k.table_refs - i; copied_l1_refs = k.copied_l1_refs - i; old_tables = k.old_tables + i }) x
 unname Neither k x i tied one some good = grind arith
 unname L2DependsOnRb k x i tied one some good = grind arith
 unname RbDependsOnL2 k x i tied one some good = grind arith
 
-pub drop_held : (d : Direction) (k : Cluster) (x i : ℕ) → Tied k → i ≤ 1 → (0 < i → 0 < k.held) → Good d k x
-    → Good d (record k { held = k.held - i; dropped = k.dropped + i }) x
-drop_held Neither k x i tied one some good = grind arith
-drop_held L2DependsOnRb k x i tied one some good = grind arith
-drop_held RbDependsOnL2 k x i tied one some good = grind arith
+pub drop_new_data : (d : Direction) (k : Cluster) (x i : ℕ) → Tied k → i ≤ 1 → (0 < i → 0 < k.new_data) → Good d k x
+    → Good d (record k { new_data = k.new_data - i; old_data = k.old_data + i }) x
+drop_new_data Neither k x i tied one some good = grind arith
+drop_new_data L2DependsOnRb k x i tied one some good = grind arith
+drop_new_data RbDependsOnL2 k x i tied one some good = grind arith
 
-pub undo : (d : Direction) (k : Cluster) (x i : ℕ) → Tied k → i ≤ 1 → (0 < i → 0 < k.held) → Good d k x
-    → Good d (record k { held = k.held - i; spent = k.spent + i }) x
+pub undo : (d : Direction) (k : Cluster) (x i : ℕ) → Tied k → i ≤ 1 → (0 < i → 0 < k.new_data) → Good d k x
+    → Good d (record k { new_data = k.new_data - i; old_tables = k.old_tables + i }) x
 undo Neither k x i tied one some good = grind arith
 undo L2DependsOnRb k x i tied one some good = grind arith
 undo RbDependsOnL2 k x i tied one some good = grind arith
 
-pub abandon : (d : Direction) (k : Cluster) (x i : ℕ) → Tied k → i ≤ 1 → (0 < i → 0 < k.fresh) → Good d k x
-    → Good d (record k { fresh = k.fresh - i; spent = k.spent + i }) x
+pub abandon : (d : Direction) (k : Cluster) (x i : ℕ) → Tied k → i ≤ 1 → (0 < i → 0 < k.new_tables) → Good d k x
+    → Good d (record k { new_tables = k.new_tables - i; old_tables = k.old_tables + i }) x
 abandon Neither k x i tied one some good = grind arith
 abandon L2DependsOnRb k x i tied one some good = grind arith
 abandon RbDependsOnL2 k x i tied one some good = grind arith
 
-pub free_table : (d : Direction) (k : Cluster) (x i : ℕ) → Tied k → i ≤ 1 → (0 < i → 0 < k.spent) → Good d k x
-    → Good d (record k { known_count = k.known_count - i; spent = k.spent - i }) x
+pub free_table : (d : Direction) (k : Cluster) (x i : ℕ) → Tied k → i ≤ 1 → (0 < i → 0 < k.old_tables) → Good d k x
+    → Good d (record k { known_count = k.known_count - i; old_tables = k.old_tables - i }) x
 free_table Neither k x i tied one some good = grind arith
 free_table L2DependsOnRb k x i tied one some good = grind arith
 free_table RbDependsOnL2 k x i tied one some good = grind arith
 
-pub free_data : (k : Cluster) (x i : ℕ) → Tied k → i ≤ 1 → (0 < i → 0 < k.dropped) → Good RbDependsOnL2 k x
-    → Good RbDependsOnL2 (record k { known_count = k.known_count - i; dropped = k.dropped - i }) x
+pub free_data : (k : Cluster) (x i : ℕ) → Tied k → i ≤ 1 → (0 < i → 0 < k.old_data) → Good RbDependsOnL2 k x
+    → Good RbDependsOnL2 (record k { known_count = k.known_count - i; old_data = k.old_data - i }) x
 free_data k x i tied one some good = grind arith
 
 -- the entries are written, as far as the direction asks
@@ -108,8 +108,8 @@ Counted Neither k = Unit {0}
 Counted L2DependsOnRb k = k.storage_count ≡ k.known_count
 Counted RbDependsOnL2 k = Unit {0}
 
-pub name : (d : Direction) (k : Cluster) (x i j : ℕ) → Tied k → i ≤ 1 → j ≤ i → (0 < i → 0 < k.fresh) → (0 < i → k.storage_count ≡ k.known_count) → (0 < i → Written d k) → Good d k x
-    → Good d (record k { fixed = k.fixed + i; sole = k.sole + j; fresh = k.fresh - i }) x
+pub name : (d : Direction) (k : Cluster) (x i j : ℕ) → Tied k → i ≤ 1 → j ≤ i → (0 < i → 0 < k.new_tables) → (0 < i → k.storage_count ≡ k.known_count) → (0 < i → Written d k) → Good d k x
+    → Good d (record k { table_refs = k.table_refs + i; copied_l1_refs = k.copied_l1_refs + j; new_tables = k.new_tables - i }) x
 name Neither k x i j tied one marked some same written good = grind arith
 name L2DependsOnRb k x i j tied one marked some same written good = grind arith
 name RbDependsOnL2 k x i j tied one marked some same written good = grind arith
@@ -121,9 +121,9 @@ write_count L2DependsOnRb k x tied written good = grind arith
 write_count RbDependsOnL2 k x tied written good = grind arith
 
 pub remap : (d : Direction) (k : Cluster) (x old new known either marks_known marks_either : ℕ) → Tied k
-    → new - old ≤ k.held → known + old ≡ k.in_known + new → either ≤ k.in_either + (new - old)
+    → new - old ≤ k.new_data → known + old ≡ k.in_known + new → either ≤ k.in_either + (new - old)
     → marks_known ≤ k.marks_known + (new - old) → marks_either ≤ k.marks_either + (new - old) → Good d k x
-    → Good d (record k { in_known = known; in_either = either; marks_known = marks_known; marks_either = marks_either; held = k.held - (new - old); dropped = k.dropped + (old - new) }) x
+    → Good d (record k { in_known = known; in_either = either; marks_known = marks_known; marks_either = marks_either; new_data = k.new_data - (new - old); old_data = k.old_data + (old - new) }) x
 remap Neither k x old new known either marks_known marks_either tied taken tally below marked marked_either good = grind arith
 remap L2DependsOnRb k x old new known either marks_known marks_either tied taken tally below marked marked_either good = grind arith
 remap RbDependsOnL2 k x old new known either marks_known marks_either tied taken tally below marked marked_either good = grind arith
@@ -147,18 +147,18 @@ pub turn_free_too : (k : Cluster) (x : ℕ) → Tied k → k.storage_count ≡ k
 turn_free_too k x tied counts same same_marks good = grind arith
 
 -- what pending and table clusters, and clusters that one entry has to itself, say of the entries
-pub held_unnamed : (d : Direction) (k : Cluster) (x : ℕ) → Tied k → 0 < k.held → Good d k x → (k.in_either ≡ 0) × (k.fixed ≡ 0)
-held_unnamed Neither k x tied some good = grind arith
-held_unnamed L2DependsOnRb k x tied some good = grind arith
-held_unnamed RbDependsOnL2 k x tied some good = grind arith
+pub new_data_unnamed : (d : Direction) (k : Cluster) (x : ℕ) → Tied k → 0 < k.new_data → Good d k x → (k.in_either ≡ 0) × (k.table_refs ≡ 0)
+new_data_unnamed Neither k x tied some good = grind arith
+new_data_unnamed L2DependsOnRb k x tied some good = grind arith
+new_data_unnamed RbDependsOnL2 k x tied some good = grind arith
 
-pub table_unnamed : (d : Direction) (k : Cluster) (x : ℕ) → Tied k → 0 < k.fixed → Good d k x → k.in_either ≡ 0
+pub table_unnamed : (d : Direction) (k : Cluster) (x : ℕ) → Tied k → 0 < k.table_refs → Good d k x → k.in_either ≡ 0
 table_unnamed d k x tied some good = grind arith
 
-pub fresh_unnamed : (d : Direction) (k : Cluster) (x : ℕ) → Tied k → 0 < k.fresh → Written d k → Good d k x → (k.in_either ≡ 0) × (k.fixed ≡ 0)
-fresh_unnamed Neither k x tied some written good = grind arith
-fresh_unnamed L2DependsOnRb k x tied some written good = grind arith
-fresh_unnamed RbDependsOnL2 k x tied some written good = grind arith
+pub new_tables_unnamed : (d : Direction) (k : Cluster) (x : ℕ) → Tied k → 0 < k.new_tables → Written d k → Good d k x → (k.in_either ≡ 0) × (k.table_refs ≡ 0)
+new_tables_unnamed Neither k x tied some written good = grind arith
+new_tables_unnamed L2DependsOnRb k x tied some written good = grind arith
+new_tables_unnamed RbDependsOnL2 k x tied some written good = grind arith
 
 pub named_once : (d : Direction) (k : Cluster) (x : ℕ) → Tied k → 0 < k.marks_known → Good d k x → k.in_either ≤ 1
 named_once Neither k x tied some good = grind arith
@@ -171,9 +171,9 @@ unused_unnamed L2DependsOnRb k x tied known on_storage good = grind arith
 unused_unnamed RbDependsOnL2 k x tied known on_storage good = grind arith
 
 -- Tables are named anew: i are fresh and counted on the storage, s are counted with it, u are no longer named. Of the first j are marked copied.
-pub rename : (d : Direction) (k : Cluster) (x fixed sole i j s u : ℕ) → Tied k → i + s ≤ 1 → j ≤ i → fixed + u ≡ k.fixed + i + s → sole ≤ fixed → sole ≤ k.sole + j
-    → (0 < i → 0 < k.fresh) → (0 < i → k.storage_count ≡ k.known_count) → (0 < i → Written d k) → (0 < s → k.known_count ≡ 0) → (0 < s → k.storage_count ≡ 0) → Good d k x
-    → Good d (record k { fixed = fixed; sole = sole; storage_count = k.storage_count + s; known_count = k.known_count + s; fresh = k.fresh - i; spent = k.spent + u }) x
-rename Neither k x fixed sole i j s u tied one marked is few fewer some same written empty empty_storage good = grind arith
-rename L2DependsOnRb k x fixed sole i j s u tied one marked is few fewer some same written empty empty_storage good = grind arith
-rename RbDependsOnL2 k x fixed sole i j s u tied one marked is few fewer some same written empty empty_storage good = grind arith
+pub rename : (d : Direction) (k : Cluster) (x table_refs copied_l1_refs i j s u : ℕ) → Tied k → i + s ≤ 1 → j ≤ i → table_refs + u ≡ k.table_refs + i + s → copied_l1_refs ≤ table_refs → copied_l1_refs ≤ k.copied_l1_refs + j
+    → (0 < i → 0 < k.new_tables) → (0 < i → k.storage_count ≡ k.known_count) → (0 < i → Written d k) → (0 < s → k.known_count ≡ 0) → (0 < s → k.storage_count ≡ 0) → Good d k x
+    → Good d (record k { table_refs = table_refs; copied_l1_refs = copied_l1_refs; storage_count = k.storage_count + s; known_count = k.known_count + s; new_tables = k.new_tables - i; old_tables = k.old_tables + u }) x
+rename Neither k x table_refs copied_l1_refs i j s u tied one marked is few fewer some same written empty empty_storage good = grind arith
+rename L2DependsOnRb k x table_refs copied_l1_refs i j s u tied one marked is few fewer some same written empty empty_storage good = grind arith
+rename RbDependsOnL2 k x table_refs copied_l1_refs i j s u tied one marked is few fewer some same written empty empty_storage good = grind arith

@@ -3,17 +3,17 @@ use Rattle.std.proofs.Common.{◌≡◌, ℕ, ◌+◌, ◌-◌, ◌*◌, ◌/◌
 use Rattle.std.proofs.lemmas.Bool.{cases_lt}
 use Rattle.std.proofs.lemmas.Nat.{pow_pos, le-div}
 use Rattle.image_access.specs.Moments.{StorageView}
-use Rattle.image_access.proofs.Passing.{passes_if}
+use Rattle.image_access.proofs.EachMomentSince.{passes_if}
 use Rattle.qcow2_metadata.specs.Bytes.{Bytes, byte_at}
 use Rattle.qcow2_metadata.specs.Header.{header, cluster_size}
 use Rattle.qcow2_metadata.specs.Guest.{known_byte, guest_value, value_under}
 use Rattle.qcow2_disk.specs.Disk.{disk, disk_with}
 use Rattle.qcow2_disk.specs.Stops.{GivenBytes, Checkpoint, checkpoint_with, StopOkEverywhere, SafeThroughout}
-use Rattle.qcow2_disk.specs.Mappings.{gift_shown}
+use Rattle.qcow2_disk.specs.Mappings.{given_shown}
 use Rattle.qcow2_laws.specs.Guests.{guests}
 use Rattle.qcow2_laws.specs.SafeSteps.{DriverState, StateInvariant}
 use Rattle.qcow2_disk.specs.AbstractImages.{AbstractImage, stored_bytes}
-use Rattle.qcow2_disk.specs.Calls.{Works, StartsAt}
+use Rattle.qcow2_disk.specs.Calls.{EffectOnSound, StartsAt}
 use Rattle.qcow2_laws.specs.GuestLaws.{LongerL1TableKeepsGuests, SizeStaysUnlessAsked, HasSizeSince}
 use Rattle.qcow2_laws.proofs.Places.{Sizes-from}
 use Rattle.qcow2_laws.proofs.Guests.{past_guests}
@@ -39,14 +39,14 @@ module _ (s : DriverState) (backing : Bytes) (sound : StateInvariant s) where
       (le-div (guests s.header) o (cluster_size s.header) (pow_pos s.header.cluster_bits) far))
 
   -- the disk of the storage, with all given that the known one shows
-  abbrev mark : Checkpoint
-  mark = record { last = disk s.on_storage backing; given = gift_shown (disk s.known backing) 0 (guests s.header * cluster_size s.header) ∷ []; asked = [] }
+  abbrev checkpoint : Checkpoint
+  checkpoint = record { last = disk s.on_storage backing; given = given_shown (disk s.known backing) 0 (guests s.header * cluster_size s.header) ∷ []; asked = [] }
 
-  pub storage_kept : StopOkEverywhere backing mark s.on_storage
+  pub storage_kept : StopOkEverywhere backing checkpoint s.on_storage
   unfolding disk_with
   storage_kept = record { consistent = guarded_consistent s.header s.direction s.pending s.on_storage s.known sound; size = inl refl; values = λ o. inl refl }
 
-  pub known_kept : StopOkEverywhere backing mark s.known
+  pub known_kept : StopOkEverywhere backing checkpoint s.known
   unfolding disk_with
   known_kept = record {
     consistent = known_consistent s.header s.direction s.pending s.on_storage s.known sound;
@@ -57,7 +57,7 @@ module _ (s : DriverState) (backing : Bytes) (sound : StateInvariant s) where
     ];
   }
 
-  old_size : (given : List GivenBytes) (b : Bytes) → StopOkEverywhere backing (checkpoint_with given [] mark) b → (header b).size ≡ s.header.size
+  old_size : (given : List GivenBytes) (b : Bytes) → StopOkEverywhere backing (checkpoint_with given [] checkpoint) b → (header b).size ≡ s.header.size
   unfolding disk_with
   old_size given b kept = elim kept.size [
     | inl e ↦ sym (size_is (header b) b backing refl) ∙ e ∙ size_is s.header s.on_storage backing sound.top.header_is
@@ -66,7 +66,7 @@ module _ (s : DriverState) (backing : Bytes) (sound : StateInvariant s) where
 
 pub size_stays_unless_asked : SizeStaysUnlessAsked
 size_stays_unless_asked s backing image given sound kept =
-    old_size s backing sound given image (kept (mark s backing sound) (storage_kept s backing sound) (known_kept s backing sound))
+    old_size s backing sound given image (kept (checkpoint s backing sound) (storage_kept s backing sound) (known_kept s backing sound))
 
 -- at each moment of steps, and of calls
 pub size_stays_in_steps : (s : DriverState) (old new : StorageView) (given : Bytes → List GivenBytes) → StateInvariant s → byte_at old.contents ≡ s.on_storage → SafeThroughout old new s.known given [] → HasSizeSince old new s.header.size
@@ -74,10 +74,10 @@ size_stays_in_steps s old new given sound is endures =
     passes_if (λ c. (header (byte_at c)).size ≡ s.header.size) (λ c kept.
     size_stays_unless_asked s (λ _. 0) (byte_at c) (given (λ _. 0)) sound (λ m ok known_ok. kept (λ _. 0) m (subst (StopOkEverywhere (λ _. 0) m) (sym is) ok) known_ok)) endures.moments
 
-pub size_stays_in_calls : (s : DriverState) (old new : AbstractImage) (given : List GivenBytes) → StateInvariant s → stored_bytes old ≡ s.on_storage → old.known ≡ s.known → Works old new given [] → HasSizeSince old.storage new.storage s.header.size
+pub size_stays_in_calls : (s : DriverState) (old new : AbstractImage) (given : List GivenBytes) → StateInvariant s → stored_bytes old ≡ s.on_storage → old.known ≡ s.known → EffectOnSound old new given [] → HasSizeSince old.storage new.storage s.header.size
 size_stays_in_calls s old new given sound is known works =
-    let starts : StartsAt old (mark s old.setting.backing sound) = (
-      subst (StopOkEverywhere old.setting.backing (mark s old.setting.backing sound)) (sym is) (storage_kept s old.setting.backing sound),
-      subst (StopOkEverywhere old.setting.backing (mark s old.setting.backing sound)) (sym known) (known_kept s old.setting.backing sound),
+    let starts : StartsAt old (checkpoint s old.setting.backing sound) = (
+      subst (StopOkEverywhere old.setting.backing (checkpoint s old.setting.backing sound)) (sym is) (storage_kept s old.setting.backing sound),
+      subst (StopOkEverywhere old.setting.backing (checkpoint s old.setting.backing sound)) (sym known) (known_kept s old.setting.backing sound),
     ) in
-    passes_if (λ c. (header (byte_at c)).size ≡ s.header.size) (λ c kept. old_size s old.setting.backing sound given (byte_at c) kept) (works.stops (mark s old.setting.backing sound) starts).moments
+    passes_if (λ c. (header (byte_at c)).size ≡ s.header.size) (λ c kept. old_size s old.setting.backing sound given (byte_at c) kept) (works.stops (checkpoint s old.setting.backing sound) starts).moments

@@ -92,14 +92,14 @@ module _ (h : HeaderFields) (a : Places) (d : Direction) (p : Pending) (on_stora
   pub header_known_counts : SameCounts h known known'
   header_known_counts = first_counts h known known' header_known_top header_known_once header_known_same
 
-  pub header_elsewhere : (o : ℕ) → 0 < named_in_either h on_storage known (o / cluster_size h) + p.held (o / cluster_size h) → o / cluster_size h ≢ 0
+  pub header_elsewhere : (o : ℕ) → 0 < named_in_either h on_storage known (o / cluster_size h) + p.new_data (o / cluster_size h) → o / cluster_size h ≢ 0
   header_elsewhere o some e =
       let none = table_apart h d p on_storage known guarded 0 header_fixed in
-      let here = subst (λ n. 0 < named_in_either h on_storage known n + p.held n) e some in
+      let here = subst (λ n. 0 < named_in_either h on_storage known n + p.new_data n) e some in
       absurd (omega arith)
 
-  pub header_unlaid : (o : ℕ) → 0 < named_in_either h on_storage known (o / cluster_size h) + p.held (o / cluster_size h) → on_storage' o ≡ known' o
-  header_unlaid o some = sym (writes.others o (header_elsewhere o some)) ∙ guarded.unlaid o some ∙ writes.known_others o (header_elsewhere o some)
+  pub header_unlaid : (o : ℕ) → 0 < named_in_either h on_storage known (o / cluster_size h) + p.new_data (o / cluster_size h) → on_storage' o ≡ known' o
+  header_unlaid o some = sym (writes.others o (header_elsewhere o some)) ∙ guarded.not_overlaid o some ∙ writes.known_others o (header_elsewhere o some)
 
   -- a cluster that nothing names is another one
   pub unnamed_elsewhere : (c : ℕ) → named_for_tables h on_storage c ≡ 0 → c ≢ 0
@@ -171,7 +171,7 @@ module _ (h : HeaderFields) (size autoclear : ℕ) (d : Direction) (p : Pending)
   resized_known_covers : KeepsCovers h (resized_places h size autoclear) known known'
   resized_known_covers g = header_known_covers h (resized_places h size autoclear) d p on_storage known on_storage' known' guarded writes g ∙ sym (covers_too known' g)
 
-  resized_unlaid : (o : ℕ) → 0 < named_in_either h on_storage known (o / cluster_size h) + p.held (o / cluster_size h) → on_storage' o ≡ known' o
+  resized_unlaid : (o : ℕ) → 0 < named_in_either h on_storage known (o / cluster_size h) + p.new_data (o / cluster_size h) → on_storage' o ≡ known' o
   resized_unlaid = header_unlaid h (resized_places h size autoclear) d p on_storage known on_storage' known' guarded writes
 
   resized_fixed : (c : ℕ) → named_for_tables (with_places h (resized_places h size autoclear)) on_storage' c ≡ named_for_tables h on_storage c

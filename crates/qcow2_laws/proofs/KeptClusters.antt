@@ -12,7 +12,7 @@ use Rattle.qcow2_metadata.specs.Consistent.{CoverIsAligned}
 use Rattle.qcow2_metadata.specs.declared.l2_mapping.L2Mapping.TheVariants.{Data, Zero}
 use Rattle.qcow2_disk.specs.Disk.{disk}
 use Rattle.qcow2_disk.specs.Stops.{IsGiven}
-use Rattle.qcow2_disk.specs.Mappings.{gift_of}
+use Rattle.qcow2_disk.specs.Mappings.{given_of}
 use Rattle.qcow2_laws.specs.Guests.{names, marks, marked_by_cover, named_in_either}
 use Rattle.qcow2_laws.specs.CrashInvariant.{Pending}
 use Rattle.qcow2_laws.specs.Tops.{WritesAt}
@@ -26,7 +26,7 @@ use Rattle.qcow2_laws.proofs.Consistency.{in_own}
 use Rattle.qcow2_laws.proofs.SafeSteps.{leads_less}
 use Rattle.qcow2_laws.proofs.Unseen.{named_some}
 use Rattle.qcow2_laws.proofs.Shown.{shown_zero}
-use Rattle.qcow2_laws.proofs.PutRuns.{run_written, gift_has}
+use Rattle.qcow2_laws.proofs.PutRuns.{run_written, given_has}
 use Rattle.qcow2_laws.proofs.MappedAnew.{Maps, pending_after, entry_unseen, entry_maps}
 
 module _ (s : DriverState) (sound : StateInvariant s) (g host : ℕ) (is : cover s.header s.known g ≡ Zero (Some (host, true))) where
@@ -42,13 +42,13 @@ module _ (s : DriverState) (sound : StateInvariant s) (g host : ℕ) (is : cover
   -- its bytes are used, and no table is laid over them
   pub kept_unlaid : (k : ℕ) → k < cluster_size s.header → s.on_storage (host + k) ≡ s.known (host + k)
   kept_unlaid k lt =
-      sound.unlaid (host + k) (
+      sound.not_overlaid (host + k) (
       let here = in_one (cluster_size s.header) host k kept_aligned lt in
       let named = kept_names (host / cluster_size s.header) in
       let own = in_own s.header host in
       let some = named_some s s sound (host / cluster_size s.header) g (omega arith) in
       let t = (tied s.header s.pending s.on_storage s.known (host / cluster_size s.header)).known in
-      subst (λ n. 0 < named_in_either s.header s.on_storage s.known n + s.pending.held n) (sym here) (omega arith))
+      subst (λ n. 0 < named_in_either s.header s.on_storage s.known n + s.pending.new_data n) (sym here) (omega arith))
 
 -- ---- bytes are written into it
 module _ (s : DriverState) (on_storage' known' : Bytes) (sound : StateInvariant s) (g host at : ℕ) (bytes : List ℕ) (is : cover s.header s.known g ≡ Zero (Some (host, true))) (fits : at + length bytes ≤ cluster_size s.header)
@@ -60,12 +60,12 @@ module _ (s : DriverState) (on_storage' known' : Bytes) (sound : StateInvariant 
       let rest : (g * cluster_size s.header + at + i) % cluster_size s.header ≡ at + i = ap (λ n. n % cluster_size s.header) e ∙ mod-mul-add g (cluster_size s.header) (at + i) (omega arith) in
       (host, ap (cover s.header s.known) here ∙ is, omega arith)
 
-  pub kept_written : WritesRun (λ _. Kept) (g * cluster_size s.header + at) (host + at) bytes (gift_of (g * cluster_size s.header + at) bytes ∷ []) s (record s { on_storage = on_storage'; known = known' })
+  pub kept_written : WritesRun (λ _. Kept) (g * cluster_size s.header + at) (host + at) bytes (given_of (g * cluster_size s.header + at) bytes ∷ []) s (record s { on_storage = on_storage'; known = known' })
   kept_written =
-      run_written s on_storage' known' (λ _. Kept) (g * cluster_size s.header + at) (host + at) bytes (gift_of (g * cluster_size s.header + at) bytes ∷ []) sound kept_there (gift_has (g * cluster_size s.header + at) bytes) writes there
+      run_written s on_storage' known' (λ _. Kept) (g * cluster_size s.header + at) (host + at) bytes (given_of (g * cluster_size s.header + at) bytes ∷ []) sound kept_there (given_has (g * cluster_size s.header + at) bytes) writes there
 
   -- zeros are what is shown there
-  zeros_shown : ((i : ℕ) → i < length bytes → byte_at bytes i ≡ 0) → (backing : Bytes) (o : ℕ) (v : Value) → IsGiven (gift_of (g * cluster_size s.header + at) bytes ∷ []) o v
+  zeros_shown : ((i : ℕ) → i < length bytes → byte_at bytes i ≡ 0) → (backing : Bytes) (o : ℕ) (v : Value) → IsGiven (given_of (g * cluster_size s.header + at) bytes ∷ []) o v
       → (v ≡ (disk s.known backing).value o) ⊎ IsGiven [] o v
   zeros_shown zeros backing o v (inr none) = absurd none
   zeros_shown zeros backing o v (inl (above, below, v_is)) =
@@ -91,9 +91,9 @@ module _ (s : DriverState) (known' : Bytes) (i j host : ℕ) (sound : StateInvar
 
   pub kept_pending : pending_after s known' (guest_at s.header i j) ≡ s.pending
   kept_pending =
-      let held : (pending_after s known' (guest_at s.header i j)).held ≡ s.pending.held = fun_ext (λ c. let e = same_names c in omega arith) in
-      let dropped : (pending_after s known' (guest_at s.header i j)).dropped ≡ s.pending.dropped = fun_ext (λ c. let e = same_names c in omega arith) in
-      λ k. record s.pending { held = held k; dropped = dropped k }
+      let new_data : (pending_after s known' (guest_at s.header i j)).new_data ≡ s.pending.new_data = fun_ext (λ c. let e = same_names c in omega arith) in
+      let old_data : (pending_after s known' (guest_at s.header i j)).old_data ≡ s.pending.old_data = fun_ext (λ c. let e = same_names c in omega arith) in
+      λ k. record s.pending { new_data = new_data k; old_data = old_data k }
 
   host_bytes : (k : ℕ) → k < cluster_size s.header → known' (host + k) ≡ s.on_storage (host + k)
   host_bytes k lt =

@@ -10,7 +10,7 @@ use Rattle.qcow2_laws.specs.Clusters.{Direction}
 use Rattle.qcow2_laws.specs.Guests.{names}
 use Rattle.qcow2_laws.specs.CrashInvariant.{Pending, CrashInvariant, SameCovers}
 use Rattle.qcow2_laws.specs.Writes.{IsUnnamed}
-use Rattle.qcow2_laws.specs.Caches.{known_bytes, IsFreeAt, IsFreeOf, AreApart, HasOwnL2, HasBlock, CacheInvariantOver, AreSettled}
+use Rattle.qcow2_laws.specs.Caches.{known_bytes, IsFreeAt, IsFreeOf, AreApart, HasOwnL2, HasBlock, CacheInvariantOver, AreNamedBlocks}
 use Rattle.qcow2_laws.proofs.Guests.{over_guests-same}
 use Rattle.qcow2_laws.proofs.Lists.{known-at, known-none, no_overlay, overlays_within, within_cluster}
 
@@ -55,7 +55,7 @@ refblock_changed h d d' p p' l2s front back t t' on_storage kept aligned stands 
 
 -- ---- a cached L2 table changes, while no refblock is unnamed
 pub l2_table_changed : (h : HeaderFields) (d d' : Direction) (p p' : Pending) (front back rbs : List CachedTable) (t t' : CachedTable) (on_storage : Bytes) → CacheInvariantOver h d p (front ++ t ∷ back) rbs on_storage
-    → AreSettled h rbs on_storage → t'.place % cluster_size h ≡ 0 → HasOwnL2 h on_storage (t'.place / cluster_size h) → AreApart (cluster_size h) (front ++ t' ∷ back)
+    → AreNamedBlocks h rbs on_storage → t'.place % cluster_size h ≡ 0 → HasOwnL2 h on_storage (t'.place / cluster_size h) → AreApart (cluster_size h) (front ++ t' ∷ back)
     → CrashInvariant h d' p' on_storage (known_bytes (cluster_size h) (front ++ t' ∷ back) rbs on_storage) → CacheInvariantOver h d' p' (front ++ t' ∷ back) rbs on_storage
 l2_table_changed h d d' p p' front back rbs t t' on_storage kept settled aligned stands apart guarded = record {
   guarded = guarded;

@@ -19,7 +19,7 @@ use Rattle.qcow2_laws.specs.Tops.{with_places, KeepsCovers, WritesHeader, with_l
 use Rattle.qcow2_laws.specs.GuestLaws.{KeepsGuests, state_with_l1_table}
 use Rattle.qcow2_laws.proofs.Sums.{sum_below-same, sum_below-longer}
 use Rattle.qcow2_laws.proofs.Places.{Sizes-from, l1-same, l1_entry-past}
-use Rattle.qcow2_laws.proofs.Writes.{fresh_is_unnamed}
+use Rattle.qcow2_laws.proofs.Writes.{new_tables_is_unnamed}
 use Rattle.qcow2_laws.proofs.Shares.{shares, in_l1, in_run-le, l1_has}
 use Rattle.qcow2_laws.proofs.Guests.{guest_le, names_within}
 use Rattle.qcow2_laws.proofs.Tops.{IsTop-top}
@@ -44,8 +44,8 @@ module _ (h : HeaderFields) (offset entries : ℕ) (d : Direction) (p : Pending)
   stays b b' same i =
       l1-same (with_places h (with_l1_at h offset entries)) b b' i (Sizes-from (with_places h (with_l1_at h offset entries)) on_storage' writes.reads) new.aligned (λ lt.
       same _ (unnamed_elsewhere h (with_l1_at h offset entries) d p on_storage known on_storage' known' guarded writes _
-      (fresh_is_unnamed h d p on_storage known guarded _
-      (new.fresh ((offset + 8 * i) / cluster_size h) (let one = l1_has (with_places h (with_l1_at h offset entries)) i (Sizes-from (with_places h (with_l1_at h offset entries)) on_storage' writes.reads) new.aligned lt in omega arith)).0
+      (new_tables_is_unnamed h d p on_storage known guarded _
+      (new.new_tables ((offset + 8 * i) / cluster_size h) (let one = l1_has (with_places h (with_l1_at h offset entries)) i (Sizes-from (with_places h (with_l1_at h offset entries)) on_storage' writes.reads) new.aligned lt in omega arith)).0
       new.written).no_table))
 
   pub now_l1 : (i : ℕ) → l1_entry h on_storage i ≡ l1_entry (with_places h (with_l1_at h offset entries)) on_storage' i
@@ -106,8 +106,8 @@ module _ (h : HeaderFields) (offset entries : ℕ) (d : Direction) (p : Pending)
       header_known_covers h (with_l1_at h offset entries) d p on_storage known on_storage' known' guarded writes g
       ∙ cover_of known' g _ refl (sym (now_known_l1 (g / entries_per_cluster h)) ∙ header_known_l1 h (with_l1_at h offset entries) d p on_storage known on_storage' known' guarded writes (g / entries_per_cluster h))
 
-  unlaid : (o : ℕ) → 0 < named_in_either h on_storage known (o / cluster_size h) + p.held (o / cluster_size h) → on_storage' o ≡ known' o
-  unlaid = header_unlaid h (with_l1_at h offset entries) d p on_storage known on_storage' known' guarded writes
+  not_overlaid : (o : ℕ) → 0 < named_in_either h on_storage known (o / cluster_size h) + p.new_data (o / cluster_size h) → on_storage' o ≡ known' o
+  not_overlaid = header_unlaid h (with_l1_at h offset entries) d p on_storage known on_storage' known' guarded writes
 
   -- ---- how often tables name a cluster now
   longer_sum : (f g : ℕ → ℕ) → ((i : ℕ) → f i ≡ g i) → ((i : ℕ) → h.l1_entries ≤ i → f i ≡ 0) → sum_below entries g ≡ sum_below h.l1_entries f
@@ -143,12 +143,12 @@ module _ (h : HeaderFields) (offset entries : ℕ) (d : Direction) (p : Pending)
   pub l1_moved : CrashInvariant (with_places h (with_l1_at h offset entries)) d (renamed p (λ c. in_run h c offset (8 * entries)) (in_l1 h)) on_storage' known'
   l1_moved =
       tables_renamed h (with_l1_at h offset entries) d p (renamed p (λ c. in_run h c offset (8 * entries)) (in_l1 h)) on_storage known on_storage' known' guarded
-      top_now same_top_now new.longer covers known_covers unlaid
+      top_now same_top_now new.longer covers known_covers not_overlaid
       (λ c. in_run h c offset (8 * entries)) (λ c. 0) (in_l1 h) (λ c. (refl, refl, refl, refl, refl))
       (λ c. let one = in_run-le h c offset (8 * entries) in omega arith) fixed_changed (λ c. let e = marks_same c in omega arith)
       (λ c. let e = counts_too on_storage' c in let s = header_counts h (with_l1_at h offset entries) d p on_storage known on_storage' known' guarded writes c in omega arith)
       (λ c. let e = counts_too known' c in let s = header_known_counts h (with_l1_at h offset entries) d p on_storage known on_storage' known' guarded writes c in omega arith)
-      (λ c some. let f = new.fresh c some in (f.0, f.1, new.written)) (λ c some. absurd (omega arith))
+      (λ c some. let f = new.new_tables c some in (f.0, f.1, new.written)) (λ c some. absurd (omega arith))
 
   elsewhere : (o : ℕ) → 0 < named_in_either h on_storage known (o / cluster_size h) → o / cluster_size h ≢ 0
   elsewhere o some = header_elsewhere h (with_l1_at h offset entries) d p on_storage known on_storage' known' guarded writes o (omega arith)
@@ -156,23 +156,23 @@ module _ (h : HeaderFields) (offset entries : ℕ) (d : Direction) (p : Pending)
   pub l1_moved_kept : (backing : Bytes) (m : Checkpoint) → StopOkEverywhere backing m on_storage → StopOkEverywhere backing m on_storage'
   l1_moved_kept backing m kept =
       moved_kept h (with_l1_at h offset entries) d p (renamed p (λ c. in_run h c offset (8 * entries)) (in_l1 h)) on_storage known on_storage' known' guarded
-      top_now same_top_now new.longer covers known_covers unlaid l1_moved
+      top_now same_top_now new.longer covers known_covers not_overlaid l1_moved
       (λ o some. writes.others o (elsewhere o some)) (λ o some. writes.known_others o (elsewhere o some)) backing m [] (inl refl) kept
 
   pub l1_moved_known_kept : (backing : Bytes) (m : Checkpoint) → StopOkEverywhere backing m known → StopOkEverywhere backing m known'
   l1_moved_known_kept backing m kept =
       moved_known_kept h (with_l1_at h offset entries) d p (renamed p (λ c. in_run h c offset (8 * entries)) (in_l1 h)) on_storage known on_storage' known' guarded
-      top_now same_top_now new.longer covers known_covers unlaid l1_moved
+      top_now same_top_now new.longer covers known_covers not_overlaid l1_moved
       (λ o some. writes.others o (elsewhere o some)) (λ o some. writes.known_others o (elsewhere o some)) backing m [] (inl refl) kept
 
   -- ---- what guests use
-  bytes_stay : (o : ℕ) → 0 < named_in_either h on_storage known (o / cluster_size h) + p.held (o / cluster_size h) → known' o ≡ known o
+  bytes_stay : (o : ℕ) → 0 < named_in_either h on_storage known (o / cluster_size h) + p.new_data (o / cluster_size h) → known' o ≡ known o
   bytes_stay o some = sym (writes.known_others o (header_elsewhere h (with_l1_at h offset entries) d p on_storage known on_storage' known' guarded writes o some))
 
   used_same : (c : ℕ) → over_guests (with_places h (with_l1_at h offset entries)) (names (with_places h (with_l1_at h offset entries)) known' c) ≡ over_guests h (names h known c)
   used_same c =
       sym (known_sum h (with_l1_at h offset entries) d p (renamed p (λ k. in_run h k offset (8 * entries)) (in_l1 h)) on_storage known on_storage' known' guarded
-      top_now same_top_now new.longer covers known_covers unlaid (named_by_cover h c) refl)
+      top_now same_top_now new.longer covers known_covers not_overlaid (named_by_cover h c) refl)
 
   disk_same : (backing : Bytes) → disk known' backing ≡ disk known backing
   unfolding disk_with
@@ -183,7 +183,7 @@ module _ (h : HeaderFields) (offset entries : ℕ) (d : Direction) (p : Pending)
       let value : (disk known' backing).value ≡ (disk known backing).value = fun_ext (λ o.
       value_is (with_places h (with_l1_at h offset entries)) known' backing o is
       ∙ sym (same_value h (with_l1_at h offset entries) d p (renamed p (λ k. in_run h k offset (8 * entries)) (in_l1 h)) on_storage known on_storage' known' guarded
-      top_now same_top_now new.longer covers known_covers unlaid known known' backing known_covers guarded.known_aligned (λ g place some.
+      top_now same_top_now new.longer covers known_covers not_overlaid known known' backing known_covers guarded.known_aligned (λ g place some.
       sym (bytes_stay place (let t = (tied h p on_storage known (place / cluster_size h)).known in let n = named_once place g some in omega arith))) o)
       ∙ sym (value_is h known backing o was)) in
       λ j. record { size = size j; value = value j }
@@ -199,7 +199,7 @@ module _ (h : HeaderFields) (offset entries : ℕ) (d : Direction) (p : Pending)
     storage_covers = covers;
     covers = known_covers;
     bytes = λ o some. bytes_stay o (let t = (tied h p on_storage known (o / cluster_size h)).known in omega arith);
-    used = λ c. ap (λ n. n + p.held c) (used_same c);
+    used = λ c. ap (λ n. n + p.new_data c) (used_same c);
     surplus = λ c. refl;
     disk = disk_same;
   }

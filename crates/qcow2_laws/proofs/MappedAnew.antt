@@ -12,7 +12,7 @@ use Rattle.qcow2_metadata.specs.Named.{in_cluster, named_by_cover, named_for_tab
 use Rattle.qcow2_metadata.specs.Consistent.{CoverIsAligned}
 use Rattle.qcow2_metadata.specs.declared.l2_mapping.L2Mapping.TheVariants.{Data, Zero, Uncovered}
 use Rattle.qcow2_disk.specs.Disk.{disk}
-use Rattle.qcow2_disk.specs.Mappings.{gift_shown}
+use Rattle.qcow2_disk.specs.Mappings.{given_shown}
 use Rattle.qcow2_laws.specs.Guests.{names, table_at}
 use Rattle.qcow2_laws.specs.CrashInvariant.{Pending}
 use Rattle.qcow2_laws.specs.Changes.{remapped}
@@ -24,7 +24,7 @@ use Rattle.qcow2_laws.proofs.Guests.{over_guests-change}
 use Rattle.qcow2_laws.proofs.Tops.{for_tables-top, IsTop-top}
 use Rattle.qcow2_laws.proofs.Mixes.{tied}
 use Rattle.qcow2_laws.proofs.Values.{value_is}
-use Rattle.qcow2_laws.proofs.Writes.{held_is_unnamed}
+use Rattle.qcow2_laws.proofs.Writes.{new_data_is_unnamed}
 use Rattle.qcow2_laws.proofs.Shares.{shares, table_has}
 use Rattle.qcow2_laws.proofs.Blocks.{entry_top, entry_others, guest_within}
 use Rattle.qcow2_laws.proofs.CachedChanges.{in_at, in_most}
@@ -34,7 +34,7 @@ use Rattle.qcow2_laws.proofs.Shown.{shown_under}
 
 -- what such a step does: it gives what the guest cluster shows then, which are these values over each backing disk
 pub record Maps (guest : ℕ) (old new : DriverState) (values : Bytes → ℕ → Value) : Type 0 where
-  pub leads : SafeStep old new (λ backing. gift_shown (disk new.known backing) (guest * cluster_size old.header) (guest * cluster_size old.header + cluster_size old.header) ∷ []) []
+  pub leads : SafeStep old new (λ backing. given_shown (disk new.known backing) (guest * cluster_size old.header) (guest * cluster_size old.header + cluster_size old.header) ∷ []) []
   pub unseen : IsMappedAnew guest old new
   pub shows : (backing : Bytes) → disk new.known backing ≡ with_cluster (cluster_size old.header) (disk old.known backing) guest (values backing)
 
@@ -53,7 +53,7 @@ module _ (s : DriverState) (known' : Bytes) (i j : ℕ) (sound : StateInvariant 
   -- whatever is pending then
   pub entry_unseen : (p' : Pending) → IsMappedAnew (guest_at s.header i j) s (record s { pending = p'; known = known' })
   entry_unseen p' =
-      let fixed : 0 < named_for_tables s.header s.on_storage (table_at s.header s.known i / cluster_size s.header) =
+      let table_refs : 0 < named_for_tables s.header s.on_storage (table_at s.header s.known i / cluster_size s.header) =
       let e = for_tables-top s.header s.on_storage s.known (table_at s.header s.known i / cluster_size s.header) sound.same_top in
       let parts = shares s.header s.known (table_at s.header s.known i / cluster_size s.header) in
       let one = table_has s.header s.known i changes.real in
@@ -61,7 +61,7 @@ module _ (s : DriverState) (known' : Bytes) (i j : ℕ) (sound : StateInvariant 
       record {
         header = refl;
         covers = entry_others s.header s.direction s.pending s.on_storage s.known known' sound i j changes.real changes.within changes.outside changes.entries;
-        bytes = table_bytes s (record s { pending = p'; known = known' }) sound (table_at s.header s.known i / cluster_size s.header) fixed changes.outside;
+        bytes = table_bytes s (record s { pending = p'; known = known' }) sound (table_at s.header s.known i / cluster_size s.header) table_refs changes.outside;
       }
 
   new_header : header known' ≡ s.header
@@ -70,7 +70,7 @@ module _ (s : DriverState) (known' : Bytes) (i j : ℕ) (sound : StateInvariant 
       (IsTop-top s.header s.known known' top (IsTop-top s.header s.on_storage s.known sound.same_top sound.top)).header_is
 
   leads_on : SafeStep s (record s { pending = pending_after s known' (guest_at s.header i j); known = known' })
-      (λ backing. gift_shown (disk known' backing) (guest_at s.header i j * cluster_size s.header) (guest_at s.header i j * cluster_size s.header + cluster_size s.header) ∷ []) []
+      (λ backing. given_shown (disk known' backing) (guest_at s.header i j * cluster_size s.header) (guest_at s.header i j * cluster_size s.header + cluster_size s.header) ∷ []) []
   leads_on =
       entry_is_changed s known' i j _ sound changes (λ backing o here.
       let inside = in_cluster_of o (guest_at s.header i j) (cluster_size s.header) (pow_pos s.header.cluster_bits) here in
@@ -115,7 +115,7 @@ module _ (s : DriverState) (known' : Bytes) (i j : ℕ) (sound : StateInvariant 
   entry_uncovered is = entry_maps (λ backing o. known_byte (backing o)) (λ backing o here. ap (value_under s.header known' known' backing o) is)
 
   -- ---- as data of a host cluster that is held
-  module _ (host : ℕ) (is : cover s.header known' (guest_at s.header i j) ≡ Data host true) (some : 0 < s.pending.held (host / cluster_size s.header)) where
+  module _ (host : ℕ) (is : cover s.header known' (guest_at s.header i j) ≡ Data host true) (some : 0 < s.pending.new_data (host / cluster_size s.header)) where
     aligned : host % cluster_size s.header ≡ 0
     aligned = subst (CoverIsAligned s.header) is changes.aligned
 
@@ -123,8 +123,8 @@ module _ (s : DriverState) (known' : Bytes) (i j : ℕ) (sound : StateInvariant 
     host_bytes : (k : ℕ) → k < cluster_size s.header → known' (host + k) ≡ s.on_storage (host + k)
     host_bytes k lt =
         let here = in_one (cluster_size s.header) host k aligned lt in
-        let held : 0 < s.pending.held ((host + k) / cluster_size s.header) = subst (λ n. 0 < s.pending.held n) (sym here) some in
-        (entry_unseen s.pending).bytes (host + k) (omega arith) ∙ sym (sound.unlaid (host + k) (omega arith))
+        let new_data : 0 < s.pending.new_data ((host + k) / cluster_size s.header) = subst (λ n. 0 < s.pending.new_data n) (sym here) some in
+        (entry_unseen s.pending).bytes (host + k) (omega arith) ∙ sym (sound.not_overlaid (host + k) (omega arith))
 
     pub private_committed : Maps (guest_at s.header i j) s (record s { pending = pending_after s known' (guest_at s.header i j); known = known' })
         (λ backing o. known_byte (s.on_storage (host + o % cluster_size s.header)))
@@ -132,30 +132,30 @@ module _ (s : DriverState) (known' : Bytes) (i j : ℕ) (sound : StateInvariant 
         ap (value_under s.header known' known' backing o) is ∙ ap known_byte (host_bytes (o % cluster_size s.header) (mod_below o (cluster_size s.header) (pow_pos s.header.cluster_bits))))
 
     -- what the guest cluster named before isn't the new host cluster
-    either : (c : ℕ) → (in_cluster s.header c host ≡ 0) ⊎ ((in_cluster s.header c host ≡ 1) × (names s.header s.known c (guest_at s.header i j) ≡ 0) × (0 < s.pending.held c))
+    either : (c : ℕ) → (in_cluster s.header c host ≡ 0) ⊎ ((in_cluster s.header c host ≡ 1) × (names s.header s.known c (guest_at s.header i j) ≡ 0) × (0 < s.pending.new_data c))
     either c = elim (cases_lt 0 (in_cluster s.header c host)) [
       | inr none ↦ inl (omega arith)
       | inl here ↦
           let most = in_most s.header c host in
-          let held : 0 < s.pending.held c = subst (λ n. 0 < s.pending.held n) (in_at s.header c host here) some in
-          let unnamed = held_is_unnamed s.header s.direction s.pending s.on_storage s.known sound c held in
+          let new_data : 0 < s.pending.new_data c = subst (λ n. 0 < s.pending.new_data n) (in_at s.header c host here) some in
+          let unnamed = new_data_is_unnamed s.header s.direction s.pending s.on_storage s.known sound c new_data in
           let t = (tied s.header s.pending s.on_storage s.known c).known in
           let old : names s.header s.known c (guest_at s.header i j) ≡ 0 = elim (cases_lt 0 (names s.header s.known c (guest_at s.header i j))) [
             | inl named ↦ absurd (let sum = named_some s s sound c (guest_at s.header i j) named in omega (arith, unnamed.no_entry))
             | inr none ↦ omega arith
           ] in
-          inr (omega arith, old, held)
+          inr (omega arith, old, new_data)
     ]
 
     names_new : (c : ℕ) → names s.header known' c (guest_at s.header i j) ≡ in_cluster s.header c host
     names_new c = ap (named_by_cover s.header c) is
 
     -- what of it is pending then
-    pub committed_held : (c : ℕ) → (pending_after s known' (guest_at s.header i j)).held c ≡ s.pending.held c - in_cluster s.header c host
-    committed_held c = let now = names_new c in elim (either c) [ inl none ↦ omega arith | inr one ↦ omega (arith, one.0, one.1) ]
+    pub committed_new_data : (c : ℕ) → (pending_after s known' (guest_at s.header i j)).new_data c ≡ s.pending.new_data c - in_cluster s.header c host
+    committed_new_data c = let now = names_new c in elim (either c) [ inl none ↦ omega arith | inr one ↦ omega (arith, one.0, one.1) ]
 
-    pub committed_dropped : (c : ℕ) → (pending_after s known' (guest_at s.header i j)).dropped c ≡ s.pending.dropped c + names s.header s.known c (guest_at s.header i j)
-    committed_dropped c = let now = names_new c in elim (either c) [ inl none ↦ omega arith | inr one ↦ omega (arith, one.0, one.1) ]
+    pub committed_old_data : (c : ℕ) → (pending_after s known' (guest_at s.header i j)).old_data c ≡ s.pending.old_data c + names s.header s.known c (guest_at s.header i j)
+    committed_old_data c = let now = names_new c in elim (either c) [ inl none ↦ omega arith | inr one ↦ omega (arith, one.0, one.1) ]
 
     -- what guests use then, with what is dropped
     pub committed_used : (c : ℕ) → used_by_guests (record s { pending = pending_after s known' (guest_at s.header i j); known = known' }) c + names s.header s.known c (guest_at s.header i j) ≡ used_by_guests s c
@@ -167,8 +167,8 @@ module _ (s : DriverState) (known' : Bytes) (i j : ℕ) (sound : StateInvariant 
         elim (either c) [ inl none ↦ omega arith | inr one ↦ omega (arith, one.0, one.1, one.2) ]
 
     -- where nothing stood for the guest cluster
-    pub committed_dropped_none : cover s.header s.known (guest_at s.header i j) ≡ Uncovered → (c : ℕ) → (pending_after s known' (guest_at s.header i j)).dropped c ≡ s.pending.dropped c
-    committed_dropped_none none c =
+    pub committed_old_data_none : cover s.header s.known (guest_at s.header i j) ≡ Uncovered → (c : ℕ) → (pending_after s known' (guest_at s.header i j)).old_data c ≡ s.pending.old_data c
+    committed_old_data_none none c =
         let zero : names s.header s.known c (guest_at s.header i j) ≡ 0 = ap (named_by_cover s.header c) none in
-        let dropped = committed_dropped c in
+        let old_data = committed_old_data c in
         omega arith

@@ -12,7 +12,7 @@ use Rattle.qcow2_metadata.specs.declared.l2_mapping.L2Mapping.{L2Mapping}
 use Rattle.qcow2_metadata.specs.declared.l2_mapping.L2Mapping.TheVariants.{Data, Zero, Compressed, Uncovered}
 use Rattle.qcow2_disk.specs.Disk.{Disk, disk, with_values}
 use Rattle.qcow2_disk.specs.Stops.{IsIn, IsGiven}
-use Rattle.qcow2_disk.specs.Mappings.{gift_shown}
+use Rattle.qcow2_disk.specs.Mappings.{given_shown}
 use Rattle.qcow2_laws.specs.Guests.{names}
 use Rattle.qcow2_laws.specs.Steps.{guest_at, EntryChanges}
 use Rattle.qcow2_laws.specs.SafeSteps.{DriverState, StateInvariant, SafeStep}
@@ -26,7 +26,7 @@ use Rattle.qcow2_laws.proofs.MappedAnew.{Maps, pending_after, entry_unseen, entr
 
 -- what they do together: the range shows these values over each backing disk
 pub record MapsRange (first n : ℕ) (old new : DriverState) (values : Bytes → ℕ → Value) : Type 0 where
-  pub leads : SafeStep old new (λ backing. gift_shown (disk new.known backing) (first * cluster_size old.header) ((first + n) * cluster_size old.header) ∷ []) []
+  pub leads : SafeStep old new (λ backing. given_shown (disk new.known backing) (first * cluster_size old.header) ((first + n) * cluster_size old.header) ∷ []) []
   pub header : new.header ≡ old.header
   pub covers : (g : ℕ) → (g < first) ⊎ (first + n ≤ g) → cover old.header old.known g ≡ cover old.header new.known g
   pub used : (c : ℕ) → 0 < used_by_guests new c → 0 < used_by_guests old c
@@ -110,9 +110,9 @@ module _ (first n : ℕ) (a b c : DriverState) (values : Bytes → ℕ → Value
   then_shows : (backing : Bytes) → disk c.known backing ≡ with_cluster (cluster_size a.header) (disk b.known backing) (first + n) (values backing)
   then_shows backing = subst (λ h. disk c.known backing ≡ with_cluster (cluster_size h) (disk b.known backing) (first + n) (values backing)) one.header (two.shows backing)
 
-  then_leads : SafeStep b c (λ backing. gift_shown (disk c.known backing) ((first + n) * cluster_size a.header) ((first + n) * cluster_size a.header + cluster_size a.header) ∷ []) []
+  then_leads : SafeStep b c (λ backing. given_shown (disk c.known backing) ((first + n) * cluster_size a.header) ((first + n) * cluster_size a.header + cluster_size a.header) ∷ []) []
   then_leads =
-      subst (λ h. SafeStep b c (λ backing. gift_shown (disk c.known backing) ((first + n) * cluster_size h) ((first + n) * cluster_size h + cluster_size h) ∷ []) []) one.header two.leads
+      subst (λ h. SafeStep b c (λ backing. given_shown (disk c.known backing) ((first + n) * cluster_size h) ((first + n) * cluster_size h + cluster_size h) ∷ []) []) one.header two.leads
 
   before : (backing : Bytes) (o : ℕ) → o < (first + n) * cluster_size a.header → (disk c.known backing).value o ≡ (disk b.known backing).value o
   before backing o lt =
@@ -120,9 +120,9 @@ module _ (first n : ℕ) (a b c : DriverState) (values : Bytes → ℕ → Value
       ∙ cond-false _ _ _ (ne_eqb _ _ (λ here. let w = within o (first + n) (cluster_size a.header) (pow_pos a.header.cluster_bits) here in absurd (omega (arith, w.0))))
 
   both_shown : (backing : Bytes) (o : ℕ) (v : Value)
-      → IsGiven (gift_shown (disk c.known backing) ((first + n) * cluster_size a.header) ((first + n) * cluster_size a.header + cluster_size a.header)
-      ∷ gift_shown (disk b.known backing) (first * cluster_size a.header) ((first + n) * cluster_size a.header) ∷ []) o v
-      → IsIn (gift_shown (disk c.known backing) (first * cluster_size a.header) ((first + suc n) * cluster_size a.header)) o v
+      → IsGiven (given_shown (disk c.known backing) ((first + n) * cluster_size a.header) ((first + n) * cluster_size a.header + cluster_size a.header)
+      ∷ given_shown (disk b.known backing) (first * cluster_size a.header) ((first + n) * cluster_size a.header) ∷ []) o v
+      → IsIn (given_shown (disk c.known backing) (first * cluster_size a.header) ((first + suc n) * cluster_size a.header)) o v
   both_shown backing o v (inl (above, below, is)) =
       let e : (first + n) * cluster_size a.header ≡ first * cluster_size a.header + n * cluster_size a.header = omega arith in
       let e' : (first + suc n) * cluster_size a.header ≡ first * cluster_size a.header + n * cluster_size a.header + cluster_size a.header = omega arith in
@@ -160,8 +160,8 @@ entry_used s known' i j c sound changes =
     let others = (entry_unseen s known' i j sound changes s.pending).covers in
     let in_guests = guest_within s.header s.direction s.pending s.on_storage s.known known' sound i j changes.real changes.within changes.outside changes.entries in
     let sum = over_guests-change s.header (names s.header known' c) (names s.header s.known c) (guest_at s.header i j) in_guests (λ g ne. ap (named_by_cover s.header c) (sym (others g ne))) in
-    let held = changes.held c in
-    omega (arith, sum, held)
+    let new_data = changes.new_data c in
+    omega (arith, sum, new_data)
 
 module _ (kind : L2Mapping → Type 0) (values : Bytes → ℕ → Value) (first : ℕ)
     (are : (s : DriverState) (known' : Bytes) (i j : ℕ) → StateInvariant s → EntryChanges s known' i j → kind (cover s.header known' (guest_at s.header i j))

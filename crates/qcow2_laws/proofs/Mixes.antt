@@ -14,7 +14,7 @@ use Rattle.qcow2_laws.specs.CrashInvariant.{IsTop, SameTop, Pending, cluster, Cr
 use Rattle.qcow2_laws.proofs.Clusters.{Tied, Good, Nearer, InOrder, mix, turn_from_free, turn_to_l2, turn_to_rb, turn_free, turn_free_too}
 use Rattle.qcow2_laws.proofs.Places.{Sizes, Sizes-from, SameFrom-in, SameFrom-sym, l1-same, reftable-same, has_table, has_block, count-same, cover-same}
 use Rattle.qcow2_laws.proofs.Guests.{over_guests-le, over_guests-same, marks-le, marks-all}
-use Rattle.qcow2_laws.proofs.Tops.{SameTop-sym, SameTop-trans, for_tables-top, sole-top, IsTop-top}
+use Rattle.qcow2_laws.proofs.Tops.{SameTop-sym, SameTop-trans, for_tables-top, copied_l1_refs-top, IsTop-top}
 
 pub tied : (h : HeaderFields) (p : Pending) (on_storage known : Bytes) (c : ℕ) → Tied (cluster h p on_storage known c)
 tied h p on_storage known c = record {
@@ -28,7 +28,7 @@ tied h p on_storage known c = record {
 }
 
 pub good : (h : HeaderFields) (d : Direction) (p : Pending) (on_storage known : Bytes) → CrashInvariant h d p on_storage known → (c : ℕ) → Good d (cluster h p on_storage known c) (p.surplus c)
-good h d p on_storage known guarded c = record { always = guarded.always c; ordered = guarded.ordered c }
+good h d p on_storage known guarded c = record { each_cluster = guarded.each_cluster c; ordered = guarded.ordered c }
 
 -- ---- what is read in an image of which each cluster is that of the one or of the other
 module _ (h : HeaderFields) (on_storage known b : Bytes) (top : IsTop h on_storage) (same_top : SameTop h on_storage known) (partly : IsPartly (cluster_size h) on_storage known b) where
@@ -129,9 +129,9 @@ module _ (h : HeaderFields) (d : Direction) (p : Pending) (on_storage known b : 
   good_mix : (c : ℕ) → Good d (cluster h p b known c) (p.surplus c)
   good_mix c =
       let before = mix d (cluster h p on_storage known c) (p.surplus c) _ _ _ _ _ (tied h p on_storage known c) (nearer c) (in_order d mixed.ordered c) (good h d p on_storage known guarded c) in
-      let fixed = for_tables-top h on_storage b c kept in
-      let sole = sole-top h on_storage b c kept in
-      subst (λ k. Good d k (p.surplus c)) (λ j. record (cluster h p b known c) { fixed = fixed j; sole = sole j }) before
+      let table_refs = for_tables-top h on_storage b c kept in
+      let copied_l1_refs = copied_l1_refs-top h on_storage b c kept in
+      subst (λ k. Good d k (p.surplus c)) (λ j. record (cluster h p b known c) { table_refs = table_refs j; copied_l1_refs = copied_l1_refs j }) before
 
   -- a mix names nothing that neither names
   pub mixed_either : (c : ℕ) → named_in_either h b known c ≤ named_in_either h on_storage known c
@@ -141,7 +141,7 @@ module _ (h : HeaderFields) (d : Direction) (p : Pending) (on_storage known b : 
   mixed_guarded = record {
     top = IsTop-top h on_storage b kept guarded.top;
     same_top = SameTop-trans h b on_storage known (SameTop-sym h on_storage b kept) guarded.same_top;
-    always = λ c. (good_mix c).always;
+    each_cluster = λ c. (good_mix c).each_cluster;
     ordered = λ c. (good_mix c).ordered;
     aligned = λ g. elim (pick g) [
       | inl same ↦ subst (CoverIsAligned h) (sym same) (guarded.aligned g)
@@ -152,9 +152,9 @@ module _ (h : HeaderFields) (d : Direction) (p : Pending) (on_storage known b : 
       | inl same ↦ subst (λ v. named_by_cover h c v ≤ marked_by_cover h c v) (sym same) (guarded.own g c marked)
       | inr same ↦ subst (λ v. named_by_cover h c v ≤ marked_by_cover h c v) (sym same) (marks-all h c (cover h known g) marked)
     ];
-    unlaid = λ o some.
+    not_overlaid = λ o some.
         let le = (nearer (o / cluster_size h)).in_either in
-        let as_before = guarded.unlaid o (omega arith) in
+        let as_before = guarded.not_overlaid o (omega arith) in
         elim (mixed.partly (o / cluster_size h)) [
           | inl same ↦ same o refl ∙ as_before
           | inr same ↦ same o refl
@@ -192,10 +192,10 @@ pub turned_guarded : (h : HeaderFields) (d to : Direction) (p : Pending) (on_sto
 turned_guarded h d to p on_storage known may guarded = record {
   top = guarded.top;
   same_top = guarded.same_top;
-  always = λ c. guarded.always c;
+  each_cluster = λ c. guarded.each_cluster c;
   ordered = λ c. (turned d to h p on_storage known c (p.surplus c) may (good h d p on_storage known guarded c)).ordered;
   aligned = guarded.aligned;
   known_aligned = guarded.known_aligned;
   own = guarded.own;
-  unlaid = guarded.unlaid;
+  not_overlaid = guarded.not_overlaid;
 }

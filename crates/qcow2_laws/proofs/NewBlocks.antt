@@ -18,7 +18,7 @@ use Rattle.qcow2_laws.specs.Tops.{places_of, IsSameBut, IsSameOutside, WritesRef
 use Rattle.qcow2_laws.proofs.Sums.{sum_below-change}
 use Rattle.qcow2_laws.proofs.Places.{Sizes, Sizes-from, SameFrom-in, cond-same, block_count-moved, count_in, count_none}
 use Rattle.qcow2_laws.proofs.Tops.{header-first, HeaderReads-same, IsTop-top, for_tables-top, l1_names-same, l1_marks-same}
-use Rattle.qcow2_laws.proofs.Writes.{fresh_is_unnamed, unused_is_unnamed}
+use Rattle.qcow2_laws.proofs.Writes.{new_tables_is_unnamed, unused_is_unnamed}
 use Rattle.qcow2_laws.proofs.Blocks.{table_apart, table_once}
 use Rattle.qcow2_laws.proofs.NewTables.{outside_eight, table_in-le, table_in-at}
 use Rattle.qcow2_laws.proofs.Shares.{shares, in_reftable, reftable_has, reftable_first, reftable_l1, reftable_covers, reftable_counts}
@@ -32,10 +32,10 @@ other_reftable h b b' k0 k but other =
 
 -- counts are those of the clusters in the new refblock's range; of the new refblock's own cluster it is 1 where it isn't counted elsewhere
 module _ (h : HeaderFields) (d : Direction) (p p' : Pending) (on_storage known on_storage' known' : Bytes) (guarded : CrashInvariant h d p on_storage known) (k0 entry : ℕ) (s : ℕ → ℕ)
-    (pending : (c : ℕ) → (p'.held c ≡ p.held c) × (p'.fresh c ≡ p.fresh c - (table_in h c (block_offset entry) - s c)) × (p'.spent c ≡ p.spent c + 0) × (p'.dropped c ≡ p.dropped c) × (p'.surplus c ≡ p.surplus c))
+    (pending : (c : ℕ) → (p'.new_data c ≡ p.new_data c) × (p'.new_tables c ≡ p.new_tables c - (table_in h c (block_offset entry) - s c)) × (p'.old_tables c ≡ p.old_tables c + 0) × (p'.old_data c ≡ p.old_data c) × (p'.surplus c ≡ p.surplus c))
     (writes : WritesReftableEntry h on_storage known on_storage' known' k0 entry) (new : IsNewBlock h on_storage known k0 entry s) (no_table : named_for_tables h on_storage (block_offset entry / cluster_size h) ≡ 0)
     (in_range : (c : ℕ) → c / counts_per_block h ≢ k0 → s c ≡ 0) (few : (c : ℕ) → s c ≤ table_in h c (block_offset entry))
-    (fresh : (c : ℕ) → 0 < table_in h c (block_offset entry) - s c → (0 < p.fresh c) × (count h on_storage c ≡ count h known c) × (d ≡ RbDependsOnL2 → SameCovers h on_storage known)) where
+    (new_tables : (c : ℕ) → 0 < table_in h c (block_offset entry) - s c → (0 < p.new_tables c) × (count h on_storage c ≡ count h known c) × (d ≡ RbDependsOnL2 → SameCovers h on_storage known)) where
   sizes : Sizes h
   sizes = Sizes-from h on_storage guarded.top.header_reads
 
@@ -45,11 +45,11 @@ module _ (h : HeaderFields) (d : Direction) (p p' : Pending) (on_storage known o
   one_part : 1 ≤ in_reftable h ((h.reftable_offset + 8 * k0) / cluster_size h)
   one_part = let one = reftable_has h k0 sizes guarded.top.reftable_aligned writes.within in omega arith
 
-  fixed : 0 < named_for_tables h on_storage ((h.reftable_offset + 8 * k0) / cluster_size h)
-  fixed = let parts = shares h on_storage ((h.reftable_offset + 8 * k0) / cluster_size h) in let one = one_part in omega arith
+  table_refs : 0 < named_for_tables h on_storage ((h.reftable_offset + 8 * k0) / cluster_size h)
+  table_refs = let parts = shares h on_storage ((h.reftable_offset + 8 * k0) / cluster_size h) in let one = one_part in omega arith
 
   once : named_for_tables h on_storage ((h.reftable_offset + 8 * k0) / cluster_size h) ≤ 1
-  once = let t = table_once h d p on_storage known guarded ((h.reftable_offset + 8 * k0) / cluster_size h) fixed in omega arith
+  once = let t = table_once h d p on_storage known guarded ((h.reftable_offset + 8 * k0) / cluster_size h) table_refs in omega arith
 
   known_once : named_for_tables h known ((h.reftable_offset + 8 * k0) / cluster_size h) ≤ 1
   known_once = let e = for_tables-top h on_storage known ((h.reftable_offset + 8 * k0) / cluster_size h) guarded.same_top in let o = once in omega arith
@@ -88,7 +88,7 @@ module _ (h : HeaderFields) (d : Direction) (p p' : Pending) (on_storage known o
   apart : block_offset entry / cluster_size h ≢ (h.reftable_offset + 8 * k0) / cluster_size h
   apart e =
       let here : named_for_tables h on_storage ((h.reftable_offset + 8 * k0) / cluster_size h) ≡ 0 = ap (named_for_tables h on_storage) (sym e) ∙ no_table in
-      let some = fixed in
+      let some = table_refs in
       absurd (omega arith)
 
   -- a count in the new refblock's range, before and after
@@ -184,61 +184,61 @@ module _ (h : HeaderFields) (d : Direction) (p p' : Pending) (on_storage known o
       let le = few c in
       omega arith
 
-  elsewhere : (o : ℕ) → 0 < named_in_either h on_storage known (o / cluster_size h) + p.held (o / cluster_size h) → o / cluster_size h ≢ (h.reftable_offset + 8 * k0) / cluster_size h
+  elsewhere : (o : ℕ) → 0 < named_in_either h on_storage known (o / cluster_size h) + p.new_data (o / cluster_size h) → o / cluster_size h ≢ (h.reftable_offset + 8 * k0) / cluster_size h
   elsewhere o some e =
-      let none = table_apart h d p on_storage known guarded ((h.reftable_offset + 8 * k0) / cluster_size h) fixed in
-      let here = subst (λ n. 0 < named_in_either h on_storage known n + p.held n) e some in
+      let none = table_apart h d p on_storage known guarded ((h.reftable_offset + 8 * k0) / cluster_size h) table_refs in
+      let here = subst (λ n. 0 < named_in_either h on_storage known n + p.new_data n) e some in
       absurd (omega arith)
 
-  unlaid : (o : ℕ) → 0 < named_in_either h on_storage known (o / cluster_size h) + p'.held (o / cluster_size h) → on_storage' o ≡ known' o
-  unlaid o any =
-      let some : 0 < named_in_either h on_storage known (o / cluster_size h) + p.held (o / cluster_size h) = let e = (pending (o / cluster_size h)).0 in omega arith in
-      sym (outside o (elsewhere o some)) ∙ guarded.unlaid o some ∙ known_outside o (elsewhere o some)
+  not_overlaid : (o : ℕ) → 0 < named_in_either h on_storage known (o / cluster_size h) + p'.new_data (o / cluster_size h) → on_storage' o ≡ known' o
+  not_overlaid o any =
+      let some : 0 < named_in_either h on_storage known (o / cluster_size h) + p.new_data (o / cluster_size h) = let e = (pending (o / cluster_size h)).0 in omega arith in
+      sym (outside o (elsewhere o some)) ∙ guarded.not_overlaid o some ∙ known_outside o (elsewhere o some)
 
   pub reftable_named : CrashInvariant h d p' on_storage' known'
   reftable_named =
       tables_renamed h (places_of h) d p p' on_storage known on_storage' known' guarded
-      top_now same_top_now (omega arith) covers known_covers unlaid
+      top_now same_top_now (omega arith) covers known_covers not_overlaid
       (λ c. table_in h c (block_offset entry) - s c) s (λ c. 0) pending
       (λ c. let one = table_in-le h c (block_offset entry) in let le = few c in omega arith) fixed_changed (λ c. let e = l1_marks-same h on_storage on_storage' c l1 in omega arith)
-      counts known_counts fresh empty
+      counts known_counts new_tables empty
 
   pub reftable_named_kept : (backing : Bytes) (m : Checkpoint) → StopOkEverywhere backing m on_storage → StopOkEverywhere backing m on_storage'
   reftable_named_kept backing m kept =
       moved_kept h (places_of h) d p p' on_storage known on_storage' known' guarded
-      top_now same_top_now (omega arith) covers known_covers unlaid reftable_named
+      top_now same_top_now (omega arith) covers known_covers not_overlaid reftable_named
       (λ o some. outside o (elsewhere o (omega arith))) (λ o some. known_outside o (elsewhere o (omega arith))) backing m [] (inl refl) kept
 
   pub reftable_named_known_kept : (backing : Bytes) (m : Checkpoint) → StopOkEverywhere backing m known → StopOkEverywhere backing m known'
   reftable_named_known_kept backing m kept =
       moved_known_kept h (places_of h) d p p' on_storage known on_storage' known' guarded
-      top_now same_top_now (omega arith) covers known_covers unlaid reftable_named
+      top_now same_top_now (omega arith) covers known_covers not_overlaid reftable_named
       (λ o some. outside o (elsewhere o (omega arith))) (λ o some. known_outside o (elsewhere o (omega arith))) backing m [] (inl refl) kept
 
 -- ---- a refblock of zeros in a fresh cluster
 module _ (h : HeaderFields) (d : Direction) (p : Pending) (on_storage known on_storage' known' : Bytes) (guarded : CrashInvariant h d p on_storage known) (k0 entry : ℕ)
     (writes : WritesReftableEntry h on_storage known on_storage' known' k0 entry) (new : IsNewBlock h on_storage known k0 entry (λ c. 0))
-    (fresh : 0 < p.fresh (block_offset entry / cluster_size h)) (counted : count h on_storage (block_offset entry / cluster_size h) ≡ count h known (block_offset entry / cluster_size h))
+    (new_tables : 0 < p.new_tables (block_offset entry / cluster_size h)) (counted : count h on_storage (block_offset entry / cluster_size h) ≡ count h known (block_offset entry / cluster_size h))
     (written : d ≡ RbDependsOnL2 → SameCovers h on_storage known) where
   no_table_there : named_for_tables h on_storage (block_offset entry / cluster_size h) ≡ 0
-  no_table_there = (fresh_is_unnamed h d p on_storage known guarded (block_offset entry / cluster_size h) fresh written).no_table
+  no_table_there = (new_tables_is_unnamed h d p on_storage known guarded (block_offset entry / cluster_size h) new_tables written).no_table
 
-  fresh_there : (c : ℕ) → 0 < table_in h c (block_offset entry) - 0 → (0 < p.fresh c) × (count h on_storage c ≡ count h known c) × (d ≡ RbDependsOnL2 → SameCovers h on_storage known)
-  fresh_there c some =
+  new_tables_there : (c : ℕ) → 0 < table_in h c (block_offset entry) - 0 → (0 < p.new_tables c) × (count h on_storage c ≡ count h known c) × (d ≡ RbDependsOnL2 → SameCovers h on_storage known)
+  new_tables_there c some =
       let here = table_in-at h c (block_offset entry) (omega arith) in
-      (subst (λ n. 0 < p.fresh n) here fresh, subst (λ n. count h on_storage n ≡ count h known n) here counted, written)
+      (subst (λ n. 0 < p.new_tables n) here new_tables, subst (λ n. count h on_storage n ≡ count h known n) here counted, written)
 
-  pending_named : (c : ℕ) → (p.held c ≡ p.held c) × (p.fresh c - table_in h c (block_offset entry) ≡ p.fresh c - (table_in h c (block_offset entry) - 0)) × (p.spent c ≡ p.spent c + 0) × (p.dropped c ≡ p.dropped c) × (p.surplus c ≡ p.surplus c)
+  pending_named : (c : ℕ) → (p.new_data c ≡ p.new_data c) × (p.new_tables c - table_in h c (block_offset entry) ≡ p.new_tables c - (table_in h c (block_offset entry) - 0)) × (p.old_tables c ≡ p.old_tables c + 0) × (p.old_data c ≡ p.old_data c) × (p.surplus c ≡ p.surplus c)
   pending_named c = (refl, omega arith, omega arith, refl, refl)
 
   pub block_named : CrashInvariant h d (named_now p (λ c. table_in h c (block_offset entry))) on_storage' known'
-  block_named = reftable_named h d p (named_now p (λ c. table_in h c (block_offset entry))) on_storage known on_storage' known' guarded k0 entry (λ c. 0) pending_named writes new no_table_there (λ c _. refl) (λ c. omega arith) fresh_there
+  block_named = reftable_named h d p (named_now p (λ c. table_in h c (block_offset entry))) on_storage known on_storage' known' guarded k0 entry (λ c. 0) pending_named writes new no_table_there (λ c _. refl) (λ c. omega arith) new_tables_there
 
   pub block_named_kept : (backing : Bytes) (m : Checkpoint) → StopOkEverywhere backing m on_storage → StopOkEverywhere backing m on_storage'
-  block_named_kept = reftable_named_kept h d p (named_now p (λ c. table_in h c (block_offset entry))) on_storage known on_storage' known' guarded k0 entry (λ c. 0) pending_named writes new no_table_there (λ c _. refl) (λ c. omega arith) fresh_there
+  block_named_kept = reftable_named_kept h d p (named_now p (λ c. table_in h c (block_offset entry))) on_storage known on_storage' known' guarded k0 entry (λ c. 0) pending_named writes new no_table_there (λ c _. refl) (λ c. omega arith) new_tables_there
 
   pub block_named_known_kept : (backing : Bytes) (m : Checkpoint) → StopOkEverywhere backing m known → StopOkEverywhere backing m known'
-  block_named_known_kept = reftable_named_known_kept h d p (named_now p (λ c. table_in h c (block_offset entry))) on_storage known on_storage' known' guarded k0 entry (λ c. 0) pending_named writes new no_table_there (λ c _. refl) (λ c. omega arith) fresh_there
+  block_named_known_kept = reftable_named_known_kept h d p (named_now p (λ c. table_in h c (block_offset entry))) on_storage known on_storage' known' guarded k0 entry (λ c. 0) pending_named writes new no_table_there (λ c _. refl) (λ c. omega arith) new_tables_there
 
 -- ---- a refblock that counts itself, and nothing else
 module _ (h : HeaderFields) (d : Direction) (p : Pending) (on_storage known on_storage' known' : Bytes) (guarded : CrashInvariant h d p on_storage known) (k0 entry : ℕ)
@@ -256,17 +256,17 @@ module _ (h : HeaderFields) (d : Direction) (p : Pending) (on_storage known on_s
     | inr none ↦ omega arith
   ]
 
-  nothing_fresh : (c : ℕ) → 0 < table_in h c (block_offset entry) - table_in h c (block_offset entry) → (0 < p.fresh c) × (count h on_storage c ≡ count h known c) × (d ≡ RbDependsOnL2 → SameCovers h on_storage known)
-  nothing_fresh c some = absurd (omega arith)
+  nothing_new_tables : (c : ℕ) → 0 < table_in h c (block_offset entry) - table_in h c (block_offset entry) → (0 < p.new_tables c) × (count h on_storage c ≡ count h known c) × (d ≡ RbDependsOnL2 → SameCovers h on_storage known)
+  nothing_new_tables c some = absurd (omega arith)
 
-  pending_still : (c : ℕ) → (p.held c ≡ p.held c) × (p.fresh c ≡ p.fresh c - (table_in h c (block_offset entry) - table_in h c (block_offset entry))) × (p.spent c ≡ p.spent c + 0) × (p.dropped c ≡ p.dropped c) × (p.surplus c ≡ p.surplus c)
+  pending_still : (c : ℕ) → (p.new_data c ≡ p.new_data c) × (p.new_tables c ≡ p.new_tables c - (table_in h c (block_offset entry) - table_in h c (block_offset entry))) × (p.old_tables c ≡ p.old_tables c + 0) × (p.old_data c ≡ p.old_data c) × (p.surplus c ≡ p.surplus c)
   pending_still c = (refl, omega arith, omega arith, refl, refl)
 
   pub block_counts_itself : CrashInvariant h d p on_storage' known'
-  block_counts_itself = reftable_named h d p p on_storage known on_storage' known' guarded k0 entry (λ c. table_in h c (block_offset entry)) pending_still writes new itself_unnamed only_itself (λ c. omega arith) nothing_fresh
+  block_counts_itself = reftable_named h d p p on_storage known on_storage' known' guarded k0 entry (λ c. table_in h c (block_offset entry)) pending_still writes new itself_unnamed only_itself (λ c. omega arith) nothing_new_tables
 
   pub block_counts_itself_kept : (backing : Bytes) (m : Checkpoint) → StopOkEverywhere backing m on_storage → StopOkEverywhere backing m on_storage'
-  block_counts_itself_kept = reftable_named_kept h d p p on_storage known on_storage' known' guarded k0 entry (λ c. table_in h c (block_offset entry)) pending_still writes new itself_unnamed only_itself (λ c. omega arith) nothing_fresh
+  block_counts_itself_kept = reftable_named_kept h d p p on_storage known on_storage' known' guarded k0 entry (λ c. table_in h c (block_offset entry)) pending_still writes new itself_unnamed only_itself (λ c. omega arith) nothing_new_tables
 
   pub block_counts_itself_known_kept : (backing : Bytes) (m : Checkpoint) → StopOkEverywhere backing m known → StopOkEverywhere backing m known'
-  block_counts_itself_known_kept = reftable_named_known_kept h d p p on_storage known on_storage' known' guarded k0 entry (λ c. table_in h c (block_offset entry)) pending_still writes new itself_unnamed only_itself (λ c. omega arith) nothing_fresh
+  block_counts_itself_known_kept = reftable_named_known_kept h d p p on_storage known on_storage' known' guarded k0 entry (λ c. table_in h c (block_offset entry)) pending_still writes new itself_unnamed only_itself (λ c. omega arith) nothing_new_tables

@@ -18,7 +18,7 @@ use Rattle.qcow2_laws.specs.Tops.{places_of, IsSameBut, IsSameOutside, WritesL1E
 use Rattle.qcow2_laws.proofs.Sums.{sum_below-change}
 use Rattle.qcow2_laws.proofs.Places.{Sizes, Sizes-from, eight_in, SameFrom-in, l2_entry-same, cover_in, cond-same}
 use Rattle.qcow2_laws.proofs.Tops.{header-first, HeaderReads-same, IsTop-top, for_tables-top, reftable_names-same}
-use Rattle.qcow2_laws.proofs.Writes.{fresh_is_unnamed}
+use Rattle.qcow2_laws.proofs.Writes.{new_tables_is_unnamed}
 use Rattle.qcow2_laws.proofs.Blocks.{table_apart, table_once}
 use Rattle.std.proofs.lemmas.Nat.{mod_below}
 use Rattle.qcow2_laws.proofs.Shares.{shares, in_l1, l1_has, l1_first, l1_reftable, l1_covers, l1_counts}
@@ -75,11 +75,11 @@ module _ (h : HeaderFields) (d : Direction) (p : Pending) (on_storage known on_s
   part : in_l1 h ((h.l1_offset + 8 * i0) / cluster_size h) ≡ 1
   part = l1_has h i0 sizes guarded.top.l1_aligned writes.within
 
-  fixed : 0 < named_for_tables h on_storage ((h.l1_offset + 8 * i0) / cluster_size h)
-  fixed = let s = shares h on_storage ((h.l1_offset + 8 * i0) / cluster_size h) in let one = part in omega arith
+  table_refs : 0 < named_for_tables h on_storage ((h.l1_offset + 8 * i0) / cluster_size h)
+  table_refs = let s = shares h on_storage ((h.l1_offset + 8 * i0) / cluster_size h) in let one = part in omega arith
 
   once : named_for_tables h on_storage ((h.l1_offset + 8 * i0) / cluster_size h) ≤ 1
-  once = let t = table_once h d p on_storage known guarded ((h.l1_offset + 8 * i0) / cluster_size h) fixed in omega arith
+  once = let t = table_once h d p on_storage known guarded ((h.l1_offset + 8 * i0) / cluster_size h) table_refs in omega arith
 
   known_once : named_for_tables h known ((h.l1_offset + 8 * i0) / cluster_size h) ≤ 1
   known_once = let e = for_tables-top h on_storage known ((h.l1_offset + 8 * i0) / cluster_size h) guarded.same_top in let o = once in omega arith
@@ -120,9 +120,9 @@ module _ (h : HeaderFields) (d : Direction) (p : Pending) (on_storage known on_s
   -- the new table stands elsewhere
   apart : host_offset entry / cluster_size h ≢ (h.l1_offset + 8 * i0) / cluster_size h
   apart e =
-      let none = (fresh_is_unnamed h d p on_storage known guarded (host_offset entry / cluster_size h) new.fresh new.written).no_table in
+      let none = (new_tables_is_unnamed h d p on_storage known guarded (host_offset entry / cluster_size h) new.new_tables new.written).no_table in
       let here : named_for_tables h on_storage ((h.l1_offset + 8 * i0) / cluster_size h) ≡ 0 = ap (named_for_tables h on_storage) (sym e) ∙ none in
-      let some = fixed in
+      let some = table_refs in
       absurd (omega arith)
 
   new_cover : (b b' : Bytes) → ((c : ℕ) → c ≢ (h.l1_offset + 8 * i0) / cluster_size h → SameIn (cluster_size h) c b b') → l1_entry h b' i0 ≡ entry
@@ -209,39 +209,39 @@ module _ (h : HeaderFields) (d : Direction) (p : Pending) (on_storage known on_s
   new_at : (c : ℕ) → 0 < table_in h c (host_offset entry) → host_offset entry / cluster_size h ≡ c
   new_at c some = table_in-at h c (host_offset entry) some
 
-  unlaid : (o : ℕ) → 0 < named_in_either h on_storage known (o / cluster_size h) + p.held (o / cluster_size h) → on_storage' o ≡ known' o
-  unlaid o some = sym (outside o (elsewhere o some)) ∙ guarded.unlaid o some ∙ known_outside o (elsewhere o some)
+  not_overlaid : (o : ℕ) → 0 < named_in_either h on_storage known (o / cluster_size h) + p.new_data (o / cluster_size h) → on_storage' o ≡ known' o
+  not_overlaid o some = sym (outside o (elsewhere o some)) ∙ guarded.not_overlaid o some ∙ known_outside o (elsewhere o some)
     where
-      elsewhere : (o : ℕ) → 0 < named_in_either h on_storage known (o / cluster_size h) + p.held (o / cluster_size h) → o / cluster_size h ≢ (h.l1_offset + 8 * i0) / cluster_size h
+      elsewhere : (o : ℕ) → 0 < named_in_either h on_storage known (o / cluster_size h) + p.new_data (o / cluster_size h) → o / cluster_size h ≢ (h.l1_offset + 8 * i0) / cluster_size h
       elsewhere o some e =
-          let none = table_apart h d p on_storage known guarded ((h.l1_offset + 8 * i0) / cluster_size h) fixed in
-          let here = subst (λ n. 0 < named_in_either h on_storage known n + p.held n) e some in
+          let none = table_apart h d p on_storage known guarded ((h.l1_offset + 8 * i0) / cluster_size h) table_refs in
+          let here = subst (λ n. 0 < named_in_either h on_storage known n + p.new_data n) e some in
           absurd (omega arith)
 
   pub l1_named : CrashInvariant h d (renamed p (λ c. table_in h c (host_offset entry)) (λ c. table_in h c (table_at h on_storage i0))) on_storage' known'
   l1_named =
       tables_renamed h (places_of h) d p (renamed p (λ c. table_in h c (host_offset entry)) (λ c. table_in h c (table_at h on_storage i0))) on_storage known on_storage' known' guarded
-      top_now same_top_now (omega arith) covers known_covers unlaid
+      top_now same_top_now (omega arith) covers known_covers not_overlaid
       (λ c. table_in h c (host_offset entry)) (λ c. 0) (λ c. table_in h c (table_at h on_storage i0)) (λ c. (refl, refl, refl, refl, refl))
       (λ c. let one = table_in-le h c (host_offset entry) in omega arith) (λ c. let changed = fixed_changed c in omega arith) sole_changed
       (λ c. let e = counts c in omega arith) (λ c. let e = known_counts c in omega arith)
-      (λ c some. (subst (λ n. 0 < p.fresh n) (new_at c some) new.fresh, subst (λ n. count h on_storage n ≡ count h known n) (new_at c some) new.counted, new.written))
+      (λ c some. (subst (λ n. 0 < p.new_tables n) (new_at c some) new.new_tables, subst (λ n. count h on_storage n ≡ count h known n) (new_at c some) new.counted, new.written))
       (λ c some. absurd (omega arith))
 
   elsewhere_named : (o : ℕ) → 0 < named_in_either h on_storage known (o / cluster_size h) → o / cluster_size h ≢ (h.l1_offset + 8 * i0) / cluster_size h
   elsewhere_named o some e =
-      let none = table_apart h d p on_storage known guarded ((h.l1_offset + 8 * i0) / cluster_size h) fixed in
+      let none = table_apart h d p on_storage known guarded ((h.l1_offset + 8 * i0) / cluster_size h) table_refs in
       let here = subst (λ n. 0 < named_in_either h on_storage known n) e some in
       absurd (omega arith)
 
   pub l1_named_kept : (backing : Bytes) (m : Checkpoint) → StopOkEverywhere backing m on_storage → StopOkEverywhere backing m on_storage'
   l1_named_kept backing m kept =
       moved_kept h (places_of h) d p (renamed p (λ c. table_in h c (host_offset entry)) (λ c. table_in h c (table_at h on_storage i0))) on_storage known on_storage' known' guarded
-      top_now same_top_now (omega arith) covers known_covers unlaid l1_named
+      top_now same_top_now (omega arith) covers known_covers not_overlaid l1_named
       (λ o some. outside o (elsewhere_named o some)) (λ o some. known_outside o (elsewhere_named o some)) backing m [] (inl refl) kept
 
   pub l1_named_known_kept : (backing : Bytes) (m : Checkpoint) → StopOkEverywhere backing m known → StopOkEverywhere backing m known'
   l1_named_known_kept backing m kept =
       moved_known_kept h (places_of h) d p (renamed p (λ c. table_in h c (host_offset entry)) (λ c. table_in h c (table_at h on_storage i0))) on_storage known on_storage' known' guarded
-      top_now same_top_now (omega arith) covers known_covers unlaid l1_named
+      top_now same_top_now (omega arith) covers known_covers not_overlaid l1_named
       (λ o some. outside o (elsewhere_named o some)) (λ o some. known_outside o (elsewhere_named o some)) backing m [] (inl refl) kept

@@ -12,7 +12,7 @@ use Rattle.qcow2_metadata.specs.Named.{named_for_tables, named_by_l1_table, tabl
 use Rattle.qcow2_metadata.specs.Consistent.{Consistent, EachCover, CoverIsAligned, IsOwn, KeptIsOwn, CopiedIsOwn}
 use Rattle.qcow2_metadata.specs.declared.l2_mapping.L2Mapping.{L2Mapping}
 use Rattle.qcow2_metadata.specs.declared.l2_mapping.L2Mapping.TheVariants.{Data, Zero, Compressed, Uncovered}
-use Rattle.qcow2_laws.specs.Clusters.{Neither, Always}
+use Rattle.qcow2_laws.specs.Clusters.{Neither, ClusterInvariant}
 use Rattle.qcow2_laws.specs.Guests.{over_guests, names, marks, marked_by_cover, marked_by_kept, marked_by_l1_table, table_at}
 use Rattle.qcow2_laws.specs.CrashInvariant.{cluster, CrashInvariant}
 use Rattle.qcow2_laws.specs.Opened.{nothing_pending, surplus_of}
@@ -79,7 +79,7 @@ module _ (h : HeaderFields) (b : Bytes) (ok : Consistent h b) where
 
   alone : (c : ℕ) → 0 < marked_by_l1_table h b c + over_guests h (marks h b c) → count h b c ≤ 1
   alone c some = elim (cases_lt 0 (marked_by_l1_table h b c)) [
-    | inl sole ↦ let e = sole_counted c sole in omega arith
+    | inl copied_l1_refs ↦ let e = sole_counted c copied_l1_refs in omega arith
     | inr none ↦ let e = marks_counted c (omega arith) in omega arith
   ]
 
@@ -90,8 +90,8 @@ module _ (h : HeaderFields) (b : Bytes) (ok : Consistent h b) where
   unfolding named_for_tables
   fixed_l1 c = omega arith
 
-  always : (c : ℕ) → Always (cluster h (nothing_pending (surplus_of h b)) b b c) (surplus_of h b c)
-  always c =
+  each_cluster : (c : ℕ) → ClusterInvariant (cluster h (nothing_pending (surplus_of h b)) b b c) (surplus_of h b c)
+  each_cluster c =
       let e = named-is h b c sizes in
       let counted = ok.counted c in
       let either = twice (names h b c) in
@@ -100,7 +100,7 @@ module _ (h : HeaderFields) (b : Bytes) (ok : Consistent h b) where
         marked = alone c;
         pending = λ some. absurd (omega arith);
         table = λ some. let once = ok.tables_once c (λ none. omega (arith, none)) in omega arith;
-        sole = omega (arith, l1_marks-le h b c, fixed_l1 c);
+        copied_l1_refs = omega (arith, l1_marks-le h b c, fixed_l1 c);
       }
 
   pub opened_guarded : header b ≡ h → CrashInvariant h Neither (nothing_pending (surplus_of h b)) b b
@@ -118,7 +118,7 @@ module _ (h : HeaderFields) (b : Bytes) (ok : Consistent h b) where
       refblocks_aligned = ok.refblocks_aligned;
     };
     same_top = SameTop-refl h b;
-    always = always;
+    each_cluster = each_cluster;
     ordered = λ c.
         let e = named-is h b c sizes in
         let counted = ok.counted c in
@@ -129,5 +129,5 @@ module _ (h : HeaderFields) (b : Bytes) (ok : Consistent h b) where
     aligned = each_cover h b (CoverIsAligned h) sizes tt ok.data_aligned;
     known_aligned = each_cover h b (CoverIsAligned h) sizes tt ok.data_aligned;
     own = λ g c marked. marks-all h c (cover h b g) marked;
-    unlaid = λ o some. refl;
+    not_overlaid = λ o some. refl;
   }

@@ -13,7 +13,7 @@ use Rattle.qcow2_metadata.specs.Consistent.{CoverIsAligned}
 use Rattle.qcow2_metadata.specs.declared.l2_mapping.L2Mapping.TheVariants.{Zero}
 use Rattle.qcow2_disk.specs.Disk.{disk, with_values}
 use Rattle.qcow2_disk.specs.Stops.{GivenBytes, IsGiven}
-use Rattle.qcow2_disk.specs.Mappings.{gift_of}
+use Rattle.qcow2_disk.specs.Mappings.{given_of}
 use Rattle.qcow2_laws.specs.Guests.{names, marks, marked_by_cover, named_in_either}
 use Rattle.qcow2_laws.specs.CrashInvariant.{SameCovers, SameIn}
 use Rattle.qcow2_laws.specs.Tops.{IsSameOutside, WritesAt}
@@ -25,7 +25,7 @@ use Rattle.qcow2_laws.specs.GuestLaws.{Hosting, InPlace, Kept, Held, IsHostedAt,
 use Rattle.qcow2_laws.proofs.Places.{in_one}
 use Rattle.qcow2_laws.proofs.Mixes.{tied}
 use Rattle.qcow2_laws.proofs.Consistency.{in_own}
-use Rattle.qcow2_laws.proofs.Writes.{held_is_unnamed, marked_alone, storage_stays, known_covers, its_own}
+use Rattle.qcow2_laws.proofs.Writes.{new_data_is_unnamed, marked_alone, storage_stays, known_covers, its_own}
 use Rattle.qcow2_laws.proofs.Shares.{top_stays}
 use Rattle.qcow2_laws.proofs.Steps.{data_is_written}
 use Rattle.qcow2_laws.proofs.Shown.{Writes, shown_zero}
@@ -87,7 +87,7 @@ module _ (s : DriverState) (sound : StateInvariant s) (o place : ℕ) where
 
   -- it is held, or its own and given
   sorted : (given : List GivenBytes) (byte : ℕ) (k : Hosting) → IsHostedAt s k o place → IsGivenAt given k o byte
-      → ((0 < s.pending.held (place / cluster_size s.header)) × IsHeld k) ⊎ (IsOwnAt s o place × IsGiven given o (known_byte byte))
+      → ((0 < s.pending.new_data (place / cluster_size s.header)) × IsHeld k) ⊎ (IsOwnAt s o place × IsGiven given o (known_byte byte))
   sorted given byte InPlace at gives = inr (own_in_place at, gives)
   sorted given byte Kept at gives = inr (own_kept at, gives)
   sorted given byte Held at gives = inl (at, tt)
@@ -117,11 +117,11 @@ module _ (s : DriverState) (sound : StateInvariant s) (o place : ℕ) where
         let t = (tied s.header s.pending s.on_storage s.known (place / cluster_size s.header)).known in
         omega arith
 
-    own_unheld : s.pending.held (place / cluster_size s.header) ≡ 0
-    own_unheld = elim (cases_lt 0 (s.pending.held (place / cluster_size s.header))) [
+    own_unheld : s.pending.new_data (place / cluster_size s.header) ≡ 0
+    own_unheld = elim (cases_lt 0 (s.pending.new_data (place / cluster_size s.header))) [
       | inr none ↦ omega arith
-      | inl held ↦ absurd (
-          let none = (held_is_unnamed s.header s.direction s.pending s.on_storage s.known sound (place / cluster_size s.header) held).no_entry in
+      | inl new_data ↦ absurd (
+          let none = (new_data_is_unnamed s.header s.direction s.pending s.on_storage s.known sound (place / cluster_size s.header) new_data).no_entry in
           let some = own_in_either in
           omega arith)
     ]
@@ -132,13 +132,13 @@ module _ (s : DriverState) (on_storage' known' : Bytes) (sound : StateInvariant 
     (gives : (i : ℕ) → i < n → IsGivenAt given (hosting (offset + i)) (offset + i) (value i))
     (writes : WritesAt place n s.on_storage s.known on_storage' known') (there : (i : ℕ) → i < n → on_storage' (place + i) ≡ value i) where
   kind : (i : ℕ) → i < n
-      → ((0 < s.pending.held ((place + i) / cluster_size s.header)) × IsHeld (hosting (offset + i))) ⊎ (IsOwnAt s (offset + i) (place + i) × IsGiven given (offset + i) (known_byte (value i)))
+      → ((0 < s.pending.new_data ((place + i) / cluster_size s.header)) × IsHeld (hosting (offset + i))) ⊎ (IsOwnAt s (offset + i) (place + i) × IsGiven given (offset + i) (known_byte (value i)))
   kind i lt = sorted s sound (offset + i) (place + i) given (value i) (hosting (offset + i)) (hosts i lt) (gives i lt)
 
   pub known_there : (i : ℕ) → i < n → known' (place + i) ≡ value i
   known_there i lt =
-      sym (writes.agree (place + i) (sound.unlaid (place + i) (elim (kind i lt) [
-        | inl held ↦ let some = held.0 in omega arith
+      sym (writes.agree (place + i) (sound.not_overlaid (place + i) (elim (kind i lt) [
+        | inl new_data ↦ let some = new_data.0 in omega arith
         | inr own ↦ let some = own_in_either s sound (offset + i) (place + i) own.0 in omega arith
       ])))
       ∙ there i lt
@@ -152,11 +152,11 @@ module _ (s : DriverState) (on_storage' known' : Bytes) (sound : StateInvariant 
       ] in
       ((λ o in_k. writes.others o (out o in_k)), (λ o in_k. writes.known_others o (out o in_k)))
 
-  pub held_stays : (k : ℕ) → 0 < s.pending.held k → ((i : ℕ) → i < n → IsHeld (hosting (offset + i)) → (place + i) / cluster_size s.header ≢ k)
+  pub new_data_stays : (k : ℕ) → 0 < s.pending.new_data k → ((i : ℕ) → i < n → IsHeld (hosting (offset + i)) → (place + i) / cluster_size s.header ≢ k)
       → SameIn (cluster_size s.header) k s.on_storage on_storage' × SameIn (cluster_size s.header) k s.known known'
-  held_stays k some apart = untouched k (λ i lt here. elim (kind i lt) [
-    | inl held ↦ apart i lt held.1 here
-    | inr own ↦ let none = own_unheld s sound (offset + i) (place + i) own.0 in let has : 0 < s.pending.held ((place + i) / cluster_size s.header) = subst (λ c. 0 < s.pending.held c) (sym here) some in absurd (omega arith)
+  new_data_stays k some apart = untouched k (λ i lt here. elim (kind i lt) [
+    | inl new_data ↦ apart i lt new_data.1 here
+    | inr own ↦ let none = own_unheld s sound (offset + i) (place + i) own.0 in let has : 0 < s.pending.new_data ((place + i) / cluster_size s.header) = subst (λ c. 0 < s.pending.new_data c) (sym here) some in absurd (omega arith)
   ])
 
   -- each byte of an own cluster that is written to is as it was, or given
@@ -176,11 +176,11 @@ module _ (s : DriverState) (on_storage' known' : Bytes) (sound : StateInvariant 
         let is : (offset + i) / cluster_size s.header * cluster_size s.header + o % cluster_size s.header ≡ offset + j.0 = omega arith in
         let byte : known' o ≡ value j.0 = ap known' (sym j.2) ∙ known_there j.0 j.1 in
         elim (kind j.0 j.1) [
-          | inl held ↦ absurd (
+          | inl new_data ↦ absurd (
               let none = own_unheld s sound (offset + i) (place + i) own in
-              let some : 0 < s.pending.held ((place + i) / cluster_size s.header) = subst (λ c. 0 < s.pending.held c) (ap (λ n. n / cluster_size s.header) j.2 ∙ in_k) held.0 in
+              let some : 0 < s.pending.new_data ((place + i) / cluster_size s.header) = subst (λ c. 0 < s.pending.new_data c) (ap (λ n. n / cluster_size s.header) j.2 ∙ in_k) new_data.0 in
               omega arith)
-          | inr gift ↦ inr (subst (λ (p : ℕ). IsGiven given p (known_byte (known' o))) (sym is) (subst (λ (b : ℕ). IsGiven given (offset + j.0) (known_byte b)) (sym byte) gift.1))
+          | inr bytes_given ↦ inr (subst (λ (p : ℕ). IsGiven given p (known_byte (known' o))) (sym is) (subst (λ (b : ℕ). IsGiven given (offset + j.0) (known_byte b)) (sym byte) bytes_given.1))
         ]
   ]
 
@@ -190,7 +190,7 @@ module _ (s : DriverState) (on_storage' known' : Bytes) (sound : StateInvariant 
     each = λ k. elim (meets (cluster_size s.header) place k n) [
       | inr none ↦ inl (untouched k none)
       | inl some ↦ elim (kind some.0 some.1) [
-        | inl held ↦ inr (inl (held_is_unnamed s.header s.direction s.pending s.on_storage s.known sound k (subst (λ c. 0 < s.pending.held c) some.2 held.0)))
+        | inl new_data ↦ inr (inl (new_data_is_unnamed s.header s.direction s.pending s.on_storage s.known sound k (subst (λ c. 0 < s.pending.new_data c) some.2 new_data.0)))
         | inr own ↦ inr (inr (record {
           guest = (offset + some.0) / cluster_size s.header;
           marked = subst (λ c. 0 < marks s.header s.known c ((offset + some.0) / cluster_size s.header)) some.2 (own_marked s sound (offset + some.0) (place + some.0) own.0);
@@ -216,8 +216,8 @@ module _ (s : DriverState) (on_storage' known' : Bytes) (sound : StateInvariant 
     | inr at ↦ absurd (
         let named : 0 < names s.header s.known ((place + at.0) / cluster_size s.header) g = subst (λ p. 0 < names s.header s.known (p / cluster_size s.header) g) (sym at.2) some in
         elim (kind at.0 at.1) [
-          | inl held ↦
-              let none = (held_is_unnamed s.header s.direction s.pending s.on_storage s.known sound ((place + at.0) / cluster_size s.header) held.0).no_entry in
+          | inl new_data ↦
+              let none = (new_data_is_unnamed s.header s.direction s.pending s.on_storage s.known sound ((place + at.0) / cluster_size s.header) new_data.0).no_entry in
               let sum = named_some s s sound ((place + at.0) / cluster_size s.header) g named in
               let t = (tied s.header s.pending s.on_storage s.known ((place + at.0) / cluster_size s.header)).known in
               omega arith
@@ -244,14 +244,14 @@ module _ (s : DriverState) (on_storage' known' : Bytes) (sound : StateInvariant 
         let is : cover s.header s.known (o / cluster_size s.header) ≡ Zero (Some (at.0, true)) = ap (cover s.header s.known) (sym here) ∙ at.1 in
         shown_zero new leads_on.sound backing o (Some (at.0, true)) (sym (covers_stay (o / cluster_size s.header)) ∙ is) ∙ sym (shown_zero s sound backing o (Some (at.0, true)) is)
 
-    held_stay : (o i : ℕ) → i < n → (offset + i) / cluster_size s.header ≡ o / cluster_size s.header → 0 < s.pending.held ((place + i) / cluster_size s.header)
+    new_data_stay : (o i : ℕ) → i < n → (offset + i) / cluster_size s.header ≡ o / cluster_size s.header → 0 < s.pending.new_data ((place + i) / cluster_size s.header)
         → (disk known' backing).value o ≡ (disk s.known backing).value o
-    held_stay o i lt here held =
+    new_data_stay o i lt here new_data =
         value_stays s new sound leads_on.sound refl backing o (covers_stay (o / cluster_size s.header)) (stays_named (o / cluster_size s.header) (λ j j_lt own in_g.
         let same : (place + i) / cluster_size s.header ≡ own.host / cluster_size s.header = own_cluster s sound (offset + j) (place + j) own (offset + i) (place + i) (here ∙ sym in_g) (omega arith) in
         let at : (place + j) / cluster_size s.header ≡ (place + i) / cluster_size s.header = own_here s sound (offset + j) (place + j) own ∙ sym same in
         let none = own_unheld s sound (offset + j) (place + j) own in
-        let has : 0 < s.pending.held ((place + j) / cluster_size s.header) = subst (λ c. 0 < s.pending.held c) (sym at) held in
+        let has : 0 < s.pending.new_data ((place + j) / cluster_size s.header) = subst (λ c. 0 < s.pending.new_data c) (sym at) new_data in
         absurd (omega arith)))
 
     data_beside : (o i : ℕ) → i < n → (offset + i) / cluster_size s.header ≡ o / cluster_size s.header → IsDataAt s.header s.known true (offset + i) (place + i) → (o < offset) ⊎ (offset + n ≤ o)
@@ -273,7 +273,7 @@ module _ (s : DriverState) (on_storage' known' : Bytes) (sound : StateInvariant 
         → (disk known' backing).value o ≡ (disk s.known backing).value o
     beside o i lt here out InPlace at = data_beside o i lt here at out
     beside o i lt here out Kept at = zeros_stay o (offset + i) (place + i) here at
-    beside o i lt here out Held at = held_stay o i lt here at
+    beside o i lt here out Held at = new_data_stay o i lt here at
 
     at_written : (i : ℕ) → i < n → (k : Hosting) → IsHostedAt s k (offset + i) (place + i)
         → (disk known' backing).value (offset + i) ≡ cond (is_private_hosting k) ((disk s.known backing).value (offset + i)) (laid_over offset n (λ j. known_byte (value j)) (disk s.known backing).value (offset + i))
@@ -282,7 +282,7 @@ module _ (s : DriverState) (on_storage' known' : Bytes) (sound : StateInvariant 
         ∙ ap known_byte (there i lt)
         ∙ sym (laid_inside offset n (λ j. known_byte (value j)) (disk s.known backing).value i lt)
     at_written i lt Kept at = zeros_stay (offset + i) (offset + i) (place + i) refl at
-    at_written i lt Held at = held_stay (offset + i) i lt refl at
+    at_written i lt Held at = new_data_stay (offset + i) i lt refl at
 
     value_now : (o : ℕ) → (disk known' backing).value o ≡ cond (is_private_hosting (hosting o)) ((disk s.known backing).value o) (laid_over offset n (λ j. known_byte (value j)) (disk s.known backing).value o)
     value_now o = elim (in_range o offset n) [
@@ -313,7 +313,7 @@ run_written s on_storage' known' hosting offset place bytes given sound hosts gi
   l1 = l1_stays s on_storage' known' sound hosting offset place (length bytes) (byte_at bytes) given hosts gives writes there;
   there = known_there s on_storage' known' sound hosting offset place (length bytes) (byte_at bytes) given hosts gives writes there;
   others = others_stay s on_storage' known' sound hosting offset place (length bytes) (byte_at bytes) given hosts gives writes there;
-  held = held_stays s on_storage' known' sound hosting offset place (length bytes) (byte_at bytes) given hosts gives writes there;
+  new_data = new_data_stays s on_storage' known' sound hosting offset place (length bytes) (byte_at bytes) given hosts gives writes there;
   shows = shows_run s on_storage' known' sound hosting offset place (length bytes) (byte_at bytes) given hosts gives writes there;
 }
 
@@ -323,7 +323,7 @@ beside_tables s InPlace o place sound at =
     (marked_alone s.header s.direction s.pending s.on_storage s.known sound (place / cluster_size s.header) (o / cluster_size s.header) (own_marked s sound o place (own_in_place s sound o place at))).0
 beside_tables s Kept o place sound at =
     (marked_alone s.header s.direction s.pending s.on_storage s.known sound (place / cluster_size s.header) (o / cluster_size s.header) (own_marked s sound o place (own_kept s sound o place at))).0
-beside_tables s Held o place sound at = (held_is_unnamed s.header s.direction s.pending s.on_storage s.known sound (place / cluster_size s.header) at).no_table
+beside_tables s Held o place sound at = (new_data_is_unnamed s.header s.direction s.pending s.on_storage s.known sound (place / cluster_size s.header) at).no_table
 
 pub run_is_written : RunIsWritten
 run_is_written = record {
@@ -334,16 +334,16 @@ run_is_written = record {
 -- ---- over data in place alone
 
 -- one gift of all the bytes
-pub gift_has : (offset : ℕ) (bytes : List ℕ) (i : ℕ) → i < length bytes → IsGiven (gift_of offset bytes ∷ []) (offset + i) (known_byte (byte_at bytes i))
-gift_has offset bytes i lt = let e : i ≡ offset + i - offset = omega arith in inl (omega arith, omega arith, ap (λ j. known_byte (byte_at bytes j)) e)
+pub given_has : (offset : ℕ) (bytes : List ℕ) (i : ℕ) → i < length bytes → IsGiven (given_of offset bytes ∷ []) (offset + i) (known_byte (byte_at bytes i))
+given_has offset bytes i lt = let e : i ≡ offset + i - offset = omega arith in inl (omega arith, omega arith, ap (λ j. known_byte (byte_at bytes j)) e)
 
 pub written_over : (s : DriverState) (on_storage' known' : Bytes) → StateInvariant s → (offset place : ℕ) (bytes : List ℕ) → AreDataAt s.header s.known true offset place (length bytes) → WritesAt place (length bytes) s.on_storage s.known on_storage' known'
-    → ((i : ℕ) → i < length bytes → on_storage' (place + i) ≡ byte_at bytes i) → WritesRun (λ _. InPlace) offset place bytes (gift_of offset bytes ∷ []) s (record s { on_storage = on_storage'; known = known' })
+    → ((i : ℕ) → i < length bytes → on_storage' (place + i) ≡ byte_at bytes i) → WritesRun (λ _. InPlace) offset place bytes (given_of offset bytes ∷ []) s (record s { on_storage = on_storage'; known = known' })
 written_over s on_storage' known' sound offset place bytes are writes there =
-    run_written s on_storage' known' (λ _. InPlace) offset place bytes (gift_of offset bytes ∷ []) sound are (gift_has offset bytes) writes there
+    run_written s on_storage' known' (λ _. InPlace) offset place bytes (given_of offset bytes ∷ []) sound are (given_has offset bytes) writes there
 
 -- ---- into one cluster that is held
-module _ (s : DriverState) (on_storage' known' : Bytes) (sound : StateInvariant s) (c : ℕ) (held : 0 < s.pending.held c) (outside : IsSameOutside (cluster_size s.header) c s.on_storage on_storage')
+module _ (s : DriverState) (on_storage' known' : Bytes) (sound : StateInvariant s) (c : ℕ) (new_data : 0 < s.pending.new_data c) (outside : IsSameOutside (cluster_size s.header) c s.on_storage on_storage')
     (known_outside : IsSameOutside (cluster_size s.header) c s.known known') (agree : (o : ℕ) → s.on_storage o ≡ s.known o → on_storage' o ≡ known' o) where
   beyond : (o : ℕ) → (o < c * cluster_size s.header) ⊎ (c * cluster_size s.header + cluster_size s.header ≤ o) → o / cluster_size s.header ≢ c
   beyond o out here =
@@ -355,8 +355,8 @@ module _ (s : DriverState) (on_storage' known' : Bytes) (sound : StateInvariant 
   writes_cluster : WritesAt (c * cluster_size s.header) (cluster_size s.header) s.on_storage s.known on_storage' known'
   writes_cluster = record { others = λ o out. outside o (beyond o out); known_others = λ o out. known_outside o (beyond o out); agree = agree }
 
-  hosts_cluster : (i : ℕ) → i < cluster_size s.header → 0 < s.pending.held ((c * cluster_size s.header + i) / cluster_size s.header)
-  hosts_cluster i lt = subst (λ k. 0 < s.pending.held k) (sym (div-mul-add c (cluster_size s.header) i lt)) held
+  hosts_cluster : (i : ℕ) → i < cluster_size s.header → 0 < s.pending.new_data ((c * cluster_size s.header + i) / cluster_size s.header)
+  hosts_cluster i lt = subst (λ k. 0 < s.pending.new_data k) (sym (div-mul-add c (cluster_size s.header) i lt)) new_data
 
   pub private_written : Writes c s (record s { on_storage = on_storage'; known = known' }) (λ _. []) (λ backing. disk s.known backing)
   private_written =

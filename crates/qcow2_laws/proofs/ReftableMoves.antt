@@ -20,7 +20,7 @@ use Rattle.qcow2_laws.proofs.Sums.{sum_below-same}
 use Rattle.qcow2_laws.proofs.Places.{Sizes, Sizes-from, SameFrom-in, reftable-same, block_count-moved, count_in, count_none}
 use Rattle.qcow2_laws.proofs.Tops.{l1_marks-same}
 use Rattle.qcow2_laws.proofs.Consistency.{in_own}
-use Rattle.qcow2_laws.proofs.Writes.{fresh_is_unnamed, unused_is_unnamed}
+use Rattle.qcow2_laws.proofs.Writes.{new_tables_is_unnamed, unused_is_unnamed}
 use Rattle.qcow2_laws.proofs.Shares.{shares, in_reftable, reftable_has, block_has}
 use Rattle.qcow2_laws.proofs.Renaming.{tables_renamed, moved_kept, moved_known_kept}
 use Rattle.qcow2_laws.proofs.Headers.{header_sizes, header_fixed, header_same, header_known_same, header_l1, header_known_l1, header_reftable, header_known_reftable, header_covers, header_known_covers, header_counts, header_known_counts, header_elsewhere, header_unlaid, unnamed_elsewhere}
@@ -51,7 +51,7 @@ module _ (h : HeaderFields) (offset clusters : ℕ) (blocks counted : ℕ → �
   unnamed : (c : ℕ) → 0 < in_run h c offset (clusters * cluster_size h) + blocks c → IsUnnamed h on_storage known c
   unnamed c some = elim (cases_lt 0 (counted c)) [
     | inl anew ↦ let none = none_counted c anew in unused_is_unnamed h d p on_storage known guarded c none.0 none.1
-    | inr not ↦ fresh_is_unnamed h d p on_storage known guarded c (new.fresh c (omega arith)).0 new.written
+    | inr not ↦ new_tables_is_unnamed h d p on_storage known guarded c (new.new_tables c (omega arith)).0 new.written
   ]
 
   others : (c : ℕ) → 0 < in_run h c offset (clusters * cluster_size h) + blocks c → c ≢ 0
@@ -77,8 +77,8 @@ module _ (h : HeaderFields) (offset clusters : ℕ) (blocks counted : ℕ → �
       let at : 1 ≤ named_by_reftable (with_places h (with_reftable_at h offset clusters)) on_storage 0 = subst (λ n. 1 ≤ named_by_reftable (with_places h (with_reftable_at h offset clusters)) on_storage n) e has in
       let are = new.blocks_are 0 in
       let parts = shares h on_storage 0 in
-      let fixed = header_fixed h (with_reftable_at h offset clusters) d p on_storage known on_storage' known' guarded writes in
-      let table = (guarded.always 0).table fixed in
+      let table_refs = header_fixed h (with_reftable_at h offset clusters) d p on_storage known on_storage' known' guarded writes in
+      let table = (guarded.each_cluster 0).table table_refs in
       let zero : 0 / cluster_size h ≡ 0 = let size = sizes.some in omega arith in
       let one : in_cluster h 0 0 ≡ 1 = ap (λ n. in_cluster h n 0) (sym zero) ∙ in_own h 0 in
       others 0 (omega arith) refl
@@ -187,8 +187,8 @@ module _ (h : HeaderFields) (offset clusters : ℕ) (blocks counted : ℕ → �
   known_covers : KeepsCovers h (with_reftable_at h offset clusters) known known'
   known_covers g = header_known_covers h (with_reftable_at h offset clusters) d p on_storage known on_storage' known' guarded writes g ∙ sym (covers_too known' g)
 
-  unlaid : (o : ℕ) → 0 < named_in_either h on_storage known (o / cluster_size h) + p.held (o / cluster_size h) → on_storage' o ≡ known' o
-  unlaid = header_unlaid h (with_reftable_at h offset clusters) d p on_storage known on_storage' known' guarded writes
+  not_overlaid : (o : ℕ) → 0 < named_in_either h on_storage known (o / cluster_size h) + p.new_data (o / cluster_size h) → on_storage' o ≡ known' o
+  not_overlaid = header_unlaid h (with_reftable_at h offset clusters) d p on_storage known on_storage' known' guarded writes
 
   -- ---- how often tables name a cluster now
   tables_same : (c : ℕ) → named_by_l1_table (with_places h (with_reftable_at h offset clusters)) on_storage' c ≡ named_by_l1_table h on_storage c
@@ -216,11 +216,11 @@ module _ (h : HeaderFields) (offset clusters : ℕ) (blocks counted : ℕ → �
   pub reftable_moved : CrashInvariant (with_places h (with_reftable_at h offset clusters)) d (renamed p (λ c. in_run h c offset (clusters * cluster_size h) + blocks c - counted c) (in_reftable h)) on_storage' known'
   reftable_moved =
       tables_renamed h (with_reftable_at h offset clusters) d p (renamed p (λ c. in_run h c offset (clusters * cluster_size h) + blocks c - counted c) (in_reftable h)) on_storage known on_storage' known' guarded
-      top_now same_top_now (omega arith) covers known_covers unlaid
+      top_now same_top_now (omega arith) covers known_covers not_overlaid
       (λ c. in_run h c offset (clusters * cluster_size h) + blocks c - counted c) counted (in_reftable h) (λ c. (refl, refl, refl, refl, refl))
       (λ c. let one = new.once c in let le = new.counted_there c in omega arith) fixed_changed
       (λ c. let e = marks_too c ∙ sym (l1_marks-same h on_storage on_storage' c (header_l1 h (with_reftable_at h offset clusters) d p on_storage known on_storage' known' guarded writes)) in omega arith)
-      counts known_counts (λ c some. let f = new.fresh c (omega arith) in (f.0, f.1, new.written)) none_counted
+      counts known_counts (λ c some. let f = new.new_tables c (omega arith) in (f.0, f.1, new.written)) none_counted
 
   elsewhere : (o : ℕ) → 0 < named_in_either h on_storage known (o / cluster_size h) → o / cluster_size h ≢ 0
   elsewhere o some = header_elsewhere h (with_reftable_at h offset clusters) d p on_storage known on_storage' known' guarded writes o (omega arith)
@@ -228,11 +228,11 @@ module _ (h : HeaderFields) (offset clusters : ℕ) (blocks counted : ℕ → �
   pub reftable_moved_kept : (backing : Bytes) (m : Checkpoint) → StopOkEverywhere backing m on_storage → StopOkEverywhere backing m on_storage'
   reftable_moved_kept backing m kept =
       moved_kept h (with_reftable_at h offset clusters) d p (renamed p (λ c. in_run h c offset (clusters * cluster_size h) + blocks c - counted c) (in_reftable h)) on_storage known on_storage' known' guarded
-      top_now same_top_now (omega arith) covers known_covers unlaid reftable_moved
+      top_now same_top_now (omega arith) covers known_covers not_overlaid reftable_moved
       (λ o some. writes.others o (elsewhere o some)) (λ o some. writes.known_others o (elsewhere o some)) backing m [] (inl refl) kept
 
   pub reftable_moved_known_kept : (backing : Bytes) (m : Checkpoint) → StopOkEverywhere backing m known → StopOkEverywhere backing m known'
   reftable_moved_known_kept backing m kept =
       moved_known_kept h (with_reftable_at h offset clusters) d p (renamed p (λ c. in_run h c offset (clusters * cluster_size h) + blocks c - counted c) (in_reftable h)) on_storage known on_storage' known' guarded
-      top_now same_top_now (omega arith) covers known_covers unlaid reftable_moved
+      top_now same_top_now (omega arith) covers known_covers not_overlaid reftable_moved
       (λ o some. writes.others o (elsewhere o some)) (λ o some. writes.known_others o (elsewhere o some)) backing m [] (inl refl) kept

@@ -43,7 +43,7 @@ over_guests-longer h a f g longer same none =
 module _ (h : HeaderFields) (a : Places) (d : Direction) (p p' : Pending) (on_storage known on_storage' known' : Bytes) (guarded : CrashInvariant h d p on_storage known)
     (top : IsTop (with_places h a) on_storage') (same_top : SameTop (with_places h a) on_storage' known') (longer : h.l1_entries ≤ a.l1_entries)
     (covers : KeepsCovers h a on_storage on_storage') (known_covers : KeepsCovers h a known known')
-    (unlaid : (o : ℕ) → 0 < named_in_either h on_storage known (o / cluster_size h) + p'.held (o / cluster_size h) → on_storage' o ≡ known' o) where
+    (not_overlaid : (o : ℕ) → 0 < named_in_either h on_storage known (o / cluster_size h) + p'.new_data (o / cluster_size h) → on_storage' o ≡ known' o) where
   sizes : Sizes h
   sizes = Sizes-from h on_storage guarded.top.header_reads
 
@@ -65,14 +65,14 @@ module _ (h : HeaderFields) (a : Places) (d : Direction) (p p' : Pending) (on_st
       omega arith)
 
   pub top_changed : ((c : ℕ) → Good d (record (cluster h p on_storage known c) {
-    fixed = named_for_tables (with_places h a) on_storage' c;
-    sole = marked_by_l1_table (with_places h a) on_storage' c;
+    table_refs = named_for_tables (with_places h a) on_storage' c;
+    copied_l1_refs = marked_by_l1_table (with_places h a) on_storage' c;
     storage_count = count (with_places h a) on_storage' c;
     known_count = count (with_places h a) known' c;
-    held = p'.held c;
-    fresh = p'.fresh c;
-    spent = p'.spent c;
-    dropped = p'.dropped c;
+    new_data = p'.new_data c;
+    new_tables = p'.new_tables c;
+    old_tables = p'.old_tables c;
+    old_data = p'.old_data c;
   }) (p'.surplus c)) → CrashInvariant (with_places h a) d p' on_storage' known'
   top_changed numbers =
       let now : (c : ℕ) → Good d (cluster (with_places h a) p' on_storage' known' c) (p'.surplus c) = λ c.
@@ -93,57 +93,57 @@ module _ (h : HeaderFields) (a : Places) (d : Direction) (p p' : Pending) (on_st
       record {
         top = top;
         same_top = same_top;
-        always = λ c. (now c).always;
+        each_cluster = λ c. (now c).each_cluster;
         ordered = λ c. (now c).ordered;
         aligned = λ g. subst (CoverIsAligned h) (covers g) (guarded.aligned g);
         known_aligned = λ g. subst (CoverIsAligned h) (known_covers g) (guarded.known_aligned g);
         own = λ g c some. subst (λ v. named_by_cover h c v ≤ marked_by_cover h c v) (covers g) (guarded.own g c (subst (λ v. 0 < marked_by_cover h c v) (sym (known_covers g)) some));
-        unlaid = λ o some. unlaid o (let e = either_sum (named_by_cover h (o / cluster_size h)) refl in omega arith);
+        not_overlaid = λ o some. not_overlaid o (let e = either_sum (named_by_cover h (o / cluster_size h)) refl in omega arith);
       }
 
   -- the same, by how often tables are named anew: i are fresh and counted on the storage, s are counted with it, u are no longer named
-  pub tables_renamed : (i s u : ℕ → ℕ) → ((c : ℕ) → (p'.held c ≡ p.held c) × (p'.fresh c ≡ p.fresh c - i c) × (p'.spent c ≡ p.spent c + u c) × (p'.dropped c ≡ p.dropped c) × (p'.surplus c ≡ p.surplus c))
+  pub tables_renamed : (i s u : ℕ → ℕ) → ((c : ℕ) → (p'.new_data c ≡ p.new_data c) × (p'.new_tables c ≡ p.new_tables c - i c) × (p'.old_tables c ≡ p.old_tables c + u c) × (p'.old_data c ≡ p.old_data c) × (p'.surplus c ≡ p.surplus c))
       → ((c : ℕ) → i c + s c ≤ 1)
       → ((c : ℕ) → named_for_tables (with_places h a) on_storage' c + u c ≡ named_for_tables h on_storage c + i c + s c)
       → ((c : ℕ) → marked_by_l1_table (with_places h a) on_storage' c ≤ marked_by_l1_table h on_storage c + i c)
       → ((c : ℕ) → count (with_places h a) on_storage' c ≡ count h on_storage c + s c) → ((c : ℕ) → count (with_places h a) known' c ≡ count h known c + s c)
-      → ((c : ℕ) → 0 < i c → (0 < p.fresh c) × (count h on_storage c ≡ count h known c) × (d ≡ RbDependsOnL2 → SameCovers h on_storage known))
+      → ((c : ℕ) → 0 < i c → (0 < p.new_tables c) × (count h on_storage c ≡ count h known c) × (d ≡ RbDependsOnL2 → SameCovers h on_storage known))
       → ((c : ℕ) → 0 < s c → (count h known c ≡ 0) × (count h on_storage c ≡ 0))
       → CrashInvariant (with_places h a) d p' on_storage' known'
-  tables_renamed i s u pending one fixed sole counts known_counts fresh empty = top_changed (λ c.
+  tables_renamed i s u pending one table_refs copied_l1_refs counts known_counts new_tables empty = top_changed (λ c.
       let l1_le = l1_marks-le (with_places h a) on_storage' c in
       let in_fixed = shares (with_places h a) on_storage' c in
-      let is = fixed c in
+      let is = table_refs c in
       let few = one c in
-      let fewer = sole c in
+      let fewer = copied_l1_refs c in
       let next = rename d (cluster h p on_storage known c) (p.surplus c) (named_for_tables (with_places h a) on_storage' c) (marked_by_l1_table (with_places h a) on_storage' c) (i c) (i c) (s c) (u c)
       (tied h p on_storage known c) (omega arith) (omega arith) (omega arith) (omega arith) (omega arith)
-      (λ some. (fresh c some).0) (λ some. (fresh c some).1) (λ some. written_covers h d p on_storage known guarded c (fresh c some).2) (λ some. (empty c some).0) (λ some. (empty c some).1) (good h d p on_storage known guarded c) in
-      let held_is = sym (pending c).0 in
-      let fresh_is = sym (pending c).1 in
-      let spent_is = sym (pending c).2 in
-      let dropped_is = sym (pending c).3 in
+      (λ some. (new_tables c some).0) (λ some. (new_tables c some).1) (λ some. written_covers h d p on_storage known guarded c (new_tables c some).2) (λ some. (empty c some).0) (λ some. (empty c some).1) (good h d p on_storage known guarded c) in
+      let new_data_is = sym (pending c).0 in
+      let new_tables_is = sym (pending c).1 in
+      let old_tables_is = sym (pending c).2 in
+      let old_data_is = sym (pending c).3 in
       let on_storage_is = sym (counts c) in
       let known_is = sym (known_counts c) in
       subst (λ n. Good d (record (cluster h p on_storage known c) {
-        fixed = named_for_tables (with_places h a) on_storage' c;
-        sole = marked_by_l1_table (with_places h a) on_storage' c;
+        table_refs = named_for_tables (with_places h a) on_storage' c;
+        copied_l1_refs = marked_by_l1_table (with_places h a) on_storage' c;
         storage_count = count (with_places h a) on_storage' c;
         known_count = count (with_places h a) known' c;
-        held = p'.held c;
-        fresh = p'.fresh c;
-        spent = p'.spent c;
-        dropped = p'.dropped c;
+        new_data = p'.new_data c;
+        new_tables = p'.new_tables c;
+        old_tables = p'.old_tables c;
+        old_data = p'.old_data c;
       }) n) (sym (pending c).4)
       (subst (λ k. Good d k (p.surplus c)) (λ t. record (cluster h p on_storage known c) {
-        fixed = named_for_tables (with_places h a) on_storage' c;
-        sole = marked_by_l1_table (with_places h a) on_storage' c;
+        table_refs = named_for_tables (with_places h a) on_storage' c;
+        copied_l1_refs = marked_by_l1_table (with_places h a) on_storage' c;
         storage_count = on_storage_is t;
         known_count = known_is t;
-        held = held_is t;
-        fresh = fresh_is t;
-        spent = spent_is t;
-        dropped = dropped_is t;
+        new_data = new_data_is t;
+        new_tables = new_tables_is t;
+        old_tables = old_tables_is t;
+        old_data = old_data_is t;
       }) next))
 
   -- ---- what guests see

@@ -2,8 +2,8 @@
 use Rattle.std.proofs.Common.{◌≡◌, ◌⊎◌, inl, inr, ⊎_elim, ℕ, List, [], ◌++◌, Result, sym, ◌∙◌, subst, append_assoc}
 use Rattle.image_access.specs.declared.error.StorageError.{StorageError}
 use Rattle.image_access.specs.Contents.{overwritten}
-use Rattle.image_access.specs.Moments.{StorageView, Passing, Calls, Changes}
-use Rattle.image_access.proofs.Passing.{whole_or_nothing, passes_none, passes_on, passes_if, passes_change}
+use Rattle.image_access.specs.Moments.{StorageView, EachMomentSince, Calls, Changes}
+use Rattle.image_access.proofs.EachMomentSince.{whole_or_nothing, passes_none, passes_on, passes_if, passes_change}
 use Rattle.qcow2_metadata.specs.Bytes.{Bytes, byte_at}
 use Rattle.qcow2_metadata.specs.Guest.{Value}
 use Rattle.qcow2_disk.specs.Disk.{disk}
@@ -70,7 +70,7 @@ pub entries_endure : (view : StorageView) (s s' : DriverState) (kind : L2Mapping
 entries_endure view s s' kind first n given is turn leads = unwritten view s.known given
 
 -- one call of the storage, by what is safe at its return
-by_return : (old new : StorageView) (known : Bytes) (given : Bytes → List GivenBytes) (asked : List ℕ) → Passing old new (λ c. c ≡ new.contents)
+by_return : (old new : StorageView) (known : Bytes) (given : Bytes → List GivenBytes) (asked : List ℕ) → EachMomentSince old new (λ c. c ≡ new.contents)
     → ((backing : Bytes) (m : Checkpoint) → StopOkEverywhere backing m (byte_at old.contents) → StopOkEverywhere backing m known → StopOkEverywhere backing (checkpoint_with (given backing) asked m) (byte_at new.contents))
     → SafeThroughout old new known given asked
 by_return old new known given asked time now =
@@ -78,18 +78,18 @@ by_return old new known given asked time now =
     record { moments = passes_if P (λ c (is : c ≡ new.contents). subst P (sym is) now) time; contents = now }
 
 -- a call of the storage that keeps the contents
-pub keep_endures : (old new : StorageView) (known : Bytes) → Passing old new (λ c. c ≡ new.contents) → new.contents ≡ old.contents → SafeThroughout old new known (λ _. []) []
+pub keep_endures : (old new : StorageView) (known : Bytes) → EachMomentSince old new (λ c. c ≡ new.contents) → new.contents ≡ old.contents → SafeThroughout old new known (λ _. []) []
 keep_endures old new known time same = by_return old new known (λ _. []) [] time (λ backing m ok known_ok. subst (λ (c : List ℕ). StopOkEverywhere backing m (byte_at c)) (sym same) ok)
 
 -- one write of the storage that was done, and makes a step's change
-pub done_endures : (old new : StorageView) (s s' : DriverState) (given : Bytes → List GivenBytes) (asked : List ℕ) → Passing old new (λ c. c ≡ new.contents) → s.on_storage ≡ byte_at old.contents → s'.on_storage ≡ byte_at new.contents
+pub done_endures : (old new : StorageView) (s s' : DriverState) (given : Bytes → List GivenBytes) (asked : List ℕ) → EachMomentSince old new (λ c. c ≡ new.contents) → s.on_storage ≡ byte_at old.contents → s'.on_storage ≡ byte_at new.contents
     → SafeStep s s' given asked → SafeThroughout old new s.known given asked
 done_endures old new s s' given asked time is is' leads =
     by_return old new s.known given asked time (λ backing m ok known_ok.
     subst (λ (b : Bytes). StopOkEverywhere backing (checkpoint_with (given backing) asked m) b) is' (leads.on_storage backing m (subst (StopOkEverywhere backing m) (sym is) ok) known_ok))
 
 -- a write of data that was done, with its range and what it gives
-pub data_endures : (old new : StorageView) (s s' : DriverState) (offset : ℕ) (bytes : List ℕ) (given : Bytes → List GivenBytes) → Passing old new (λ c. c ≡ new.contents) → new.contents ≡ overwritten old.contents offset bytes
+pub data_endures : (old new : StorageView) (s s' : DriverState) (offset : ℕ) (bytes : List ℕ) (given : Bytes → List GivenBytes) → EachMomentSince old new (λ c. c ≡ new.contents) → new.contents ≡ overwritten old.contents offset bytes
     → s.on_storage ≡ byte_at old.contents → s'.on_storage ≡ byte_at new.contents → SafeStep s s' given [] → SafeThroughout old new s.known given []
 data_endures old new s s' offset bytes given time written is is' leads = done_endures old new s s' given [] time is is' leads
 

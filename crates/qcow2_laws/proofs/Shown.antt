@@ -49,12 +49,12 @@ module _ (s : DriverState) (sound : StateInvariant s) where
     -- no table is laid over them
     pub data_unlaid : (k : ℕ) → k < cluster_size s.header → s.on_storage (host + k) ≡ s.known (host + k)
     data_unlaid k lt =
-        sound.unlaid (host + k) (
+        sound.not_overlaid (host + k) (
         let here = in_one (cluster_size s.header) host k data_aligned lt in
         let named = data_named in
         let some = named_some s s sound (host / cluster_size s.header) g (omega arith) in
         let t = (tied s.header s.pending s.on_storage s.known (host / cluster_size s.header)).known in
-        subst (λ n. 0 < named_in_either s.header s.on_storage s.known n + s.pending.held n) (sym here) (omega arith))
+        subst (λ n. 0 < named_in_either s.header s.on_storage s.known n + s.pending.new_data n) (sym here) (omega arith))
 
   pub shown_data : (backing : Bytes) (o host : ℕ) (copied : Bool) → cover s.header s.known (o / cluster_size s.header) ≡ Data host copied
       → (disk s.known backing).value o ≡ known_byte (s.on_storage (host + o % cluster_size s.header))

@@ -3,15 +3,15 @@ use Rattle.std.proofs.Common.{inl, inr, [], ◌∷◌, ◌++◌, refl, sym, subs
 use Rattle.qcow2_metadata.specs.Header.{header}
 use Rattle.qcow2_laws.specs.Clusters.{L2DependsOnRb, RbDependsOnL2}
 use Rattle.qcow2_laws.specs.CrashInvariant.{CrashInvariant}
-use Rattle.qcow2_laws.specs.Changes.{one_at, with_held, with_fresh, without_spent, without_dropped}
+use Rattle.qcow2_laws.specs.Changes.{one_at, with_new_data, with_new_tables, without_old_tables, without_old_data}
 use Rattle.qcow2_laws.specs.Laws.{SoundIsConsistent, MixIsSafe, TableIsWritten, CountIsChanged, PendingIsChanged, EntryIsChanged, DataIsWritten, TableIsNamed, HeaderIsWritten, StepsCompose}
 use Rattle.qcow2_disk.proofs.Stops.{stop_of_kept, kept_more}
 use Rattle.qcow2_laws.proofs.Mixes.{mixed_guarded, turned_guarded}
 use Rattle.qcow2_laws.proofs.Consistency.{guarded_consistent, known_consistent}
 use Rattle.qcow2_laws.proofs.Opened.{opened_guarded}
 use Rattle.qcow2_laws.proofs.Values.{mixed_kept}
-use Rattle.qcow2_laws.proofs.Changes.{dropped_instead, spent_instead, never_named}
-use Rattle.qcow2_laws.proofs.Writes.{held_is_unnamed, fresh_is_unnamed, unused_is_unnamed, written_guarded, written_kept, written_known_kept}
+use Rattle.qcow2_laws.proofs.Changes.{old_data_instead, old_tables_instead, never_named}
+use Rattle.qcow2_laws.proofs.Writes.{new_data_is_unnamed, new_tables_is_unnamed, unused_is_unnamed, written_guarded, written_kept, written_known_kept}
 use Rattle.qcow2_laws.proofs.Blocks.{data_allocated, table_allocated, table_released, data_released, counts_kept, entry_set, entry_kept}
 use Rattle.qcow2_laws.proofs.NewTables.{l1_named, l1_named_kept, l1_named_known_kept}
 use Rattle.qcow2_laws.proofs.NewBlocks.{block_named, block_named_kept, block_named_known_kept, block_counts_itself, block_counts_itself_kept, block_counts_itself_known_kept}
@@ -50,45 +50,45 @@ table_is_written = record {
 
 pub count_is_changed : CountIsChanged
 count_is_changed = record {
-  data_allocated = λ s known' c sound is rises unlaid.
-      let now = data_allocated s.header s.direction s.pending s.on_storage s.known known' sound c rises.real rises.outside rises.more rises.free is unlaid in
+  data_allocated = λ s known' c sound is rises not_overlaid.
+      let now = data_allocated s.header s.direction s.pending s.on_storage s.known known' sound c rises.real rises.outside rises.more rises.free is not_overlaid in
       record {
-        sound = subst (λ d. CrashInvariant s.header d (with_held s.pending (one_at c)) s.on_storage known') (sym is) now;
+        sound = subst (λ d. CrashInvariant s.header d (with_new_data s.pending (one_at c)) s.on_storage known') (sym is) now;
         on_storage = λ backing m ok known_ok. ok;
-        known = λ backing m ok known_ok. counts_kept s.header s.direction s.pending s.on_storage s.known known' sound c rises.real rises.outside L2DependsOnRb (with_held s.pending (one_at c)) now backing m known_ok;
+        known = λ backing m ok known_ok. counts_kept s.header s.direction s.pending s.on_storage s.known known' sound c rises.real rises.outside L2DependsOnRb (with_new_data s.pending (one_at c)) now backing m known_ok;
       };
   table_allocated = λ s known' c sound rises.
       let now = table_allocated s.header s.direction s.pending s.on_storage s.known known' sound c rises.real rises.outside rises.more rises.free in
       record {
         sound = now;
         on_storage = λ backing m ok known_ok. ok;
-        known = λ backing m ok known_ok. counts_kept s.header s.direction s.pending s.on_storage s.known known' sound c rises.real rises.outside s.direction (with_fresh s.pending (one_at c)) now backing m known_ok;
+        known = λ backing m ok known_ok. counts_kept s.header s.direction s.pending s.on_storage s.known known' sound c rises.real rises.outside s.direction (with_new_tables s.pending (one_at c)) now backing m known_ok;
       };
   table_freed = λ s known' c sound falls some.
       let now = table_released s.header s.direction s.pending s.on_storage s.known known' sound c falls.real falls.outside falls.less some in
       record {
         sound = now;
         on_storage = λ backing m ok known_ok. ok;
-        known = λ backing m ok known_ok. counts_kept s.header s.direction s.pending s.on_storage s.known known' sound c falls.real falls.outside s.direction (without_spent s.pending (one_at c)) now backing m known_ok;
+        known = λ backing m ok known_ok. counts_kept s.header s.direction s.pending s.on_storage s.known known' sound c falls.real falls.outside s.direction (without_old_tables s.pending (one_at c)) now backing m known_ok;
       };
   data_freed = λ s known' c sound is falls some.
       let now = data_released s.header s.direction s.pending s.on_storage s.known known' sound c falls.real falls.outside falls.less is some in
       record {
-        sound = subst (λ d. CrashInvariant s.header d (without_dropped s.pending (one_at c)) s.on_storage known') (sym is) now;
+        sound = subst (λ d. CrashInvariant s.header d (without_old_data s.pending (one_at c)) s.on_storage known') (sym is) now;
         on_storage = λ backing m ok known_ok. ok;
-        known = λ backing m ok known_ok. counts_kept s.header s.direction s.pending s.on_storage s.known known' sound c falls.real falls.outside RbDependsOnL2 (without_dropped s.pending (one_at c)) now backing m known_ok;
+        known = λ backing m ok known_ok. counts_kept s.header s.direction s.pending s.on_storage s.known known' sound c falls.real falls.outside RbDependsOnL2 (without_old_data s.pending (one_at c)) now backing m known_ok;
       };
 }
 
 pub pending_is_changed : PendingIsChanged
 pending_is_changed = record {
-  dropped = λ s n sound few some. record {
-    sound = dropped_instead s.header s.direction s.pending s.on_storage s.known sound n few some;
+  old_data = λ s n sound few some. record {
+    sound = old_data_instead s.header s.direction s.pending s.on_storage s.known sound n few some;
     on_storage = λ backing m ok known_ok. ok;
     known = λ backing m ok known_ok. known_ok;
   };
   undone = λ s n sound few some. record {
-    sound = spent_instead s.header s.direction s.pending s.on_storage s.known sound n few some;
+    sound = old_tables_instead s.header s.direction s.pending s.on_storage s.known sound n few some;
     on_storage = λ backing m ok known_ok. ok;
     known = λ backing m ok known_ok. known_ok;
   };
@@ -101,10 +101,10 @@ pending_is_changed = record {
 
 pub entry_is_changed : EntryIsChanged
 entry_is_changed s known' i j given sound changes shows = record {
-  sound = entry_set s.header s.direction s.pending s.on_storage s.known known' sound i j changes.real changes.within changes.outside changes.entries changes.held changes.marked changes.aligned;
+  sound = entry_set s.header s.direction s.pending s.on_storage s.known known' sound i j changes.real changes.within changes.outside changes.entries changes.new_data changes.marked changes.aligned;
   on_storage = λ backing m ok known_ok. kept_more backing (given backing) [] m s.on_storage ok;
   known = λ backing m ok known_ok.
-      entry_kept s.header s.direction s.pending s.on_storage s.known known' sound i j changes.real changes.within changes.outside changes.entries changes.held changes.marked changes.aligned
+      entry_kept s.header s.direction s.pending s.on_storage s.known known' sound i j changes.real changes.within changes.outside changes.entries changes.new_data changes.marked changes.aligned
       backing m (given backing) (shows backing) known_ok;
 }
 
@@ -115,8 +115,8 @@ data_is_written = record {
     on_storage = λ backing m ok known_ok. written_kept s.header s.direction s.pending s.on_storage s.known on_storage' known' given sound writes backing m ok;
     known = λ backing m ok known_ok. written_known_kept s.header s.direction s.pending s.on_storage s.known on_storage' known' given sound writes backing m known_ok;
   };
-  held = λ s c sound some. held_is_unnamed s.header s.direction s.pending s.on_storage s.known sound c some;
-  fresh = λ s c sound some written. fresh_is_unnamed s.header s.direction s.pending s.on_storage s.known sound c some written;
+  new_data = λ s c sound some. new_data_is_unnamed s.header s.direction s.pending s.on_storage s.known sound c some;
+  new_tables = λ s c sound some written. new_tables_is_unnamed s.header s.direction s.pending s.on_storage s.known sound c some written;
   unused = λ s c sound known_none storage_none. unused_is_unnamed s.header s.direction s.pending s.on_storage s.known sound c known_none storage_none;
 }
 
@@ -127,10 +127,10 @@ table_is_named = record {
     on_storage = λ backing m ok known_ok. l1_named_kept s.header s.direction s.pending s.on_storage s.known on_storage' known' sound i entry writes new backing m ok;
     known = λ backing m ok known_ok. l1_named_known_kept s.header s.direction s.pending s.on_storage s.known on_storage' known' sound i entry writes new backing m known_ok;
   };
-  refblock = λ s on_storage' known' k entry sound writes new fresh counted written. record {
-    sound = block_named s.header s.direction s.pending s.on_storage s.known on_storage' known' sound k entry writes new fresh counted written;
-    on_storage = λ backing m ok known_ok. block_named_kept s.header s.direction s.pending s.on_storage s.known on_storage' known' sound k entry writes new fresh counted written backing m ok;
-    known = λ backing m ok known_ok. block_named_known_kept s.header s.direction s.pending s.on_storage s.known on_storage' known' sound k entry writes new fresh counted written backing m known_ok;
+  refblock = λ s on_storage' known' k entry sound writes new new_tables counted written. record {
+    sound = block_named s.header s.direction s.pending s.on_storage s.known on_storage' known' sound k entry writes new new_tables counted written;
+    on_storage = λ backing m ok known_ok. block_named_kept s.header s.direction s.pending s.on_storage s.known on_storage' known' sound k entry writes new new_tables counted written backing m ok;
+    known = λ backing m ok known_ok. block_named_known_kept s.header s.direction s.pending s.on_storage s.known on_storage' known' sound k entry writes new new_tables counted written backing m known_ok;
   };
   itself = λ s on_storage' known' k entry sound writes new range. record {
     sound = block_counts_itself s.header s.direction s.pending s.on_storage s.known on_storage' known' sound k entry writes new range;

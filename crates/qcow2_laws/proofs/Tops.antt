@@ -67,8 +67,8 @@ for_tables-top h b c cluster same =
     let by_l1 = l1_names-same h b c cluster same.l1 in
     omega arith
 
-pub sole-top : (h : HeaderFields) (b c : Bytes) (cluster : ℕ) → SameTop h b c → marked_by_l1_table h b cluster ≡ marked_by_l1_table h c cluster
-sole-top h b c cluster same = l1_marks-same h b c cluster same.l1
+pub copied_l1_refs-top : (h : HeaderFields) (b c : Bytes) (cluster : ℕ) → SameTop h b c → marked_by_l1_table h b cluster ≡ marked_by_l1_table h c cluster
+copied_l1_refs-top h b c cluster same = l1_marks-same h b c cluster same.l1
 
 pub IsTop-top : (h : HeaderFields) (b c : Bytes) → SameTop h b c → IsTop h b → IsTop h c
 IsTop-top h b c same top =

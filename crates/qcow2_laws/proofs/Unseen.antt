@@ -39,33 +39,33 @@ module _ (a b : DriverState) (header : KeepsFormat a.header b.header) (covers : 
   covers_then c then g = covers g ∙ covers_format a.header b.header header b.known c.known then g
 
   -- what guests used they still use
-  used_still : ((k : ℕ) → 0 < a.pending.held k → 0 < b.pending.held k) → (o : ℕ) → 0 < used_by_guests a (o / cluster_size a.header) → 0 < used_by_guests b (o / cluster_size b.header)
-  used_still held o some =
+  used_still : ((k : ℕ) → 0 < a.pending.new_data k → 0 < b.pending.new_data k) → (o : ℕ) → 0 < used_by_guests a (o / cluster_size a.header) → 0 < used_by_guests b (o / cluster_size b.header)
+  used_still new_data o some =
       let same = named_same a.header a.known b.known (o / cluster_size a.header) covers in
-      let still = held (o / cluster_size a.header) in
-      let used : 0 < over_guests a.header (names a.header b.known (o / cluster_size a.header)) + b.pending.held (o / cluster_size a.header) = grind arith in
+      let still = new_data (o / cluster_size a.header) in
+      let used : 0 < over_guests a.header (names a.header b.known (o / cluster_size a.header)) + b.pending.new_data (o / cluster_size a.header) = grind arith in
       let size : cluster_size a.header ≡ cluster_size b.header = sym (size_format a.header b.header header) in
       let is : over_guests b.header (names b.header b.known (o / cluster_size a.header)) ≡ over_guests a.header (names a.header b.known (o / cluster_size a.header)) =
       guests_format a.header b.header header b.known (o / cluster_size a.header) in
-      subst (λ (n : ℕ). 0 < over_guests b.header (names b.header b.known (o / n)) + b.pending.held (o / n)) size (omega (arith, is, used))
+      subst (λ (n : ℕ). 0 < over_guests b.header (names b.header b.known (o / n)) + b.pending.new_data (o / n)) size (omega (arith, is, used))
 
-pub unseen_then : (a b c : DriverState) → IsUnseen a b → IsUnseen b c → ((k : ℕ) → 0 < a.pending.held k → 0 < b.pending.held k) → IsUnseen a c
-unseen_then a b c first then held = record {
+pub unseen_then : (a b c : DriverState) → IsUnseen a b → IsUnseen b c → ((k : ℕ) → 0 < a.pending.new_data k → 0 < b.pending.new_data k) → IsUnseen a c
+unseen_then a b c first then new_data = record {
   header = format_then a.header b.header c.header first.header then.header;
   covers = covers_then a b first.header first.covers c then.covers;
-  bytes = λ o some. then.bytes o (used_still a b first.header first.covers held o some) ∙ first.bytes o some;
+  bytes = λ o some. then.bytes o (used_still a b first.header first.covers new_data o some) ∙ first.bytes o some;
 }
 
 -- the same, but for one cluster
 pub unseen_but : (n : ℕ) (old new : DriverState) → IsUnseen old new → IsUnseenBut n old new
 unseen_but n old new unseen = record { header = unseen.header; covers = unseen.covers; bytes = λ o other some. unseen.bytes o some }
 
-pub unseen_but_then : (n : ℕ) (a b c : DriverState) → IsUnseenBut n a b → IsUnseenBut n b c → ((k : ℕ) → 0 < a.pending.held k → 0 < b.pending.held k) → IsUnseenBut n a c
-unseen_but_then n a b c first then held = record {
+pub unseen_but_then : (n : ℕ) (a b c : DriverState) → IsUnseenBut n a b → IsUnseenBut n b c → ((k : ℕ) → 0 < a.pending.new_data k → 0 < b.pending.new_data k) → IsUnseenBut n a c
+unseen_but_then n a b c first then new_data = record {
   header = format_then a.header b.header c.header first.header then.header;
   covers = covers_then a b first.header first.covers c then.covers;
   bytes = λ o other some.
-      then.bytes o (λ e. other (ap (λ n. o / n) (sym (size_format a.header b.header first.header)) ∙ e)) (used_still a b first.header first.covers held o some)
+      then.bytes o (λ e. other (ap (λ n. o / n) (sym (size_format a.header b.header first.header)) ∙ e)) (used_still a b first.header first.covers new_data o some)
       ∙ first.bytes o other some;
 }
 
@@ -97,23 +97,23 @@ known_header s sound = (IsTop-top s.header s.on_storage s.known sound.same_top s
 
 module _ (old new : DriverState) (sound : StateInvariant old) where
   -- what guests use is named, on the storage or as known, or held
-  used_within : (c : ℕ) → 0 < used_by_guests old c → 0 < named_in_either old.header old.on_storage old.known c + old.pending.held c
+  used_within : (c : ℕ) → 0 < used_by_guests old c → 0 < named_in_either old.header old.on_storage old.known c + old.pending.new_data c
   used_within c some = let t = (tied old.header old.pending old.on_storage old.known c).known in omega arith
 
   -- in one cluster, where a table stands
   pub table_bytes : (c : ℕ) → 0 < named_for_tables old.header old.on_storage c → IsSameOutside (cluster_size old.header) c old.known new.known → SameUsedBytes old new
-  table_bytes c fixed outside o some =
+  table_bytes c table_refs outside o some =
       sym (outside o (λ e.
-      let apart = table_apart old.header old.direction old.pending old.on_storage old.known sound c fixed in
+      let apart = table_apart old.header old.direction old.pending old.on_storage old.known sound c table_refs in
       let within = used_within (o / cluster_size old.header) some in
-      let here = subst (λ n. 0 < named_in_either old.header old.on_storage old.known n + old.pending.held n) e within in
+      let here = subst (λ n. 0 < named_in_either old.header old.on_storage old.known n + old.pending.new_data n) e within in
       absurd (omega arith)))
 
   -- counts of one refblock change
   pub unseen_count : (c : ℕ) → new.header ≡ old.header → block_of old.header old.known c ≢ 0
       → IsSameOutside (cluster_size old.header) (block_of old.header old.known c / cluster_size old.header) old.known new.known → IsUnseen old new
   unseen_count c header real outside =
-      let fixed : 0 < named_for_tables old.header old.on_storage (block_of old.header old.known c / cluster_size old.header) =
+      let table_refs : 0 < named_for_tables old.header old.on_storage (block_of old.header old.known c / cluster_size old.header) =
       let e = for_tables-top old.header old.on_storage old.known (block_of old.header old.known c / cluster_size old.header) sound.same_top in
       let s = shares old.header old.known (block_of old.header old.known c / cluster_size old.header) in
       let one = block_has old.header old.known _ real in
@@ -121,13 +121,13 @@ module _ (old new : DriverState) (sound : StateInvariant old) where
       record {
         header = format_same old.header new.header header;
         covers = counted_covers old.header old.direction old.pending old.on_storage old.known new.known sound c real outside;
-        bytes = table_bytes (block_of old.header old.known c / cluster_size old.header) fixed outside;
+        bytes = table_bytes (block_of old.header old.known c / cluster_size old.header) table_refs outside;
       }
 
   -- ---- an entry of the reftable, or of the L1 table, is written
   once : (c : ℕ) → 0 < named_for_tables old.header old.on_storage c → (named_for_tables old.header old.on_storage c ≤ 1) × (named_for_tables old.header old.known c ≤ 1)
-  once c fixed =
-      let is = table_once old.header old.direction old.pending old.on_storage old.known sound c fixed in
+  once c table_refs =
+      let is = table_once old.header old.direction old.pending old.on_storage old.known sound c table_refs in
       let e = for_tables-top old.header old.on_storage old.known c sound.same_top in
       (omega arith, omega arith)
 
@@ -140,15 +140,15 @@ module _ (old new : DriverState) (sound : StateInvariant old) where
       let c = (old.header.reftable_offset + 8 * k) / cluster_size old.header in
       let has = reftable_has old.header k sizes sound.top.reftable_aligned writes.within in
       let parts = shares old.header old.on_storage ((old.header.reftable_offset + 8 * k) / cluster_size old.header) in
-      let fixed : 0 < named_for_tables old.header old.on_storage ((old.header.reftable_offset + 8 * k) / cluster_size old.header) = omega arith in
-      let single = once c fixed in
+      let table_refs : 0 < named_for_tables old.header old.on_storage ((old.header.reftable_offset + 8 * k) / cluster_size old.header) = omega arith in
+      let single = once c table_refs in
       let outside = outside_eight (cluster_size old.header) old.header.reftable_offset k old.on_storage new.on_storage sizes.whole sizes.some sound.top.reftable_aligned writes.others in
       let known_outside = outside_eight (cluster_size old.header) old.header.reftable_offset k old.known new.known sizes.whole sizes.some sound.top.reftable_aligned writes.known_others in
       let known_top = IsTop-top old.header old.on_storage old.known sound.same_top sound.top in (
         record {
           header = format_same old.header new.header header;
           covers = reftable_covers old.header old.known new.known known_top c (omega arith) single.1 (outside_same c old.known new.known known_outside);
-          bytes = table_bytes c fixed known_outside;
+          bytes = table_bytes c table_refs known_outside;
         },
         (λ i. sym (reftable_l1 old.header old.on_storage new.on_storage sound.top c (omega arith) single.0 (outside_same c old.on_storage new.on_storage outside) i)),
       )
@@ -168,22 +168,22 @@ module _ (old new : DriverState) (sound : StateInvariant old) where
 
   -- ---- bytes are written to clusters that nothing names, and that aren't held
   module _ (each : (c : ℕ) → (SameIn (cluster_size old.header) c old.on_storage new.on_storage × SameIn (cluster_size old.header) c old.known new.known)
-      ⊎ (IsUnnamed old.header old.on_storage old.known c × (old.pending.held c ≡ 0))) where
+      ⊎ (IsUnnamed old.header old.on_storage old.known c × (old.pending.new_data c ≡ 0))) where
     tables_stay : (c : ℕ) → 0 < named_for_tables old.header old.on_storage c → SameIn (cluster_size old.header) c old.on_storage new.on_storage × SameIn (cluster_size old.header) c old.known new.known
-    tables_stay c fixed = elim (each c) [ inl same ↦ same | inr free ↦ absurd (omega (arith, fixed, free.0.no_table)) ]
+    tables_stay c table_refs = elim (each c) [ inl same ↦ same | inr free ↦ absurd (omega (arith, table_refs, free.0.no_table)) ]
 
     pub unseen_written : new.header ≡ old.header → IsUnseen old new × SameL1Table old new
     unseen_written header =
         let known_top = IsTop-top old.header old.on_storage old.known sound.same_top sound.top in (
           record {
             header = format_same old.header new.header header;
-            covers = covers_stay old.header old.known new.known known_top (λ c fixed. (tables_stay c (let e = for_tables-top old.header old.on_storage old.known c sound.same_top in omega arith)).1);
+            covers = covers_stay old.header old.known new.known known_top (λ c table_refs. (tables_stay c (let e = for_tables-top old.header old.on_storage old.known c sound.same_top in omega arith)).1);
             bytes = λ o some. elim (each (o / cluster_size old.header)) [
               | inl same ↦ sym (same.1 o refl)
               | inr free ↦ absurd (let within = used_within (o / cluster_size old.header) some in let none = free.0.no_entry in let unheld = free.1 in omega arith)
             ];
           },
-          (λ i. sym ((top_stays old.header old.on_storage new.on_storage sound.top (λ c fixed. (tables_stay c fixed).0)).l1 i)),
+          (λ i. sym ((top_stays old.header old.on_storage new.on_storage sound.top (λ c table_refs. (tables_stay c table_refs).0)).l1 i)),
         )
 
   -- ---- bytes are written to one cluster that no table stands in
@@ -202,21 +202,21 @@ module _ (old new : DriverState) (sound : StateInvariant old) where
       )
 
   -- ---- what is held for guests stays where only bytes of other clusters change, on the storage and as known
-  module _ (sound' : StateInvariant new) (header : KeepsFormat old.header new.header) (k : ℕ) (held : 0 < old.pending.held k) (still : 0 < new.pending.held k) where
-    pub held_stays_but : (c : ℕ) → k ≢ c → SameUsedBytesBut c old new → SameIn (cluster_size old.header) k old.on_storage new.on_storage × SameIn (cluster_size old.header) k old.known new.known
-    held_stays_but c other bytes =
+  module _ (sound' : StateInvariant new) (header : KeepsFormat old.header new.header) (k : ℕ) (new_data : 0 < old.pending.new_data k) (still : 0 < new.pending.new_data k) where
+    pub new_data_stays_but : (c : ℕ) → k ≢ c → SameUsedBytesBut c old new → SameIn (cluster_size old.header) k old.on_storage new.on_storage × SameIn (cluster_size old.header) k old.known new.known
+    new_data_stays_but c other bytes =
         let known : SameIn (cluster_size old.header) k old.known new.known = λ o in_k.
-        let held_here : 0 < old.pending.held (o / cluster_size old.header) = subst (λ n. 0 < old.pending.held n) (sym in_k) held in
+        let new_data_here : 0 < old.pending.new_data (o / cluster_size old.header) = subst (λ n. 0 < old.pending.new_data n) (sym in_k) new_data in
         sym (bytes o (λ e. other (sym in_k ∙ e)) (omega arith)) in (
           (λ o in_k.
-              let held_here : 0 < old.pending.held (o / cluster_size old.header) = subst (λ n. 0 < old.pending.held n) (sym in_k) held in
-              let still_here : 0 < new.pending.held (o / cluster_size new.header) = subst (λ n. 0 < new.pending.held n) (sym (ap (λ n. o / n) (size_format old.header new.header header) ∙ in_k)) still in
-              sound.unlaid o (omega arith) ∙ known o in_k ∙ sym (sound'.unlaid o (omega arith))),
+              let new_data_here : 0 < old.pending.new_data (o / cluster_size old.header) = subst (λ n. 0 < old.pending.new_data n) (sym in_k) new_data in
+              let still_here : 0 < new.pending.new_data (o / cluster_size new.header) = subst (λ n. 0 < new.pending.new_data n) (sym (ap (λ n. o / n) (size_format old.header new.header header) ∙ in_k)) still in
+              sound.not_overlaid o (omega arith) ∙ known o in_k ∙ sym (sound'.not_overlaid o (omega arith))),
           known,
         )
 
-    pub held_stays : SameUsedBytes old new → SameIn (cluster_size old.header) k old.on_storage new.on_storage × SameIn (cluster_size old.header) k old.known new.known
-    held_stays bytes = held_stays_but (k + 1) (omega arith) (λ o other some. bytes o some)
+    pub new_data_stays : SameUsedBytes old new → SameIn (cluster_size old.header) k old.on_storage new.on_storage × SameIn (cluster_size old.header) k old.known new.known
+    new_data_stays bytes = new_data_stays_but (k + 1) (omega arith) (λ o other some. bytes o some)
 
   -- ---- the guest's disk stays
   -- what a guest cluster names is named

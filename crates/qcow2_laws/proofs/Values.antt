@@ -65,7 +65,7 @@ kept_shown h backing m given b b' is is' consistent values kept =
     kept_on backing m given [] b b' consistent (inl (size_is h b' backing is' ∙ sym (size_is h b backing is)))
     (λ o. elim (values o) [
       | inl same ↦ inl (value_is h b' backing o is' ∙ same ∙ sym (value_is h b backing o is))
-      | inr gift ↦ inr (subst (λ v. IsGiven given o v) (sym (value_is h b' backing o is')) gift)
+      | inr bytes_given ↦ inr (subst (λ v. IsGiven given o v) (sym (value_is h b' backing o is')) bytes_given)
     ]) kept
 
 -- ---- a mix of what is on the storage and what is known
@@ -82,11 +82,11 @@ module _ (h : HeaderFields) (d : Direction) (p : Pending) (on_storage known b : 
   -- where a guest cluster names a cluster on the storage, or as known, no table is laid over it
   unlaid_storage : (g place : ℕ) → 0 < names h on_storage (place / cluster_size h) g → on_storage place ≡ known place
   unlaid_storage g place some =
-      guarded.unlaid place (let le = guest_le h (λ k. max (names h on_storage (place / cluster_size h) k) (names h known (place / cluster_size h) k)) g (names_within h on_storage (place / cluster_size h) g sizes some) in omega arith)
+      guarded.not_overlaid place (let le = guest_le h (λ k. max (names h on_storage (place / cluster_size h) k) (names h known (place / cluster_size h) k)) g (names_within h on_storage (place / cluster_size h) g sizes some) in omega arith)
 
   unlaid_known : (g place : ℕ) → 0 < names h known (place / cluster_size h) g → on_storage place ≡ known place
   unlaid_known g place some =
-      guarded.unlaid place (let le = guest_le h (λ k. max (names h on_storage (place / cluster_size h) k) (names h known (place / cluster_size h) k)) g (names_within h known (place / cluster_size h) g sizes some) in omega arith)
+      guarded.not_overlaid place (let le = guest_le h (λ k. max (names h on_storage (place / cluster_size h) k) (names h known (place / cluster_size h) k)) g (names_within h known (place / cluster_size h) g sizes some) in omega arith)
 
   either_value : (backing : Bytes) (o : ℕ) → (guest_value h b b backing o ≡ guest_value h on_storage on_storage backing o) ⊎ (guest_value h b b backing o ≡ guest_value h known known backing o)
   either_value backing o =

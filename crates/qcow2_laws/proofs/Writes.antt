@@ -17,10 +17,10 @@ use Rattle.qcow2_laws.specs.Clusters.{Direction, Neither, L2DependsOnRb, RbDepen
 use Rattle.qcow2_laws.specs.Guests.{over_guests, names, marks, named_in_either, marked_by_cover}
 use Rattle.qcow2_laws.specs.CrashInvariant.{Pending, cluster, CrashInvariant, SameTop, SameCovers, SameCounts, SameIn}
 use Rattle.qcow2_laws.specs.Writes.{IsUnnamed, IsWritten}
-use Rattle.qcow2_laws.proofs.Clusters.{Good, Written, held_unnamed, fresh_unnamed, unused_unnamed, named_once}
+use Rattle.qcow2_laws.proofs.Clusters.{Good, Written, new_data_unnamed, new_tables_unnamed, unused_unnamed, named_once}
 use Rattle.qcow2_laws.proofs.Places.{Sizes, Sizes-from, in_one}
 use Rattle.qcow2_laws.proofs.Guests.{over_guests-same, guest_le, two_guests_le, names_within, marks-le}
-use Rattle.qcow2_laws.proofs.Tops.{SameTop-sym, SameTop-trans, for_tables-top, sole-top, IsTop-top}
+use Rattle.qcow2_laws.proofs.Tops.{SameTop-sym, SameTop-trans, for_tables-top, copied_l1_refs-top, IsTop-top}
 use Rattle.qcow2_laws.proofs.Mixes.{tied, good, as_known}
 use Rattle.qcow2_laws.proofs.Consistency.{in_own, guarded_consistent, known_consistent}
 use Rattle.qcow2_laws.proofs.Shares.{top_stays, covers_stay, counts_stay}
@@ -30,14 +30,14 @@ use Rattle.qcow2_laws.proofs.Values.{shown, kept_shown}
 module _ (h : HeaderFields) (d : Direction) (p : Pending) (on_storage known on_storage' known' : Bytes) (guarded : CrashInvariant h d p on_storage known)
     (top : SameTop h on_storage on_storage') (known_top : SameTop h known known') (covers : SameCovers h on_storage on_storage') (known_covers : SameCovers h known known')
     (counts : SameCounts h on_storage on_storage') (known_counts : SameCounts h known known')
-    (unlaid : (o : ℕ) → 0 < named_in_either h on_storage known (o / cluster_size h) + p.held (o / cluster_size h) → on_storage' o ≡ known' o) where
+    (not_overlaid : (o : ℕ) → 0 < named_in_either h on_storage known (o / cluster_size h) + p.new_data (o / cluster_size h) → on_storage' o ≡ known' o) where
   either_same : (f : L2Mapping → ℕ) → over_guests h (λ g. max (f (cover h on_storage' g)) (f (cover h known' g))) ≡ over_guests h (λ g. max (f (cover h on_storage g)) (f (cover h known g)))
   either_same f = over_guests-same h _ _ (λ g. ap (λ v. max (f v) (f (cover h known' g))) (sym (covers g)) ∙ ap (λ v. max (f (cover h on_storage g)) (f v)) (sym (known_covers g)))
 
   good_too : (c : ℕ) → Good d (cluster h p on_storage' known' c) (p.surplus c)
   good_too c =
-      let fixed = for_tables-top h on_storage on_storage' c top in
-      let sole = sole-top h on_storage on_storage' c top in
+      let table_refs = for_tables-top h on_storage on_storage' c top in
+      let copied_l1_refs = copied_l1_refs-top h on_storage on_storage' c top in
       let in_storage = over_guests-same h (names h on_storage c) (names h on_storage' c) (λ g. ap (named_by_cover h c) (covers g)) in
       let in_known = over_guests-same h (names h known c) (names h known' c) (λ g. ap (named_by_cover h c) (known_covers g)) in
       let in_either = sym (either_same (named_by_cover h c)) in
@@ -45,8 +45,8 @@ module _ (h : HeaderFields) (d : Direction) (p : Pending) (on_storage known on_s
       let marks_known = over_guests-same h (marks h known c) (marks h known' c) (λ g. ap (marked_by_cover h c) (known_covers g)) in
       let marks_either = sym (either_same (marked_by_cover h c)) in
       subst (λ k. Good d k (p.surplus c)) (λ j. record (cluster h p on_storage' known' c) {
-        fixed = fixed j;
-        sole = sole j;
+        table_refs = table_refs j;
+        copied_l1_refs = copied_l1_refs j;
         in_storage = in_storage j;
         in_known = in_known j;
         in_either = in_either j;
@@ -61,20 +61,20 @@ module _ (h : HeaderFields) (d : Direction) (p : Pending) (on_storage known on_s
   same_guarded = record {
     top = IsTop-top h on_storage on_storage' top guarded.top;
     same_top = SameTop-trans h on_storage' on_storage known' (SameTop-sym h on_storage on_storage' top) (SameTop-trans h on_storage known known' guarded.same_top known_top);
-    always = λ c. (good_too c).always;
+    each_cluster = λ c. (good_too c).each_cluster;
     ordered = λ c. (good_too c).ordered;
     aligned = λ g. subst (CoverIsAligned h) (covers g) (guarded.aligned g);
     known_aligned = λ g. subst (CoverIsAligned h) (known_covers g) (guarded.known_aligned g);
     own = λ g c some.
         subst (λ v. named_by_cover h c v ≤ marked_by_cover h c v) (covers g) (guarded.own g c (subst (λ v. 0 < marked_by_cover h c v) (sym (known_covers g)) some));
-    unlaid = λ o some. unlaid o (let e = either_same (named_by_cover h (o / cluster_size h)) in omega arith);
+    not_overlaid = λ o some. not_overlaid o (let e = either_same (named_by_cover h (o / cluster_size h)) in omega arith);
   }
 
 -- ---- what is pending, or counted nowhere, is unnamed
 module _ (h : HeaderFields) (d : Direction) (p : Pending) (on_storage known : Bytes) (guarded : CrashInvariant h d p on_storage known) (c : ℕ) where
-  pub held_is_unnamed : 0 < p.held c → IsUnnamed h on_storage known c
-  held_is_unnamed some =
-      let none = held_unnamed d (cluster h p on_storage known c) (p.surplus c) (tied h p on_storage known c) some (good h d p on_storage known guarded c) in
+  pub new_data_is_unnamed : 0 < p.new_data c → IsUnnamed h on_storage known c
+  new_data_is_unnamed some =
+      let none = new_data_unnamed d (cluster h p on_storage known c) (p.surplus c) (tied h p on_storage known c) some (good h d p on_storage known guarded c) in
       record { no_table = none.1; no_entry = none.0 }
 
   -- where what is known of entries is on the storage, no mix has more
@@ -88,15 +88,15 @@ module _ (h : HeaderFields) (d : Direction) (p : Pending) (on_storage known : By
           (as_known h known on_storage (λ k. sym (covers refl k)) (named_by_cover h c), as_known h known on_storage (λ k. sym (covers refl k)) (marked_by_cover h c))
 
   -- a fresh cluster may still be named by an entry on the storage, unless L2 tables are written
-  pub fresh_is_unnamed : 0 < p.fresh c → (d ≡ RbDependsOnL2 → SameCovers h on_storage known) → IsUnnamed h on_storage known c
-  fresh_is_unnamed some covers =
-      let none = fresh_unnamed d (cluster h p on_storage known c) (p.surplus c) (tied h p on_storage known c) some (written_covers covers) (good h d p on_storage known guarded c) in
+  pub new_tables_is_unnamed : 0 < p.new_tables c → (d ≡ RbDependsOnL2 → SameCovers h on_storage known) → IsUnnamed h on_storage known c
+  new_tables_is_unnamed some covers =
+      let none = new_tables_unnamed d (cluster h p on_storage known c) (p.surplus c) (tied h p on_storage known c) some (written_covers covers) (good h d p on_storage known guarded c) in
       record { no_table = none.1; no_entry = none.0 }
 
   pub unused_is_unnamed : count h known c ≡ 0 → count h on_storage c ≡ 0 → IsUnnamed h on_storage known c
   unused_is_unnamed known_none storage_none =
       let none = unused_unnamed d (cluster h p on_storage known c) (p.surplus c) (tied h p on_storage known c) known_none storage_none (good h d p on_storage known guarded c) in
-      record { no_table = let t = (guarded.always c).tally in omega arith; no_entry = none }
+      record { no_table = let t = (guarded.each_cluster c).tally in omega arith; no_entry = none }
 
   pub marked_alone : (g : ℕ) → 0 < marks h known c g → (named_for_tables h on_storage c ≡ 0) × (named_in_either h on_storage known c ≤ 1)
   marked_alone g some =
@@ -105,9 +105,9 @@ module _ (h : HeaderFields) (d : Direction) (p : Pending) (on_storage known : By
       let inside = names_within h known c g sizes (omega arith) in
       let in_sum = guest_le h (marks h known c) g inside in
       let in_either = guest_le h (λ k. max (names h on_storage c k) (names h known c k)) g inside in
-      let table = (guarded.always c).table in
+      let table = (guarded.each_cluster c).table in
       let once = named_once d (cluster h p on_storage known c) (p.surplus c) (tied h p on_storage known c) (omega arith) (good h d p on_storage known guarded c) in
-      (elim (cases_lt 0 (named_for_tables h on_storage c)) [ inl fixed ↦ absurd (let t = table fixed in omega arith) | inr none ↦ omega arith ], once)
+      (elim (cases_lt 0 (named_for_tables h on_storage c)) [ inl table_refs ↦ absurd (let t = table table_refs in omega arith) | inr none ↦ omega arith ], once)
 
 -- ---- a value that is as before, or given
 shown_given : (h : HeaderFields) (b b' backing : Bytes) (o : ℕ) (given : List GivenBytes) (v : L2Mapping) → CoverIsAligned h v
@@ -124,7 +124,7 @@ shown_given h b b' backing o given (Data host copied) aligned each =
     let rest : (host + o % cluster_size h) % cluster_size h ≡ o % cluster_size h = ap (λ n. n % cluster_size h) e ∙ mod-mul-add (host / cluster_size h) (cluster_size h) (o % cluster_size h) below in
     elim (each place (let one : in_cluster h ((host + o % cluster_size h) / cluster_size h) host ≡ 1 = ap (λ n. in_cluster h n host) inside ∙ in_own h host in omega arith)) [
       | inl same ↦ inl (ap known_byte (sym same))
-      | inr change ↦ elim (change.1 rest) [ inl same ↦ inl (ap known_byte (sym same)) | inr gift ↦ inr gift ]
+      | inr change ↦ elim (change.1 rest) [ inl same ↦ inl (ap known_byte (sym same)) | inr bytes_given ↦ inr bytes_given ]
     ]
 shown_given h b b' backing o given (Zero kept) aligned each = inl refl
 shown_given h b b' backing o given (Compressed host sectors) aligned each =
@@ -140,7 +140,7 @@ guest_given h b b' backing o given same aligned each =
     let e : value_under h b' b' backing o (cover h b (o / cluster_size h)) ≡ value_under h b' b' backing o (cover h b' (o / cluster_size h)) = ap (λ v. value_under h b' b' backing o v) same in
     elim (shown_given h b b' backing o given (cover h b (o / cluster_size h)) aligned each) [
       | inl is ↦ inl (sym e ∙ is)
-      | inr gift ↦ inr (subst (λ (v : Value). IsGiven given o v) e gift)
+      | inr bytes_given ↦ inr (subst (λ (v : Value). IsGiven given o v) e bytes_given)
     ]
 
 -- ---- a write of data
@@ -176,7 +176,7 @@ module _ (h : HeaderFields) (d : Direction) (p : Pending) (on_storage known on_s
       same_guarded h d p on_storage known on_storage' known' guarded
       (top_stays h on_storage on_storage' guarded.top storage_stays) (top_stays h known known' known_top known_stays) now_covers known_covers
       (counts_stay h on_storage on_storage' guarded.top storage_stays) (counts_stay h known known' known_top known_stays)
-      (λ o some. written.agree o (guarded.unlaid o some))
+      (λ o some. written.agree o (guarded.not_overlaid o some))
 
   -- a cluster that a guest cluster has to itself is named by no other
   pub its_own : (c g g' : ℕ) → 0 < marks h known c g → 0 < names h on_storage c g' + names h known c g' → g ≡ g'
@@ -199,11 +199,11 @@ module _ (h : HeaderFields) (d : Direction) (p : Pending) (on_storage known on_s
   ]
 
   -- what was given for a guest cluster that has the place to itself
-  gift_at : (place o g : ℕ) → g ≡ o / cluster_size h → place % cluster_size h ≡ o % cluster_size h → IsGiven given (g * cluster_size h + place % cluster_size h) (known_byte (known' place)) → IsGiven given o (known_byte (known' place))
-  gift_at place o g here rest gift =
+  given_at : (place o g : ℕ) → g ≡ o / cluster_size h → place % cluster_size h ≡ o % cluster_size h → IsGiven given (g * cluster_size h + place % cluster_size h) (known_byte (known' place)) → IsGiven given o (known_byte (known' place))
+  given_at place o g here rest bytes_given =
       let is : o / cluster_size h * cluster_size h + o % cluster_size h ≡ o = div-add-mod' o (cluster_size h) in
       let e : g * cluster_size h + place % cluster_size h ≡ o = ap (λ n. n * cluster_size h + place % cluster_size h) here ∙ ap (λ n. o / cluster_size h * cluster_size h + n) rest ∙ is in
-      subst (λ n. IsGiven given n (known_byte (known' place))) e gift
+      subst (λ n. IsGiven given n (known_byte (known' place))) e bytes_given
 
   storage_place : (o place : ℕ) → 0 < names h on_storage (place / cluster_size h) (o / cluster_size h)
       → (on_storage place ≡ on_storage' place) ⊎ ((0 < marks h on_storage (place / cluster_size h) (o / cluster_size h)) × (place % cluster_size h ≡ o % cluster_size h → (on_storage place ≡ on_storage' place) ⊎ IsGiven given o (known_byte (on_storage' place))))
@@ -215,12 +215,12 @@ module _ (h : HeaderFields) (d : Direction) (p : Pending) (on_storage known on_s
           let here = its_own (place / cluster_size h) at.guest (o / cluster_size h) at.marked (omega arith) in
           let marked : 0 < marks h known (place / cluster_size h) (o / cluster_size h) = subst (λ n. 0 < marks h known (place / cluster_size h) n) here at.marked in
           let owns = guarded.own (o / cluster_size h) (place / cluster_size h) marked in
-          let both : on_storage' place ≡ known' place = written.agree place (guarded.unlaid place (let n = named_too (place / cluster_size h) (o / cluster_size h) (omega arith) in omega arith)) in
+          let both : on_storage' place ≡ known' place = written.agree place (guarded.not_overlaid place (let n = named_too (place / cluster_size h) (o / cluster_size h) (omega arith) in omega arith)) in
           inr (
             omega arith,
             (λ rest. elim (at.gives place refl) [
               | inl same ↦ inl same.0
-              | inr gift ↦ inr (subst (λ n. IsGiven given o (known_byte n)) (sym both) (gift_at place o at.guest here rest gift))
+              | inr bytes_given ↦ inr (subst (λ n. IsGiven given o (known_byte n)) (sym both) (given_at place o at.guest here rest bytes_given))
             ]),
           )
     ]
@@ -239,7 +239,7 @@ module _ (h : HeaderFields) (d : Direction) (p : Pending) (on_storage known on_s
             marked,
             (λ rest. elim (at.gives place refl) [
               | inl same ↦ inl same.1
-              | inr gift ↦ inr (gift_at place o at.guest here rest gift)
+              | inr bytes_given ↦ inr (given_at place o at.guest here rest bytes_given)
             ]),
           )
     ]

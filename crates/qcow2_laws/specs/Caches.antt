@@ -80,5 +80,5 @@ pub record UnseenTableWrite (h : HeaderFields) (d : Direction) (p : Pending) (l2
   pub safe : IsSafeBetween on_storage (known_bytes (cluster_size h) l2s rbs on_storage) on_storage'
 
 -- no refblock is modified that nothing names yet
-abbrev pub AreSettled : HeaderFields → List CachedTable → Bytes → Type 0
-AreSettled h rbs on_storage = (c : ℕ) → IsFreeOf (cluster_size h) rbs c ⊎ HasBlock h on_storage c
+abbrev pub AreNamedBlocks : HeaderFields → List CachedTable → Bytes → Type 0
+AreNamedBlocks h rbs on_storage = (c : ℕ) → IsFreeOf (cluster_size h) rbs c ⊎ HasBlock h on_storage c

@@ -7,7 +7,7 @@ use Rattle.qcow2_metadata.specs.Entries.{l1_entry, reftable_entry, count, block_
 use Rattle.qcow2_metadata.specs.Cover.{cover}
 use Rattle.qcow2_metadata.specs.Named.{named_for_tables}
 use Rattle.qcow2_metadata.specs.Consistent.{CoverIsAligned, IsAligned}
-use Rattle.qcow2_laws.specs.Clusters.{Direction, Neither, L2DependsOnRb, RbDependsOnL2, Cluster, Always, Ordered}
+use Rattle.qcow2_laws.specs.Clusters.{Direction, Neither, L2DependsOnRb, RbDependsOnL2, Cluster, ClusterInvariant, Ordered}
 use Rattle.qcow2_laws.specs.Guests.{over_guests, names, marks, named_in_either, table_at, marked_by_l1_table}
 
 -- header, L1 table and reftable read, and tables are aligned
@@ -38,17 +38,17 @@ SameCounts h b c = (cluster : ℕ) → count h b cluster ≡ count h c cluster
 
 -- clusters that a call or the image holds and no table names, by kind, and how much more than all this each is counted
 pub record Pending : Type 0 where
-  pub held : ℕ → ℕ
-  pub fresh : ℕ → ℕ
-  pub spent : ℕ → ℕ
-  pub dropped : ℕ → ℕ
+  pub new_data : ℕ → ℕ
+  pub new_tables : ℕ → ℕ
+  pub old_tables : ℕ → ℕ
+  pub old_data : ℕ → ℕ
   pub surplus : ℕ → ℕ
 
 -- on_storage is what is on the storage, known what is there with the modified tables laid over
 abbrev pub cluster : HeaderFields → Pending → Bytes → Bytes → ℕ → Cluster
 cluster h p on_storage known c = record {
-  fixed = named_for_tables h on_storage c;
-  sole = marked_by_l1_table h on_storage c;
+  table_refs = named_for_tables h on_storage c;
+  copied_l1_refs = marked_by_l1_table h on_storage c;
   in_storage = over_guests h (names h on_storage c);
   in_known = over_guests h (names h known c);
   in_either = named_in_either h on_storage known c;
@@ -57,23 +57,23 @@ cluster h p on_storage known c = record {
   marks_either = over_guests h (λ g. max (marks h on_storage c g) (marks h known c g));
   storage_count = count h on_storage c;
   known_count = count h known c;
-  held = p.held c;
-  fresh = p.fresh c;
-  spent = p.spent c;
-  dropped = p.dropped c;
+  new_data = p.new_data c;
+  new_tables = p.new_tables c;
+  old_tables = p.old_tables c;
+  old_data = p.old_data c;
 }
 
 pub record CrashInvariant (h : HeaderFields) (d : Direction) (p : Pending) (on_storage known : Bytes) : Type 0 where
   pub top : IsTop h on_storage
   pub same_top : SameTop h on_storage known
-  pub always : (c : ℕ) → Always (cluster h p on_storage known c) (p.surplus c)
+  pub each_cluster : (c : ℕ) → ClusterInvariant (cluster h p on_storage known c) (p.surplus c)
   pub ordered : (c : ℕ) → Ordered d (cluster h p on_storage known c)
   pub aligned : (g : ℕ) → CoverIsAligned h (cover h on_storage g)
   pub known_aligned : (g : ℕ) → CoverIsAligned h (cover h known g)
   -- where a guest cluster has a host cluster to itself, its entry on the storage has it so too, or doesn't name it
   pub own : (g c : ℕ) → 0 < marks h known c g → names h on_storage c g ≤ marks h on_storage c g
   -- no table is laid over what entries name, or what is held for them
-  pub unlaid : (o : ℕ) → 0 < named_in_either h on_storage known (o / cluster_size h) + p.held (o / cluster_size h) → on_storage o ≡ known o
+  pub not_overlaid : (o : ℕ) → 0 < named_in_either h on_storage known (o / cluster_size h) + p.new_data (o / cluster_size h) → on_storage o ≡ known o
 
 -- the same bytes in a cluster
 abbrev pub SameIn : ℕ → ℕ → Bytes → Bytes → Type 0

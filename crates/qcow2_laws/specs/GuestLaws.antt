@@ -1,6 +1,6 @@
 -- The laws of what guests see while steps are made: where tables move, and between flushes.
 use Rattle.std.specs.Prelude.{ℕ, zero, suc, ◌+◌, ◌*◌, ◌/◌, ◌%◌, ◌<◌, ◌≤◌, ◌≡◌, ◌≢◌, Bool, true, false, List, [], ◌∷◌, length, Some, if◌then◌else◌}
-use Rattle.image_access.specs.Moments.{StorageView, Passing}
+use Rattle.image_access.specs.Moments.{StorageView, EachMomentSince}
 use Rattle.qcow2_metadata.specs.Bytes.{Bytes, byte_at}
 use Rattle.qcow2_metadata.specs.Header.{header, cluster_size}
 use Rattle.qcow2_metadata.specs.Cover.{cover}
@@ -10,7 +10,7 @@ use Rattle.qcow2_metadata.specs.declared.l2_mapping.L2Mapping.{L2Mapping}
 use Rattle.qcow2_metadata.specs.declared.l2_mapping.L2Mapping.TheVariants.{Data, Zero, Compressed, Uncovered}
 use Rattle.qcow2_disk.specs.Disk.{Disk, disk, with_bytes, zeroed_between, uncovered}
 use Rattle.qcow2_disk.specs.Stops.{GivenBytes, IsGiven, Checkpoint, checkpoint_with, StopOkEverywhere}
-use Rattle.qcow2_disk.specs.Mappings.{gift_of, gift_shown}
+use Rattle.qcow2_disk.specs.Mappings.{given_of, given_shown}
 use Rattle.qcow2_laws.specs.Guests.{names}
 use Rattle.qcow2_laws.specs.CrashInvariant.{SameCovers, SameIn}
 use Rattle.qcow2_laws.specs.Steps.{guest_at, EntryChanges}
@@ -53,7 +53,7 @@ SizeStaysUnlessAsked =
 
 -- each moment of a storage since has this size
 abbrev pub HasSizeSince : StorageView → StorageView → ℕ → Type 0
-HasSizeSince old new size = Passing old new (λ c. (header (byte_at c)).size ≡ size)
+HasSizeSince old new size = EachMomentSince old new (λ c. (header (byte_at c)).size ≡ size)
 
 -- ---- several guest clusters in turn
 
@@ -83,7 +83,7 @@ IsZeros Uncovered = ⊥
 
 -- It gives what the range shows then, and this is what the disk shows there: nothing else of it changes.
 pub record ClearsRange (first n : ℕ) (old new : DriverState) (now : Bytes → Disk → ℕ → ℕ → Disk) : Type 0 where
-  pub leads : SafeStep old new (λ backing. gift_shown (disk new.known backing) (first * cluster_size old.header) ((first + n) * cluster_size old.header) ∷ []) []
+  pub leads : SafeStep old new (λ backing. given_shown (disk new.known backing) (first * cluster_size old.header) ((first + n) * cluster_size old.header) ∷ []) []
   pub shows : (backing : Bytes) → disk new.known backing ≡ now backing (disk old.known backing) (first * cluster_size old.header) ((first + n) * cluster_size old.header)
 
 -- Guest clusters that are zeroed or uncovered in turn are a range of the disk that is.
@@ -97,7 +97,7 @@ pub record ClustersInTurnAreARange : Type 0 where
 pub record KeptClusterIsWritten : Type 0 where
   pub bytes : (s : DriverState) (on_storage' known' : Bytes) (g host at : ℕ) (bytes : List ℕ) → StateInvariant s → cover s.header s.known g ≡ Zero (Some (host, true)) → at + length bytes ≤ cluster_size s.header
       → WritesAt (host + at) (length bytes) s.on_storage s.known on_storage' known' → ((i : ℕ) → i < length bytes → on_storage' (host + at + i) ≡ byte_at bytes i)
-      → SafeStep s (record s { on_storage = on_storage'; known = known' }) (λ _. gift_of (g * cluster_size s.header + at) bytes ∷ []) [] × ((backing : Bytes) → disk known' backing ≡ disk s.known backing)
+      → SafeStep s (record s { on_storage = on_storage'; known = known' }) (λ _. given_of (g * cluster_size s.header + at) bytes ∷ []) [] × ((backing : Bytes) → disk known' backing ≡ disk s.known backing)
   pub zeros : (s : DriverState) (on_storage' known' : Bytes) (g host at : ℕ) (bytes : List ℕ) → StateInvariant s → cover s.header s.known g ≡ Zero (Some (host, true)) → at + length bytes ≤ cluster_size s.header
       → WritesAt (host + at) (length bytes) s.on_storage s.known on_storage' known' → ((i : ℕ) → i < length bytes → on_storage' (host + at + i) ≡ byte_at bytes i) → ((i : ℕ) → i < length bytes → byte_at bytes i ≡ 0)
       → SafeStep s (record s { on_storage = on_storage'; known = known' }) (λ _. []) []
@@ -108,7 +108,7 @@ KeptClusterIsCommitted =
     (s : DriverState) (known' : Bytes) (i j host : ℕ) → StateInvariant s → EntryChanges s known' i j → cover s.header s.known (guest_at s.header i j) ≡ Zero (Some (host, true))
     → cover s.header known' (guest_at s.header i j) ≡ Data host true
     → SafeStep s (record s { known = known' })
-    (λ backing. gift_shown (disk known' backing) (guest_at s.header i j * cluster_size s.header) (guest_at s.header i j * cluster_size s.header + cluster_size s.header) ∷ []) []
+    (λ backing. given_shown (disk known' backing) (guest_at s.header i j * cluster_size s.header) (guest_at s.header i j * cluster_size s.header + cluster_size s.header) ∷ []) []
     × ((backing : Bytes) → disk known' backing ≡ with_cluster (cluster_size s.header) (disk s.known backing) (guest_at s.header i j) (λ o. known_byte (s.on_storage (host + o % cluster_size s.header))))
 
 -- ---- one storage write over a run of clusters
@@ -122,7 +122,7 @@ pub data Hosting : Type 0 where
 abbrev pub IsHostedAt : DriverState → Hosting → (o place : ℕ) → Type 0
 IsHostedAt s InPlace o place = IsDataAt s.header s.known true o place
 IsHostedAt s Kept o place = (host : ℕ) × (cover s.header s.known (o / cluster_size s.header) ≡ Zero (Some (host, true))) × (host + o % cluster_size s.header ≡ place)
-IsHostedAt s Held o place = 0 < s.pending.held (place / cluster_size s.header)
+IsHostedAt s Held o place = 0 < s.pending.new_data (place / cluster_size s.header)
 
 abbrev pub IsHeld : Hosting → Type 0
 IsHeld InPlace = ⊥
@@ -152,7 +152,7 @@ pub record WritesRun (hosting : ℕ → Hosting) (offset place : ℕ) (bytes : L
   pub l1 : SameL1Table old new
   pub there : (i : ℕ) → i < length bytes → new.known (place + i) ≡ byte_at bytes i
   pub others : (g : ℕ) → ((i : ℕ) → i < length bytes → (offset + i) / cluster_size old.header ≢ g) → (o : ℕ) → 0 < names old.header old.known (o / cluster_size old.header) g → new.known o ≡ old.known o
-  pub held : (k : ℕ) → 0 < old.pending.held k → ((i : ℕ) → i < length bytes → IsHeld (hosting (offset + i)) → (place + i) / cluster_size old.header ≢ k)
+  pub new_data : (k : ℕ) → 0 < old.pending.new_data k → ((i : ℕ) → i < length bytes → IsHeld (hosting (offset + i)) → (place + i) / cluster_size old.header ≢ k)
       → SameIn (cluster_size old.header) k old.on_storage new.on_storage × SameIn (cluster_size old.header) k old.known new.known
   pub shows : (backing : Bytes) → disk new.known backing ≡ with_seen_bytes hosting (disk old.known backing) offset bytes
 

@@ -14,7 +14,7 @@ use Rattle.qcow2_laws.specs.Clusters.{Direction, Neither, L2DependsOnRb, RbDepen
 use Rattle.qcow2_laws.specs.Guests.{names, table_at}
 use Rattle.qcow2_laws.specs.CrashInvariant.{Pending, IsMixed, MayTurn, SameCovers}
 use Rattle.qcow2_laws.specs.Opened.{nothing_pending, surplus_of}
-use Rattle.qcow2_laws.specs.Changes.{one_at, with_held, with_fresh, without_spent, without_dropped, held_to_dropped, held_to_spent, fresh_to_spent, remapped, named_now, renamed}
+use Rattle.qcow2_laws.specs.Changes.{one_at, with_new_data, with_new_tables, without_old_tables, without_old_data, new_data_to_old_data, new_data_to_old_tables, new_tables_to_old_tables, remapped, named_now, renamed}
 use Rattle.qcow2_laws.specs.Writes.{IsUnnamed, IsWritten}
 use Rattle.qcow2_laws.specs.Tops.{with_places, WritesL1Entry, IsNewTable, WritesReftableEntry, IsNewBlock, WritesHeader, resized_places, with_l1_at, IsNewL1, with_reftable_at, IsNewReftable}
 use Rattle.qcow2_laws.specs.Caches.{CacheInvariantOver, BlocksMayGo, TablesMayGo, IsWrittenSo, UnseenTableWrite}
@@ -49,19 +49,19 @@ pub record TableIsWritten : Type 0 where
 -- One count of a refblock changes.
 pub record CountIsChanged : Type 0 where
   pub data_allocated : (s : DriverState) (known' : Bytes) (c : ℕ) → StateInvariant s → s.direction ≡ L2DependsOnRb → CountRises s.header s.known known' c → ((o : ℕ) → o / cluster_size s.header ≡ c → s.on_storage o ≡ s.known o)
-      → SafeStep s (record s { pending = with_held s.pending (one_at c); known = known' }) nothing []
+      → SafeStep s (record s { pending = with_new_data s.pending (one_at c); known = known' }) nothing []
   pub table_allocated : (s : DriverState) (known' : Bytes) (c : ℕ) → StateInvariant s → CountRises s.header s.known known' c
-      → SafeStep s (record s { pending = with_fresh s.pending (one_at c); known = known' }) nothing []
-  pub table_freed : (s : DriverState) (known' : Bytes) (c : ℕ) → StateInvariant s → CountFalls s.header s.known known' c → 0 < s.pending.spent c
-      → SafeStep s (record s { pending = without_spent s.pending (one_at c); known = known' }) nothing []
-  pub data_freed : (s : DriverState) (known' : Bytes) (c : ℕ) → StateInvariant s → s.direction ≡ RbDependsOnL2 → CountFalls s.header s.known known' c → 0 < s.pending.dropped c
-      → SafeStep s (record s { pending = without_dropped s.pending (one_at c); known = known' }) nothing []
+      → SafeStep s (record s { pending = with_new_tables s.pending (one_at c); known = known' }) nothing []
+  pub table_freed : (s : DriverState) (known' : Bytes) (c : ℕ) → StateInvariant s → CountFalls s.header s.known known' c → 0 < s.pending.old_tables c
+      → SafeStep s (record s { pending = without_old_tables s.pending (one_at c); known = known' }) nothing []
+  pub data_freed : (s : DriverState) (known' : Bytes) (c : ℕ) → StateInvariant s → s.direction ≡ RbDependsOnL2 → CountFalls s.header s.known known' c → 0 < s.pending.old_data c
+      → SafeStep s (record s { pending = without_old_data s.pending (one_at c); known = known' }) nothing []
 
 -- What is pending changes its kind.
 pub record PendingIsChanged : Type 0 where
-  pub dropped : (s : DriverState) (n : ℕ → ℕ) → StateInvariant s → ((c : ℕ) → n c ≤ 1) → ((c : ℕ) → 0 < n c → 0 < s.pending.held c) → SafeStep s (record s { pending = held_to_dropped s.pending n }) nothing []
-  pub undone : (s : DriverState) (n : ℕ → ℕ) → StateInvariant s → ((c : ℕ) → n c ≤ 1) → ((c : ℕ) → 0 < n c → 0 < s.pending.held c) → SafeStep s (record s { pending = held_to_spent s.pending n }) nothing []
-  pub abandoned : (s : DriverState) (n : ℕ → ℕ) → StateInvariant s → ((c : ℕ) → n c ≤ 1) → ((c : ℕ) → 0 < n c → 0 < s.pending.fresh c) → SafeStep s (record s { pending = fresh_to_spent s.pending n }) nothing []
+  pub old_data : (s : DriverState) (n : ℕ → ℕ) → StateInvariant s → ((c : ℕ) → n c ≤ 1) → ((c : ℕ) → 0 < n c → 0 < s.pending.new_data c) → SafeStep s (record s { pending = new_data_to_old_data s.pending n }) nothing []
+  pub undone : (s : DriverState) (n : ℕ → ℕ) → StateInvariant s → ((c : ℕ) → n c ≤ 1) → ((c : ℕ) → 0 < n c → 0 < s.pending.new_data c) → SafeStep s (record s { pending = new_data_to_old_tables s.pending n }) nothing []
+  pub abandoned : (s : DriverState) (n : ℕ → ℕ) → StateInvariant s → ((c : ℕ) → n c ≤ 1) → ((c : ℕ) → 0 < n c → 0 < s.pending.new_tables c) → SafeStep s (record s { pending = new_tables_to_old_tables s.pending n }) nothing []
 
 -- One entry of an L2 table changes: a mapping is committed, zeroed or discarded.
 abbrev pub EntryIsChanged : Type 0
@@ -73,8 +73,8 @@ EntryIsChanged =
 pub record DataIsWritten : Type 0 where
   pub written : (s : DriverState) (on_storage' known' : Bytes) (given : List GivenBytes) → StateInvariant s → IsWritten s.header s.on_storage s.known on_storage' known' given
       → SafeStep s (record s { on_storage = on_storage'; known = known' }) (λ backing. given) []
-  pub held : (s : DriverState) (c : ℕ) → StateInvariant s → 0 < s.pending.held c → IsUnnamed s.header s.on_storage s.known c
-  pub fresh : (s : DriverState) (c : ℕ) → StateInvariant s → 0 < s.pending.fresh c → (s.direction ≡ RbDependsOnL2 → SameCovers s.header s.on_storage s.known) → IsUnnamed s.header s.on_storage s.known c
+  pub new_data : (s : DriverState) (c : ℕ) → StateInvariant s → 0 < s.pending.new_data c → IsUnnamed s.header s.on_storage s.known c
+  pub new_tables : (s : DriverState) (c : ℕ) → StateInvariant s → 0 < s.pending.new_tables c → (s.direction ≡ RbDependsOnL2 → SameCovers s.header s.on_storage s.known) → IsUnnamed s.header s.on_storage s.known c
   pub unused : (s : DriverState) (c : ℕ) → StateInvariant s → count s.header s.known c ≡ 0 → count s.header s.on_storage c ≡ 0 → IsUnnamed s.header s.on_storage s.known c
 
 -- A table is named: an L2 table by an L1 entry, a refblock by a reftable entry.
@@ -82,7 +82,7 @@ pub record TableIsNamed : Type 0 where
   pub l2_table : (s : DriverState) (on_storage' known' : Bytes) (i entry : ℕ) → StateInvariant s → WritesL1Entry s.header s.on_storage s.known on_storage' known' i entry → IsNewTable s.header s.direction s.pending s.on_storage s.known i entry
       → SafeStep s (record s { pending = renamed s.pending (λ c. table_in s.header c (host_offset entry)) (λ c. table_in s.header c (table_at s.header s.on_storage i)); on_storage = on_storage'; known = known' }) nothing []
   pub refblock : (s : DriverState) (on_storage' known' : Bytes) (k entry : ℕ) → StateInvariant s → WritesReftableEntry s.header s.on_storage s.known on_storage' known' k entry → IsNewBlock s.header s.on_storage s.known k entry (λ c. 0)
-      → 0 < s.pending.fresh (block_offset entry / cluster_size s.header)
+      → 0 < s.pending.new_tables (block_offset entry / cluster_size s.header)
       → count s.header s.on_storage (block_offset entry / cluster_size s.header) ≡ count s.header s.known (block_offset entry / cluster_size s.header)
       → (s.direction ≡ RbDependsOnL2 → SameCovers s.header s.on_storage s.known)
       → SafeStep s (record s { pending = named_now s.pending (λ c. table_in s.header c (block_offset entry)); on_storage = on_storage'; known = known' }) nothing []

@@ -7,7 +7,7 @@ use Rattle.qcow2_metadata.specs.Named.{named}
 use Rattle.qcow2_laws.specs.CrashInvariant.{Pending}
 
 abbrev pub nothing_pending : (ℕ → ℕ) → Pending
-nothing_pending surplus = record { held = λ c. 0; fresh = λ c. 0; spent = λ c. 0; dropped = λ c. 0; surplus = surplus }
+nothing_pending surplus = record { new_data = λ c. 0; new_tables = λ c. 0; old_tables = λ c. 0; old_data = λ c. 0; surplus = surplus }
 
 -- how much more often each cluster is counted than named
 abbrev pub surplus_of : HeaderFields → Bytes → ℕ → ℕ

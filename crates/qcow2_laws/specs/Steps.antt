@@ -42,7 +42,7 @@ pub record EntryChanges (s : DriverState) (known' : Bytes) (i j : ℕ) : Type 0 
   pub within : j < entries_per_cluster s.header
   pub outside : IsSameOutside (cluster_size s.header) (table_at s.header s.known i / cluster_size s.header) s.known known'
   pub entries : (k : ℕ) → k < entries_per_cluster s.header → k ≢ j → l2_entry s.known (table_at s.header s.known i) k ≡ l2_entry known' (table_at s.header s.known i) k
-  pub held : (c : ℕ) → names s.header known' c (guest_at s.header i j) - names s.header s.known c (guest_at s.header i j) ≤ s.pending.held c
+  pub new_data : (c : ℕ) → names s.header known' c (guest_at s.header i j) - names s.header s.known c (guest_at s.header i j) ≤ s.pending.new_data c
   pub marked : (c : ℕ) → marks s.header known' c (guest_at s.header i j)
       ≤ marks s.header s.known c (guest_at s.header i j) + (names s.header known' c (guest_at s.header i j) - names s.header s.known c (guest_at s.header i j))
   pub aligned : CoverIsAligned s.header (cover s.header known' (guest_at s.header i j))

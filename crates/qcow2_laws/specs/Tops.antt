@@ -65,7 +65,7 @@ pub record IsNewTable (h : HeaderFields) (d : Direction) (p : Pending) (on_stora
   pub reads : L1EntryReads entry
   pub real : host_offset entry ≢ 0
   pub aligned : IsAligned h (host_offset entry)
-  pub fresh : 0 < p.fresh (host_offset entry / cluster_size h)
+  pub new_tables : 0 < p.new_tables (host_offset entry / cluster_size h)
   pub counted : count h on_storage (host_offset entry / cluster_size h) ≡ count h known (host_offset entry / cluster_size h)
   -- then the L2 tables are written
   pub written : d ≡ RbDependsOnL2 → SameCovers h on_storage known
@@ -114,7 +114,7 @@ pub record IsNewL1 (h : HeaderFields) (d : Direction) (p : Pending) (on_storage 
   pub aligned : IsAligned h offset
   pub same : (i : ℕ) → l1_entry (with_places h (with_l1_at h offset entries)) on_storage i ≡ l1_entry h on_storage i
   pub known_same : (i : ℕ) → l1_entry (with_places h (with_l1_at h offset entries)) known i ≡ l1_entry h known i
-  pub fresh : (c : ℕ) → 0 < in_run h c offset (8 * entries) → (0 < p.fresh c) × (count h on_storage c ≡ count h known c)
+  pub new_tables : (c : ℕ) → 0 < in_run h c offset (8 * entries) → (0 < p.new_tables c) × (count h on_storage c ≡ count h known c)
   pub written : d ≡ RbDependsOnL2 → SameCovers h on_storage known
 
 -- A reftable that stands in other clusters and has the entries of the old one, and more. Of each cluster it is said how often new refblocks stand in it, and
@@ -133,7 +133,7 @@ pub record IsNewReftable (h : HeaderFields) (d : Direction) (p : Pending) (on_st
       → (block_offset (reftable_entry h on_storage (c / counts_per_block h)) ≡ 0) × (block_offset (reftable_entry (with_places h (with_reftable_at h offset clusters)) on_storage (c / counts_per_block h)) ≢ 0)
   pub once : (c : ℕ) → in_run h c offset (clusters * cluster_size h) + blocks c ≤ 1
   pub counted_there : (c : ℕ) → counted c ≤ in_run h c offset (clusters * cluster_size h) + blocks c
-  pub fresh : (c : ℕ) → counted c < in_run h c offset (clusters * cluster_size h) + blocks c → (0 < p.fresh c) × (count h on_storage c ≡ count h known c)
+  pub new_tables : (c : ℕ) → counted c < in_run h c offset (clusters * cluster_size h) + blocks c → (0 < p.new_tables c) × (count h on_storage c ≡ count h known c)
   pub written : d ≡ RbDependsOnL2 → SameCovers h on_storage known
 
 -- n bytes from a place on become the same, on the storage and as known

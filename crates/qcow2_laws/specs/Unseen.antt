@@ -12,7 +12,7 @@ use Rattle.qcow2_laws.specs.SafeSteps.{DriverState}
 
 -- how often a cluster is known to be named by guest clusters, or is held for them
 abbrev pub used_by_guests : DriverState → ℕ → ℕ
-used_by_guests s c = over_guests s.header (names s.header s.known c) + s.pending.held c
+used_by_guests s c = over_guests s.header (names s.header s.known c) + s.pending.new_data c
 
 -- the same bytes in each cluster that guests use
 abbrev pub SameUsedBytes : DriverState → DriverState → Type 0

@@ -24,36 +24,36 @@ there_is true host there = or_true (not (eqb host 0))
 there_is false host there = or_left (not (eqb host 0)) (false && true) (ap not (ne_eqb host 0 (λ none. let f : false ≡ true = there none in cc)))
 
 -- an entry with a host offset that is marked copied, and with the zero bit or without
-module _ (external : Bool) (host mark : ℕ) (is : IsEntryHost external host) (small : mark ≤ 1) where
-  bit_62 : has_bit (2 ^ 63 + host + mark) 62 ≡ false
+module _ (external : Bool) (host checkpoint : ℕ) (is : IsEntryHost external host) (small : checkpoint ≤ 1) where
+  bit_62 : has_bit (2 ^ 63 + host + checkpoint) 62 ≡ false
   bit_62 = ne_eqb _ _ (λ one. omega (arith, one, is.near, is.whole))
 
-  bit_63 : has_bit (2 ^ 63 + host + mark) 63 ≡ true
+  bit_63 : has_bit (2 ^ 63 + host + checkpoint) 63 ≡ true
   bit_63 = eq-eqb _ _ (omega (arith, is.near, is.whole))
 
-  offset_is : host_offset (2 ^ 63 + host + mark) ≡ host
+  offset_is : host_offset (2 ^ 63 + host + checkpoint) ≡ host
   offset_is = omega (arith, is.near, is.whole)
 
-  has_one : has_host external (2 ^ 63 + host + mark) ≡ true
+  has_one : has_host external (2 ^ 63 + host + checkpoint) ≡ true
   has_one =
-      ap (λ n. not (eqb n 0) || (external && has_bit (2 ^ 63 + host + mark) 63)) offset_is
+      ap (λ n. not (eqb n 0) || (external && has_bit (2 ^ 63 + host + checkpoint) 63)) offset_is
       ∙ ap (λ b. not (eqb host 0) || (external && b)) bit_63 ∙ there_is external host is.there
 
-  data_cover : (bits : ℕ) (has_zero : Bool) → mark ≡ 0 → cover_of bits has_zero external (2 ^ 63 + host + mark) ≡ Data host true
+  data_cover : (bits : ℕ) (has_zero : Bool) → checkpoint ≡ 0 → cover_of bits has_zero external (2 ^ 63 + host + checkpoint) ≡ Data host true
   unfolding cover_of
   data_cover bits has_zero none =
       cond-false _ _ _ bit_62
-      ∙ cond-false _ _ _ (and_right has_zero (has_bit (2 ^ 63 + host + mark) 0) (ne_eqb _ _ (λ one. omega (arith, one, none, is.whole))))
+      ∙ cond-false _ _ _ (and_right has_zero (has_bit (2 ^ 63 + host + checkpoint) 0) (ne_eqb _ _ (λ one. omega (arith, one, none, is.whole))))
       ∙ cond-true _ _ _ has_one
-      ∙ ap (λ h. Data h (has_bit (2 ^ 63 + host + mark) 63)) offset_is ∙ ap (λ b. Data host b) bit_63
+      ∙ ap (λ h. Data h (has_bit (2 ^ 63 + host + checkpoint) 63)) offset_is ∙ ap (λ b. Data host b) bit_63
 
-  kept_cover : (bits : ℕ) → mark ≡ 1 → cover_of bits true external (2 ^ 63 + host + mark) ≡ Zero (Some (host, true))
+  kept_cover : (bits : ℕ) → checkpoint ≡ 1 → cover_of bits true external (2 ^ 63 + host + checkpoint) ≡ Zero (Some (host, true))
   unfolding cover_of
   kept_cover bits one =
       cond-false _ _ _ bit_62
-      ∙ cond-true _ _ _ (eq-eqb ((2 ^ 63 + host + mark) / 1 % 2) 1 (omega (arith, one, is.whole)))
+      ∙ cond-true _ _ _ (eq-eqb ((2 ^ 63 + host + checkpoint) / 1 % 2) 1 (omega (arith, one, is.whole)))
       ∙ ap Zero (cond-true _ _ _ has_one)
-      ∙ ap (λ h. Zero (Some (h, has_bit (2 ^ 63 + host + mark) 63))) offset_is ∙ ap (λ b. Zero (Some (host, b))) bit_63
+      ∙ ap (λ h. Zero (Some (h, has_bit (2 ^ 63 + host + checkpoint) 63))) offset_is ∙ ap (λ b. Zero (Some (host, b))) bit_63
 
 pub cover_of-copied_entry : (bits : ℕ) (has_zero external : Bool) (host : ℕ) → IsEntryHost external host → cover_of bits has_zero external (copied_entry host) ≡ Data host true
 cover_of-copied_entry bits has_zero external host is =

@@ -7,7 +7,7 @@ use Rattle.std.proofs.lemmas.Nat.{pow_pos, le-div}
 use Rattle.qcow2_metadata.specs.Bytes.{one_if}
 use Rattle.qcow2_metadata.specs.Header.{HeaderFields}
 use Rattle.qcow2_metadata.specs.Named.{named_by_cover}
-use Rattle.qcow2_metadata.specs.L2Mapping.{IsInReach, run_of_bytes, named_run, run_has, is_same_run, dropped_run}
+use Rattle.qcow2_metadata.specs.L2Mapping.{IsInReach, run_of_bytes, named_run, run_has, is_same_run, old_data_run}
 use Rattle.qcow2_metadata.specs.declared.l2_mapping.L2Mapping.{L2Mapping}
 use Rattle.qcow2_metadata.specs.declared.l2_mapping.L2Mapping.TheVariants.{Data, Zero, Compressed, Uncovered}
 
@@ -55,8 +55,8 @@ same_runs (Some old) (Some new) same =
     rw (first, count) refl
 
 -- either nothing is dropped, and the same run is named as before; or all is that was named
-pub dropped_run_is : (bits : ℕ) (old new : L2Mapping) → ((dropped_run bits old new ≡ None) × (named_run bits old ≡ named_run bits new)) ⊎ (dropped_run bits old new ≡ named_run bits old)
-dropped_run_is bits old new = by_test (is_same_run (named_run bits old) (named_run bits new)) refl where
-  by_test : (b : Bool) → is_same_run (named_run bits old) (named_run bits new) ≡ b → ((dropped_run bits old new ≡ None) × (named_run bits old ≡ named_run bits new)) ⊎ (dropped_run bits old new ≡ named_run bits old)
+pub old_data_run_is : (bits : ℕ) (old new : L2Mapping) → ((old_data_run bits old new ≡ None) × (named_run bits old ≡ named_run bits new)) ⊎ (old_data_run bits old new ≡ named_run bits old)
+old_data_run_is bits old new = by_test (is_same_run (named_run bits old) (named_run bits new)) refl where
+  by_test : (b : Bool) → is_same_run (named_run bits old) (named_run bits new) ≡ b → ((old_data_run bits old new ≡ None) × (named_run bits old ≡ named_run bits new)) ⊎ (old_data_run bits old new ≡ named_run bits old)
   by_test true is = inl (cond-true _ _ _ is, same_runs _ _ is)
   by_test false is = inr (cond-false _ _ _ is)

@@ -77,6 +77,6 @@ is_same_run (Some old) None = false
 is_same_run (Some old) (Some new) = old.0 == new.0 && old.1 == new.1
 
 -- the host clusters that are named no longer where new stands for old
-abbrev pub dropped_run : ℕ → L2Mapping → L2Mapping → Option (ℕ × ℕ)
-dropped_run cluster_bits old new =
+abbrev pub old_data_run : ℕ → L2Mapping → L2Mapping → Option (ℕ × ℕ)
+old_data_run cluster_bits old new =
     if is_same_run (named_run cluster_bits old) (named_run cluster_bits new) then None else named_run cluster_bits old

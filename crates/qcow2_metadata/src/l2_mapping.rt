@@ -4,7 +4,7 @@ ghost use Rattle.qcow2_metadata.specs.Entries.{host_offset as host_offset_of};
 ghost use Rattle.qcow2_metadata.specs.Cover.{cover_of, sectors_bit};
 ghost use Rattle.qcow2_metadata.specs.Header.{HeaderFields};
 ghost use Rattle.qcow2_metadata.specs.Named.{named_by_cover};
-ghost use Rattle.qcow2_metadata.specs.L2Mapping.{greatest_offset, IsInReach, HasAlignedHost, host_of, is_marked, named_run, run_has, dropped_run};
+ghost use Rattle.qcow2_metadata.specs.L2Mapping.{greatest_offset, IsInReach, HasAlignedHost, host_of, is_marked, named_run, run_has, old_data_run};
 
 use crate::{ClusterCount, HostCluster, HostOffset, MAX_HOST_OFFSET};
 
@@ -175,7 +175,7 @@ impl L2Mapping {
         requires bits { cluster_bits < 64 }
         requires reach { IsInReach self }
         requires new_reach { IsInReach new }
-        ensures { result ≡ dropped_run cluster_bits self new }
+        ensures { result ≡ old_data_run cluster_bits self new }
     {
         let (first, count) = self.host_clusters(cluster_bits)?;
         match new.host_clusters(cluster_bits) {

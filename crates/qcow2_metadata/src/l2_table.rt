@@ -5,7 +5,7 @@ ghost use Rattle.qcow2_metadata.specs.Bytes.{byte_at};
 ghost use Rattle.qcow2_metadata.specs.Header.{cluster_size};
 ghost use Rattle.qcow2_metadata.specs.MetadataError.{storage_result};
 ghost use Rattle.qcow2_metadata.specs.TableBytes.{entry_at as entry_of, ChangesEntry, HasPlace, IsOfStorageOrMemory};
-ghost use Rattle.qcow2_metadata.specs.L2Mapping.{greatest_offset, IsHostCluster, IsInReach, HasAlignedHost, dropped_run};
+ghost use Rattle.qcow2_metadata.specs.L2Mapping.{greatest_offset, IsHostCluster, IsInReach, HasAlignedHost, old_data_run};
 ghost use Rattle.qcow2_metadata.specs.L2Table.{cover_at, entries_of, l2_table, IsL2Table, IsL2TableAt, IsEntryHost, copied_entry as copied_entry_of, copied_host as copied_host_of, zero_entry as zero_entry_of, zero_cover};
 
 use crate::l2_mapping::{COPIED, ZERO};
@@ -236,7 +236,7 @@ impl L2Table {
     fn replace(&mut self, index: usize, entry: u64) -> Option<(HostCluster, ClusterCount)>
         requires { index < entries_of self.old }
         ensures changed { ChangesEntry self.old.bytes self.new.bytes index entry }
-        ensures dropped { result ≡ dropped_run self.old.cluster_bits (cover_at self.old index) (cover_at self.new index) }
+        ensures old_data { result ≡ old_data_run self.old.cluster_bits (cover_at self.old index) (cover_at self.new index) }
         ensures same { self.new ≡ record self.old { bytes = self.new.bytes; is_modified = true } }
     {
         let old = self.cover(index);
@@ -255,7 +255,7 @@ impl L2Table {
         requires host { IsHostCluster self.old.cluster_bits host }
         ensures changed { ChangesEntry self.old.bytes self.new.bytes index (copied_entry_of (host * 2 ^ self.old.cluster_bits)) }
         ensures mapped { (host ≡ 0 → IsTrue self.old.data_is_external) → cover_at self.new index ≡ L2Mapping.Data (host * 2 ^ self.old.cluster_bits) true }
-        ensures dropped { result ≡ dropped_run self.old.cluster_bits (cover_at self.old index) (cover_at self.new index) }
+        ensures old_data { result ≡ old_data_run self.old.cluster_bits (cover_at self.old index) (cover_at self.new index) }
         ensures same { self.new ≡ record self.old { bytes = self.new.bytes; is_modified = true } }
     {
         let entry = copied_entry(host.offset(self.cluster_bits));
@@ -267,7 +267,7 @@ impl L2Table {
         requires { index < entries_of self.old }
         ensures changed { ChangesEntry self.old.bytes self.new.bytes index (zero_entry_of (if keep then copied_host_of (cover_at self.old index) else None)) }
         ensures zeroed { IsTrue self.old.has_zero_bit → cover_at self.new index ≡ zero_cover (if keep then copied_host_of (cover_at self.old index) else None) }
-        ensures dropped { result ≡ dropped_run self.old.cluster_bits (cover_at self.old index) (cover_at self.new index) }
+        ensures old_data { result ≡ old_data_run self.old.cluster_bits (cover_at self.old index) (cover_at self.new index) }
         ensures same { self.new ≡ record self.old { bytes = self.new.bytes; is_modified = true } }
     {
         let kept = self.kept_host(index, keep);
@@ -279,7 +279,7 @@ impl L2Table {
         requires { index < entries_of self.old }
         ensures changed { ChangesEntry self.old.bytes self.new.bytes index 0 }
         ensures uncovered { cover_at self.new index ≡ L2Mapping.Uncovered }
-        ensures dropped { result ≡ dropped_run self.old.cluster_bits (cover_at self.old index) (cover_at self.new index) }
+        ensures old_data { result ≡ old_data_run self.old.cluster_bits (cover_at self.old index) (cover_at self.new index) }
         ensures same { self.new ≡ record self.old { bytes = self.new.bytes; is_modified = true } }
     {
         self.replace(index, 0)

@@ -54,8 +54,8 @@ pub write_error_is : {A Same : Type 0} {e f : ImageError} {n m : ℕ} → (refus
 write_error_is {e = e} {f = f} {n = n} {m = m} h = let is = h.0 in let pair : (e, n) ≡ (f, m) = cc in (ap (λ (p : ImageError × ℕ). refusal_of p.0) pair, ap (λ (p : ImageError × ℕ). p.1) pair)
 
 -- a commit that a failed image refuses hands the mapping back
-pub not_spent : {A Same : Type 0} {e f : ImageError} {p : Prepared} {r : CommitRefused} → r ≡ Spent e → (refusal A CommitRefused r ≡ Err (Kept f p)) × Same → ⊥
-not_spent {e = e} {f = f} {p = p} {r = r} spent h = let is = h.0 in let no : Spent e ≡ Kept f p = cc in cc
+pub not_old_tables : {A Same : Type 0} {e f : ImageError} {p : Prepared} {r : CommitRefused} → r ≡ Spent e → (refusal A CommitRefused r ≡ Err (Kept f p)) × Same → ⊥
+not_old_tables {e = e} {f = f} {p = p} {r = r} old_tables h = let is = h.0 in let no : Spent e ≡ Kept f p = cc in cc
 
 pub kept_is : {A Same : Type 0} {e f : ImageError} {p q : Prepared} {r : CommitRefused} → r ≡ Kept e q → (refusal A CommitRefused r ≡ Err (Kept f p)) × Same → refusal_of e ≡ refusal_of f
 kept_is {e = e} {f = f} {p = p} {q = q} {r = r} kept h = let is = h.0 in let same : e ≡ f = cc in ap refusal_of same

@@ -9,7 +9,7 @@ use Rattle.qcow2_metadata.specs.Bytes.{byte_at, laid_over, is_within}
 use Rattle.qcow2_metadata.specs.Guest.{Value, known_byte}
 use Rattle.qcow2_disk.specs.Disk.{Disk, with_bytes}
 use Rattle.qcow2_disk.specs.Stops.{IsGiven}
-use Rattle.qcow2_disk.specs.Mappings.{gift_of}
+use Rattle.qcow2_disk.specs.Mappings.{given_of}
 use Rattle.qcow2_disk.specs.Calls.{Shows}
 use Rattle.qcow2_disk.proofs.ForUsers.{laid_inside, laid_outside}
 
@@ -109,7 +109,7 @@ first_two count n old new post le short =
 
 -- a part of the bytes gives some of what they give
 pub part_within : (offset place k : ℕ) (bytes part : List ℕ) → place ≡ offset + k → k + length part ≤ length bytes → ((i : ℕ) → i < length part → byte_at part i ≡ byte_at bytes (k + i))
-    → (o : ℕ) (w : Value) → IsGiven (gift_of place part ∷ []) o w → IsGiven (gift_of offset bytes ∷ []) o w
+    → (o : ℕ) (w : Value) → IsGiven (given_of place part ∷ []) o w → IsGiven (given_of offset bytes ∷ []) o w
 part_within offset place k bytes part at short same o w (inr h) = absurd h
 part_within offset place k bytes part at short same o w (inl h) =
     let inside : o - place < length part = omega (arith, h.0, h.1) in

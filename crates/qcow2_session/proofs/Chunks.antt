@@ -8,9 +8,9 @@ use Rattle.qcow2_metadata.specs.Header.{rounded_down}
 use Rattle.qcow2_metadata.specs.Guest.{Value, known_byte}
 use Rattle.qcow2_disk.specs.Disk.{Disk, with_bytes}
 use Rattle.qcow2_disk.specs.Stops.{GivenBytes, IsGiven}
-use Rattle.qcow2_disk.specs.Mappings.{PreparedMapping, IsPrepared, put_disk, put_mapping, committed, gift_of, gift_of_put, gift_of_commit}
+use Rattle.qcow2_disk.specs.Mappings.{PreparedMapping, IsPrepared, put_disk, put_mapping, committed, given_of, given_by_put, given_by_commit}
 use Rattle.qcow2_disk.specs.AbstractImages.{Abstraction, HasFreePlaces, Guest, abstract_image, guest_of}
-use Rattle.qcow2_disk.specs.Calls.{Refusal, memory, storage, not_compressed, another, IsRefusalByFault, Does, Refuses, IsSame, MayWrite, WritesSome, with_disk, with_slot}
+use Rattle.qcow2_disk.specs.Calls.{Refusal, memory, storage, not_compressed, another, IsRefusalByFault, AnsweredEffect, RefusedEffect, IsSame, MayWrite, WritesSome, with_disk, with_slot}
 use Rattle.qcow2_disk.proofs.ForUsers.{put_given}
 use Rattle.qcow2_disk.proofs.Within.{within_is}
 use Rattle.qcow2_session.proofs.Bytes.{cut_long, cut_short, cut_part, byte_in, laid_in, laid_out, no_bytes, same_values, part_within}
@@ -29,7 +29,7 @@ module _ (cluster_size : ℕ) (d : Disk) (m : PreparedMapping) (offset : ℕ) (b
   place = omega (arith, prepared.from)
 
   -- what is put is part of the bytes, or where it is hidden what was there
-  pub put_within : (now : Disk) (o : ℕ) (w : Value) → IsGiven (gift_of_put now m 0 chunk ∷ []) o w → (w ≡ now.value o) ⊎ IsGiven (gift_of offset bytes ∷ []) o w
+  pub put_within : (now : Disk) (o : ℕ) (w : Value) → IsGiven (given_by_put now m 0 chunk ∷ []) o w → (w ≡ now.value o) ⊎ IsGiven (given_of offset bytes ∷ []) o w
   put_within now o w given =
       let is = put_given now m 0 chunk o w given in
       elim (cases_Bool (m.is_hidden o)) [
@@ -75,8 +75,8 @@ module _ (cluster_size : ℕ) (d : Disk) (m : PreparedMapping) (offset : ℕ) (b
   chunk_disk = same_values _ _ refl chunk_value
 
   -- what becomes visible is what was put, or was there
-  pub commit_within : (size : ℕ) (o : ℕ) (w : Value) → IsGiven (gift_of_commit size (put_disk d m 0 chunk) (put_mapping m 0 chunk) ∷ []) o w
-      → (w ≡ (put_disk d m 0 chunk).value o) ⊎ IsGiven (gift_of offset bytes ∷ []) o w
+  pub commit_within : (size : ℕ) (o : ℕ) (w : Value) → IsGiven (given_by_commit size (put_disk d m 0 chunk) (put_mapping m 0 chunk) ∷ []) o w
+      → (w ≡ (put_disk d m 0 chunk).value o) ⊎ IsGiven (given_of offset bytes ∷ []) o w
   commit_within size o w (inr h) = absurd h
   commit_within size o w (inl h) =
       let from = rounded_down size m.from in
@@ -146,33 +146,33 @@ module _ {D P : Type 0} (spec : Abstraction D P) (has : HasFreePlaces spec) (in_
       IsPrepared (spec.setting d0).cluster_size (guest_of (abstract_image spec d0 (None ∷ out))).disk offset (length bytes) true (spec.means d1 p)
       × (guest_of (abstract_image spec d1 (Some p ∷ out)) ≡ with_slot (guest_of (abstract_image spec d0 (None ∷ out))) 0 (Some (spec.means d1 p)))
 
-  abbrev gifts : List GivenBytes
-  gifts = gift_of offset bytes ∷ []
+  abbrev given_bytes : List GivenBytes
+  given_bytes = given_of offset bytes ∷ []
 
-  abbrev put_gifts : List GivenBytes
-  put_gifts = gift_of_put (guest_of (abstract_image spec d1 (Some p ∷ out))).disk (spec.means d1 p) 0 chunk ∷ []
+  abbrev put_given_bytes : List GivenBytes
+  put_given_bytes = given_by_put (guest_of (abstract_image spec d1 (Some p ∷ out))).disk (spec.means d1 p) 0 chunk ∷ []
 
   guest1 : Ready → shift (guest_of (abstract_image spec d1 (Some p ∷ out))) ≡ guest_of (abstract_image spec d0 out)
   guest1 r = ap shift r.1 ∙ shift_slot (guest_of (abstract_image spec d0 (None ∷ out))) (Some (spec.means d1 p))
 
-  puts_within : Ready → IsWithin (abstract_image spec d1 (Some p ∷ out)) put_gifts gifts
-  puts_within r o w h = ⊎_elim (λ (e : w ≡ (guest_of (abstract_image spec d1 (Some p ∷ out))).disk.value o). inl (e ∙ ap (λ (d : Disk). d.value o) (shown_is (abstract_image spec d1 (Some p ∷ out)) (in_image d1)))) (λ (g : IsGiven gifts o w). inr g)
+  puts_within : Ready → IsWithin (abstract_image spec d1 (Some p ∷ out)) put_given_bytes given_bytes
+  puts_within r o w h = ⊎_elim (λ (e : w ≡ (guest_of (abstract_image spec d1 (Some p ∷ out))).disk.value o). inl (e ∙ ap (λ (d : Disk). d.value o) (shown_is (abstract_image spec d1 (Some p ∷ out)) (in_image d1)))) (λ (g : IsGiven given_bytes o w). inr g)
       (put_within (spec.setting d0).cluster_size (guest_of (abstract_image spec d0 out)).disk (spec.means d1 p) offset bytes chunk long short part r.0 (guest_of (abstract_image spec d1 (Some p ∷ out))).disk o w h)
 
-  module _ (prepares : Does (abstract_image spec d0 (None ∷ out)) (abstract_image spec d1 (Some p ∷ out)) [] [] Ready) where
-    ready : Does (abstract_image spec d0 out) (abstract_image spec d1 (Some p ∷ out)) gifts [] Ready
-    ready = does_if (λ a. a.1) (does_then (λ _. none_within (abstract_image spec d0 (None ∷ out)) gifts) (does_less (none_within (abstract_image spec d0 out) gifts) (enters spec has d0 out)) prepares)
+  module _ (prepares : AnsweredEffect (abstract_image spec d0 (None ∷ out)) (abstract_image spec d1 (Some p ∷ out)) [] [] Ready) where
+    ready : AnsweredEffect (abstract_image spec d0 out) (abstract_image spec d1 (Some p ∷ out)) given_bytes [] Ready
+    ready = does_if (λ a. a.1) (does_then (λ _. none_within (abstract_image spec d0 (None ∷ out)) given_bytes) (does_less (none_within (abstract_image spec d0 out) given_bytes) (enters spec has d0 out)) prepares)
 
     -- the put was refused
-    pub put_refused : (d2 d3 : D) (e : Refusal) → Refuses (abstract_image spec d1 (Some p ∷ out)) (abstract_image spec d2 (Some p ∷ out)) put_gifts [] e (IsSame (abstract_image spec d1 (Some p ∷ out)) (abstract_image spec d2 (Some p ∷ out)))
-        → Does (abstract_image spec d2 (Some p ∷ out)) (abstract_image spec d3 (None ∷ out)) [] [] (guest_of (abstract_image spec d3 (None ∷ out)) ≡ with_slot (guest_of (abstract_image spec d2 (Some p ∷ out))) 0 None)
-        → Refuses (abstract_image spec d0 out) (abstract_image spec d3 out) gifts [] e (MayWrite e (guest_of (abstract_image spec d0 out)) offset bytes 0 (guest_of (abstract_image spec d3 out)))
+    pub put_refused : (d2 d3 : D) (e : Refusal) → RefusedEffect (abstract_image spec d1 (Some p ∷ out)) (abstract_image spec d2 (Some p ∷ out)) put_given_bytes [] e (IsSame (abstract_image spec d1 (Some p ∷ out)) (abstract_image spec d2 (Some p ∷ out)))
+        → AnsweredEffect (abstract_image spec d2 (Some p ∷ out)) (abstract_image spec d3 (None ∷ out)) [] [] (guest_of (abstract_image spec d3 (None ∷ out)) ≡ with_slot (guest_of (abstract_image spec d2 (Some p ∷ out))) 0 None)
+        → RefusedEffect (abstract_image spec d0 out) (abstract_image spec d3 out) given_bytes [] e (MayWrite e (guest_of (abstract_image spec d0 out)) offset bytes 0 (guest_of (abstract_image spec d3 out)))
     put_refused d2 d3 e refuses discards =
         refuses_if (λ h. may_write_none e (guest_of (abstract_image spec d0 out)) (guest_of (abstract_image spec d3 out)) offset bytes
         (ap shift h.0.1 ∙ shift_slot (guest_of (abstract_image spec d2 (Some p ∷ out))) None ∙ ap shift h.0.0.1 ∙ guest1 h.0.0.0))
         (refused_then (has.works d3 out) (refused_then (has.works d3 (None ∷ out)) (refuses_then puts_within ready refuses) discards) (leaves spec has d3 out))
 
-    module _ (d2 : D) (puts : Does (abstract_image spec d1 (Some p ∷ out)) (abstract_image spec d2 (Some p ∷ out)) put_gifts []
+    module _ (d2 : D) (puts : AnsweredEffect (abstract_image spec d1 (Some p ∷ out)) (abstract_image spec d2 (Some p ∷ out)) put_given_bytes []
         (guest_of (abstract_image spec d2 (Some p ∷ out)) ≡ with_slot (with_disk (guest_of (abstract_image spec d1 (Some p ∷ out))) (put_disk (guest_of (abstract_image spec d1 (Some p ∷ out))).disk (spec.means d1 p) 0 chunk)) 0 (Some (put_mapping (spec.means d1 p) 0 chunk)))) where
       abbrev Put : Type 0
       Put =
@@ -185,7 +185,7 @@ module _ {D P : Type 0} (spec : Abstraction D P) (has : HasFreePlaces spec) (in_
       abbrev mapping2 : PreparedMapping
       mapping2 = put_mapping (spec.means d1 p) 0 chunk
 
-      put_done : Does (abstract_image spec d0 out) (abstract_image spec d2 (Some p ∷ out)) gifts [] Put
+      put_done : AnsweredEffect (abstract_image spec d0 out) (abstract_image spec d2 (Some p ∷ out)) given_bytes [] Put
       put_done = does_then puts_within ready puts
 
       guest2 : Put → shift (guest_of (abstract_image spec d2 (Some p ∷ out))) ≡ with_disk (guest_of (abstract_image spec d0 out)) disk2
@@ -196,51 +196,51 @@ module _ {D P : Type 0} (spec : Abstraction D P) (has : HasFreePlaces spec) (in_
       meaning2 : Put → spec.means d2 p ≡ mapping2
       meaning2 h = some_is (ap (λ (g : Guest). g.slots 0) h.1)
 
-      abbrev commit_gifts : List GivenBytes
-      commit_gifts = gift_of_commit (spec.setting d2).cluster_size (guest_of (abstract_image spec d2 (Some p ∷ out))).disk (spec.means d2 p) ∷ []
+      abbrev commit_given_bytes : List GivenBytes
+      commit_given_bytes = given_by_commit (spec.setting d2).cluster_size (guest_of (abstract_image spec d2 (Some p ∷ out))).disk (spec.means d2 p) ∷ []
 
-      commits_within : Put → IsWithin (abstract_image spec d2 (Some p ∷ out)) commit_gifts gifts
+      commits_within : Put → IsWithin (abstract_image spec d2 (Some p ∷ out)) commit_given_bytes given_bytes
       commits_within h o w given =
           let size = (spec.setting d2).cluster_size in
           let disk-is : (guest_of (abstract_image spec d2 (Some p ∷ out))).disk ≡ disk2 = ap (λ (g : Guest). g.disk) (guest2 h) in
-          let there : IsGiven (gift_of_commit size disk2 mapping2 ∷ []) o w =
-          subst (λ (d : Disk). IsGiven (gift_of_commit size d mapping2 ∷ []) o w) disk-is
-          (subst (λ (m : PreparedMapping). IsGiven (gift_of_commit size (guest_of (abstract_image spec d2 (Some p ∷ out))).disk m ∷ []) o w) (meaning2 h) given) in
+          let there : IsGiven (given_by_commit size disk2 mapping2 ∷ []) o w =
+          subst (λ (d : Disk). IsGiven (given_by_commit size d mapping2 ∷ []) o w) disk-is
+          (subst (λ (m : PreparedMapping). IsGiven (given_by_commit size (guest_of (abstract_image spec d2 (Some p ∷ out))).disk m ∷ []) o w) (meaning2 h) given) in
           ⊎_elim (λ (e : w ≡ disk2.value o). inl (e ∙ ap (λ (d : Disk). d.value o) (sym disk-is ∙ shown_is (abstract_image spec d2 (Some p ∷ out)) (in_image d2)))) (λ g. inr g)
           (commit_within (spec.setting d0).cluster_size (guest_of (abstract_image spec d0 out)).disk (spec.means d1 p) offset bytes chunk long short part h.0.0 size o w there)
 
       -- all was done
-      pub written : (d3 : D) → Does (abstract_image spec d2 (Some p ∷ out)) (abstract_image spec d3 (None ∷ out)) commit_gifts []
+      pub written : (d3 : D) → AnsweredEffect (abstract_image spec d2 (Some p ∷ out)) (abstract_image spec d3 (None ∷ out)) commit_given_bytes []
           (guest_of (abstract_image spec d3 (None ∷ out)) ≡ with_slot (with_disk (guest_of (abstract_image spec d2 (Some p ∷ out))) (committed (guest_of (abstract_image spec d2 (Some p ∷ out))).disk (spec.means d2 p))) 0 None)
-          → Does (abstract_image spec d0 out) (abstract_image spec d3 out) gifts [] (guest_of (abstract_image spec d3 out) ≡ with_disk (guest_of (abstract_image spec d0 out)) (with_bytes (guest_of (abstract_image spec d0 out)).disk offset chunk))
+          → AnsweredEffect (abstract_image spec d0 out) (abstract_image spec d3 out) given_bytes [] (guest_of (abstract_image spec d3 out) ≡ with_disk (guest_of (abstract_image spec d0 out)) (with_bytes (guest_of (abstract_image spec d0 out)).disk offset chunk))
       written d3 commits =
           does_if (λ h. let put = h.0.0 in
           ap shift h.0.1 ∙ shift_slot (with_disk (guest_of (abstract_image spec d2 (Some p ∷ out))) (committed (guest_of (abstract_image spec d2 (Some p ∷ out))).disk (spec.means d2 p))) None
           ∙ ap (λ (m : PreparedMapping). with_disk (shift (guest_of (abstract_image spec d2 (Some p ∷ out)))) (committed (guest_of (abstract_image spec d2 (Some p ∷ out))).disk m)) (meaning2 put)
           ∙ ap (λ (g : Guest). with_disk g (committed g.disk mapping2)) (guest2 put)
           ∙ ap (λ (d : Disk). with_disk (guest_of (abstract_image spec d0 out)) d) (chunk_disk (spec.setting d0).cluster_size (guest_of (abstract_image spec d0 out)).disk (spec.means d1 p) offset bytes chunk long short part put.0.0))
-          (does_then (λ _. none_within (abstract_image spec d3 (None ∷ out)) gifts) (does_then commits_within put_done commits) (leaves spec has d3 out))
+          (does_then (λ _. none_within (abstract_image spec d3 (None ∷ out)) given_bytes) (does_then commits_within put_done commits) (leaves spec has d3 out))
 
       -- what was put in place may stay
-      ended : (d4 : D) (e : Refusal) → Refuses (abstract_image spec d0 out) (abstract_image spec d4 (None ∷ out)) gifts [] e
+      ended : (d4 : D) (e : Refusal) → RefusedEffect (abstract_image spec d0 out) (abstract_image spec d4 (None ∷ out)) given_bytes [] e
           (Put × ((shift (guest_of (abstract_image spec d4 (None ∷ out))) ≡ shift (guest_of (abstract_image spec d2 (Some p ∷ out)))) × IsRefusalByFault e))
-          → Refuses (abstract_image spec d0 out) (abstract_image spec d4 out) gifts [] e (MayWrite e (guest_of (abstract_image spec d0 out)) offset bytes 0 (guest_of (abstract_image spec d4 out)))
+          → RefusedEffect (abstract_image spec d0 out) (abstract_image spec d4 out) given_bytes [] e (MayWrite e (guest_of (abstract_image spec d0 out)) offset bytes 0 (guest_of (abstract_image spec d4 out)))
       ended d4 e r =
           refuses_fault (λ k. MayWrite k (guest_of (abstract_image spec d0 out)) offset bytes 0 (guest_of (abstract_image spec d4 out))) e (λ h. h.0.1.1)
           (λ h. (omega arith, (disk2, put_some (spec.setting d0).cluster_size (guest_of (abstract_image spec d0 out)).disk (spec.means d1 p) offset bytes chunk long short part h.0.0.0.0, h.0.1.0 ∙ guest2 h.0.0)))
           (refused_then (has.works d4 out) r (leaves spec has d4 out))
 
       -- the commit was refused, and spent the mapping
-      pub commit_spent : (d3 : D) (e : Refusal) → ((abstract_image spec d2 (Some p ∷ out)).is_sound → IsRefusalByFault e)
-          → Refuses (abstract_image spec d2 (Some p ∷ out)) (abstract_image spec d3 (None ∷ out)) commit_gifts [] e (IsSame (abstract_image spec d2 (Some p ∷ out)) (abstract_image spec d3 (None ∷ out)))
-          → Refuses (abstract_image spec d0 out) (abstract_image spec d3 out) gifts [] e (MayWrite e (guest_of (abstract_image spec d0 out)) offset bytes 0 (guest_of (abstract_image spec d3 out)))
-      commit_spent d3 e why refuses = ended d3 e (refuses_if (λ h. (h.0, (ap shift h.1.0, h.1.1))) (refuses_then commits_within put_done (refuses_why why refuses)))
+      pub commit_old_tables : (d3 : D) (e : Refusal) → ((abstract_image spec d2 (Some p ∷ out)).is_sound → IsRefusalByFault e)
+          → RefusedEffect (abstract_image spec d2 (Some p ∷ out)) (abstract_image spec d3 (None ∷ out)) commit_given_bytes [] e (IsSame (abstract_image spec d2 (Some p ∷ out)) (abstract_image spec d3 (None ∷ out)))
+          → RefusedEffect (abstract_image spec d0 out) (abstract_image spec d3 out) given_bytes [] e (MayWrite e (guest_of (abstract_image spec d0 out)) offset bytes 0 (guest_of (abstract_image spec d3 out)))
+      commit_old_tables d3 e why refuses = ended d3 e (refuses_if (λ h. (h.0, (ap shift h.1.0, h.1.1))) (refuses_then commits_within put_done (refuses_why why refuses)))
 
       -- the commit was refused, and the mapping was let go
       pub commit_kept : (d3 d4 : D) (e : Refusal) → ((abstract_image spec d2 (Some p ∷ out)).is_sound → IsRefusalByFault e)
-          → Refuses (abstract_image spec d2 (Some p ∷ out)) (abstract_image spec d3 (Some p ∷ out)) commit_gifts [] e (IsSame (abstract_image spec d2 (Some p ∷ out)) (abstract_image spec d3 (Some p ∷ out)))
-          → Does (abstract_image spec d3 (Some p ∷ out)) (abstract_image spec d4 (None ∷ out)) [] [] (guest_of (abstract_image spec d4 (None ∷ out)) ≡ with_slot (guest_of (abstract_image spec d3 (Some p ∷ out))) 0 None)
-          → Refuses (abstract_image spec d0 out) (abstract_image spec d4 out) gifts [] e (MayWrite e (guest_of (abstract_image spec d0 out)) offset bytes 0 (guest_of (abstract_image spec d4 out)))
+          → RefusedEffect (abstract_image spec d2 (Some p ∷ out)) (abstract_image spec d3 (Some p ∷ out)) commit_given_bytes [] e (IsSame (abstract_image spec d2 (Some p ∷ out)) (abstract_image spec d3 (Some p ∷ out)))
+          → AnsweredEffect (abstract_image spec d3 (Some p ∷ out)) (abstract_image spec d4 (None ∷ out)) [] [] (guest_of (abstract_image spec d4 (None ∷ out)) ≡ with_slot (guest_of (abstract_image spec d3 (Some p ∷ out))) 0 None)
+          → RefusedEffect (abstract_image spec d0 out) (abstract_image spec d4 out) given_bytes [] e (MayWrite e (guest_of (abstract_image spec d0 out)) offset bytes 0 (guest_of (abstract_image spec d4 out)))
       commit_kept d3 d4 e why refuses discards =
           ended d4 e (refuses_if (λ h. (h.0.0, (ap shift h.1 ∙ shift_slot (guest_of (abstract_image spec d3 (Some p ∷ out))) None ∙ ap shift h.0.1.0, h.0.1.1)))
           (refused_then (has.works d4 (None ∷ out)) (refuses_then commits_within put_done (refuses_why why refuses)) discards))

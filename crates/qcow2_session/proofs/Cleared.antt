@@ -9,7 +9,7 @@ use Rattle.image_access.specs.Moments.{StorageView}
 use Rattle.qcow2_metadata.specs.declared.header.HeaderFields.{HeaderFields}
 use Rattle.qcow2_metadata.specs.Header.{header, cluster_size}
 use Rattle.qcow2_disk.specs.AbstractImages.{Setting}
-use Rattle.qcow2_disk.specs.Calls.{Clearing, cleared_at, gift_of_clear, with_disk}
+use Rattle.qcow2_disk.specs.Calls.{Clearing, cleared_at, given_by_clear, with_disk}
 use Rattle.qcow2_disk.specs.ClearedCovers.{ClearsCovers, IsRightlyCleared, needs_zeros, rounds_past}
 use Rattle.qcow2_disk.specs.Rules.{answered, touched_from, touched_to}
 use Rattle.qcow2_disk.specs.Runs.{State, RefinesState, RefinesCommand, clear}
@@ -60,7 +60,7 @@ module _ {S F : Type 0} (view : S → StorageView) (backing : F → BackingView)
   -- what an image's call answers, whose whole clusters show this then
   abbrev IsCleared : Result (ℕ × ℕ) ImageError → Type 0
   IsCleared r =
-      AnswersCall view backing old new (gift_of_clear (setting_of view backing old) (disk_of view backing old) how offset n ∷ [])
+      AnswersCall view backing old new (given_by_clear (setting_of view backing old) (disk_of view backing old) how offset n ∷ [])
       (λ range was is. (range ≡ answered (setting_of view backing old).cluster_size was.disk.size offset n) × (is ≡ with_disk was (cleared_at (setting_of view backing old) was.disk how offset n))) r
 
   -- what is refused before any work, and what stands for guest clusters where it is answered

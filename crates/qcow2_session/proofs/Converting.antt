@@ -10,9 +10,9 @@ use Rattle.qcow2_metadata.specs.Bytes.{byte_at}
 use Rattle.qcow2_metadata.specs.Guest.{known_byte}
 use Rattle.qcow2_disk.specs.Disk.{Disk, with_bytes}
 use Rattle.qcow2_disk.specs.Stops.{GivenBytes, IsGiven}
-use Rattle.qcow2_disk.specs.Mappings.{gift_of}
+use Rattle.qcow2_disk.specs.Mappings.{given_of}
 use Rattle.qcow2_disk.specs.AbstractImages.{Setting, AbstractImage, Guest, guest_of}
-use Rattle.qcow2_disk.specs.Calls.{Refusal, memory, storage, not_compressed, another, Does, Refuses, Shows, MayWrite, WritesSome, IsSame, with_disk}
+use Rattle.qcow2_disk.specs.Calls.{Refusal, memory, storage, not_compressed, another, AnsweredEffect, RefusedEffect, Shows, MayWrite, WritesSome, IsSame, with_disk}
 use Rattle.image_access.specs.Backing.{BackingView}
 use Rattle.image_access.specs.Moments.{StorageView}
 use Rattle.qcow2_alloc.specs.declared.error.ImageError.{ImageError}
@@ -29,7 +29,7 @@ use Rattle.qcow2_session.proofs.Writing.{writes_more, may_write_more}
 use Rattle.qcow2_disk.proofs.Compose.{stops_none, rests_none}
 
 -- no call at all
-pub does_nothing : (v : AbstractImage) → Does v v [] [] (guest_of v ≡ guest_of v)
+pub does_nothing : (v : AbstractImage) → AnsweredEffect v v [] [] (guest_of v ≡ guest_of v)
 does_nothing v = record {
   acts = record {
     number = refl;
@@ -45,10 +45,10 @@ does_nothing v = record {
 
 -- ---- calls that were refused
 
-pub breaks : {old new : AbstractImage} {given : List GivenBytes} {e : Refusal} {A : Type 0} → Refuses old new given [] e A → RefusedConversion old new given e A
+pub breaks : {old new : AbstractImage} {given : List GivenBytes} {e : Refusal} {A : Type 0} → RefusedEffect old new given [] e A → RefusedConversion old new given e A
 breaks r = record { acts = r.acts; answer = r.answer }
 
-pub breaks_here : {old new : AbstractImage} {given : List GivenBytes} {A : Type 0} (e : Refusal) → Does old new given [] A → RefusedConversion old new given e A
+pub breaks_here : {old new : AbstractImage} {given : List GivenBytes} {A : Type 0} (e : Refusal) → AnsweredEffect old new given [] A → RefusedConversion old new given e A
 breaks_here e d = record { acts = d.acts; answer = λ sound. inl (d.answer sound) }
 
 module _ {old new : AbstractImage} {given : List GivenBytes} {e : Refusal} {A B : Type 0} where
@@ -62,7 +62,7 @@ module _ {old new : AbstractImage} {gs fewer : List GivenBytes} (within : IsWith
   pub breaks_less : {e : Refusal} {A : Type 0} → RefusedConversion old new gs e A → RefusedConversion old new fewer e A
   breaks_less r = record { acts = acts_less within r.acts; answer = r.answer }
 
-module _ {old mid new : AbstractImage} {gs more : List GivenBytes} {A : Type 0} (within : A → IsWithin mid more gs) (first : Does old mid gs [] A) where
+module _ {old mid new : AbstractImage} {gs more : List GivenBytes} {A : Type 0} (within : A → IsWithin mid more gs) (first : AnsweredEffect old mid gs [] A) where
   pub breaks_then : {e : Refusal} {B : Type 0} → RefusedConversion mid new more e B → RefusedConversion old new gs e (A × B)
   breaks_then {B = B} then = record {
     acts = acts_then within first then.acts;
@@ -151,36 +151,36 @@ written_none e g g' at n bytes none may = subst (λ k. MayWrite e g at bytes k g
 
 -- ---- one range after another
 module _ (old mid new : AbstractImage) (contents : List ℕ) (at count : ℕ) (fits : at + count ≤ length contents) (chunk : List ℕ) (is : chunk ≡ bytes_at contents at count)
-    (first : Does old mid (gift_of 0 contents ∷ []) [] (guest_of mid ≡ with_disk (guest_of old) (with_bytes (guest_of old).disk 0 (take at contents)))) where
+    (first : AnsweredEffect old mid (given_of 0 contents ∷ []) [] (guest_of mid ≡ with_disk (guest_of old) (with_bytes (guest_of old).disk 0 (take at contents)))) where
   chunk_is : chunk ≡ take count (drop at contents)
   chunk_is = is ∙ range_is contents at count fits
 
   short : at ≤ length contents
   short = omega (arith, fits)
 
-  chunk_within : IsWithin mid (gift_of at chunk ∷ []) (gift_of at (drop at contents) ∷ [])
+  chunk_within : IsWithin mid (given_of at chunk ∷ []) (given_of at (drop at contents) ∷ [])
   chunk_within o w h = inr (part_within at at 0 (drop at contents) (take count (drop at contents)) (omega arith) (omega (arith, cut_short count (drop at contents)))
-      (λ i lt. cut_part count (drop at contents) i lt ∙ ap (byte_at (drop at contents)) (omega arith)) o w (subst (λ (b : List ℕ). IsGiven (gift_of at b ∷ []) o w) chunk_is h))
+      (λ i lt. cut_part count (drop at contents) i lt ∙ ap (byte_at (drop at contents)) (omega arith)) o w (subst (λ (b : List ℕ). IsGiven (given_of at b ∷ []) o w) chunk_is h))
 
-  rest_within : IsWithin mid (gift_of at (drop at contents) ∷ []) (gift_of 0 contents ∷ [])
+  rest_within : IsWithin mid (given_of at (drop at contents) ∷ []) (given_of 0 contents ∷ [])
   rest_within o w h = inr (part_within 0 at at contents (drop at contents) (omega arith) (rest_long at contents short) (λ i lt. rest_part at contents i short lt) o w h)
 
-  pub imports_more : Does mid new (gift_of at chunk ∷ []) [] (HasWritten at chunk (guest_of mid) (guest_of new))
-      → Does old new (gift_of 0 contents ∷ []) [] (guest_of new ≡ with_disk (guest_of old) (with_bytes (guest_of old).disk 0 (take (at + count) contents)))
+  pub imports_more : AnsweredEffect mid new (given_of at chunk ∷ []) [] (HasWritten at chunk (guest_of mid) (guest_of new))
+      → AnsweredEffect old new (given_of 0 contents ∷ []) [] (guest_of new ≡ with_disk (guest_of old) (with_bytes (guest_of old).disk 0 (take (at + count) contents)))
   imports_more next = writes_more 0 at at contents short (omega arith) old mid new first count
       (does_if (λ h. subst (λ (b : List ℕ). HasWritten at b (guest_of mid) (guest_of new)) chunk_is h) (does_less chunk_within next))
 
   -- the range was refused, and lies within a cluster
   pub imports_refused : (e : Refusal) (size : ℕ) (aligned : Type 0) → at % size ≡ 0 → (old.is_sound → aligned)
-      → RefusedConversion mid new (gift_of at chunk ∷ []) e (aligned → MayWrite e (guest_of mid) at chunk 0 (guest_of new))
-      → RefusedConversion old new (gift_of 0 contents ∷ []) e (HasSome size contents e (guest_of old) (guest_of new))
+      → RefusedConversion mid new (given_of at chunk ∷ []) e (aligned → MayWrite e (guest_of mid) at chunk 0 (guest_of new))
+      → RefusedConversion old new (given_of 0 contents ∷ []) e (HasSome size contents e (guest_of old) (guest_of new))
   imports_refused e size aligned start is_aligned next =
       breaks_if (λ h. (
         at,
         inl start,
         may_write_more 0 at at contents short (omega arith) e (guest_of old) (guest_of mid) (guest_of new) h.0.0 (may_write_first e (guest_of mid) (guest_of new) at count (drop at contents) (subst (λ (b : List ℕ). MayWrite e (guest_of mid) at b 0 (guest_of new)) chunk_is (h.0.1 h.1))),
       ))
-      (breaks_why is_aligned (breaks_then {more = gift_of at (drop at contents) ∷ []} (λ _. rest_within) first (breaks_less chunk_within next)))
+      (breaks_why is_aligned (breaks_then {more = given_of at (drop at contents) ∷ []} (λ _. rest_within) first (breaks_less chunk_within next)))
 
 -- ---- a range, in the calls' words
 module _ {S F : Type 0} (view : S → StorageView) (backing : F → BackingView) (old new : Qcow2 S F) (at : ℕ) (bytes : List ℕ) where
@@ -190,18 +190,18 @@ module _ {S F : Type 0} (view : S → StorageView) (backing : F → BackingView)
       → ImportsAt view backing old new at bytes r
   at_refused e r is off = subst (λ x. ImportsAt view backing old new at bytes x) (sym is) (λ out.
       breaks_if (λ same start short. may_write_none (refusal_of e) (guest_of (abstract_of view backing old out)) (guest_of (abstract_of view backing new out)) at bytes same)
-      (breaks_less (none_within (abstract_of view backing old out) (gift_of at bytes ∷ [])) (off out)))
+      (breaks_less (none_within (abstract_of view backing old out) (given_of at bytes ∷ [])) (off out)))
 
   -- the bytes were there
   pub at_shown : (present wanted : List ℕ) → wanted ≡ present → wanted ≡ bytes → ReadsInto view backing old new at present (Ok tt) → ImportsAt view backing old new at bytes (Ok tt)
   at_shown present wanted same are reads out =
       does_if (λ h. shown_written (guest_of (abstract_of view backing old out)) (guest_of (abstract_of view backing new out)) at bytes
       (subst (λ (b : List ℕ). Shows (guest_of (abstract_of view backing old out)).disk at b) (sym same ∙ are) h.0, h.1))
-      (does_less (none_within (abstract_of view backing old out) (gift_of at bytes ∷ [])) (reads out))
+      (does_less (none_within (abstract_of view backing old out) (given_of at bytes ∷ [])) (reads out))
 
   module _ (mid : Qcow2 S F) (present : List ℕ) (reads : ReadsInto view backing old mid at present (Ok tt)) (wanted : List ℕ) (are : wanted ≡ bytes) where
-    read_same : (out : List (Option Prepared)) → Does (abstract_of view backing old out) (abstract_of view backing mid out) (gift_of at wanted ∷ []) [] (guest_of (abstract_of view backing mid out) ≡ guest_of (abstract_of view backing old out))
-    read_same out = does_if (λ h. h.1) (does_less (none_within (abstract_of view backing old out) (gift_of at wanted ∷ [])) (reads out))
+    read_same : (out : List (Option Prepared)) → AnsweredEffect (abstract_of view backing old out) (abstract_of view backing mid out) (given_of at wanted ∷ []) [] (guest_of (abstract_of view backing mid out) ≡ guest_of (abstract_of view backing old out))
+    read_same out = does_if (λ h. h.1) (does_less (none_within (abstract_of view backing old out) (given_of at wanted ∷ [])) (reads out))
 
     -- they are written
     pub at_written : Writes view backing mid new at wanted (Ok tt) → ImportsAt view backing old new at bytes (Ok tt)
@@ -222,10 +222,10 @@ module _ {S F : Type 0} (view : S → StorageView) (backing : F → BackingView)
 -- ---- all ranges, in the calls' words
 
 -- nothing yet
-pub imports_none : (v : AbstractImage) (contents : List ℕ) → Does v v (gift_of 0 contents ∷ []) [] (guest_of v ≡ with_disk (guest_of v) (with_bytes (guest_of v).disk 0 (take 0 contents)))
+pub imports_none : (v : AbstractImage) (contents : List ℕ) → AnsweredEffect v v (given_of 0 contents ∷ []) [] (guest_of v ≡ with_disk (guest_of v) (with_bytes (guest_of v).disk 0 (take 0 contents)))
 imports_none v contents =
     let none : with_bytes (guest_of v).disk 0 (take 0 contents) ≡ (guest_of v).disk = no_bytes (guest_of v).disk 0 (take 0 contents) (grind (arith, common_steps)) in
-    does_if (λ same. sym (ap (λ (d : Disk). with_disk (guest_of v) d) none)) (does_less (none_within v (gift_of 0 contents ∷ [])) (does_nothing v))
+    does_if (λ same. sym (ap (λ (d : Disk). with_disk (guest_of v) d) none)) (does_less (none_within v (given_of 0 contents ∷ [])) (does_nothing v))
 
 -- all was written
 pub may_write_all : (e : Refusal) (g g' : Guest) (contents : List ℕ) → HasWritten 0 contents g g' → MayWrite e g 0 contents (length contents) g'
@@ -255,7 +255,7 @@ module _ {S F : Type 0} (view : S → StorageView) (backing : F → BackingView)
   imports_nothing e r is = subst (λ x. Imports view backing old old contents x) (sym is) (λ out.
       let v = abstract_of view backing old out in
       breaks_if (λ same. (0, inl (zero-mod (cluster_size_of old)), may_write_none (refusal_of e) (guest_of v) (guest_of v) 0 contents same))
-      (breaks_less (none_within v (gift_of 0 contents ∷ [])) (breaks_here (refusal_of e) (does_nothing v))))
+      (breaks_less (none_within v (given_of 0 contents ∷ [])) (breaks_here (refusal_of e) (does_nothing v))))
 
   module _ (mid new : Qcow2 S F) where
     -- the flush was refused
@@ -264,7 +264,7 @@ module _ {S F : Type 0} (view : S → StorageView) (backing : F → BackingView)
         let v = abstract_of view backing old out in
         let w = abstract_of view backing new out in
         breaks_if (λ h. (length contents, inr refl, may_write_all (refusal_of e) (guest_of v) (guest_of w) contents (h.1 ∙ h.0)))
-        (breaks_then (λ _. none_within (abstract_of view backing mid out) (gift_of 0 contents ∷ [])) (all out) (breaks (flush out))))
+        (breaks_then (λ _. none_within (abstract_of view backing mid out) (given_of 0 contents ∷ [])) (all out) (breaks (flush out))))
 
     pub imports_flushed : (n : ℕ) → n ≡ length contents → ((out : List (Option Prepared)) → (abstract_of view backing old out).is_sound → length contents ≡ (guest_of (abstract_of view backing old out)).disk.size)
         → ImportsAll view backing old mid contents (Ok tt) → FlushesImage view backing mid new (Ok tt) → Imports view backing old new contents (Ok n)
@@ -274,12 +274,12 @@ module _ {S F : Type 0} (view : S → StorageView) (backing : F → BackingView)
         does_if (λ h.
         let written : HasWritten 0 contents (guest_of v) (guest_of w) = h.0.1.1 ∙ h.0.0 in
         (count, raw_written (guest_of v) (guest_of w) contents h.1 written, written, h.0.1.0))
-        (does_why (sized out) (does_then (λ _. none_within (abstract_of view backing mid out) (gift_of 0 contents ∷ [])) (all out) (flush out)))
+        (does_why (sized out) (does_then (λ _. none_within (abstract_of view backing mid out) (given_of 0 contents ∷ [])) (all out) (flush out)))
 
     module _ (at count : ℕ) (fits : at + count ≤ length contents) (chunk : List ℕ) (is : chunk ≡ bytes_at contents at count)
-        (first : (out : List (Option Prepared)) → Does (abstract_of view backing old out) (abstract_of view backing mid out) (gift_of 0 contents ∷ []) []
+        (first : (out : List (Option Prepared)) → AnsweredEffect (abstract_of view backing old out) (abstract_of view backing mid out) (given_of 0 contents ∷ []) []
         (guest_of (abstract_of view backing mid out) ≡ with_disk (guest_of (abstract_of view backing old out)) (with_bytes (guest_of (abstract_of view backing old out)).disk 0 (take at contents)))) where
-      pub all_more : ImportsAt view backing mid new at chunk (Ok tt) → (out : List (Option Prepared)) → Does (abstract_of view backing old out) (abstract_of view backing new out) (gift_of 0 contents ∷ []) []
+      pub all_more : ImportsAt view backing mid new at chunk (Ok tt) → (out : List (Option Prepared)) → AnsweredEffect (abstract_of view backing old out) (abstract_of view backing new out) (given_of 0 contents ∷ []) []
           (guest_of (abstract_of view backing new out) ≡ with_disk (guest_of (abstract_of view backing old out)) (with_bytes (guest_of (abstract_of view backing old out)).disk 0 (take (at + count) contents)))
       all_more next out = imports_more (abstract_of view backing old out) (abstract_of view backing mid out) (abstract_of view backing new out) contents at count fits chunk is (first out) (next out)
 

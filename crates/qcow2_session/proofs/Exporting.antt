@@ -11,7 +11,7 @@ use Rattle.qcow2_metadata.specs.Bytes.{byte_at}
 use Rattle.qcow2_metadata.specs.Guest.{known_byte}
 use Rattle.qcow2_disk.specs.Disk.{Disk}
 use Rattle.qcow2_disk.specs.AbstractImages.{Guest, guest_of}
-use Rattle.qcow2_disk.specs.Calls.{Does, Shows, IsSame}
+use Rattle.qcow2_disk.specs.Calls.{AnsweredEffect, Shows, IsSame}
 use Rattle.qcow2_alloc.specs.declared.error.ImageError.{ImageError}
 use Rattle.qcow2_image.specs.Calls.{refusal_of}
 use Rattle.qcow2_image.specs.declared.image.Qcow2.{Qcow2}
@@ -74,7 +74,7 @@ module _ {S F : Type 0} (view : S → StorageView) (backing : F → BackingView)
   unchanged_refused e r is off = subst (λ x. IsUnchanged view backing old new x) (sym is) off
 
   -- one range after others; here new is the image between them
-  pub fills_more : (from at n m : ℕ) (a b c : List ℕ) → ((out : List (Option Prepared)) → Does (abstract_of view backing old out) (abstract_of view backing new out) [] [] (guest_of (abstract_of view backing new out) ≡ guest_of (abstract_of view backing old out)))
+  pub fills_more : (from at n m : ℕ) (a b c : List ℕ) → ((out : List (Option Prepared)) → AnsweredEffect (abstract_of view backing old out) (abstract_of view backing new out) [] [] (guest_of (abstract_of view backing new out) ≡ guest_of (abstract_of view backing old out)))
       → Fills view backing old from at a b → Fills view backing new at (at + n) b c → n ≡ m → Fills view backing old from (at + m) a c
   fills_more from at n m a b c same first next count out sound size le filled =
       let mid = (same out).answer sound in

@@ -5,9 +5,9 @@ use Rattle.std.proofs.lemmas.Bool.{cond-true, cond-false, cases_Bool, cases_eq, 
 use Rattle.std.proofs.lemmas.Option.{slice_get-get_or, slice_get_read}
 use mathlib.Core.Path.{fun_ext}
 use Rattle.qcow2_disk.specs.Stops.{GivenBytes}
-use Rattle.qcow2_disk.specs.Mappings.{PreparedMapping, IsPrepared, put_mapping, put_disk, committed, gift_of_put, gift_of_commit}
+use Rattle.qcow2_disk.specs.Mappings.{PreparedMapping, IsPrepared, put_mapping, put_disk, committed, given_by_put, given_by_commit}
 use Rattle.qcow2_disk.specs.AbstractImages.{Setting, HostRange, Abstraction, AbstractImage, abstract_image, guest_of, meaning_at}
-use Rattle.qcow2_disk.specs.Calls.{Refusal, Acts, Does, Refuses, IsSame, with_disk, with_slot}
+use Rattle.qcow2_disk.specs.Calls.{Refusal, CallEffect, AnsweredEffect, RefusedEffect, IsSame, with_disk, with_slot}
 use Rattle.qcow2_disk.specs.Runs.{Found, Command, Reply, State, RefinesState, CommandMeaning, CommandStep, found_after, given_at, given_by, put, commit, discard, prepare, done, prepared_is}
 use Rattle.qcow2_image.specs.declared.mapping.Mapping.{Mapping}
 use Rattle.qcow2_session.proofs.Places.{get_set_same}
@@ -36,32 +36,32 @@ module _ {D P : Type 0} (spec : Abstraction D P) where
     untaken (Some p) at is = absurd cc
 
 module _ {old new : AbstractImage} (found : ℕ → Option Found) (slot : ℕ) (m : PreparedMapping) (e : old.slots slot ≡ Some m) where
-  at_slot : (gift : PreparedMapping → GivenBytes) → Acts old new (gift m ∷ []) [] → Acts old new (given_at (old.slots slot) gift) []
-  at_slot gift acts = subst (λ (o : Option PreparedMapping). Acts old new (given_at o gift) []) (sym e) acts
+  at_slot : (bytes_given : PreparedMapping → GivenBytes) → CallEffect old new (bytes_given m ∷ []) [] → CallEffect old new (given_at (old.slots slot) bytes_given) []
+  at_slot bytes_given acts = subst (λ (o : Option PreparedMapping). CallEffect old new (given_at o bytes_given) []) (sym e) acts
 
-  pub does_commit : Does old new (gift_of_commit old.setting.cluster_size (guest_of old).disk m ∷ []) [] (guest_of new ≡ with_slot (with_disk (guest_of old) (committed (guest_of old).disk m)) slot None)
-      → Does old new (given_by old.setting (guest_of old) (commit slot)) [] (CommandMeaning old.setting found (guest_of old) (commit slot) done (guest_of new))
-  does_commit does = record { acts = at_slot (gift_of_commit old.setting.cluster_size (guest_of old).disk) does.acts; answer = λ sound. let a = does.answer sound in (a.0, (m, e, a.1)) }
+  pub does_commit : AnsweredEffect old new (given_by_commit old.setting.cluster_size (guest_of old).disk m ∷ []) [] (guest_of new ≡ with_slot (with_disk (guest_of old) (committed (guest_of old).disk m)) slot None)
+      → AnsweredEffect old new (given_by old.setting (guest_of old) (commit slot)) [] (CommandMeaning old.setting found (guest_of old) (commit slot) done (guest_of new))
+  does_commit does = record { acts = at_slot (given_by_commit old.setting.cluster_size (guest_of old).disk) does.acts; answer = λ sound. let a = does.answer sound in (a.0, (m, e, a.1)) }
 
-  pub refuses_commit : {error : Refusal} → Refuses old new (gift_of_commit old.setting.cluster_size (guest_of old).disk m ∷ []) [] error (IsSame old new)
-      → Refuses old new (given_by old.setting (guest_of old) (commit slot)) [] error (IsSame old new)
-  refuses_commit r = record { acts = at_slot (gift_of_commit old.setting.cluster_size (guest_of old).disk) r.acts; answer = r.answer; fault = r.fault }
+  pub refuses_commit : {error : Refusal} → RefusedEffect old new (given_by_commit old.setting.cluster_size (guest_of old).disk m ∷ []) [] error (IsSame old new)
+      → RefusedEffect old new (given_by old.setting (guest_of old) (commit slot)) [] error (IsSame old new)
+  refuses_commit r = record { acts = at_slot (given_by_commit old.setting.cluster_size (guest_of old).disk) r.acts; answer = r.answer; fault = r.fault }
 
   module _ (at : ℕ) (bytes : List ℕ) where
-    pub does_put : at + length bytes ≤ m.length → Does old new (gift_of_put (guest_of old).disk m at bytes ∷ []) [] (guest_of new ≡ with_slot (with_disk (guest_of old) (put_disk (guest_of old).disk m at bytes)) slot (Some (put_mapping m at bytes)))
-        → Does old new (given_by old.setting (guest_of old) (put slot at bytes)) [] (CommandMeaning old.setting found (guest_of old) (put slot at bytes) done (guest_of new))
-    does_put fits does = record { acts = at_slot (λ n. gift_of_put (guest_of old).disk n at bytes) does.acts; answer = λ sound. let a = does.answer sound in (a.0, (m, e, fits, a.1)) }
+    pub does_put : at + length bytes ≤ m.length → AnsweredEffect old new (given_by_put (guest_of old).disk m at bytes ∷ []) [] (guest_of new ≡ with_slot (with_disk (guest_of old) (put_disk (guest_of old).disk m at bytes)) slot (Some (put_mapping m at bytes)))
+        → AnsweredEffect old new (given_by old.setting (guest_of old) (put slot at bytes)) [] (CommandMeaning old.setting found (guest_of old) (put slot at bytes) done (guest_of new))
+    does_put fits does = record { acts = at_slot (λ n. given_by_put (guest_of old).disk n at bytes) does.acts; answer = λ sound. let a = does.answer sound in (a.0, (m, e, fits, a.1)) }
 
-    pub refuses_put : {error : Refusal} → Refuses old new (gift_of_put (guest_of old).disk m at bytes ∷ []) [] error (IsSame old new)
-        → Refuses old new (given_by old.setting (guest_of old) (put slot at bytes)) [] error (IsSame old new)
-    refuses_put r = record { acts = at_slot (λ n. gift_of_put (guest_of old).disk n at bytes) r.acts; answer = r.answer; fault = r.fault }
+    pub refuses_put : {error : Refusal} → RefusedEffect old new (given_by_put (guest_of old).disk m at bytes ∷ []) [] error (IsSame old new)
+        → RefusedEffect old new (given_by old.setting (guest_of old) (put slot at bytes)) [] error (IsSame old new)
+    refuses_put r = record { acts = at_slot (λ n. given_by_put (guest_of old).disk n at bytes) r.acts; answer = r.answer; fault = r.fault }
 
-  pub does_discard : Does old new [] [] (guest_of new ≡ with_slot (guest_of old) slot None) → Does old new [] [] (CommandMeaning old.setting found (guest_of old) (discard slot) done (guest_of new))
+  pub does_discard : AnsweredEffect old new [] [] (guest_of new ≡ with_slot (guest_of old) slot None) → AnsweredEffect old new [] [] (CommandMeaning old.setting found (guest_of old) (discard slot) done (guest_of new))
   does_discard does = record { acts = does.acts; answer = λ sound. let a = does.answer sound in (a.0, ((λ (h : old.slots slot ≡ None). cc), a.1)) }
 
 pub does_prepare : {old new : AbstractImage} (found : ℕ → Option Found) (slot offset n : ℕ) (overwrite : Bool) (m : PreparedMapping) (host count : ℕ) (is_existing : Bool) → old.slots slot ≡ None → m.length ≡ count
-    → Does old new [] [] (IsPrepared old.setting.cluster_size (guest_of old).disk offset n overwrite m × (guest_of new ≡ with_slot (guest_of old) slot (Some m)))
-    → Does old new [] [] (CommandMeaning old.setting found (guest_of old) (prepare slot offset n overwrite) (prepared_is host count is_existing) (guest_of new))
+    → AnsweredEffect old new [] [] (IsPrepared old.setting.cluster_size (guest_of old).disk offset n overwrite m × (guest_of new ≡ with_slot (guest_of old) slot (Some m)))
+    → AnsweredEffect old new [] [] (CommandMeaning old.setting found (guest_of old) (prepare slot offset n overwrite) (prepared_is host count is_existing) (guest_of new))
 does_prepare found slot offset n overwrite m host count is_existing free long does = record { acts = does.acts; answer = λ sound. let a = does.answer sound in (a.0, (free, (m, a.1.0, long, a.1.1))) }
 
 abbrev host_range : ℕ → ℕ → Bool → HostRange

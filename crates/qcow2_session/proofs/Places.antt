@@ -5,7 +5,7 @@ use Rattle.std.proofs.lemmas.List.{append-nil}
 use mathlib.Core.Path.{fun_ext}
 use Rattle.qcow2_disk.specs.Mappings.{PreparedMapping}
 use Rattle.qcow2_disk.specs.AbstractImages.{Abstraction, HasFreePlaces, Guest, abstract_image, guest_of}
-use Rattle.qcow2_disk.specs.Calls.{Does, with_slot}
+use Rattle.qcow2_disk.specs.Calls.{AnsweredEffect, with_slot}
 use Rattle.qcow2_session.proofs.Turns.{none_within, does_if, does_then}
 use Rattle.qcow2_disk.proofs.Compose.{stops_none, rests_none}
 
@@ -43,7 +43,7 @@ set_last (x ∷ xs) y z = ap (λ ys. x ∷ ys) (set_last xs y z)
 module _ {D P : Type 0} (spec : Abstraction D P) (has : HasFreePlaces spec) where
   -- the same image with other places
   pub does_none : (d : D) (out out' : List (Option P)) → (spec.is_sound d out → spec.is_sound d out') → spec.surplus d out' ≡ spec.surplus d out
-      → Does (abstract_image spec d out) (abstract_image spec d out') [] [] ((guest_of (abstract_image spec d out')).disk ≡ (guest_of (abstract_image spec d out)).disk)
+      → AnsweredEffect (abstract_image spec d out) (abstract_image spec d out') [] [] ((guest_of (abstract_image spec d out')).disk ≡ (guest_of (abstract_image spec d out)).disk)
   does_none d out out' sound same = record {
     acts = record {
       number = refl;
@@ -57,10 +57,10 @@ module _ {D P : Type 0} (spec : Abstraction D P) (has : HasFreePlaces spec) wher
     answer = λ h. (sound h, refl);
   }
 
-  pub enters : (d : D) (out : List (Option P)) → Does (abstract_image spec d out) (abstract_image spec d (None ∷ out)) [] [] ((guest_of (abstract_image spec d (None ∷ out))).disk ≡ (guest_of (abstract_image spec d out)).disk)
+  pub enters : (d : D) (out : List (Option P)) → AnsweredEffect (abstract_image spec d out) (abstract_image spec d (None ∷ out)) [] [] ((guest_of (abstract_image spec d (None ∷ out))).disk ≡ (guest_of (abstract_image spec d out)).disk)
   enters d out = does_none d out (None ∷ out) (has.free d [] out) (has.surplus d [] out)
 
-  pub leaves : (d : D) (out : List (Option P)) → Does (abstract_image spec d (None ∷ out)) (abstract_image spec d out) [] [] ((guest_of (abstract_image spec d out)).disk ≡ (guest_of (abstract_image spec d (None ∷ out))).disk)
+  pub leaves : (d : D) (out : List (Option P)) → AnsweredEffect (abstract_image spec d (None ∷ out)) (abstract_image spec d out) [] [] ((guest_of (abstract_image spec d out)).disk ≡ (guest_of (abstract_image spec d (None ∷ out))).disk)
   leaves d out = does_none d (None ∷ out) out (has.left d [] out) (sym (has.surplus d [] out))
 
   -- ---- many free places
@@ -83,17 +83,17 @@ module _ {D P : Type 0} (spec : Abstraction D P) (has : HasFreePlaces spec) wher
 
   -- ---- the last place is let go
 
-  pub last_none : (d : D) (out : List (Option P)) → Does (abstract_image spec d (out ++ None ∷ [])) (abstract_image spec d out) [] [] ((guest_of (abstract_image spec d out)).disk ≡ (guest_of (abstract_image spec d (out ++ None ∷ []))).disk)
+  pub last_none : (d : D) (out : List (Option P)) → AnsweredEffect (abstract_image spec d (out ++ None ∷ [])) (abstract_image spec d out) [] [] ((guest_of (abstract_image spec d out)).disk ≡ (guest_of (abstract_image spec d (out ++ None ∷ []))).disk)
   last_none d out =
       let full = abstract_image spec d (out ++ None ∷ []) in
-      subst (λ (o : List (Option P)). Does full (abstract_image spec d o) [] [] ((guest_of (abstract_image spec d o)).disk ≡ (guest_of full).disk)) (append-nil out)
+      subst (λ (o : List (Option P)). AnsweredEffect full (abstract_image spec d o) [] [] ((guest_of (abstract_image spec d o)).disk ≡ (guest_of full).disk)) (append-nil out)
       (does_none d (out ++ None ∷ []) (out ++ []) (has.left d out []) (sym (has.surplus d out [])))
 
   pub last_release : (old new : D) (p : P) (out : List (Option P))
-      → ((o : List (Option P)) (k : ℕ) → slice_get o k ≡ Some (Some p) → Does (abstract_image spec old o) (abstract_image spec new (slice_set o k None)) [] [] (guest_of (abstract_image spec new (slice_set o k None)) ≡ with_slot (guest_of (abstract_image spec old o)) k None))
-      → Does (abstract_image spec old (out ++ Some p ∷ [])) (abstract_image spec new out) [] [] ((guest_of (abstract_image spec new out)).disk ≡ (guest_of (abstract_image spec old (out ++ Some p ∷ []))).disk)
+      → ((o : List (Option P)) (k : ℕ) → slice_get o k ≡ Some (Some p) → AnsweredEffect (abstract_image spec old o) (abstract_image spec new (slice_set o k None)) [] [] (guest_of (abstract_image spec new (slice_set o k None)) ≡ with_slot (guest_of (abstract_image spec old o)) k None))
+      → AnsweredEffect (abstract_image spec old (out ++ Some p ∷ [])) (abstract_image spec new out) [] [] ((guest_of (abstract_image spec new out)).disk ≡ (guest_of (abstract_image spec old (out ++ Some p ∷ []))).disk)
   last_release old new p out discards =
       let full : List (Option P) = out ++ Some p ∷ [] in
-      let To = λ (o : List (Option P)). Does (abstract_image spec old full) (abstract_image spec new o) [] [] ((guest_of (abstract_image spec new o)).disk ≡ (guest_of (abstract_image spec old full)).disk) in
+      let To = λ (o : List (Option P)). AnsweredEffect (abstract_image spec old full) (abstract_image spec new o) [] [] ((guest_of (abstract_image spec new o)).disk ≡ (guest_of (abstract_image spec old full)).disk) in
       let first : To (out ++ None ∷ []) = subst To (set_last out (Some p) None) (does_if (λ e. ap (λ (h : Guest). h.disk) e) (discards full (length out) (get_last out (Some p)))) in
       does_if (λ both. both.1 ∙ both.0) (does_then (λ _. none_within (abstract_image spec new (out ++ None ∷ [])) []) first (last_none new out))

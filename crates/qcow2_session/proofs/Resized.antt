@@ -5,14 +5,14 @@ use Rattle.std.specs.Option.{option_or}
 use Rattle.std.proofs.lemmas.Bool.{cases_lt, cases_eq, cond-true, cond-false, eq-eqb, ne_eqb}
 use Rattle.std.proofs.lemmas.Nat.{pow_pos}
 use Rattle.image_access.specs.Backing.{BackingView}
-use Rattle.image_access.specs.Moments.{StorageView, Passing}
+use Rattle.image_access.specs.Moments.{StorageView, EachMomentSince}
 use Rattle.image_access.specs.declared.storage.PreallocateMode.{PreallocateMode}
 use Rattle.qcow2_metadata.specs.Bytes.{byte_at}
 use Rattle.qcow2_metadata.specs.declared.header.HeaderFields.{HeaderFields}
 use Rattle.qcow2_metadata.specs.Guest.{Value}
 use Rattle.qcow2_metadata.specs.Header.{header, cluster_size, rounded_up}
 use Rattle.qcow2_disk.specs.AbstractImages.{AbstractImage, Setting, guest_of}
-use Rattle.qcow2_disk.specs.Calls.{IsRefusalByFault, IsShrinkEnd, IsShrunk, gift_of_shrink, gift_of_shrunk}
+use Rattle.qcow2_disk.specs.Calls.{IsRefusalByFault, IsShrinkEnd, IsShrunk, given_by_shrink, given_by_shrunk}
 use Rattle.qcow2_disk.specs.Disk.{Disk}
 use Rattle.qcow2_disk.specs.GrownCovers.{GrownCovers, IsRightlyGrown}
 use Rattle.qcow2_disk.specs.Runs.{State, RefinesState, RefinesCommand, done, grow, number_is, refused, shrink}
@@ -61,9 +61,9 @@ module _ (x : Setting) (d d' : Disk) (size answer : ℕ) (some : 0 < x.cluster_s
         omega (arith, is, most, from)
   ]
 
-  gives_within : (o : ℕ) (w : Value) → IsGiven (gift_of_shrunk x d size answer ∷ []) o w → IsGiven (gift_of_shrink x d size ∷ []) o w
-  gives_within o w gift =
-      let is = given_is x d (up size) (cond (answer == d.size) (up answer) answer - up size) o w gift in
+  gives_within : (o : ℕ) (w : Value) → IsGiven (given_by_shrunk x d size answer ∷ []) o w → IsGiven (given_by_shrink x d size ∷ []) o w
+  gives_within o w bytes_given =
+      let is = given_is x d (up size) (cond (answer == d.size) (up answer) answer - up size) o w bytes_given in
       let from = is.0 in
       let below = is.1 in
       let most = uncovered_within in
@@ -112,9 +112,9 @@ module _ {S F : Type 0} (view : S → StorageView) (backing : F → BackingView)
     abbrev after : AbstractImage
     after = abstract_of view backing new out
 
-    written_last : IsLast → before.is_sound → Passing before.storage after.storage (λ c. ((header (byte_at c)).size ≡ (guest_of before).disk.size) ⊎ (c ≡ after.storage.contents))
+    written_last : IsLast → before.is_sound → EachMomentSince before.storage after.storage (λ c. ((header (byte_at c)).size ≡ (guest_of before).disk.size) ⊎ (c ≡ after.storage.contents))
     written_last last sound =
-        subst (λ n. Passing before.storage after.storage (λ c. ((header (byte_at c)).size ≡ n) ⊎ (c ≡ after.storage.contents))) (disk_size view backing old out sound) (last out sound)
+        subst (λ n. EachMomentSince before.storage after.storage (λ c. ((header (byte_at c)).size ≡ n) ⊎ (c ≡ after.storage.contents))) (disk_size view backing old out sound) (last out sound)
 
     -- the same of the headers that the known bytes hold
     rightly_grown : (mode : PreallocateMode) → ImageInvariant view backing (pending_in view backing old out) old out → ImageInvariant view backing (pending_in view backing new out) new out → (size_of old < size → IsFilledBehind mode)
@@ -147,7 +147,7 @@ module _ {S F : Type 0} (view : S → StorageView) (backing : F → BackingView)
 
       pub shrink_done : (answer : ℕ) → IsEarly (Ok answer) → Shrinks view backing old new size (Ok answer) → RefinesCommand x before after s (shrink size) (number_is answer)
       shrink_done answer early sees =
-          gave_less x before after s _ _ _ (λ y g. gift_of_shrunk y g.disk size answer ∷ []) refl stands
+          gave_less x before after s _ _ _ (λ y g. given_by_shrunk y g.disk size answer ∷ []) refl stands
           (record { sized = written_last last; failed = λ f. absurd (not_both (first_of_all old _ _ early f)); may = λ _. tt })
           (sees out)
           (λ sound. let is = ((sees out).answer sound).1 in gives_within before.setting (guest_of before).disk is.0 size answer (pow_pos old.file.header.fields.cluster_bits) is.1)

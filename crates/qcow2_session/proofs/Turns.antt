@@ -5,7 +5,7 @@ use Rattle.qcow2_metadata.specs.Guest.{Value}
 use Rattle.qcow2_disk.specs.Stops.{GivenBytes, IsGiven}
 use Rattle.qcow2_disk.specs.Disk.{disk}
 use Rattle.qcow2_disk.specs.AbstractImages.{AbstractImage}
-use Rattle.qcow2_disk.specs.Calls.{Refusal, memory, storage, not_compressed, another, IsRefusalByFault, Works, Acts, Does, Refuses}
+use Rattle.qcow2_disk.specs.Calls.{Refusal, memory, storage, not_compressed, another, IsRefusalByFault, EffectOnSound, CallEffect, AnsweredEffect, RefusedEffect}
 use Rattle.qcow2_disk.proofs.Compose.{works_less, works_then, rests_then, stops_resting}
 
 -- a refusal that was passed on
@@ -26,53 +26,53 @@ pub none_within : (v : AbstractImage) (gs : List GivenBytes) → IsWithin v [] g
 none_within v gs o w h = absurd h
 
 module _ {old new : AbstractImage} {given : List GivenBytes} {asked : List ℕ} {A B : Type 0} where
-  pub does_if : (A → B) → Does old new given asked A → Does old new given asked B
+  pub does_if : (A → B) → AnsweredEffect old new given asked A → AnsweredEffect old new given asked B
   does_if to d = record { acts = d.acts; answer = λ sound. let a = d.answer sound in (a.0, to a.1) }
 
-  pub does_why : (old.is_sound → B) → Does old new given asked A → Does old new given asked (A × B)
+  pub does_why : (old.is_sound → B) → AnsweredEffect old new given asked A → AnsweredEffect old new given asked (A × B)
   does_why why d = record { acts = d.acts; answer = λ sound. let a = d.answer sound in (a.0, (a.1, why sound)) }
 
-  pub refuses_if : {e : Refusal} → (A → B) → Refuses old new given asked e A → Refuses old new given asked e B
+  pub refuses_if : {e : Refusal} → (A → B) → RefusedEffect old new given asked e A → RefusedEffect old new given asked e B
   refuses_if to r = record { acts = r.acts; answer = λ sound. ⊎_elim (λ (a : new.is_sound × A). inl (a.0, to a.1)) (λ h. inr h) (r.answer sound); fault = r.fault }
 
-  pub refuses_why : {e : Refusal} → (old.is_sound → B) → Refuses old new given asked e A → Refuses old new given asked e (A × B)
+  pub refuses_why : {e : Refusal} → (old.is_sound → B) → RefusedEffect old new given asked e A → RefusedEffect old new given asked e (A × B)
   refuses_why why r = record { acts = r.acts; answer = λ sound. ⊎_elim (λ (a : new.is_sound × A). inl (a.0, (a.1, why sound))) (λ h. inr h) (r.answer sound); fault = r.fault }
 
 -- the session refuses by itself, after a call that was answered
-pub refuses_here : {old new : AbstractImage} {given : List GivenBytes} {asked : List ℕ} {A : Type 0} (e : Refusal) → (e ≡ storage → ⊥) → Does old new given asked A → Refuses old new given asked e A
+pub refuses_here : {old new : AbstractImage} {given : List GivenBytes} {asked : List ℕ} {A : Type 0} (e : Refusal) → (e ≡ storage → ⊥) → AnsweredEffect old new given asked A → RefusedEffect old new given asked e A
 refuses_here e none d = record { acts = d.acts; answer = λ sound. inl (d.answer sound); fault = λ is. absurd (none is) }
 
 -- a fault fails the image, so only want of memory can leave it sound
 pub refuses_fault : {old new : AbstractImage} {given : List GivenBytes} {asked : List ℕ} {A : Type 0} (B : Refusal → Type 0) (e : Refusal) → (A → IsRefusalByFault e) → (A → B memory)
-    → Refuses old new given asked e A → Refuses old new given asked e (B e)
+    → RefusedEffect old new given asked e A → RefusedEffect old new given asked e (B e)
 refuses_fault B memory why to r = refuses_if to r
 refuses_fault B storage why to r = record { acts = r.acts; answer = λ sound. inr (tt, r.fault refl); fault = r.fault }
 refuses_fault {new = new} {A = A} B (not_compressed n) why to r = record { acts = r.acts; answer = λ sound. ⊎_elim (λ (a : new.is_sound × A). absurd (why a.1)) (λ h. inr h) (r.answer sound); fault = r.fault }
 refuses_fault {new = new} {A = A} B (another n) why to r = record { acts = r.acts; answer = λ sound. ⊎_elim (λ (a : new.is_sound × A). absurd (why a.1)) (λ h. inr h) (r.answer sound); fault = r.fault }
 
 module _ {old new : AbstractImage} {gs fewer : List GivenBytes} (within : IsWithin old gs fewer) where
-  pub acts_less : Acts old new gs [] → Acts old new fewer []
+  pub acts_less : CallEffect old new gs [] → CallEffect old new fewer []
   acts_less a = record { number = a.number; works = λ sound. works_less old new gs fewer [] within (a.works sound); rests = a.rests }
 
-  pub does_less : {A : Type 0} → Does old new gs [] A → Does old new fewer [] A
+  pub does_less : {A : Type 0} → AnsweredEffect old new gs [] A → AnsweredEffect old new fewer [] A
   does_less d = record { acts = acts_less d.acts; answer = d.answer }
 
-  pub refuses_less : {e : Refusal} {A : Type 0} → Refuses old new gs [] e A → Refuses old new fewer [] e A
+  pub refuses_less : {e : Refusal} {A : Type 0} → RefusedEffect old new gs [] e A → RefusedEffect old new fewer [] e A
   refuses_less r = record { acts = acts_less r.acts; answer = r.answer; fault = r.fault }
 
 -- a call after one that was answered
-module _ {old mid new : AbstractImage} {gs more : List GivenBytes} {A : Type 0} (within : A → IsWithin mid more gs) (first : Does old mid gs [] A) where
-  pub acts_then : Acts mid new more [] → Acts old new gs []
+module _ {old mid new : AbstractImage} {gs more : List GivenBytes} {A : Type 0} (within : A → IsWithin mid more gs) (first : AnsweredEffect old mid gs [] A) where
+  pub acts_then : CallEffect mid new more [] → CallEffect old new gs []
   acts_then acts = record {
     number = acts.number ∙ first.acts.number;
     works = λ sound. let a = first.answer sound in works_then old mid new gs [] a.0 (first.acts.works sound) (works_less mid new more gs [] (within a.1) (acts.works a.0));
     rests = λ failed. let r = first.acts.rests failed in rests_then old mid new r (acts.rests r.failed);
   }
 
-  pub does_then : {B : Type 0} → Does mid new more [] B → Does old new gs [] (A × B)
+  pub does_then : {B : Type 0} → AnsweredEffect mid new more [] B → AnsweredEffect old new gs [] (A × B)
   does_then then = record { acts = acts_then then.acts; answer = λ sound. let a = first.answer sound in let b = then.answer a.0 in (b.0, (a.1, b.1)) }
 
-  pub refuses_then : {e : Refusal} {B : Type 0} → Refuses mid new more [] e B → Refuses old new gs [] e (A × B)
+  pub refuses_then : {e : Refusal} {B : Type 0} → RefusedEffect mid new more [] e B → RefusedEffect old new gs [] e (A × B)
   refuses_then {B = B} then = record {
     acts = acts_then then.acts;
     answer = λ sound. let a = first.answer sound in ⊎_elim (λ (b : new.is_sound × B). inl (b.0, (a.1, b.1))) (λ h. inr h) (then.answer a.0);
@@ -80,18 +80,18 @@ module _ {old mid new : AbstractImage} {gs more : List GivenBytes} {A : Type 0} 
   }
 
 -- a call that gives nothing, after one that was refused
-module _ {old mid new : AbstractImage} {gs : List GivenBytes} {e : Refusal} {A B : Type 0} (fine : new.is_sound → new.is_failed ≡ false) (first : Refuses old mid gs [] e A) (then : Does mid new [] [] B) where
+module _ {old mid new : AbstractImage} {gs : List GivenBytes} {e : Refusal} {A B : Type 0} (fine : new.is_sound → new.is_failed ≡ false) (first : RefusedEffect old mid gs [] e A) (then : AnsweredEffect mid new [] [] B) where
   never : IsTrue mid.is_failed → new.is_sound → ⊥
   never failed sound = let t : new.is_failed ≡ true = (then.acts.rests failed).failed in let f : true ≡ false = sym t ∙ fine sound in cc
 
-  works_broken : Works old mid gs [] → IsTrue mid.is_failed → Works old new gs []
+  works_broken : EffectOnSound old mid gs [] → IsTrue mid.is_failed → EffectOnSound old new gs []
   works_broken w failed = let r = then.acts.rests failed in record {
     setting = r.setting ∙ w.setting;
     surplus = λ sound. absurd (never failed sound);
     stops = λ m starts. stops_resting old mid new gs [] r (never failed) m (w.stops m starts);
   }
 
-  pub refused_then : Refuses old new gs [] e (A × B)
+  pub refused_then : RefusedEffect old new gs [] e (A × B)
   refused_then = record {
     acts = record {
       number = then.acts.number ∙ first.acts.number;

@@ -6,7 +6,7 @@ use Rattle.std.proofs.lemmas.Bool.{cases_Bool, lt-ltb}
 use Rattle.image_access.specs.Backing.{BackingView}
 use Rattle.image_access.specs.Moments.{StorageView}
 use Rattle.qcow2_disk.specs.AbstractImages.{Setting}
-use Rattle.qcow2_disk.specs.Calls.{Rests}
+use Rattle.qcow2_disk.specs.Calls.{EffectOnFailed}
 use Rattle.qcow2_disk.specs.Runs.{State, RefinesState}
 use Rattle.qcow2_alloc.specs.ImageFile.{view_in}
 use Rattle.qcow2_alloc.specs.ImageStorage.{storage_of}
@@ -118,7 +118,7 @@ existing_none k p is = absurd (none_in 256 k p is)
 -- ---- a whole run
 
 module _ {S F : Type 0} (view : S → StorageView) (backing : F → BackingView) (x : Setting) where
-  rested : (old new : Qcow2 S F) (out : List (Option Prepared)) → Rests (abstract_of view backing old out) (abstract_of view backing new []) → HoldsSame (view_in view old.file) (view_in view new.file)
+  rested : (old new : Qcow2 S F) (out : List (Option Prepared)) → EffectOnFailed (abstract_of view backing old out) (abstract_of view backing new []) → HoldsSame (view_in view old.file) (view_in view new.file)
   rested old new out rests = holds_still (view_in view old.file) (view_in view new.file) rests.moments rests.contents
 
   along_unwritten : (old : Qcow2 S F) (before : List (Option Prepared)) (s : State) (commands : List Command) (replies : List Reply) (new : Qcow2 S F) (after : List (Option Prepared)) (end : State)
@@ -135,7 +135,7 @@ module _ {S F : Type 0} (view : S → StorageView) (backing : F → BackingView)
       elim (cases_Bool s.is_failed) [
         | inl failed ↦
             let here : HoldsSame (view_in view old.file) (view_in view mid.file) =
-            holds_still (view_in view old.file) (view_in view mid.file) (step.stretch.safe.silent failed) (step.stretch.safe.unchanged failed) in
+            holds_still (view_in view old.file) (view_in view mid.file) (step.interval.safe.silent failed) (step.interval.safe.unchanged failed) in
             let rest = along_unwritten mid along.1 step.end commands replies new after end along.3 step.stands (λ ok. absurd (let no : true ≡ false = sym failed ∙ step.since ok in cc)) in
             (holds_then here rest.0, rest.1)
         | inr ok ↦
@@ -150,7 +150,7 @@ module _ {S F : Type 0} (view : S → StorageView) (backing : F → BackingView)
   -- and then the mappings that are left are let go
   pub never_written : (old : Qcow2 S F) (before : List (Option Prepared)) (s : State) (commands : List Command) (replies : List Reply) (last : Qcow2 S F) (left : List (Option Prepared)) (end : State) (new : Qcow2 S F)
       → IsToldAlong view backing x old before s commands replies last left end → RefinesState x (abstract_of view backing old before) s → is_writable old ≡ false → IsUnmodified view old → AreExisting before
-      → RefinesState x (abstract_of view backing last left) end → (IsTrue (is_failed last) → Rests (abstract_of view backing last left) (abstract_of view backing new [])) → (IsUnmodified view last → IsOnlyRead view last new)
+      → RefinesState x (abstract_of view backing last left) end → (IsTrue (is_failed last) → EffectOnFailed (abstract_of view backing last left) (abstract_of view backing new [])) → (IsUnmodified view last → IsOnlyRead view last new)
       → HoldsSame (view_in view old.file) (view_in view new.file)
   never_written old before s commands replies last left end new along stands reading clean existing stands-last rests reads =
       let whole = along_unwritten old before s commands replies last left end along stands (λ ok. (reading, clean, existing)) in

@@ -4,9 +4,9 @@ use Rattle.std.proofs.Math.Seq.{take-add}
 use Rattle.std.proofs.lemmas.Grind.{common_steps}
 use Rattle.std.proofs.lemmas.List.{take-append-drop}
 use Rattle.qcow2_disk.specs.Disk.{Disk, with_bytes}
-use Rattle.qcow2_disk.specs.Mappings.{gift_of}
+use Rattle.qcow2_disk.specs.Mappings.{given_of}
 use Rattle.qcow2_disk.specs.AbstractImages.{AbstractImage, Guest, guest_of}
-use Rattle.qcow2_disk.specs.Calls.{Refusal, memory, storage, not_compressed, another, Does, Refuses, MayWrite, WritesSome, with_disk}
+use Rattle.qcow2_disk.specs.Calls.{Refusal, memory, storage, not_compressed, another, AnsweredEffect, RefusedEffect, MayWrite, WritesSome, with_disk}
 use Rattle.qcow2_image.specs.declared.image.Qcow2.{Qcow2}
 use Rattle.qcow2_session.specs.Sessions.{cluster_size_of, EndsCluster}
 use Rattle.qcow2_session.proofs.Bytes.{no_bytes, with_both, part_within, rest_long, rest_part}
@@ -65,16 +65,16 @@ module _ (offset at count : ℕ) (bytes : List ℕ) (le : count ≤ length bytes
   may_write_more (not_compressed n) g g' new so_far may = (le, may.1 ∙ ap (λ (d : Disk). with_disk g' d) (no_more g'.disk) ∙ so_far)
   may_write_more (another n) g g' new so_far may = (le, may.1 ∙ ap (λ (d : Disk). with_disk g' d) (no_more g'.disk) ∙ so_far)
 
-  module _ (old mid new : AbstractImage) (first : Does old mid (gift_of offset bytes ∷ []) [] (guest_of mid ≡ with_disk (guest_of old) (with_bytes (guest_of old).disk offset (take count bytes)))) where
-    rest_within : IsWithin mid (gift_of at (drop count bytes) ∷ []) (gift_of offset bytes ∷ [])
+  module _ (old mid new : AbstractImage) (first : AnsweredEffect old mid (given_of offset bytes ∷ []) [] (guest_of mid ≡ with_disk (guest_of old) (with_bytes (guest_of old).disk offset (take count bytes)))) where
+    rest_within : IsWithin mid (given_of at (drop count bytes) ∷ []) (given_of offset bytes ∷ [])
     rest_within o w h = inr (part_within offset at count bytes (drop count bytes) there (rest_long count bytes le) (λ i lt. rest_part count bytes i le lt) o w h)
 
-    pub writes_more : (n : ℕ) → Does mid new (gift_of at (drop count bytes) ∷ []) [] (guest_of new ≡ with_disk (guest_of mid) (with_bytes (guest_of mid).disk at (take n (drop count bytes))))
-        → Does old new (gift_of offset bytes ∷ []) [] (guest_of new ≡ with_disk (guest_of old) (with_bytes (guest_of old).disk offset (take (count + n) bytes)))
+    pub writes_more : (n : ℕ) → AnsweredEffect mid new (given_of at (drop count bytes) ∷ []) [] (guest_of new ≡ with_disk (guest_of mid) (with_bytes (guest_of mid).disk at (take n (drop count bytes))))
+        → AnsweredEffect old new (given_of offset bytes ∷ []) [] (guest_of new ≡ with_disk (guest_of old) (with_bytes (guest_of old).disk offset (take (count + n) bytes)))
     writes_more n next =
         does_if (λ h. h.1 ∙ ap (λ (v : Guest). with_disk v (with_bytes v.disk at (take n (drop count bytes)))) h.0 ∙ ap (λ (d : Disk). with_disk (guest_of old) d) (more_bytes (guest_of old).disk n))
         (does_then (λ _. rest_within) first next)
 
-    pub write_refused : (e : Refusal) → Refuses mid new (gift_of at (drop count bytes) ∷ []) [] e (MayWrite e (guest_of mid) at (drop count bytes) 0 (guest_of new))
-        → Refuses old new (gift_of offset bytes ∷ []) [] e (MayWrite e (guest_of old) offset bytes count (guest_of new))
+    pub write_refused : (e : Refusal) → RefusedEffect mid new (given_of at (drop count bytes) ∷ []) [] e (MayWrite e (guest_of mid) at (drop count bytes) 0 (guest_of new))
+        → RefusedEffect old new (given_of offset bytes ∷ []) [] e (MayWrite e (guest_of old) offset bytes count (guest_of new))
     write_refused e next = refuses_if (λ h. may_write_more e (guest_of old) (guest_of mid) (guest_of new) h.0 h.1) (refuses_then (λ _. rest_within) first next)

@@ -6,9 +6,9 @@ use Rattle.qcow2_metadata.specs.Bytes.{byte_at}
 use Rattle.qcow2_metadata.specs.Guest.{known_byte}
 use Rattle.qcow2_disk.specs.Disk.{Disk}
 use Rattle.qcow2_disk.specs.Stops.{GivenBytes}
-use Rattle.qcow2_disk.specs.Mappings.{gift_of}
+use Rattle.qcow2_disk.specs.Mappings.{given_of}
 use Rattle.qcow2_disk.specs.AbstractImages.{Guest, AbstractImage, guest_of, stored_bytes}
-use Rattle.qcow2_disk.specs.Calls.{Refusal, IsRefusalByFault, Acts, Does, IsSame, Shows, MayWrite}
+use Rattle.qcow2_disk.specs.Calls.{Refusal, IsRefusalByFault, CallEffect, AnsweredEffect, IsSame, Shows, MayWrite}
 use Rattle.qcow2_alloc.specs.ImageError.{IsFault as IsOfFault}
 use Rattle.qcow2_alloc.specs.declared.error.ImageError.{ImageError}
 use Rattle.qcow2_alloc.specs.declared.error.ImageError.TheVariants.{InvalidOption}
@@ -33,7 +33,7 @@ IsRefusedUnequal early (Err e) = (early ≡ Some e) ⊎ ((e ≡ InvalidOption) �
 
 -- It was refused, by the image or by the raw disk: the image is sound, and this is so; or it failed, by a fault or want of memory.
 pub record RefusedConversion (old new : AbstractImage) (given : List GivenBytes) (e : Refusal) (still : Type 0) : Type 0 where
-  pub acts : Acts old new given []
+  pub acts : CallEffect old new given []
   pub answer : old.is_sound → (new.is_sound × still) ⊎ (IsRefusalByFault e × IsTrue new.is_failed)
 
 -- The disk has the leading bytes, up to a cluster's start or all of them. Where memory was refused, of those behind them any may be there.
@@ -44,26 +44,26 @@ module _ {S F : Type 0} (view : S → StorageView) (backing : F → BackingView)
   -- the disk has all of a raw disk's bytes and nothing else changed, and all is on the storage; or it has some
   abbrev pub Imports : List ℕ → Result ℕ ImageError → Type 0
   Imports bytes (Ok n) = (out : List (Option Prepared)) → let v = abstract_of view backing old out in let w = abstract_of view backing new out in
-      Does v w (gift_of 0 bytes ∷ []) [] ((n ≡ length bytes) × IsRawOf (guest_of w).disk bytes × HasWritten 0 bytes (guest_of v) (guest_of w) × (w.known ≡ stored_bytes w))
+      AnsweredEffect v w (given_of 0 bytes ∷ []) [] ((n ≡ length bytes) × IsRawOf (guest_of w).disk bytes × HasWritten 0 bytes (guest_of v) (guest_of w) × (w.known ≡ stored_bytes w))
   Imports bytes (Err e) = (out : List (Option Prepared)) → let v = abstract_of view backing old out in let w = abstract_of view backing new out in
-      RefusedConversion v w (gift_of 0 bytes ∷ []) (refusal_of e) (HasSome (cluster_size_of old) bytes (refusal_of e) (guest_of v) (guest_of w))
+      RefusedConversion v w (given_of 0 bytes ∷ []) (refusal_of e) (HasSome (cluster_size_of old) bytes (refusal_of e) (guest_of v) (guest_of w))
 
   -- so it is before the flush
   abbrev pub ImportsAll : List ℕ → Result (Unit {0}) ImageError → Type 0
   ImportsAll bytes (Ok _) = (out : List (Option Prepared)) → let v = abstract_of view backing old out in let w = abstract_of view backing new out in
-      Does v w (gift_of 0 bytes ∷ []) [] (HasWritten 0 bytes (guest_of v) (guest_of w))
+      AnsweredEffect v w (given_of 0 bytes ∷ []) [] (HasWritten 0 bytes (guest_of v) (guest_of w))
   ImportsAll bytes (Err e) = Imports bytes (Err e)
 
   -- and of one range; where it lies within a cluster, a refusal leaves it as it was
   abbrev pub ImportsAt : ℕ → List ℕ → Result (Unit {0}) ImageError → Type 0
   ImportsAt at bytes (Ok _) = (out : List (Option Prepared)) → let v = abstract_of view backing old out in let w = abstract_of view backing new out in
-      Does v w (gift_of at bytes ∷ []) [] (HasWritten at bytes (guest_of v) (guest_of w))
+      AnsweredEffect v w (given_of at bytes ∷ []) [] (HasWritten at bytes (guest_of v) (guest_of w))
   ImportsAt at bytes (Err e) = (out : List (Option Prepared)) → let v = abstract_of view backing old out in let w = abstract_of view backing new out in
-      RefusedConversion v w (gift_of at bytes ∷ []) (refusal_of e) (at % cluster_size_of old ≡ 0 → length bytes ≤ cluster_size_of old → MayWrite (refusal_of e) (guest_of v) at bytes 0 (guest_of w))
+      RefusedConversion v w (given_of at bytes ∷ []) (refusal_of e) (at % cluster_size_of old ≡ 0 → length bytes ≤ cluster_size_of old → MayWrite (refusal_of e) (guest_of v) at bytes 0 (guest_of w))
 
   -- the guest sees what it saw
   abbrev pub IsUnchanged : {A : Type 0} → Result A ImageError → Type 0
-  IsUnchanged (Ok a) = (out : List (Option Prepared)) → let v = abstract_of view backing old out in let w = abstract_of view backing new out in Does v w [] [] (IsSame v w)
+  IsUnchanged (Ok a) = (out : List (Option Prepared)) → let v = abstract_of view backing old out in let w = abstract_of view backing new out in AnsweredEffect v w [] [] (IsSame v w)
   IsUnchanged (Err e) = (out : List (Option Prepared)) → let v = abstract_of view backing old out in let w = abstract_of view backing new out in RefusedConversion v w [] (refusal_of e) (IsSame v w)
 
 -- So far a raw disk of this size has the disk's bytes, and zeros behind them.

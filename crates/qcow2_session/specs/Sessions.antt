@@ -6,9 +6,9 @@ use Rattle.image_access.specs.Moments.{StorageView}
 use Rattle.qcow2_metadata.specs.Bytes.{Bytes}
 use Rattle.qcow2_metadata.specs.Header.{cluster_size}
 use Rattle.qcow2_disk.specs.Disk.{with_bytes}
-use Rattle.qcow2_disk.specs.Mappings.{gift_of}
+use Rattle.qcow2_disk.specs.Mappings.{given_of}
 use Rattle.qcow2_disk.specs.AbstractImages.{Setting, Guest, guest_of, IsOpened}
-use Rattle.qcow2_disk.specs.Calls.{Does, Refuses, Shows, with_disk, MayWrite}
+use Rattle.qcow2_disk.specs.Calls.{AnsweredEffect, RefusedEffect, Shows, with_disk, MayWrite}
 use Rattle.qcow2_disk.specs.Found.{IsFoundIn}
 use Rattle.qcow2_disk.specs.Runs.{Command as RunCommand, Reply as RunReply, get_mapping, mapping_is, Found, State, RefinesState, RefinesCommand, RefinesWholeRun, RefinesDisk, begun, found_after}
 use Rattle.qcow2_alloc.specs.declared.error.ImageError.{ImageError}
@@ -79,8 +79,8 @@ module _ {S F : Type 0} (view : S → StorageView) (backing : F → BackingView)
 
   -- the bytes are there; or so many leading ones, where memory was refused perhaps more
   abbrev pub Writes : ℕ → List ℕ → Result (Unit {0}) (ImageError × ℕ) → Type 0
-  Writes offset bytes (Ok done) = AnswersCall view backing old new (gift_of offset bytes ∷ []) (λ _. HasWritten offset bytes) (Ok done)
-  Writes offset bytes (Err r) = (out : List (Option Prepared)) → let v = abstract_of view backing old out in let w = abstract_of view backing new out in Refuses v w (gift_of offset bytes ∷ []) [] (refusal_of r.0)
+  Writes offset bytes (Ok done) = AnswersCall view backing old new (given_of offset bytes ∷ []) (λ _. HasWritten offset bytes) (Ok done)
+  Writes offset bytes (Err r) = (out : List (Option Prepared)) → let v = abstract_of view backing old out in let w = abstract_of view backing new out in RefusedEffect v w (given_of offset bytes ∷ []) [] (refusal_of r.0)
       (MayWrite (refusal_of r.0) (guest_of v) offset bytes r.1 (guest_of w))
 
   -- so many of the first bytes were read
@@ -89,7 +89,7 @@ module _ {S F : Type 0} (view : S → StorageView) (backing : F → BackingView)
 
   -- so many of the first bytes were written
   abbrev pub WritesFirst : ℕ → List ℕ → Result ℕ ImageError → Type 0
-  WritesFirst offset bytes (Ok n) = AnswersCall view backing old new (gift_of offset bytes ∷ []) (λ n. HasWritten offset (take n bytes)) (Ok n)
+  WritesFirst offset bytes (Ok n) = AnswersCall view backing old new (given_of offset bytes ∷ []) (λ n. HasWritten offset (take n bytes)) (Ok n)
   WritesFirst offset bytes (Err e) = Writes offset bytes (Err (e, 0))
 
   -- one command is one step of each run that the image stands at with these mappings
@@ -99,7 +99,7 @@ module _ {S F : Type 0} (view : S → StorageView) (backing : F → BackingView)
 
   -- of the mappings that were out only these are left
   abbrev pub ReleasesMappings : List (Option Prepared) → List (Option Prepared) → Type 0
-  ReleasesMappings out left = let v = abstract_of view backing old out in let w = abstract_of view backing new left in Does v w [] [] ((guest_of w).disk ≡ (guest_of v).disk)
+  ReleasesMappings out left = let v = abstract_of view backing old out in let w = abstract_of view backing new left in AnsweredEffect v w [] [] ((guest_of w).disk ≡ (guest_of v).disk)
 
   -- there was no room for the replies or the slots, and nothing was called
   abbrev pub IsUntouched : List Reply → Type 0

@@ -6,14 +6,14 @@ use Rattle.qcow2_metadata.specs.Header.{cluster_size}
 use Rattle.qcow2_metadata.specs.Entries.{l1_entry, reftable_entry, host_offset, block_offset, is_copied}
 use Rattle.qcow2_metadata.specs.Named.{named_for_tables}
 use Rattle.qcow2_laws.specs.CrashInvariant.{Pending, CrashInvariant, SameIn, SameTop}
-use Rattle.qcow2_laws.specs.Caches.{HasL2, HasOwnL2, HasBlock, AreSettled}
+use Rattle.qcow2_laws.specs.Caches.{HasL2, HasOwnL2, HasBlock, AreNamedBlocks}
 use Rattle.qcow2_laws.proofs.KeptSteps.{kept_beside}
 use Rattle.qcow2_laws.proofs.Shares.{shares, top_stays, table_has, block_has}
 use Rattle.qcow2_alloc.specs.declared.cache.MetadataCaches.{MetadataCaches}
 use Rattle.qcow2_alloc.specs.MetadataCaches.{order_of, l2_tables, refblocks, known_of, CacheInvariant}
 use Rattle.qcow2_alloc.proofs.KeptTables.Loaded.{loaded_beside}
 
-module _ {S : Type 0} (h : HeaderFields) (p p' : Pending) (caches : MetadataCaches S) (on_storage on_storage' : Bytes) (sound : CacheInvariant h p caches on_storage) (settled : AreSettled h (refblocks caches) on_storage)
+module _ {S : Type 0} (h : HeaderFields) (p p' : Pending) (caches : MetadataCaches S) (on_storage on_storage' : Bytes) (sound : CacheInvariant h p caches on_storage) (settled : AreNamedBlocks h (refblocks caches) on_storage)
     (each : (c : ℕ) → SameIn (cluster_size h) c on_storage on_storage' ⊎ (named_for_tables h on_storage c ≡ 0)) where
   -- a cluster with a table stays
   stays : (c : ℕ) → 0 < named_for_tables h on_storage c → SameIn (cluster_size h) c on_storage on_storage'
@@ -39,7 +39,7 @@ module _ {S : Type 0} (h : HeaderFields) (p p' : Pending) (caches : MetadataCach
   back : (c : ℕ) → SameIn (cluster_size h) c on_storage on_storage' → SameIn (cluster_size h) c on_storage' on_storage
   back c same o in_c = sym (same o in_c)
 
-  pub settled_beside_write : AreSettled h (refblocks caches) on_storage'
+  pub settled_beside_write : AreNamedBlocks h (refblocks caches) on_storage'
   settled_beside_write c = elim (settled c) [ inl free ↦ inl free | inr has ↦ inr (block_still c has) ]
 
   -- so the caches are sound again, where the order of writes is kept

@@ -13,7 +13,7 @@ use Rattle.qcow2_metadata.specs.L2Table.{L2TableView}
 use Rattle.qcow2_metadata.specs.RefBlock.{RefBlockView}
 use Rattle.qcow2_metadata.specs.TableBytes.{HasPlace, IsOfStorageOrMemory}
 use Rattle.qcow2_laws.specs.CrashInvariant.{Pending}
-use Rattle.qcow2_laws.specs.Caches.{HasL2, HasBlock, AreSettled}
+use Rattle.qcow2_laws.specs.Caches.{HasL2, HasBlock, AreNamedBlocks}
 use Rattle.qcow2_alloc.specs.declared.async_lru_cache.slot.Slot.{Slot}
 use Rattle.qcow2_alloc.specs.declared.async_lru_cache.error.CacheError.{CacheError}
 use Rattle.qcow2_alloc.specs.declared.async_lru_cache.error.CacheError.TheVariants.{InUse, StillInUse, Memory, Backend}
@@ -26,7 +26,7 @@ use Rattle.qcow2_alloc.specs.declared.image_storage.ImageStorage.{ImageStorage}
 use Rattle.qcow2_alloc.specs.AsyncLruCache.{Cache, pinned}
 use Rattle.qcow2_alloc.specs.AsyncLruCacheBackend.{Steps}
 use Rattle.qcow2_alloc.specs.CacheAnswers.{Unit₀, Flushes, GetsNew, InsertsNew, Replaces}
-use Rattle.qcow2_alloc.specs.CacheMarks.{CachesHaveRoom, AreAllPinned, IsInUseOrFault}
+use Rattle.qcow2_alloc.specs.CachePins.{CachesHaveRoom, AreAllPinned, IsInUseOrFault}
 use Rattle.qcow2_alloc.specs.ImageError.{of_metadata, of_cache, IsFault}
 use Rattle.qcow2_alloc.specs.ImageStorage.{storage_of}
 use Rattle.qcow2_alloc.specs.TableCaches.{l2_steps, rb_steps, cleared_l2, cleared_rb, IsTableOf, IsBlockOf}
@@ -117,7 +117,7 @@ module _ {S : Type 0} (view : S → StorageView) (old new : ImageStorage S) (cac
       (flush_cause seen caches.l2.backend.header.fields.cluster_bits (λ (t : L2TableView). t.bytes) (λ t. t.is_modified) cleared_l2 (IsTableOf caches.l2.backend.header.fields) (λ v. refl) (table_still caches.l2.backend.header.fields) (HasL2 h on_storage)
       (table_place h on_storage caches.l2.backend.header.fields.cluster_bits sound.l2_format.bits) old new caches.l2.entries l2.entries answer (tables_stand h p caches on_storage sound) flushes))
 
-  pub blocks_flush_refused : AreSettled h (refblocks caches) on_storage → (rb : Cache (RefBlockCacheBackend S) ℕ RefBlockView) (answer : Result Unit₀ (CacheError ℕ MetadataError))
+  pub blocks_flush_refused : AreNamedBlocks h (refblocks caches) on_storage → (rb : Cache (RefBlockCacheBackend S) ℕ RefBlockView) (answer : Result Unit₀ (CacheError ℕ MetadataError))
       → Flushes (rb_steps seen caches.rb.backend.header.fields) old caches.rb.entries answer new rb.entries → (e : CacheError ℕ MetadataError) → answer ≡ Err e → IsFault (of_cache e)
   blocks_flush_refused settled rb answer flushes e is =
       fault_alone ⊥ e (λ none. none) (refused_by (IsCause ⊥) answer e is
@@ -141,7 +141,7 @@ module _ {S : Type 0} (view : S → StorageView) (old new : ImageStorage S) (cac
           | inr fault ↦ inr fault
         ]
 
-    pub block_load_refused : CachesHaveRoom caches → AreSettled h (refblocks caches) on_storage → (rb : Cache (RefBlockCacheBackend S) ℕ RefBlockView) → HasPlace h.cluster_bits key
+    pub block_load_refused : CachesHaveRoom caches → AreNamedBlocks h (refblocks caches) on_storage → (rb : Cache (RefBlockCacheBackend S) ℕ RefBlockView) → HasPlace h.cluster_bits key
         → (IsSome (lookup (eqb key) caches.rb.entries) → (answer ≡ Ok true) × (rb.entries ≡ promoted (eqb key) caches.rb.entries) × (new ≡ old))
         → (IsNone (lookup (eqb key) caches.rb.entries) → GetsNew (rb_steps seen caches.rb.backend.header.fields) eqb caches.rb.size may_flush key old caches.rb.entries answer new rb.entries)
         → IsFault (of_cache e)
@@ -172,7 +172,7 @@ module _ {S : Type 0} (view : S → StorageView) (old new : ImageStorage S) (cac
           | inr fault ↦ inr fault
         ]
 
-    pub block_put_refused : CachesHaveRoom caches → AreSettled h (refblocks caches) on_storage → (rb : Cache (RefBlockCacheBackend S) ℕ RefBlockView) (v : RefBlockView) (value left : Option RefBlockView) → value ≡ Some v
+    pub block_put_refused : CachesHaveRoom caches → AreNamedBlocks h (refblocks caches) on_storage → (rb : Cache (RefBlockCacheBackend S) ℕ RefBlockView) (v : RefBlockView) (value left : Option RefBlockView) → value ≡ Some v
         → IfSome (lookup_entry (eqb key) caches.rb.entries) (λ e. IfSome value (λ v. Replaces (rb_steps seen caches.rb.backend.header.fields) key e (remove_entry (eqb key) caches.rb.entries) v may_flush old caches.rb.entries answer new rb.entries left))
         → (IsNone (lookup (eqb key) caches.rb.entries) → IfSome value (λ v. InsertsNew (rb_steps seen caches.rb.backend.header.fields) eqb caches.rb.size may_flush key v old caches.rb.entries answer new rb.entries left))
         → IsFault (of_cache e)

@@ -48,8 +48,8 @@ splits key (e ∷ es) s h = (elim (eqb key e.0) as (λ b. eqb key e.0 ≡ b → 
     some_is : {A : Type 0} {a b : A} → Some a ≡ Some b → a ≡ b
     some_is e = cc
 
-pub held : {V : Type 0} (key : ℕ) (es : List (ℕ × Slot V)) (v : V) → value_at (eqb key) es ≡ Some v → Held key es v
-held {V = V} key es v h = of (lookup (eqb key) es) refl h
+pub new_data : {V : Type 0} (key : ℕ) (es : List (ℕ × Slot V)) (v : V) → value_at (eqb key) es ≡ Some v → Held key es v
+new_data {V = V} key es v h = of (lookup (eqb key) es) refl h
   where
     some_is : {A : Type 0} {a b : A} → Some a ≡ Some b → a ≡ b
     some_is e = cc
@@ -69,7 +69,7 @@ held {V = V} key es v h = of (lookup (eqb key) es) refl h
 
 -- the same value leaves the entries as they are
 pub set_same : {V : Type 0} (key : ℕ) (es : List (ℕ × Slot V)) (v : V) → value_at (eqb key) es ≡ Some v → set_at (eqb key) es v ≡ es
-set_same key es v found = let there = held key es v found in there.set v ∙ sym there.is
+set_same key es v found = let there = new_data key es v found in there.set v ∙ sym there.is
 
 -- an entry that is there is found, whatever stands before and behind it
 found_there : {V : Type 0} (key : ℕ) (front back : List (ℕ × Slot V)) (s : Slot V) → IsSome (value_at (eqb key) (front ++ (key, s) ∷ back))
@@ -80,8 +80,8 @@ found_there key (e ∷ front) back s = (elim (eqb key e.0) as (λ b. eqb key e.0
 ]) refl
 
 -- a key that is held is held with another value
-pub still_held : {V : Type 0} (key : ℕ) (es : List (ℕ × Slot V)) (v w : V) → value_at (eqb key) es ≡ Some v → IsSome (value_at (eqb key) (set_at (eqb key) es w))
-still_held key es v w found = let there = held key es v found in subst (λ (l : List (ℕ × Slot _)). IsSome (value_at (eqb key) l)) (sym (there.set w)) (found_there key there.front there.back (slot_of w there.pins))
+pub still_new_data : {V : Type 0} (key : ℕ) (es : List (ℕ × Slot V)) (v w : V) → value_at (eqb key) es ≡ Some v → IsSome (value_at (eqb key) (set_at (eqb key) es w))
+still_new_data key es v w found = let there = new_data key es v found in subst (λ (l : List (ℕ × Slot _)). IsSome (value_at (eqb key) l)) (sym (there.set w)) (found_there key there.front there.back (slot_of w there.pins))
 
 -- ---- lists of loaded tables
 
@@ -148,6 +148,6 @@ module _ {V : Type 0} (IsFit : V → Type 0) where
   fit_set key [] back v w pins is all = (is, all.1)
   fit_set key (u ∷ front) back v w pins is all = (all.0, fit_set key front back v w pins is all.1)
 
-  pub fit_held : (key : ℕ) (front back : List (ℕ × Slot V)) (v : V) (pins : ℕ) → AllValuesFit IsFit (front ++ (key, slot_of v pins) ∷ back) → IsFit v
-  fit_held key [] back v pins all = all.0
-  fit_held key (u ∷ front) back v pins all = fit_held key front back v pins all.1
+  pub fit_new_data : (key : ℕ) (front back : List (ℕ × Slot V)) (v : V) (pins : ℕ) → AllValuesFit IsFit (front ++ (key, slot_of v pins) ∷ back) → IsFit v
+  fit_new_data key [] back v pins all = all.0
+  fit_new_data key (u ∷ front) back v pins all = fit_new_data key front back v pins all.1

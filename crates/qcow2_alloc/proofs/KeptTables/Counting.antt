@@ -12,7 +12,7 @@ use Rattle.qcow2_metadata.specs.Tables.{CachedTable, known}
 use Rattle.qcow2_laws.specs.CrashInvariant.{Pending, CrashInvariant, SameCovers}
 use Rattle.qcow2_laws.specs.Steps.{block_of, CountRises, CountFalls}
 use Rattle.qcow2_laws.specs.Tops.{IsSameOutside}
-use Rattle.qcow2_laws.specs.Caches.{known_bytes, HasBlock, AreSettled}
+use Rattle.qcow2_laws.specs.Caches.{known_bytes, HasBlock, AreNamedBlocks}
 use Rattle.qcow2_laws.proofs.Places.{Sizes, block_count-moved, count_in as count_found}
 use Rattle.qcow2_laws.proofs.Lists.{known-at, known-none, changed_outside}
 use Rattle.qcow2_laws.proofs.Shares.{block_has}
@@ -30,7 +30,7 @@ use Rattle.qcow2_alloc.proofs.KeptTables.Entries.{tables_at}
 use Rattle.qcow2_alloc.proofs.KeptTables.Loaded.{in_own_cluster}
 use Rattle.qcow2_alloc.proofs.KeptTables.Settled.{blocks_stand, settled_in}
 use Rattle.qcow2_alloc.proofs.KeptTables.Standing.{AreStanding, stand_set, own_cluster}
-use Rattle.qcow2_alloc.proofs.KeptTables.Changing.{Held, held, loaded_apart, loaded_changed, list_knows, fit_set, fit_held}
+use Rattle.qcow2_alloc.proofs.KeptTables.Changing.{Held, new_data, loaded_apart, loaded_changed, list_knows, fit_set, fit_new_data}
 
 module _ {S : Type 0} (h : HeaderFields) (p : Pending) (on_storage : Bytes) (caches : MetadataCaches S) (sound : CacheInvariant h p caches on_storage) (key index : ℕ) (v : RefBlockView)
     (found : value_at (eqb key) caches.rb.entries ≡ Some v) (c : ℕ) (at : IsCountedAt h (known_of h caches on_storage) c key index) where
@@ -38,7 +38,7 @@ module _ {S : Type 0} (h : HeaderFields) (p : Pending) (on_storage : Bytes) (cac
   bits = caches.rb.backend.header.fields.cluster_bits
 
   there : Held key caches.rb.entries v
-  there = held key caches.rb.entries v found
+  there = new_data key caches.rb.entries v found
 
   abbrev tables : List (ℕ × Slot RefBlockView) → List CachedTable
   tables = cached_tables caches.rb.backend.header.fields.cluster_bits (λ (b : RefBlockView). b.bytes) (λ b. b.is_modified)
@@ -104,7 +104,7 @@ module _ {S : Type 0} (h : HeaderFields) (p : Pending) (on_storage : Bytes) (cac
   was = counts_known v (known_of h caches on_storage) kept.rb_loaded known_is
 
   pub order_is : v.refcount_order ≡ h.refcount_order
-  order_is = (fit_held (IsBlockOf caches.rb.backend.header.fields) key there.front there.back v there.pins (subst (AllValuesFit (IsBlockOf caches.rb.backend.header.fields)) there.is sound.rb_fit)).order ∙ sound.rb_format.order
+  order_is = (fit_new_data (IsBlockOf caches.rb.backend.header.fields) key there.front there.back v there.pins (subst (AllValuesFit (IsBlockOf caches.rb.backend.header.fields)) there.is sound.rb_fit)).order ∙ sound.rb_format.order
 
   -- the count that the refblock holds is the cluster's
   pub count_is : count h (known_of h caches on_storage) c ≡ count_in v.refcount_order v.bytes index
@@ -113,7 +113,7 @@ module _ {S : Type 0} (h : HeaderFields) (p : Pending) (on_storage : Bytes) (cac
       ∙ ap (count_in h.refcount_order v.bytes) at.at ∙ ap (λ n. count_in n v.bytes index) (sym order_is)
 
   bits_is : v.cluster_bits ≡ h.cluster_bits
-  bits_is = (fit_held (IsBlockOf caches.rb.backend.header.fields) key there.front there.back v there.pins (subst (AllValuesFit (IsBlockOf caches.rb.backend.header.fields)) there.is sound.rb_fit)).bits ∙ sound.rb_format.bits
+  bits_is = (fit_new_data (IsBlockOf caches.rb.backend.header.fields) key there.front there.back v there.pins (subst (AllValuesFit (IsBlockOf caches.rb.backend.header.fields)) there.is sound.rb_fit)).bits ∙ sound.rb_format.bits
 
   -- the refblock has such a count
   pub index_fits : index < counts_of v
@@ -166,7 +166,7 @@ module _ {S : Type 0} (h : HeaderFields) (p : Pending) (on_storage : Bytes) (cac
         (loaded_apart (cluster_size h) (HasBlock h on_storage) on_storage (list_with w) loaded') covers guarded' in
         let all : AllValuesFit (IsBlockOf caches.rb.backend.header.fields) (set_at (eqb key) caches.rb.entries w) =
         let old = subst (AllValuesFit (IsBlockOf caches.rb.backend.header.fields)) there.is sound.rb_fit in
-        let own = fit_held (IsBlockOf caches.rb.backend.header.fields) key there.front there.back v there.pins old in
+        let own = fit_new_data (IsBlockOf caches.rb.backend.header.fields) key there.front there.back v there.pins old in
         subst (AllValuesFit (IsBlockOf caches.rb.backend.header.fields)) (sym (there.set w))
         (fit_set (IsBlockOf caches.rb.backend.header.fields) key there.front there.back v w there.pins (record { bits = same_bits ∙ own.bits; order = same_order ∙ own.order }) old) in
         rw (l2_is, rb_is, direction_is) (record {
@@ -178,9 +178,9 @@ module _ {S : Type 0} (h : HeaderFields) (p : Pending) (on_storage : Bytes) (cac
         })
 
     -- the refblock is named, and the others are as they were
-    pub settled_again : AreSettled h (refblocks caches) on_storage → AreSettled h (refblocks caches') on_storage
+    pub settled_again : AreNamedBlocks h (refblocks caches) on_storage → AreNamedBlocks h (refblocks caches') on_storage
     settled_again settled =
-        let mine : IsBlockOf caches.rb.backend.header.fields w = let own = fit_held (IsBlockOf caches.rb.backend.header.fields) key there.front there.back v there.pins (subst (AllValuesFit (IsBlockOf caches.rb.backend.header.fields)) there.is sound.rb_fit) in
+        let mine : IsBlockOf caches.rb.backend.header.fields w = let own = fit_new_data (IsBlockOf caches.rb.backend.header.fields) key there.front there.back v there.pins (subst (AllValuesFit (IsBlockOf caches.rb.backend.header.fields)) there.is sound.rb_fit) in
         record { bits = same_bits ∙ own.bits; order = same_order ∙ own.order } in
         let own_key : (table w).place / cluster_size h ≡ key = ap (λ n. key * 2 ^ n / cluster_size h) sound.rb_format.bits ∙ own_cluster h.cluster_bits key in
         let all = stand_set (λ (b : RefBlockView). b.is_modified) (IsBlockOf caches.rb.backend.header.fields) (HasBlock h on_storage) key there.front there.back v w there.pins (record { fits = mine; named = λ _. subst (HasBlock h on_storage) own_key (has w) })

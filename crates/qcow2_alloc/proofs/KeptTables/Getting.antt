@@ -5,9 +5,9 @@ use Rattle.std.specs.Option.{option_map_or}
 use Rattle.std.specs.Map.{lookup, lookup_entry, remove_entry}
 use Rattle.lru.specs.LruCache.{promoted}
 use Rattle.lru.proofs.CallerLemmas.{Contains-lookup_entry}
-use Rattle.image_access.specs.Moments.{StorageView, Passing}
+use Rattle.image_access.specs.Moments.{StorageView, EachMomentSince}
 use Rattle.image_access.proofs.Bytes.{byte_at-bytes_at}
-use Rattle.image_access.proofs.Passing.{passes_if}
+use Rattle.image_access.proofs.EachMomentSince.{passes_if}
 use Rattle.qcow2_metadata.specs.Bytes.{Bytes, byte_at}
 use Rattle.qcow2_metadata.specs.declared.error.MetadataError.{MetadataError}
 use Rattle.qcow2_metadata.specs.Tables.{CachedTable}
@@ -92,7 +92,7 @@ module _ {S V : Type 0} (view : S → StorageView) (bits : ℕ) (bytes : V → L
       (inl (λ i lt. ap (λ c. byte_at c i) (l.read honest) ∙ byte_at-bytes_at (view s).contents (k * 2 ^ bits) (2 ^ bits) i lt ∙ ap (λ (b : Bytes). b (k * 2 ^ bits + i)) (sym same))) in
       let stays : all (tables es) (contents t) ≡ all (tables es) (contents s) = ap (λ b. all (tables es) b) same in
       let still : IsSafeBetween (contents s) (all (tables es) (contents s)) (contents t) = λ backing m ok known_ok. rw same ok in
-      let moments : Passing (view s) (view t) (λ c. (ts : List CachedTable) × P ts (byte_at c)) = passes_if _ (λ c is. (tables es, subst (λ l'. P (tables es) (byte_at l')) (sym is) kept')) l.calls.time in
+      let moments : EachMomentSince (view s) (view t) (λ c. (ts : List CachedTable) × P ts (byte_at c)) = passes_if _ (λ c is. (tables es, subst (λ l'. P (tables es) (byte_at l')) (sym is) kept')) l.calls.time in
       let since : IsSafeSince (view s) (view t) (all (tables es) (contents s)) = record { moments = passes_if _ (λ c is. subst (λ l'. IsSafeBetween (contents s) (all (tables es) (contents s)) (byte_at l')) (sym is) still) l.calls.time; contents = still } in (
         record { honest = l.calls.honest honest; kept = kept'; known = stays; since = since; moments = moments },
         record { honest = l.calls.honest honest; kept = added.0; known = added.1 ∙ stays; since = since; moments = moments },
@@ -124,14 +124,14 @@ module _ {S V : Type 0} (view : S → StorageView) (bits : ℕ) (bytes : V → L
         let kept' : P (tables sp.front ++ table e ∷ tables sp.back) (contents s) = subst (λ l. P l (contents s)) whole kept in
         let one = flushed_entry view bits bytes is_modified cleared IsFit unmodified same_bytes P all (step v.must.may) s t (tables sp.front) (tables sp.back) e None w.1 honest kept' (v.flushed, refl) in
         let clean : is_modified v.clean ≡ false = ap is_modified v.flushed.clean ∙ unmodified e.1.value in
-        let dropped = drop_clean (tables sp.front) (tables sp.back) (table w) (contents t) one.kept clean in
+        let old_data = drop_clean (tables sp.front) (tables sp.back) (table w) (contents t) one.kept clean in
         let apart : AreDistinct (tables (sp.front ++ e ∷ sp.back)) = subst (λ l. AreDistinct (tables l)) sp.is (distinct (tables es) (contents s) kept) in
         let rest : fs ≡ sp.front ++ sp.back = v.rest ∙ ap (remove_entry (eqb e.0)) sp.is ∙ removed_at bits bytes is_modified sp.front sp.back e apart in
         let fs_is : tables fs ≡ tables sp.front ++ tables sp.back = ap tables rest ∙ both in
         record {
           honest = one.honest;
-          kept = subst (λ l. P l (contents t)) (sym fs_is) dropped.0;
-          known = ap (λ l. all l (contents t)) fs_is ∙ dropped.1 ∙ one.known ∙ sym (ap (λ l. all l (contents s)) whole);
+          kept = subst (λ l. P l (contents t)) (sym fs_is) old_data.0;
+          known = ap (λ l. all l (contents t)) fs_is ∙ old_data.1 ∙ one.known ∙ sym (ap (λ l. all l (contents s)) whole);
           since = rw whole one.since;
           moments = one.moments;
         }

@@ -4,7 +4,7 @@ use Rattle.std.specs.Option.{IfSome, IsNone}
 use Rattle.std.specs.Map.{lookup, lookup_entry, remove_entry}
 use Rattle.lru.specs.LruCache.{promoted}
 use Rattle.image_access.specs.Moments.{StorageView}
-use Rattle.image_access.proofs.Passing.{passes_none, passes_on, passes_if}
+use Rattle.image_access.proofs.EachMomentSince.{passes_none, passes_on, passes_if}
 use Rattle.qcow2_metadata.specs.Bytes.{Bytes, byte_at}
 use Rattle.qcow2_metadata.specs.declared.header.HeaderFields.{HeaderFields}
 use Rattle.qcow2_metadata.specs.declared.error.MetadataError.{MetadataError}

@@ -57,7 +57,7 @@ if_some P o a is holds = subst (λ x. IfSome x P) (sym is) holds
 
 -- the value is there where it was put in, and is kept where nothing was done
 pub record IsTakenOrKept {V E : Type 0} (key : ℕ) (v : V) (may_flush : Bool) (fs : List (ℕ × Slot V)) (answer : Result Bool (CacheError ℕ E)) (left : Option V) : Type 0 where
-  pub held : answer ≡ Ok true → value_at (eqb key) fs ≡ Some v
+  pub new_data : answer ≡ Ok true → value_at (eqb key) fs ≡ Some v
   pub kept : answer ≡ Ok false → left ≡ Some v
   pub done : answer ≡ Ok false → may_flush ≡ false
 
@@ -72,19 +72,19 @@ true_false a b = let e = sym a ∙ b in cc
 
 module _ {S V E : Type 0} (steps : Steps S ℕ V E) (size : ℕ) (may_flush : Bool) (key : ℕ) (v : V) (s t : S) (es fs : List (ℕ × Slot V)) where
   pub taken_new : (answer : Result Bool (CacheError ℕ E)) (left : Option V) → InsertsNew steps eqb size may_flush key v s es answer t fs left → IsTakenOrKept key v may_flush fs answer left
-  taken_new (Ok true) left h = record { held = λ _. in_front key key v 0 h.0.0 fs (own key) h.0.2; kept = λ no. absurd (true_false refl no); done = λ no. absurd (true_false refl no) }
-  taken_new (Ok false) left h = record { held = λ yes. absurd (true_false yes refl); kept = λ _. h.1; done = λ _. h.0.1 }
-  taken_new (Err x) left h = record { held = λ yes. absurd (cc); kept = λ no. absurd (cc); done = λ no. absurd (cc) }
+  taken_new (Ok true) left h = record { new_data = λ _. in_front key key v 0 h.0.0 fs (own key) h.0.2; kept = λ no. absurd (true_false refl no); done = λ no. absurd (true_false refl no) }
+  taken_new (Ok false) left h = record { new_data = λ yes. absurd (true_false yes refl); kept = λ _. h.1; done = λ _. h.0.1 }
+  taken_new (Err x) left h = record { new_data = λ yes. absurd (cc); kept = λ no. absurd (cc); done = λ no. absurd (cc) }
 
 module _ {S V E : Type 0} (steps : Steps S ℕ V E) (may_flush : Bool) (key : ℕ) (v : V) (s t : S) (es fs : List (ℕ × Slot V)) (e : ℕ × Slot V) (others : List (ℕ × Slot V)) where
   pub taken_place : (answer : Result Bool (CacheError ℕ E)) (left : Option V) → eqb key e.0 ≡ true → Replaces steps key e others v may_flush s es answer t fs left → IsTakenOrKept key v may_flush fs answer left
-  taken_place (Ok true) left passes h = record { held = λ _. in_front key e.0 v e.1.pins others fs passes h.2; kept = λ no. absurd (true_false refl no); done = λ no. absurd (true_false refl no) }
-  taken_place (Ok false) left passes h = record { held = λ yes. absurd (true_false yes refl); kept = λ _. h.3; done = λ _. h.0 }
-  taken_place (Err x) left passes h = record { held = λ yes. absurd (cc); kept = λ no. absurd (cc); done = λ no. absurd (cc) }
+  taken_place (Ok true) left passes h = record { new_data = λ _. in_front key e.0 v e.1.pins others fs passes h.2; kept = λ no. absurd (true_false refl no); done = λ no. absurd (true_false refl no) }
+  taken_place (Ok false) left passes h = record { new_data = λ yes. absurd (true_false yes refl); kept = λ _. h.3; done = λ _. h.0 }
+  taken_place (Err x) left passes h = record { new_data = λ yes. absurd (cc); kept = λ no. absurd (cc); done = λ no. absurd (cc) }
 
 -- a call that may flush takes the value, unless it is refused
 pub taken_at_last : {V E : Type 0} (key : ℕ) (v : V) (fs : List (ℕ × Slot V)) (answer : Result Bool (CacheError ℕ E)) (left : Option V) (b : Bool) → answer ≡ Ok b → IsTakenOrKept key v true fs answer left → value_at (eqb key) fs ≡ Some v
-taken_at_last key v fs answer left true is taken = taken.held is
+taken_at_last key v fs answer left true is taken = taken.new_data is
 taken_at_last key v fs answer left false is taken = let e = taken.done is in absurd (cc)
 
 module _ {S : Type 0} (view : S → StorageView) (old new : ImageStorage S) (caches : MetadataCaches S) (may_flush : Bool) (key : ℕ) where

@@ -13,7 +13,7 @@ use Rattle.qcow2_laws.specs.Clusters.{Direction}
 use Rattle.qcow2_laws.specs.CrashInvariant.{Pending, CrashInvariant, SameCovers, SameIn}
 use Rattle.qcow2_laws.specs.Guests.{names, table_at}
 use Rattle.qcow2_laws.specs.Writes.{IsUnnamed}
-use Rattle.qcow2_laws.specs.Caches.{known_bytes, IsFreeAt, AreSettled, HasL2, HasOwnL2, HasBlock}
+use Rattle.qcow2_laws.specs.Caches.{known_bytes, IsFreeAt, AreNamedBlocks, HasL2, HasOwnL2, HasBlock}
 use Rattle.qcow2_laws.proofs.Blocks.{table_once}
 use Rattle.qcow2_laws.proofs.Guests.{over_guests-same}
 use Rattle.qcow2_laws.proofs.Lists.{known-at, known-none, known_elsewhere, no_overlay, overlays_within, within_cluster, differs}
@@ -54,7 +54,7 @@ module _ (h : HeaderFields) (d : Direction) (p : Pending) (l2s rbs : List Cached
   past_other c other o in_c = no_overlay size t o (λ over. other (sym in_c ∙ within_cluster t.place size o aligned (overlays_within size t o over)))
 
   -- an L2 table that an L1 entry names
-  pub l2_laid : AreElsewhere t.place l2s → AreSettled h rbs on_storage → HasOwnL2 h on_storage (t.place / size) → CrashInvariant h d p' on_storage (known_bytes size (t ∷ l2s) rbs on_storage) → AreKept h d p' (t ∷ l2s) rbs on_storage
+  pub l2_laid : AreElsewhere t.place l2s → AreNamedBlocks h rbs on_storage → HasOwnL2 h on_storage (t.place / size) → CrashInvariant h d p' on_storage (known_bytes size (t ∷ l2s) rbs on_storage) → AreKept h d p' (t ∷ l2s) rbs on_storage
   l2_laid away settled has guarded = record {
     kept = record {
       guarded = guarded;

@@ -6,7 +6,7 @@ use Rattle.qcow2_metadata.specs.Header.{cluster_size, entries_per_cluster}
 use Rattle.qcow2_metadata.specs.Entries.{l1_entry, l2_entry, host_offset, is_copied}
 use Rattle.qcow2_metadata.specs.Cover.{entry_cover}
 use Rattle.qcow2_metadata.specs.Named.{named_by_l1_table}
-use Rattle.qcow2_metadata.specs.L2Mapping.{dropped_run}
+use Rattle.qcow2_metadata.specs.L2Mapping.{old_data_run}
 use Rattle.qcow2_metadata.specs.L2Table.{L2TableView, cover_at, entries_of}
 use Rattle.qcow2_metadata.specs.TableBytes.{entry_at, ChangesEntry}
 use Rattle.qcow2_metadata.specs.Tables.{CachedTable, known}
@@ -14,7 +14,7 @@ use Rattle.qcow2_metadata.proofs.TableEntries.{number_at-moved}
 use Rattle.qcow2_laws.specs.Guests.{table_at}
 use Rattle.qcow2_laws.specs.CrashInvariant.{Pending, CrashInvariant}
 use Rattle.qcow2_laws.specs.Tops.{IsSameOutside}
-use Rattle.qcow2_laws.specs.Caches.{known_bytes, HasL2, HasOwnL2, AreSettled}
+use Rattle.qcow2_laws.specs.Caches.{known_bytes, HasL2, HasOwnL2, AreNamedBlocks}
 use Rattle.qcow2_laws.proofs.Places.{Sizes}
 use Rattle.qcow2_laws.proofs.Lists.{known-at, known-none, changed_outside}
 use Rattle.qcow2_laws.proofs.Shares.{table_has}
@@ -28,7 +28,7 @@ use Rattle.qcow2_alloc.specs.KeptTables.{cached_table, cached_tables, AreKept, A
 use Rattle.qcow2_alloc.specs.MetadataCaches.{order_of, l2_tables, refblocks, known_of, CacheInvariant, IsEntryAt, MadeEntry, ShowsEntry, ShowsKnown}
 use Rattle.qcow2_alloc.proofs.KeptTables.Entries.{tables_at}
 use Rattle.qcow2_alloc.proofs.KeptTables.Loaded.{in_own_cluster}
-use Rattle.qcow2_alloc.proofs.KeptTables.Changing.{Held, held, loaded_apart, loaded_changed, list_knows, fit_set, fit_held}
+use Rattle.qcow2_alloc.proofs.KeptTables.Changing.{Held, new_data, loaded_apart, loaded_changed, list_knows, fit_set, fit_new_data}
 
 module _ {S : Type 0} (h : HeaderFields) (p : Pending) (on_storage : Bytes) (caches : MetadataCaches S) (sound : CacheInvariant h p caches on_storage) (key index : ℕ) (v : L2TableView)
     (found : value_at (eqb key) caches.l2.entries ≡ Some v) (i : ℕ) (at : IsEntryAt h (known_of h caches on_storage) i key index) where
@@ -36,7 +36,7 @@ module _ {S : Type 0} (h : HeaderFields) (p : Pending) (on_storage : Bytes) (cac
   bits = caches.l2.backend.header.fields.cluster_bits
 
   there : Held key caches.l2.entries v
-  there = held key caches.l2.entries v found
+  there = new_data key caches.l2.entries v found
 
   abbrev tables : List (ℕ × Slot L2TableView) → List CachedTable
   tables = cached_tables caches.l2.backend.header.fields.cluster_bits (λ (t : L2TableView). t.bytes) (λ t. t.is_modified)
@@ -107,7 +107,7 @@ module _ {S : Type 0} (h : HeaderFields) (p : Pending) (on_storage : Bytes) (cac
   was = entries_known v (known_of h caches on_storage) kept.l2_loaded known_is
 
   own_fit : IsTableOf caches.l2.backend.header.fields v
-  own_fit = fit_held (IsTableOf caches.l2.backend.header.fields) key there.front there.back v there.pins (subst (AllValuesFit (IsTableOf caches.l2.backend.header.fields)) there.is sound.l2_fit)
+  own_fit = fit_new_data (IsTableOf caches.l2.backend.header.fields) key there.front there.back v there.pins (subst (AllValuesFit (IsTableOf caches.l2.backend.header.fields)) there.is sound.l2_fit)
 
   -- it is a table of this format
   pub bits_is : v.cluster_bits ≡ h.cluster_bits
@@ -159,7 +159,7 @@ module _ {S : Type 0} (h : HeaderFields) (p : Pending) (on_storage : Bytes) (cac
     fit' : IsTableOf caches.l2.backend.header.fields w
     fit' = record { bits = same_bits ∙ own_fit.bits; zero_bit = same_zero ∙ own_fit.zero_bit; external = same_external ∙ own_fit.external }
 
-    sound_again : (p' : Pending) → AreSettled h (refblocks caches) on_storage → CrashInvariant h (order_of caches') p' on_storage (known_of h caches' on_storage) → CacheInvariant h p' caches' on_storage
+    sound_again : (p' : Pending) → AreNamedBlocks h (refblocks caches) on_storage → CrashInvariant h (order_of caches') p' on_storage (known_of h caches' on_storage) → CacheInvariant h p' caches' on_storage
     sound_again p' settled guarded =
         let guarded' : CrashInvariant h (order_of caches) p' on_storage (known_bytes (cluster_size h) (list_with w) (refblocks caches) on_storage) =
         subst (λ (b : Bytes). CrashInvariant h (order_of caches) p' on_storage b) known' (rw direction_is at guarded) in
@@ -176,7 +176,7 @@ module _ {S : Type 0} (h : HeaderFields) (p : Pending) (on_storage : Bytes) (cac
           kept = rw new_list (record { kept = again; l2_loaded = loaded'; rb_loaded = kept.rb_loaded });
         })
 
-    pub entry_made : (entry : ℕ) (answer : Option (ℕ × ℕ)) → ChangesEntry v.bytes w.bytes index entry → answer ≡ dropped_run v.cluster_bits (cover_at v index) (cover_at w index) → MadeEntry h caches caches' on_storage i index entry answer
+    pub entry_made : (entry : ℕ) (answer : Option (ℕ × ℕ)) → ChangesEntry v.bytes w.bytes index entry → answer ≡ old_data_run v.cluster_bits (cover_at v index) (cover_at w index) → MadeEntry h caches caches' on_storage i index entry answer
     entry_made entry answer changes answered = record {
       change = record {
         outside = outside;
@@ -185,9 +185,9 @@ module _ {S : Type 0} (h : HeaderFields) (p : Pending) (on_storage : Bytes) (cac
       };
       settled = rw rb_is (λ settled. settled);
       answered =
-          answered ∙ ap (λ n. dropped_run n (cover_at v index) (cover_at w index)) bits_is
-          ∙ ap (λ c. dropped_run h.cluster_bits c (cover_at w index)) covers_known
-          ∙ ap (dropped_run h.cluster_bits (entry_cover h (l2_entry (known_of h caches on_storage) (table_at h (known_of h caches on_storage) i) index))) (cover_is w fit' ∙ ap (entry_cover h) changes.entry_is);
+          answered ∙ ap (λ n. old_data_run n (cover_at v index) (cover_at w index)) bits_is
+          ∙ ap (λ c. old_data_run h.cluster_bits c (cover_at w index)) covers_known
+          ∙ ap (old_data_run h.cluster_bits (entry_cover h (l2_entry (known_of h caches on_storage) (table_at h (known_of h caches on_storage) i) index))) (cover_is w fit' ∙ ap (entry_cover h) changes.entry_is);
       sound = sound_again;
     }
 

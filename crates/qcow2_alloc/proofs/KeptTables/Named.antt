@@ -7,14 +7,14 @@ use Rattle.qcow2_metadata.specs.declared.header.HeaderFields.{HeaderFields}
 use Rattle.qcow2_metadata.specs.Header.{cluster_size}
 use Rattle.qcow2_metadata.specs.Tables.{CachedTable}
 use Rattle.qcow2_laws.specs.CrashInvariant.{Pending, CrashInvariant, SameIn}
-use Rattle.qcow2_laws.specs.Caches.{HasL2, HasOwnL2, HasBlock, AreSettled}
+use Rattle.qcow2_laws.specs.Caches.{HasL2, HasOwnL2, HasBlock, AreNamedBlocks}
 use Rattle.qcow2_laws.proofs.KeptSteps.{kept_beside}
 use Rattle.qcow2_alloc.specs.declared.async_lru_cache.slot.Slot.{Slot}
 use Rattle.qcow2_alloc.specs.declared.cache.MetadataCaches.{MetadataCaches}
 use Rattle.qcow2_alloc.specs.AsyncLruCache.{slot_of, value_at}
 use Rattle.qcow2_alloc.specs.KeptTables.{cached_table, cached_tables, AreElsewhere, IsCurrent, AreLoaded}
 use Rattle.qcow2_alloc.specs.MetadataCaches.{order_of, l2_tables, refblocks, known_of, CacheInvariant}
-use Rattle.qcow2_alloc.proofs.KeptTables.Changing.{held}
+use Rattle.qcow2_alloc.proofs.KeptTables.Changing.{new_data}
 use Rattle.qcow2_alloc.proofs.KeptTables.Entries.{tables_at, elsewhere_of_none}
 use Rattle.qcow2_alloc.proofs.KeptTables.Getting.{cluster_aligned}
 use Rattle.qcow2_alloc.proofs.KeptTables.Loaded.{in_own_cluster, one_place}
@@ -65,7 +65,7 @@ pub current_entry : {V : Type 0} (bits : ℕ) (bytes : V → List ℕ) (is_modif
     → ((i : ℕ) → i < 2 ^ bits → byte_at (bytes v) i ≡ on_storage' (key * 2 ^ bits + i)) → AreLoaded (2 ^ bits) IsNamed (cached_tables bits bytes is_modified es) on_storage
     → AreCurrentIn (2 ^ bits) key (cached_tables bits bytes is_modified es) on_storage'
 current_entry bits bytes is_modified IsNamed on_storage on_storage' key es v found current loaded =
-    let there = held key es v found in
+    let there = new_data key es v found in
     let is = ap (cached_tables bits bytes is_modified) there.is ∙ tables_at bits bytes is_modified there.front there.back (key, slot_of v there.pins) in
     subst (λ ts. AreCurrentIn (2 ^ bits) key ts on_storage') (sym is)
     (subst (λ c. AreCurrentIn (2 ^ bits) c (cached_tables bits bytes is_modified there.front ++ cached_table bits bytes is_modified (key, slot_of v there.pins) ∷ cached_tables bits bytes is_modified there.back) on_storage') (own_cluster bits key)
@@ -84,11 +84,11 @@ current_none {V = V} bits bytes is_modified IsNamed on_storage on_storage' key e
     no_slot (Some s) is = absurd (cc)
 
 -- ---- tables are named that are in their caches, and no other one is named or changed
-module _ {S : Type 0} (h : HeaderFields) (p p' : Pending) (caches : MetadataCaches S) (on_storage on_storage' : Bytes) (sound : CacheInvariant h p caches on_storage) (settled : AreSettled h (refblocks caches) on_storage)
+module _ {S : Type 0} (h : HeaderFields) (p p' : Pending) (caches : MetadataCaches S) (on_storage on_storage' : Bytes) (sound : CacheInvariant h p caches on_storage) (settled : AreNamedBlocks h (refblocks caches) on_storage)
     (l2_still : (c : ℕ) → HasOwnL2 h on_storage c → HasOwnL2 h on_storage' c) (rb_still : (c : ℕ) → HasBlock h on_storage c → HasBlock h on_storage' c)
     (l2_now : (c : ℕ) → HasL2 h on_storage' c → (HasL2 h on_storage c × SameIn (cluster_size h) c on_storage' on_storage) ⊎ AreCurrentIn (cluster_size h) c (l2_tables caches) on_storage')
     (rb_now : (c : ℕ) → HasBlock h on_storage' c → (HasBlock h on_storage c × SameIn (cluster_size h) c on_storage' on_storage) ⊎ AreCurrentIn (cluster_size h) c (refblocks caches) on_storage') where
-  pub settled_named : AreSettled h (refblocks caches) on_storage'
+  pub settled_named : AreNamedBlocks h (refblocks caches) on_storage'
   settled_named c = elim (settled c) [ inl free ↦ inl free | inr has ↦ inr (rb_still c has) ]
 
   pub sound_named : CrashInvariant h (order_of caches) p' on_storage' (known_of h caches on_storage') → CacheInvariant h p' caches on_storage'

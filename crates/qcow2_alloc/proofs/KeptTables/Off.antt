@@ -21,7 +21,7 @@ use Rattle.qcow2_laws.specs.Clusters.{Direction}
 use Rattle.qcow2_laws.specs.CrashInvariant.{Pending, CrashInvariant, IsPartly}
 use Rattle.qcow2_laws.specs.Guests.{named_in_either}
 use Rattle.qcow2_laws.specs.Writes.{IsUnnamed}
-use Rattle.qcow2_laws.specs.Caches.{known_bytes, IsFreeAt, IsFreeOf, AreApart, AreClean, AreSettled, HasL2, HasBlock}
+use Rattle.qcow2_laws.specs.Caches.{known_bytes, IsFreeAt, IsFreeOf, AreApart, AreClean, AreNamedBlocks, HasL2, HasBlock}
 use Rattle.qcow2_laws.proofs.Guests.{over_guests-le}
 use Rattle.qcow2_laws.proofs.Lists.{known-at, known-none, known_there, known_elsewhere, known_unmodified, clean_known, no_overlay, unmodified_over, overlays_within, within_cluster, cluster_within}
 use Rattle.qcow2_laws.proofs.Mixes.{either_cover}
@@ -37,7 +37,7 @@ use Rattle.qcow2_alloc.specs.declared.error.ImageError.{ImageError}
 use Rattle.qcow2_alloc.specs.ImageError.{of_cache}
 use Rattle.qcow2_alloc.specs.AsyncLruCache.{Cache, value_at, can_remove, is_pinned, pinned, with_entries}
 use Rattle.qcow2_alloc.specs.CacheAnswers.{Unit₀, Invalidates}
-use Rattle.qcow2_alloc.specs.CacheMarks.{CachesHaveRoom, KeepsMarks, LeavesPinned}
+use Rattle.qcow2_alloc.specs.CachePins.{CachesHaveRoom, KeepsPinsAndNotes, LeavesPinned}
 use Rattle.qcow2_alloc.specs.TableLaws.{same_number}
 use Rattle.qcow2_alloc.specs.TableCaches.{IsTableOf, IsBlockOf}
 use Rattle.qcow2_alloc.specs.KeptTables.{cached_table, cached_tables, AreElsewhere, AreLoaded, AreKept, AllValuesFit}
@@ -209,7 +209,7 @@ module _ (h : HeaderFields) (d : Direction) (p : Pending) (l2s rbs l2s' rbs' : L
         omega arith;
   }
 
-  pub off_settled : AreSettled h rbs on_storage → AreSettled h rbs' on_storage
+  pub off_settled : AreNamedBlocks h rbs on_storage → AreNamedBlocks h rbs' on_storage
   off_settled settled c = elim (settled c) [ inl free ↦ inl (λ o in_c. some_free size rbs rbs' o rb_some (free o in_c)) | inr has ↦ inr has ]
 
   pub off_kept : (p' : Pending) → CrashInvariant h d p' on_storage (known_bytes size l2s' rbs' on_storage) → AreKept h d p' l2s' rbs' on_storage
@@ -355,7 +355,7 @@ module _ {S : Type 0} (caches : MetadataCaches S) (key : ℕ) (b : Bool) (rb : C
   free_case true free = removed_free (eqb key) caches.rb.entries free
   free_case false free = free
 
-  pub removed_marks : KeepsMarks caches (record caches { rb = rb })
+  pub removed_marks : KeepsPinsAndNotes caches (record caches { rb = rb })
   removed_marks = record {
     pins = λ _. refl;
     room = λ r. record { tables = r.tables; some = subst (λ (c : Cache (RefBlockCacheBackend S) ℕ RefBlockView). 0 < c.size) (sym is) r.some; free = ap pinned entries_is ∙ free_case b r.free };

@@ -6,7 +6,7 @@ use Rattle.std.specs.Map.{lookup, set_value}
 use Rattle.qcow2_alloc.specs.declared.async_lru_cache.slot.Slot.{Slot}
 use Rattle.qcow2_alloc.specs.AsyncLruCache.{slot_of, value_at, set_at}
 use Rattle.qcow2_alloc.specs.TableChanges.{ChangesHeld}
-use Rattle.qcow2_alloc.proofs.CacheMarks.{set_found}
+use Rattle.qcow2_alloc.proofs.CachePins.{set_found}
 
 module _ {V : Type 0} (key : ℕ) (es : List (ℕ × Slot V)) (w : V) where
   abbrev value_of : Option (Slot V) → Option V

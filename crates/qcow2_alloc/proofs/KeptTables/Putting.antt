@@ -11,7 +11,7 @@ use Rattle.qcow2_metadata.specs.Header.{cluster_size}
 use Rattle.qcow2_metadata.specs.L2Table.{L2TableView}
 use Rattle.qcow2_metadata.specs.Tables.{CachedTable, known}
 use Rattle.qcow2_laws.specs.CrashInvariant.{Pending, CrashInvariant}
-use Rattle.qcow2_laws.specs.Caches.{known_bytes, TablesMayGo, AreSettled, HasL2, HasOwnL2}
+use Rattle.qcow2_laws.specs.Caches.{known_bytes, TablesMayGo, AreNamedBlocks, HasL2, HasOwnL2}
 use Rattle.qcow2_alloc.specs.declared.async_lru_cache.slot.Slot.{Slot}
 use Rattle.qcow2_alloc.specs.declared.async_lru_cache.error.CacheError.{CacheError}
 use Rattle.qcow2_alloc.specs.declared.cache.backends.L2CacheBackend.{L2CacheBackend}
@@ -150,11 +150,11 @@ module _ {S : Type 0} (view : S → StorageView) (old new : ImageStorage S) (cac
       away : AreElsewhere (key * cluster_size h) (tables ready.rest)
       away = subst (λ n. AreElsewhere (key * 2 ^ n) (tables ready.rest)) sound.l2_format.bits ready.away
 
-      pub table_laid : LaidOver (λ on_storage known. AreSettled h (refblocks caches) on_storage × HasOwnL2 h on_storage key) (λ on_storage. Unit {0}) h (seen old) caches (seen new) (record caches { l2 = l2 }) (laid_at h key v.bytes)
+      pub table_laid : LaidOver (λ on_storage known. AreNamedBlocks h (refblocks caches) on_storage × HasOwnL2 h on_storage key) (λ on_storage. Unit {0}) h (seen old) caches (seen new) (record caches { l2 = l2 }) (laid_at h key v.bytes)
       table_laid =
           let whole : l2 ≡ with_entries caches.l2 entries = others ∙ ap (with_entries caches.l2) ready.is in
           let on_storage' = byte_at (seen new).contents in
-          subst (λ (c : Cache (L2CacheBackend S) ℕ L2TableView). LaidOver (λ on_storage known. AreSettled h (refblocks caches) on_storage × HasOwnL2 h on_storage key) (λ on_storage. Unit {0}) h (seen old) caches (seen new) (record caches { l2 = c }) (laid_at h key v.bytes)) (sym whole)
+          subst (λ (c : Cache (L2CacheBackend S) ℕ L2TableView). LaidOver (λ on_storage known. AreNamedBlocks h (refblocks caches) on_storage × HasOwnL2 h on_storage key) (λ on_storage. Unit {0}) h (seen old) caches (seen new) (record caches { l2 = c }) (laid_at h key v.bytes)) (sym whole)
           (record {
             honest = ready.done.honest;
             known = ap (λ ts. known_bytes (cluster_size h) ts (refblocks caches) on_storage') list_is ∙ laid_first (cluster_size h) (laid_at h key v.bytes) (tables ready.rest) (known (cluster_size h) (refblocks caches) on_storage')

@@ -13,7 +13,7 @@ use Rattle.qcow2_metadata.specs.RefBlock.{RefBlockView}
 use Rattle.qcow2_metadata.specs.Tables.{CachedTable, known}
 use Rattle.qcow2_laws.specs.CrashInvariant.{Pending, CrashInvariant}
 use Rattle.qcow2_laws.specs.Writes.{IsUnnamed}
-use Rattle.qcow2_laws.specs.Caches.{known_bytes, BlocksMayGo, IsFreeOf, AreSettled, HasBlock}
+use Rattle.qcow2_laws.specs.Caches.{known_bytes, BlocksMayGo, IsFreeOf, AreNamedBlocks, HasBlock}
 use Rattle.qcow2_laws.proofs.Tops.{SameTop-sym}
 use Rattle.qcow2_laws.proofs.Lists.{overlays_within, within_cluster}
 use Rattle.qcow2_alloc.specs.declared.async_lru_cache.slot.Slot.{Slot}
@@ -95,7 +95,7 @@ module _ {S : Type 0} (view : S → StorageView) (old new : ImageStorage S) (cac
         (λ none. insert_fits seen bits (λ (b : RefBlockView). b.bytes) (λ b. b.is_modified) cleared_rb IsFit (block_still caches.rb.backend.header.fields) caches.rb.size may_flush old new key v caches.rb.entries rb.entries answer left fits sound.rb_fit (rw is at (missing (rw (lookup_none (eqb key) caches.rb.entries none) refl))))
         (λ e some. replace_fits seen bits (λ (b : RefBlockView). b.bytes) (λ b. b.is_modified) cleared_rb IsFit (block_still caches.rb.backend.header.fields) may_flush old new key v caches.rb.entries rb.entries e answer left some fits sound.rb_fit (rw is at (rw some at there)))
 
-    stand : AreSettled h (refblocks caches) (byte_at (seen old).contents) → (answer ≡ Ok true → IsStanding (λ (b : RefBlockView). b.is_modified) IsFit Named key v) → BlocksStand rb.entries
+    stand : AreNamedBlocks h (refblocks caches) (byte_at (seen old).contents) → (answer ≡ Ok true → IsStanding (λ (b : RefBlockView). b.is_modified) IsFit Named key v) → BlocksStand rb.entries
     stand settled stands = found_or_not (lookup_entry (eqb key) caches.rb.entries)
         (λ none. insert_stands seen bits (λ (b : RefBlockView). b.bytes) (λ b. b.is_modified) cleared_rb IsFit (λ v. refl) (block_still caches.rb.backend.header.fields) Named (block_place h (byte_at (seen old).contents) bits sound.rb_format.bits) caches.rb.size may_flush old new key v caches.rb.entries rb.entries answer left stands
         (blocks_stand h p caches (byte_at (seen old).contents) sound settled) (rw is at (missing (rw (lookup_none (eqb key) caches.rb.entries none) refl))))
@@ -161,7 +161,7 @@ module _ {S : Type 0} (view : S → StorageView) (old new : ImageStorage S) (cac
                 ∙ ap (known (cluster_size h) (laid_at h key v.bytes ∷ [])) ready.done.known;
             since = ready.done.since;
             settled = λ named settled.
-                subst (λ es. AreSettled h (blocks es) on_storage') ready.is
+                subst (λ es. AreNamedBlocks h (blocks es) on_storage') ready.is
                 (settled_anew h (order_of caches) (order_of caches) p p (l2_tables caches) (refblocks caches) (l2_tables caches) (blocks ready.rest) (byte_at (seen old).contents) on_storage' sound.kept ready.done.kept ready.done.known bits sound.rb_format.bits IsFit rb.entries
                 (stand settled (λ _. record { fits = own_fit; named = λ _. named_before named })));
             sound = λ p' stands guarded. record {

@@ -5,7 +5,7 @@ use Rattle.std.specs.Map.{lookup, lookup_entry, remove_entry}
 use Rattle.lru.specs.LruCache.{promoted}
 use Rattle.image_access.specs.declared.error.StorageError.{StorageError}
 use Rattle.image_access.specs.Moments.{StorageView, Calls, ContentsStay}
-use Rattle.image_access.proofs.Passing.{passes_none, passes_on, passes_if}
+use Rattle.image_access.proofs.EachMomentSince.{passes_none, passes_on, passes_if}
 use Rattle.qcow2_metadata.specs.declared.error.MetadataError.{MetadataError}
 use Rattle.qcow2_metadata.specs.L2Table.{L2TableView}
 use Rattle.qcow2_metadata.specs.RefBlock.{RefBlockView}
@@ -175,9 +175,9 @@ module _ {S V : Type 0} (view : S → StorageView) (bits : ℕ) (bytes : V → L
 -- ---- the caches
 
 -- what is held isn't missing
-held_not_missing : {V : Type 0} (o : Option (Slot V)) → IsSome (option_map (λ s. s.value) o) → IsNone o → ⊥
-held_not_missing None there none = cc
-held_not_missing (Some s) there none = cc
+new_data_not_missing : {V : Type 0} (o : Option (Slot V)) → IsSome (option_map (λ s. s.value) o) → IsNone o → ⊥
+new_data_not_missing None there none = cc
+new_data_not_missing (Some s) there none = cc
 
 value_missing : {V : Type 0} (o : Option (Slot V)) → IsNone (option_map (λ s. s.value) o) → IsNone o
 value_missing None none = refl
@@ -237,7 +237,7 @@ module _ {S : Type 0} (view : S → StorageView) (old new : ImageStorage S) (cac
       table_waits refused may =
           let waits = get_waits seen caches.l2.backend.header.fields.cluster_bits (λ (t : L2TableView). t.bytes) (λ t. t.is_modified) cleared_l2 (IsTableOf caches.l2.backend.header.fields) caches.l2.size may_flush old new caches.l2.entries l2.entries key answer refused hit miss in
           elim may [
-            | inl there ↦ absurd (held_not_missing (lookup (eqb key) caches.l2.entries) there waits.0)
+            | inl there ↦ absurd (new_data_not_missing (lookup (eqb key) caches.l2.entries) there waits.0)
             | inr room ↦ elim room [
               | inl some ↦ absurd (let full = waits.1 in omega arith)
               | inr goes ↦ goes
@@ -258,7 +258,7 @@ module _ {S : Type 0} (view : S → StorageView) (old new : ImageStorage S) (cac
       block_waits refused may =
           let waits = get_waits seen caches.rb.backend.header.fields.cluster_bits (λ (b : RefBlockView). b.bytes) (λ b. b.is_modified) cleared_rb (IsBlockOf caches.rb.backend.header.fields) caches.rb.size may_flush old new caches.rb.entries rb.entries key answer refused hit miss in
           elim may [
-            | inl there ↦ absurd (held_not_missing (lookup (eqb key) caches.rb.entries) there waits.0)
+            | inl there ↦ absurd (new_data_not_missing (lookup (eqb key) caches.rb.entries) there waits.0)
             | inr room ↦ elim room [
               | inl some ↦ absurd (let full = waits.1 in omega arith)
               | inr goes ↦ goes
@@ -283,7 +283,7 @@ module _ {S : Type 0} (view : S → StorageView) (old new : ImageStorage S) (cac
               | inl some ↦ absurd (let full = put_waits seen caches.l2.backend.header.fields.cluster_bits (λ (t : L2TableView). t.bytes) (λ t. t.is_modified) cleared_l2 (IsTableOf caches.l2.backend.header.fields) caches.l2.size may_flush old new caches.l2.entries l2.entries key answer refused v value left is missing none in omega arith)
               | inr goes ↦ (goes.0, (none_clean (λ (t : L2TableView). t.is_modified) (lookup (eqb key) caches.l2.entries) none, λ _. goes.1))
             ]
-        | inr held ↦ (held.0, (value_clean (λ (t : L2TableView). t.is_modified) (lookup (eqb key) caches.l2.entries) held.1, λ none. absurd (held_not_missing (lookup (eqb key) caches.l2.entries) held.2 none)))
+        | inr new_data ↦ (new_data.0, (value_clean (λ (t : L2TableView). t.is_modified) (lookup (eqb key) caches.l2.entries) new_data.1, λ none. absurd (new_data_not_missing (lookup (eqb key) caches.l2.entries) new_data.2 none)))
       ]
 
       pub table_put_same : l2 ≡ with_entries caches.l2 l2.entries → answer ≡ Ok false → l2 ≡ caches.l2
@@ -304,7 +304,7 @@ module _ {S : Type 0} (view : S → StorageView) (old new : ImageStorage S) (cac
               | inl some ↦ absurd (let full = put_waits seen caches.rb.backend.header.fields.cluster_bits (λ (b : RefBlockView). b.bytes) (λ b. b.is_modified) cleared_rb (IsBlockOf caches.rb.backend.header.fields) caches.rb.size may_flush old new caches.rb.entries rb.entries key answer refused v value left is missing none in omega arith)
               | inr goes ↦ (goes.0, (none_clean (λ (b : RefBlockView). b.is_modified) (lookup (eqb key) caches.rb.entries) none, λ _. goes.1))
             ]
-        | inr held ↦ (held.0, (value_clean (λ (b : RefBlockView). b.is_modified) (lookup (eqb key) caches.rb.entries) held.1, λ none. absurd (held_not_missing (lookup (eqb key) caches.rb.entries) held.2 none)))
+        | inr new_data ↦ (new_data.0, (value_clean (λ (b : RefBlockView). b.is_modified) (lookup (eqb key) caches.rb.entries) new_data.1, λ none. absurd (new_data_not_missing (lookup (eqb key) caches.rb.entries) new_data.2 none)))
       ]
 
       pub block_put_same : rb ≡ with_entries caches.rb rb.entries → answer ≡ Ok false → rb ≡ caches.rb

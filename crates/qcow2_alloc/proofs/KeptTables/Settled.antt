@@ -11,7 +11,7 @@ use Rattle.qcow2_metadata.specs.TableBytes.{HasPlace}
 use Rattle.qcow2_metadata.specs.Tables.{CachedTable}
 use Rattle.qcow2_laws.specs.Clusters.{Direction}
 use Rattle.qcow2_laws.specs.CrashInvariant.{Pending, SameTop}
-use Rattle.qcow2_laws.specs.Caches.{known_bytes, IsFreeOf, HasL2, HasBlock, AreSettled}
+use Rattle.qcow2_laws.specs.Caches.{known_bytes, IsFreeOf, HasL2, HasBlock, AreNamedBlocks}
 use Rattle.qcow2_laws.proofs.Tops.{SameTop-sym, SameTop-trans}
 use Rattle.qcow2_alloc.specs.declared.async_lru_cache.slot.Slot.{Slot}
 use Rattle.qcow2_alloc.specs.declared.cache.MetadataCaches.{MetadataCaches}
@@ -44,14 +44,14 @@ module _ {S : Type 0} (h : HeaderFields) (p : Pending) (caches : MetadataCaches 
       (subst (λ n. (c : ℕ) → IsFreeOf (2 ^ n) (l2_tables caches) c ⊎ HasL2 h on_storage c) (sym sound.l2_format.bits)
       (λ c. elim (sound.kept.kept.l2_stand c) [ inl free ↦ inl free | inr has ↦ inr (has.0, has.1, has.2) ]))
 
-  pub blocks_stand : AreSettled h (refblocks caches) on_storage → AreStanding (λ (b : RefBlockView). b.is_modified) (IsBlockOf caches.rb.backend.header.fields) (HasBlock h on_storage) caches.rb.entries
+  pub blocks_stand : AreNamedBlocks h (refblocks caches) on_storage → AreStanding (λ (b : RefBlockView). b.is_modified) (IsBlockOf caches.rb.backend.header.fields) (HasBlock h on_storage) caches.rb.entries
   blocks_stand settled =
       standing_of caches.rb.backend.header.fields.cluster_bits (λ (b : RefBlockView). b.bytes) (λ b. b.is_modified) (IsBlockOf caches.rb.backend.header.fields) (HasBlock h on_storage) caches.rb.entries sound.rb_fit
       (subst (λ n. (c : ℕ) → IsFreeOf (2 ^ n) (refblocks caches) c ⊎ HasBlock h on_storage c) (sym sound.rb_format.bits) settled)
 
 -- refblocks that stand so are settled
 pub settled_in : (h : HeaderFields) (on_storage : Bytes) (bits : ℕ) → bits ≡ h.cluster_bits → (IsFit : RefBlockView → Type 0) (es : List (ℕ × Slot RefBlockView)) → AreStanding (λ (b : RefBlockView). b.is_modified) IsFit (HasBlock h on_storage) es
-    → AreSettled h (cached_tables bits (λ (b : RefBlockView). b.bytes) (λ b. b.is_modified) es) on_storage
+    → AreNamedBlocks h (cached_tables bits (λ (b : RefBlockView). b.bytes) (λ b. b.is_modified) es) on_storage
 settled_in h on_storage bits same IsFit es stand c =
     subst (λ n. IsFreeOf (2 ^ n) (cached_tables bits (λ (b : RefBlockView). b.bytes) (λ b. b.is_modified) es) c ⊎ HasBlock h on_storage c) same
     (free_or_named bits (λ (b : RefBlockView). b.bytes) (λ b. b.is_modified) IsFit (HasBlock h on_storage) es stand c)
@@ -70,10 +70,10 @@ module _ (h : HeaderFields) (d d' : Direction) (p p' : Pending) (l2s rbs l2s' rb
       (has.0, (λ none. has.1 (e ∙ none)), ap (λ n. n / cluster_size h) (sym e) ∙ has.2)
 
   -- the same refblocks
-  pub settled_beside : AreSettled h rbs on_storage → AreSettled h rbs on_storage'
+  pub settled_beside : AreNamedBlocks h rbs on_storage → AreNamedBlocks h rbs on_storage'
   settled_beside settled c = elim (settled c) [ inl free ↦ inl free | inr has ↦ inr (block_still_named c has) ]
 
   -- others, of which those that are modified stand
   pub settled_anew : (bits : ℕ) → bits ≡ h.cluster_bits → (IsFit : RefBlockView → Type 0) (es : List (ℕ × Slot RefBlockView)) → AreStanding (λ (b : RefBlockView). b.is_modified) IsFit (HasBlock h on_storage) es
-      → AreSettled h (cached_tables bits (λ (b : RefBlockView). b.bytes) (λ b. b.is_modified) es) on_storage'
+      → AreNamedBlocks h (cached_tables bits (λ (b : RefBlockView). b.bytes) (λ b. b.is_modified) es) on_storage'
   settled_anew bits same IsFit es stand c = elim (settled_in h on_storage bits same IsFit es stand c) [ inl free ↦ inl free | inr has ↦ inr (block_still_named c has) ]

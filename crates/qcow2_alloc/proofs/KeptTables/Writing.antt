@@ -4,9 +4,9 @@ use Rattle.std.proofs.lemmas.Bool.{cases_lt, and_from, le-leb, lt-ltb}
 use mathlib.Core.Path.{fun_ext}
 use Rattle.std.specs.Option.{option_or}
 use Rattle.image_access.specs.Contents.{overwritten}
-use Rattle.image_access.specs.Moments.{StorageView, Passing}
+use Rattle.image_access.specs.Moments.{StorageView, EachMomentSince}
 use Rattle.image_access.proofs.Bytes.{byte_at-overwritten, byte_at-overwritten_outside}
-use Rattle.image_access.proofs.Passing.{passes_none, passes_on, passes_if}
+use Rattle.image_access.proofs.EachMomentSince.{passes_none, passes_on, passes_if}
 use Rattle.qcow2_metadata.specs.Bytes.{Bytes, byte_at, is_within}
 use Rattle.qcow2_metadata.specs.declared.header.HeaderFields.{HeaderFields}
 use Rattle.qcow2_metadata.specs.declared.error.MetadataError.{MetadataError}
@@ -170,7 +170,7 @@ module _ {S V : Type 0} (view : S → StorageView) (bits : ℕ) (bytes : V → L
       subst (λ (y : Slot V). IsWrittenSo (2 ^ bits) (table e) (table (e.0, y)) (contents s) (contents t)) (sym f.1) (failed_so s t e.0 e.1.value e.1.pins x honest f.0)
 
   entry_calls : (s t : S) (e : ℕ × Slot V) (x : Option MetadataError) (d : Slot V) → (view s).is_honest → FlushesEntry (table_steps view bits bytes is_modified cleared IsFit) s e x t d
-      → (view t).is_honest × Passing (view s) (view t) (λ c. c ≡ (view t).contents)
+      → (view t).is_honest × EachMomentSince (view s) (view t) (λ c. c ≡ (view t).contents)
   entry_calls s t e None d honest f = (f.0.calls.honest honest, f.0.calls.time)
   entry_calls s t e (Some x) d honest f = (f.0.calls.honest honest, f.0.calls.time)
 
@@ -188,7 +188,7 @@ module _ {S V : Type 0} (view : S → StorageView) (bits : ℕ) (bytes : V → L
       pub known : all after (contents t) ≡ all before (contents s)
       pub since : IsSafeSince (view s) (view t) (all before (contents s))
       -- at each moment it is so with some tables
-      pub moments : Passing (view s) (view t) (λ c. (ts : List CachedTable) × P ts (byte_at c))
+      pub moments : EachMomentSince (view s) (view t) (λ c. (ts : List CachedTable) × P ts (byte_at c))
 
     -- entries before which a value of a key comes to stand
     pub record Ready (k : ℕ) (v : V) (s t : S) (es fs : List (ℕ × Slot V)) : Type 0 where

@@ -15,13 +15,13 @@ use Rattle.qcow2_laws.specs.SafeSteps.{StateInvariant}
 use Rattle.qcow2_disk.specs.Mappings.{PreparedMapping}
 use Rattle.qcow2_laws.specs.Unseen.{SameUsedBytes, used_by_guests}
 use Rattle.qcow2_disk.specs.AbstractImages.{Setting, Guest, guest_of, meaning_at}
-use Rattle.qcow2_disk.specs.Calls.{Works}
+use Rattle.qcow2_disk.specs.Calls.{EffectOnSound}
 use Rattle.qcow2_laws.proofs.Unseen.{unseen_disk}
 use Rattle.qcow2_metadata.specs.declared.header.HeaderFields.{HeaderFields}
 use Rattle.qcow2_alloc.specs.ImageFile.{state_in, contents_in, known_in, nothing_given}
 use Rattle.qcow2_image.specs.declared.image.Qcow2.{Qcow2}
 use Rattle.qcow2_image.specs.declared.prepared.Prepared.{Prepared}
-use Rattle.qcow2_image.specs.ImageInvariant.{below_of, of_data, of_tables, to_free, held_by, over_all, pending_in, abstract_of, meaning, is_entered, is_new, is_private, is_hidden, place_of, share_of, backing_bytes, ImageInvariant}
+use Rattle.qcow2_image.specs.ImageInvariant.{below_of, of_data, of_tables, to_free, new_data_by, over_all, pending_in, abstract_of, meaning, is_entered, is_new, is_private, is_hidden, place_of, share_of, backing_bytes, ImageInvariant}
 use Rattle.qcow2_image.specs.MovedTables.{MovesTables}
 use Rattle.qcow2_image.specs.UnseenSteps.{pending_with_listed, ListGrows, UnseenStep, UnseenFreeingStep}
 use Rattle.qcow2_image.proofs.Moved.{format_moves}
@@ -49,10 +49,10 @@ module _ {S F : Type 0} (view : S → StorageView) (backing : F → BackingView)
   pub followed : ImageInvariant view backing (pending_in view backing old out) old out → ListGrows old new
       → StateInvariant (state_in view new.file (pending_with_listed (pending_in view backing old out) old new)) → pending_with_listed (pending_in view backing old out) old new ≡ pending_in view backing new out
   followed sound grows still = pending_is view backing new out (pending_with_listed (pending_in view backing old out) old new) still (record {
-    held = λ k. refl;
-    fresh = λ k. refl;
-    spent = λ k. let e = ap (λ l. to_free of_tables l k) grows.is ∙ free_more of_tables old.file.free_list grows.more k in omega arith;
-    dropped = λ k. let e = ap (λ l. to_free of_data l k) grows.is ∙ free_more of_data old.file.free_list grows.more k in omega arith;
+    new_data = λ k. refl;
+    new_tables = λ k. refl;
+    old_tables = λ k. let e = ap (λ l. to_free of_tables l k) grows.is ∙ free_more of_tables old.file.free_list grows.more k in omega arith;
+    old_data = λ k. let e = ap (λ l. to_free of_data l k) grows.is ∙ free_more of_data old.file.free_list grows.more k in omega arith;
   })
 
   -- where the header stays, but perhaps for where tables stand
@@ -86,7 +86,7 @@ module _ {S F : Type 0} (view : S → StorageView) (backing : F → BackingView)
       same_slot k (Some None) at = refl
       same_slot k (Some (Some q)) at = ap Some (same_meaning q (private_bytes k q at))
 
-  module _ (p : Pending) (p' : Pending) (sound : ImageInvariant view backing p old out) (holds : (k : ℕ) → over_all held_by out k ≤ p.held k) (holds_still : (k : ℕ) → over_all held_by out k ≤ p'.held k) where
+  module _ (p : Pending) (p' : Pending) (sound : ImageInvariant view backing p old out) (holds : (k : ℕ) → over_all new_data_by out k ≤ p.new_data k) (holds_still : (k : ℕ) → over_all new_data_by out k ≤ p'.new_data k) where
     -- though tables may have moved
     module _ (sound' : ImageInvariant view backing p' new out) (same_header : MovesTables old.file.header.fields new.file.header.fields) (bytes : SameUsedBytes (state_in view old.file p) (state_in view new.file p')) where
       -- at a place that is used the same bytes stand on the storage
@@ -124,7 +124,7 @@ module _ {S F : Type 0} (view : S → StorageView) (backing : F → BackingView)
     pub same_now : guest_of (abstract_of view backing new out) ≡ guest_of (abstract_of view backing old out)
     same_now = still_seen (pending_in view backing old out) (pending_with_listed (pending_in view backing old out) old new) sound (λ k. omega arith) (λ k. omega arith) (tidies_kept view backing old new out _ _ keeps)
 
-    pub works_now : Works (abstract_of view backing old out) (abstract_of view backing new out) [] []
+    pub works_now : EffectOnSound (abstract_of view backing old out) (abstract_of view backing new out) [] []
     works_now = record {
       setting = same_setting _ _ (ap (λ (h : HeaderFields). cluster_size h) keeps.unseen.header) keeps.below;
       surplus = λ still. ap (λ (q : Pending). q.surplus) (sym pending_now);

@@ -6,7 +6,7 @@ use Rattle.image_access.specs.Backing.{BackingView}
 use Rattle.image_access.specs.Moments.{StorageView}
 use Rattle.qcow2_disk.specs.Stops.{GivenBytes}
 use Rattle.qcow2_disk.specs.AbstractImages.{Guest}
-use Rattle.qcow2_disk.specs.Calls.{Refuses, IsSame}
+use Rattle.qcow2_disk.specs.Calls.{RefusedEffect, IsSame}
 use Rattle.qcow2_alloc.specs.declared.error.ImageError.{ImageError}
 use Rattle.qcow2_alloc.specs.declared.error.ImageError.TheVariants as I
 use Rattle.qcow2_image.specs.declared.image.Qcow2.{Qcow2}
@@ -19,11 +19,11 @@ use Rattle.qcow2_image.specs.ImageInvariant.{abstract_of}
 module _ {S F : Type 0} (view : S → StorageView) (backing : F → BackingView) (old new : Qcow2 S F) where
   -- an answer that is this refusal
   pub answers_err : {A : Type 0} (given : List GivenBytes) (Done : A → Guest → Guest → Type 0) (r : Result A ImageError) (e : ImageError) → IsErr r × IsErrAnd r (λ x. x ≡ e)
-      → ((out : List (Option Prepared)) → Refuses (abstract_of view backing old out) (abstract_of view backing new out) given [] (refusal_of e) (IsSame (abstract_of view backing old out) (abstract_of view backing new out)))
+      → ((out : List (Option Prepared)) → RefusedEffect (abstract_of view backing old out) (abstract_of view backing new out) given [] (refusal_of e) (IsSame (abstract_of view backing old out) (abstract_of view backing new out)))
       → AnswersCall view backing old new given Done r
   answers_err given Done (Ok a) e is refuses = absurd (let no : false ≡ true = is.0 in cc)
   answers_err given Done (Err x) e is refuses = λ out.
-      subst (λ (y : ImageError). Refuses (abstract_of view backing old out) (abstract_of view backing new out) given [] (refusal_of y) (IsSame (abstract_of view backing old out) (abstract_of view backing new out))) (sym is.1) (refuses out)
+      subst (λ (y : ImageError). RefusedEffect (abstract_of view backing old out) (abstract_of view backing new out) given [] (refusal_of y) (IsSame (abstract_of view backing old out) (abstract_of view backing new out))) (sym is.1) (refuses out)
 
 -- an image that isn't refused wasn't marked as failed
 not_failed : (failed : Bool) (rest : Option ImageError) (r : Result (Unit {0}) ImageError) → r ≡ Ok tt → MatchOption (option_or (refuse_if failed I.Failed) rest) (r ≡ Ok tt) (λ e. r ≡ Err e) → failed ≡ false

@@ -9,7 +9,7 @@ use Rattle.qcow2_metadata.specs.Entries.{l1_entry}
 use Rattle.qcow2_laws.specs.CrashInvariant.{Pending}
 use Rattle.qcow2_laws.specs.Unseen.{KeepsFormat}
 use Rattle.qcow2_disk.specs.AbstractImages.{Guest, AbstractImage, guest_of}
-use Rattle.qcow2_disk.specs.Calls.{Refusal, storage, Works, Does, Refuses, IsSame}
+use Rattle.qcow2_disk.specs.Calls.{Refusal, storage, EffectOnSound, AnsweredEffect, RefusedEffect, IsSame}
 use Rattle.qcow2_laws.proofs.Formats.{l1_format}
 use Rattle.qcow2_laws.proofs.SafeSteps.{leads_then, steps_endure}
 use Rattle.qcow2_laws.proofs.Unseen.{unseen_then}
@@ -28,22 +28,22 @@ use Rattle.qcow2_disk.proofs.Compose.{stops_none, rests_none}
 
 -- ---- a call that was refused before it did anything
 module _ (v : AbstractImage) where
-  pub works_none : v.is_sound → Works v v [] []
+  pub works_none : v.is_sound → EffectOnSound v v [] []
   works_none sound = record {
     setting = refl;
     surplus = λ still. refl;
     stops = stops_none v v [] [] refl (λ still. refl);
   }
 
-  pub refuses_early : (e : Refusal) → (e ≡ storage → ⊥) → Refuses v v [] [] e (IsSame v v)
+  pub refuses_early : (e : Refusal) → (e ≡ storage → ⊥) → RefusedEffect v v [] [] e (IsSame v v)
   refuses_early e none = record {
     acts = record { number = refl; works = works_none; rests = λ failed. rests_none v v refl refl failed };
     answer = λ sound. inl (sound, refl);
     fault = λ is. absurd (none is);
   }
 
-pub same_freed : (p q : Pending) → q ≡ record p { spent = q.spent; dropped = q.dropped } → p.spent ≡ q.spent → p.dropped ≡ q.dropped → p ≡ q
-same_freed p q rest spent dropped = ap (λ f. record p { spent = f }) spent ∙ ap (λ f. record p { spent = q.spent; dropped = f }) dropped ∙ sym rest
+pub same_freed : (p q : Pending) → q ≡ record p { old_tables = q.old_tables; old_data = q.old_data } → p.old_tables ≡ q.old_tables → p.old_data ≡ q.old_data → p ≡ q
+same_freed p q rest old_tables old_data = ap (λ f. record p { old_tables = f }) old_tables ∙ ap (λ f. record p { old_tables = q.old_tables; old_data = f }) old_data ∙ sym rest
 
 module _ {S F : Type 0} (view : S → StorageView) (backing : F → BackingView) (out : List (Option Prepared)) where
   -- one part after another
@@ -55,12 +55,12 @@ module _ {S F : Type 0} (view : S → StorageView) (backing : F → BackingView)
         let moved : l1_entry b.file.header.fields (state_in view b.file p').on_storage i ≡ l1_entry a.file.header.fields (state_in view a.file p).on_storage i = read (state_in view b.file p').on_storage i ∙ first i is in
         sym (read (state_in view c.file p'').on_storage i) ∙ then i (subst NamesOwn (sym moved) is) ∙ moved
 
-    pub keeps_then : ((k : ℕ) → 0 < p.held k → 0 < p'.held k) → UnseenStep view backing p p' a b out → UnseenStep view backing p' p'' b c out → UnseenStep view backing p p'' a c out
-    keeps_then held first then = record {
+    pub keeps_then : ((k : ℕ) → 0 < p.new_data k → 0 < p'.new_data k) → UnseenStep view backing p p' a b out → UnseenStep view backing p' p'' b c out → UnseenStep view backing p p'' a c out
+    keeps_then new_data first then = record {
       sound = then.sound;
       leads = leads_then (state_in view a.file p) (state_in view b.file p') (state_in view c.file p'') nothing_given nothing_given [] [] first.leads then.leads;
       since = steps_endure (view_in view a.file) (view_in view b.file) (view_in view c.file) (state_in view a.file p) (state_in view b.file p') nothing_given nothing_given [] [] refl first.since first.leads then.since;
-      unseen = unseen_then (state_in view a.file p) (state_in view b.file p') (state_in view c.file p'') first.unseen then.unseen held;
+      unseen = unseen_then (state_in view a.file p) (state_in view b.file p') (state_in view c.file p'') first.unseen then.unseen new_data;
       copied = copied_then first.unseen.header first.copied then.copied;
       below = then.below ∙ first.below;
       list = record { more = first.list.more ++ then.list.more; is = then.list.is ∙ ap (λ l. l ++ then.list.more) first.list.is ∙ append_assoc a.file.free_list first.list.more then.list.more };
@@ -82,7 +82,7 @@ module _ {S F : Type 0} (view : S → StorageView) (backing : F → BackingView)
       pub listed : (sound : ImageInvariant view backing (pending_in view backing old out) old out) → UnseenStep view backing (pending_in view backing old out) (pending_with_listed (pending_in view backing old out) old new) old new out
       listed sound = subst (λ (q : Pending). UnseenStep view backing (pending_in view backing old out) q old new out) (unmoved sound) (quiet sound).keeps
 
-      pub quiet_works : ImageInvariant view backing (pending_in view backing old out) old out → Works (abstract_of view backing old out) (abstract_of view backing new out) [] []
+      pub quiet_works : ImageInvariant view backing (pending_in view backing old out) old out → EffectOnSound (abstract_of view backing old out) (abstract_of view backing new out) [] []
       quiet_works sound = works_now view backing old new out sound (listed sound)
 
       pub quiet_sound : ImageInvariant view backing (pending_in view backing old out) old out → ImageInvariant view backing (pending_in view backing new out) new out
@@ -92,12 +92,12 @@ module _ {S F : Type 0} (view : S → StorageView) (backing : F → BackingView)
       quiet_same sound = same_now view backing old new out sound (listed sound)
 
       -- it was answered
-      pub quiet_does : number_of new ≡ number_of old → is_failed old ≡ false → Does (abstract_of view backing old out) (abstract_of view backing new out) [] [] (IsSame (abstract_of view backing old out) (abstract_of view backing new out))
+      pub quiet_does : number_of new ≡ number_of old → is_failed old ≡ false → AnsweredEffect (abstract_of view backing old out) (abstract_of view backing new out) [] [] (IsSame (abstract_of view backing old out) (abstract_of view backing new out))
       quiet_does number works = settled_does view backing old new out out [] quiet_works quiet_sound number works quiet_same
 
       -- it was refused, and the image is marked as failed now or as before
       pub quiet_refuses : (marked : Bool) (e : ImageError) → MayMark e (is_failed new) marked → number_of new ≡ number_of old → is_failed old ≡ false
-          → Refuses (abstract_of view backing old out) (abstract_of view backing (record new { is_failed = marked }) out) [] [] (refusal_of e) (IsSame (abstract_of view backing old out) (abstract_of view backing (record new { is_failed = marked }) out))
+          → RefusedEffect (abstract_of view backing old out) (abstract_of view backing (record new { is_failed = marked }) out) [] [] (refusal_of e) (IsSame (abstract_of view backing old out) (abstract_of view backing (record new { is_failed = marked }) out))
       quiet_refuses marked e marks number works = settled_refuses view backing old new out out [] quiet_works quiet_sound number works marked e marks (λ sound. inl (quiet_same sound))
 
 module _ {S F : Type 0} (view : S → StorageView) (backing : F → BackingView) where
@@ -113,8 +113,8 @@ module _ {S F : Type 0} (view : S → StorageView) (backing : F → BackingView)
 
   -- what an answer tells of a call that no guest sees
   abbrev pub Tells : (old new : Qcow2 S F) {A : Type 0} → (A → AbstractImage → AbstractImage → Type 0) → Result A ImageError → Type 0
-  Tells old new Done (Ok a) = (out : List (Option Prepared)) → let v = abstract_of view backing old out in let w = abstract_of view backing new out in Does v w [] [] (Done a v w)
-  Tells old new Done (Err e) = (out : List (Option Prepared)) → let v = abstract_of view backing old out in let w = abstract_of view backing new out in Refuses v w [] [] (refusal_of e) (IsSame v w)
+  Tells old new Done (Ok a) = (out : List (Option Prepared)) → let v = abstract_of view backing old out in let w = abstract_of view backing new out in AnsweredEffect v w [] [] (Done a v w)
+  Tells old new Done (Err e) = (out : List (Option Prepared)) → let v = abstract_of view backing old out in let w = abstract_of view backing new out in RefusedEffect v w [] [] (refusal_of e) (IsSame v w)
 
   pub told_answers : (old new : Qcow2 S F) {A : Type 0} (Done : A → Guest → Guest → Type 0) (r : Result A ImageError) → Tells old new (λ a v w. Done a (guest_of v) (guest_of w)) r → AnswersCall view backing old new [] Done r
   told_answers old new Done (Ok a) told = told
@@ -128,6 +128,6 @@ module _ {S F : Type 0} (view : S → StorageView) (backing : F → BackingView)
         → Tells old (record new { is_failed = marked }) Done done
     tells_quietly Done (Ok a) marks number works done = λ out.
         let does = quiet_does view backing out old new (quiet out) number works in
-        subst (λ (f : Bool). Does (abstract_of view backing old out) (abstract_of view backing (record new { is_failed = f }) out) [] [] (Done a (abstract_of view backing old out) (abstract_of view backing (record new { is_failed = f }) out))) (sym marks)
+        subst (λ (f : Bool). AnsweredEffect (abstract_of view backing old out) (abstract_of view backing (record new { is_failed = f }) out) [] [] (Done a (abstract_of view backing old out) (abstract_of view backing (record new { is_failed = f }) out))) (sym marks)
         (record { acts = does.acts; answer = λ sound. let is = does.answer sound in (is.0, done out sound is.1) })
     tells_quietly Done (Err e) marks number works done = λ out. quiet_refuses view backing out old new (quiet out) marked e marks number works

@@ -8,7 +8,7 @@ use Rattle.qcow2_alloc.specs.declared.image_file.ImageFile.{ImageFile}
 use Rattle.qcow2_alloc.specs.ImageStorage.{is_changed_of}
 use Rattle.qcow2_image.specs.declared.image.Qcow2.{Qcow2}
 use Rattle.qcow2_image.specs.Image.{has_noted_change, is_failed}
-use Rattle.qcow2_image.specs.Refusals.{failed_after, failed_by, Marks, MarksRefused}
+use Rattle.qcow2_image.specs.Refusals.{failed_after, failed_by, MarksFailed, MarksRefused}
 
 -- a failing storage marks the image, want of memory may, and nothing else does
 abbrev pub MayMark : ImageError → Bool → Bool → Type 0
@@ -53,12 +53,12 @@ module _ {S F : Type 0} (old new : Qcow2 S F) where
   pub may_mark_refused : (e : ImageError) → MarksRefused old new e → MayMark e (is_failed old) (is_failed new)
   may_mark_refused e marks = may_mark_after e (is_failed old) (has_noted_change new) (is_failed new) marks
 
-  pub may_mark : {A : Type 0} (r : Result A ImageError) → Marks old new r → MayMarkBy r (is_failed old) (is_failed new)
+  pub may_mark : {A : Type 0} (r : Result A ImageError) → MarksFailed old new r → MayMarkBy r (is_failed old) (is_failed new)
   may_mark (Ok x) marks = marks
   may_mark (Err e) marks = may_mark_refused e marks
 
   -- want of memory after a change of the caches that was noted marks the image
-  pub marks_memory : {A : Type 0} (last : Qcow2 S F) (r : Result A ImageError) → Marks old new r → new.file ≡ last.file → IfErr r (λ e. e ≡ I.Memory → IsTrue last.file.caches.is_changed → IsTrue (is_failed new))
+  pub marks_memory : {A : Type 0} (last : Qcow2 S F) (r : Result A ImageError) → MarksFailed old new r → new.file ≡ last.file → IfErr r (λ e. e ≡ I.Memory → IsTrue last.file.caches.is_changed → IsTrue (is_failed new))
   marks_memory last (Ok x) marks same = tt
   marks_memory last (Err e) marks same = λ is noted.
       subst (λ (x : ImageError). MarksRefused old new x) is marks
@@ -66,7 +66,7 @@ module _ {S F : Type 0} (old new : Qcow2 S F) where
 
 -- ---- marks of a call, from those of its last part
 module _ {S F : Type 0} (old mid new : Qcow2 S F) (same : is_failed mid ≡ is_failed old) where
-  pub marks_since : {A : Type 0} (r : Result A ImageError) → Marks mid new r → Marks old new r
+  pub marks_since : {A : Type 0} (r : Result A ImageError) → MarksFailed mid new r → MarksFailed old new r
   marks_since r marks = subst (λ (f : Bool). failed_by r f (has_noted_change new) (is_failed new)) same marks
 
   pub refused_since : (e : ImageError) → MarksRefused mid new e → MarksRefused old new e

@@ -5,7 +5,7 @@ use Rattle.image_access.specs.Backing.{BackingView}
 use Rattle.image_access.specs.Moments.{StorageView}
 use Rattle.qcow2_metadata.specs.declared.header.HeaderFields.{HeaderFields}
 use Rattle.qcow2_metadata.specs.Header.{cluster_size}
-use Rattle.qcow2_disk.specs.Calls.{IsRefusalByFault, IsSame, Refuses, Works, with_slot}
+use Rattle.qcow2_disk.specs.Calls.{IsRefusalByFault, IsSame, RefusedEffect, EffectOnSound, with_slot}
 use Rattle.qcow2_disk.specs.Disk.{Disk}
 use Rattle.qcow2_disk.specs.Mappings.{IsPrepared}
 use Rattle.qcow2_disk.proofs.Compose.{works_then, stops_of}
@@ -122,10 +122,10 @@ module _ {S F : Type 0} (view : S → StorageView) (backing : F → BackingView)
       stays_stepped old new (pending_with_listed (pending_in view backing old out) old new) (record {
         sound = goes.sound;
         only = record {
-          held = λ k. refl;
-          fresh = λ k. refl;
-          spent = λ k. let x = ap (λ l. to_free of_tables l k) goes.list.is ∙ free_more of_tables old.file.free_list goes.list.more k in omega arith;
-          dropped = λ k. let x = ap (λ l. to_free of_data l k) goes.list.is ∙ free_more of_data old.file.free_list goes.list.more k in omega arith;
+          new_data = λ k. refl;
+          new_tables = λ k. refl;
+          old_tables = λ k. let x = ap (λ l. to_free of_tables l k) goes.list.is ∙ free_more of_tables old.file.free_list goes.list.more k in omega arith;
+          old_data = λ k. let x = ap (λ l. to_free of_data l k) goes.list.is ∙ free_more of_data old.file.free_list goes.list.more k in omega arith;
         };
         leads = goes.leads;
         since = goes.since;
@@ -152,16 +152,16 @@ module _ {S F : Type 0} (view : S → StorageView) (backing : F → BackingView)
     abbrev failed_now : Qcow2 S F
     failed_now = record new { is_failed = marked }
 
-    refuses_stayed : UnseenCall view backing old new out → Refuses (abstract_of view backing old out) (abstract_of view backing failed_now out) [] [] (refusal_of e) (IsSame (abstract_of view backing old out) (abstract_of view backing failed_now out))
+    refuses_stayed : UnseenCall view backing old new out → RefusedEffect (abstract_of view backing old out) (abstract_of view backing failed_now out) [] [] (refusal_of e) (IsSame (abstract_of view backing old out) (abstract_of view backing failed_now out))
     refuses_stayed stays = settled_refuses view backing old new out out [] (λ sound. stays.works) (λ sound. stays.sound) number usable marked e marks (λ sound. inl stays.same)
 
     module _ (memory : e ≡ I.Memory → IsTrue new.file.caches.is_changed → IsTrue marked) where
       is_marked : InterruptedCall view backing old new out e → IsTrue marked × IsRefusalByFault (refusal_of e)
       is_marked breaks = marks_fault e (is_failed new) marked new.file.caches.is_changed breaks.fault breaks.noted marks memory
 
-      refused_works : RefusedCall view backing old new out e → ImageInvariant view backing (pending_in view backing old out) old out → Works (abstract_of view backing old out) (abstract_of view backing failed_now out) [] []
+      refused_works : RefusedCall view backing old new out e → ImageInvariant view backing (pending_in view backing old out) old out → EffectOnSound (abstract_of view backing old out) (abstract_of view backing failed_now out) [] []
       refused_works (inl stays) sound = (refuses_stayed stays).acts.works sound
-      refused_works (inr breaks) sound = subst (λ (f : Bool). Works (abstract_of view backing old out) (abstract_of view backing (record new { is_failed = f }) out) [] []) (sym (is_marked breaks).0) breaks.works
+      refused_works (inr breaks) sound = subst (λ (f : Bool). EffectOnSound (abstract_of view backing old out) (abstract_of view backing (record new { is_failed = f }) out) [] []) (sym (is_marked breaks).0) breaks.works
 
       refused_answer : RefusedCall view backing old new out e → ImageInvariant view backing (pending_in view backing old out) old out
           → ((abstract_of view backing failed_now out).is_sound × IsSame (abstract_of view backing old out) (abstract_of view backing failed_now out)) ⊎ (IsRefusalByFault (refusal_of e) × IsTrue marked)
@@ -169,7 +169,7 @@ module _ {S F : Type 0} (view : S → StorageView) (backing : F → BackingView)
       refused_answer (inr breaks) sound = let is = is_marked breaks in inr (is.1, is.0)
 
       pub refuses_left : (ImageInvariant view backing (pending_in view backing old out) old out → RefusedCall view backing old new out e)
-          → Refuses (abstract_of view backing old out) (abstract_of view backing failed_now out) [] [] (refusal_of e) (IsSame (abstract_of view backing old out) (abstract_of view backing failed_now out))
+          → RefusedEffect (abstract_of view backing old out) (abstract_of view backing failed_now out) [] [] (refusal_of e) (IsSame (abstract_of view backing old out) (abstract_of view backing failed_now out))
       refuses_left left = record {
         acts = record { number = number; works = λ sound. refused_works (left sound) sound; rests = λ failed. absurd (let f : true ≡ false = sym failed ∙ usable in cc) };
         answer = λ sound. refused_answer (left sound) sound;

@@ -4,7 +4,7 @@ use Rattle.std.specs.Prelude.{Option, IsTrue}
 use Rattle.image_access.specs.Backing.{BackingView}
 use Rattle.image_access.specs.Moments.{StorageView}
 use Rattle.qcow2_disk.specs.Stops.{GivenBytes}
-use Rattle.qcow2_disk.specs.Calls.{storage, IsRefusalByFault, Works, Does, Refuses, IsSame}
+use Rattle.qcow2_disk.specs.Calls.{storage, IsRefusalByFault, EffectOnSound, AnsweredEffect, RefusedEffect, IsSame}
 use Rattle.qcow2_alloc.specs.declared.error.ImageError.{ImageError}
 use Rattle.qcow2_alloc.specs.declared.error.ImageError.TheVariants as I
 use Rattle.qcow2_image.specs.declared.image.Qcow2.{Qcow2}
@@ -52,10 +52,10 @@ is_fault e before now (inr (inl failed)) is = failed.1
 is_fault e before now (inr (inr kept)) is = absurd (kept.1 is)
 
 module _ {S F : Type 0} (view : S → StorageView) (backing : F → BackingView) (old new : Qcow2 S F) (out out' : List (Option Prepared)) (given : List GivenBytes)
-    (acts : ImageInvariant view backing (pending_in view backing old out) old out → Works (abstract_of view backing old out) (abstract_of view backing new out') given [])
+    (acts : ImageInvariant view backing (pending_in view backing old out) old out → EffectOnSound (abstract_of view backing old out) (abstract_of view backing new out') given [])
     (still : ImageInvariant view backing (pending_in view backing old out) old out → ImageInvariant view backing (pending_in view backing new out') new out') (number : number_of new ≡ number_of old) (usable : is_failed old ≡ false) where
   -- it was answered
-  pub settled_does : {done : Type 0} → (ImageInvariant view backing (pending_in view backing old out) old out → done) → Does (abstract_of view backing old out) (abstract_of view backing new out') given [] done
+  pub settled_does : {done : Type 0} → (ImageInvariant view backing (pending_in view backing old out) old out → done) → AnsweredEffect (abstract_of view backing old out) (abstract_of view backing new out') given [] done
   settled_does is = record {
     acts = record { number = number; works = acts; rests = λ failed. absurd (let e : true ≡ false = sym failed ∙ usable in cc) };
     answer = λ sound. (still sound, is sound);
@@ -67,7 +67,7 @@ module _ {S F : Type 0} (view : S → StorageView) (backing : F → BackingView)
         → ImageInvariant view backing (pending_in view backing (record new { is_failed = marked }) out') (record new { is_failed = marked }) out'
     still_sound same s = record { works = same ∙ s.works; file = s.file; l1_table = s.l1_table; reftable = s.reftable; below = s.below; ready = λ k q at. let r = s.ready k q at in record { own = r.own; mapped = r.mapped }; pinned = s.pinned; once = s.once }
 
-    still_works : ImageInvariant view backing (pending_in view backing old out) old out → Works (abstract_of view backing old out) (abstract_of view backing (record new { is_failed = marked }) out') given []
+    still_works : ImageInvariant view backing (pending_in view backing old out) old out → EffectOnSound (abstract_of view backing old out) (abstract_of view backing (record new { is_failed = marked }) out') given []
     still_works sound = let w = acts sound in record {
       setting = w.setting;
       surplus = λ now. w.surplus (still sound);
@@ -83,7 +83,7 @@ module _ {S F : Type 0} (view : S → StorageView) (backing : F → BackingView)
     answer_of e (inr (inr kept)) (inr fault) sound = absurd (kept.1 (ap refusal_of fault))
 
     pub settled_refuses : (e : ImageError) → MayMark e (is_failed new) marked → (ImageInvariant view backing (pending_in view backing old out) old out → IsSame (abstract_of view backing old out) (abstract_of view backing new out') ⊎ (e ≡ I.Storage))
-        → Refuses (abstract_of view backing old out) (abstract_of view backing (record new { is_failed = marked }) out') given [] (refusal_of e) (IsSame (abstract_of view backing old out) (abstract_of view backing (record new { is_failed = marked }) out'))
+        → RefusedEffect (abstract_of view backing old out) (abstract_of view backing (record new { is_failed = marked }) out') given [] (refusal_of e) (IsSame (abstract_of view backing old out) (abstract_of view backing (record new { is_failed = marked }) out'))
     settled_refuses e marks is = record {
       acts = record { number = number; works = still_works; rests = λ failed. absurd (let f : true ≡ false = sym failed ∙ usable in cc) };
       answer = λ sound. answer_of e (outcome e (is_failed new) marked marks) (is sound) sound;

@@ -9,7 +9,7 @@ use Rattle.qcow2_metadata.specs.Header.{cluster_size}
 use Rattle.qcow2_laws.specs.CrashInvariant.{Pending}
 use Rattle.qcow2_laws.specs.SafeSteps.{SafeStep}
 use Rattle.qcow2_disk.specs.Stops.{SafeThroughout, GivenBytes}
-use Rattle.qcow2_disk.specs.Calls.{Works}
+use Rattle.qcow2_disk.specs.Calls.{EffectOnSound}
 use Rattle.qcow2_laws.specs.Unseen.{KeepsFormat}
 use Rattle.qcow2_alloc.specs.ImageFile.{state_in, view_in, known_in}
 use Rattle.qcow2_image.specs.declared.image.Qcow2.{Qcow2}
@@ -37,7 +37,7 @@ module _ {S F : Type 0} (view : S → StorageView) (backing : F → BackingView)
     pub stepped_sound : ImageInvariant view backing (pending_in view backing new out') new out'
     stepped_sound = subst (λ (q : Pending). ImageInvariant view backing q new out') pending_now steps.sound
 
-    pub stepped_works : Works (abstract_of view backing old out) (abstract_of view backing new out') (given (backing_bytes view backing old.backing)) []
+    pub stepped_works : EffectOnSound (abstract_of view backing old out) (abstract_of view backing new out') (given (backing_bytes view backing old.backing)) []
     stepped_works = record {
       setting = same_setting _ _ (ap (λ (h : HeaderFields). cluster_size h) steps.header) steps.below;
       surplus = λ still. ap (λ (q : Pending). q.surplus) (sym pending_now) ∙ steps.surplus;

@@ -9,23 +9,23 @@ use Rattle.qcow2_metadata.specs.Bytes.{Bytes}
 use Rattle.qcow2_metadata.specs.declared.header.HeaderFields.{HeaderFields}
 use Rattle.qcow2_metadata.specs.Header.{cluster_size, entries_per_cluster}
 use Rattle.qcow2_metadata.specs.Cover.{cover}
-use Rattle.qcow2_metadata.specs.L2Mapping.{IsInReach, dropped_run}
+use Rattle.qcow2_metadata.specs.L2Mapping.{IsInReach, old_data_run}
 use Rattle.qcow2_disk.specs.AbstractImages.{Guest, Setting, guest_of}
-use Rattle.qcow2_disk.specs.Calls.{Works, cleared, with_disk}
+use Rattle.qcow2_disk.specs.Calls.{EffectOnSound, cleared, with_disk}
 use Rattle.qcow2_laws.specs.CrashInvariant.{Pending}
 use Rattle.qcow2_disk.specs.Disk.{Disk}
 use Rattle.qcow2_laws.specs.Guests.{table_at}
-use Rattle.qcow2_disk.specs.Mappings.{gift_shown}
+use Rattle.qcow2_disk.specs.Mappings.{given_shown}
 use Rattle.qcow2_laws.specs.Steps.{guest_at}
 use Rattle.qcow2_disk.proofs.Compose.{works_less, works_then}
 use Rattle.qcow2_laws.proofs.Places.{Sizes-from}
-use Rattle.qcow2_alloc.specs.CacheMarks.{l2_pins}
+use Rattle.qcow2_alloc.specs.CachePins.{l2_pins}
 use Rattle.qcow2_alloc.specs.declared.clusters_to_free.ClustersToFreeEntry.{ClustersToFreeEntry}
 use Rattle.qcow2_alloc.specs.ImageFile.{contents_in, known_in}
 use Rattle.qcow2_alloc.specs.MetadataCaches.{IsEntryAt}
 use Rattle.qcow2_alloc.proofs.KeptTables.Standing.{own_cluster}
 use Rattle.qcow2_image.specs.CallParts.{UnseenCall}
-use Rattle.qcow2_image.specs.Clearing.{ClearsImageCovers, ClearsPart, ClearsTable, IsUnderMapping, IsClearable, MayClear, ReadsAll, ReadsDropped, cover_once_cleared, gifts_between, is_between, listed_by, setting_of, shown_by}
+use Rattle.qcow2_image.specs.Clearing.{ClearsImageCovers, ClearsPart, ClearsTable, IsUnderMapping, IsClearable, MayClear, ReadsAll, ReadsDropped, cover_once_cleared, given_bytes_between, is_between, listed_by, setting_of, shown_by}
 use Rattle.qcow2_image.specs.declared.discarding.Clearance.{Clearance}
 use Rattle.qcow2_image.specs.declared.image.Qcow2.{Qcow2}
 use Rattle.qcow2_image.specs.declared.prepared.Prepared.{Prepared}
@@ -157,7 +157,7 @@ module _ {S F : Type 0} (view : S → StorageView) (backing : F → BackingView)
       let column : (first + n) % row ≡ first % row + n = ap (λ x. x % row) e ∙ mod-mul-add (first / row) row (first % row + n) (omega (arith, fits)) in
       let above : (first + n) / row ≡ first / row = ap (λ x. x / row) e ∙ div-mul-add (first / row) row (first % row + n) (omega (arith, fits)) in
       let one = next p i sound (record { real = at.real; place = at.place; within = subst (λ x. x < row) (sym column) (omega (arith, fits)) }) (above ∙ here) in (
-        one.0 ∙ ap (λ l. l ++ listed_run (dropped_run h.cluster_bits (cover h (known_in view image.file) (first + n)) (cover_once_cleared how (cover h (known_in view image.file) (first + n))))) so_far.0,
+        one.0 ∙ ap (λ l. l ++ listed_run (old_data_run h.cluster_bits (cover h (known_in view image.file) (first + n)) (cover_once_cleared how (cover h (known_in view image.file) (first + n))))) so_far.0,
         λ j lt. elim (cases_eq j n) [
           | inl same ↦ subst (λ x. IsInReach (cover h (known_in view image.file) (first + x))) (sym same) one.1
           | inr other ↦ so_far.1 j (omega (arith, lt, other))
@@ -198,9 +198,9 @@ module _ {S F : Type 0} (view : S → StorageView) (backing : F → BackingView)
         let v = abstract_of view backing old out in
         let w = abstract_of view backing mid out in
         let x = abstract_of view backing new out in
-        let gifts = gifts_between view backing old how from to in
+        let given_bytes = given_bytes_between view backing old how from to in
         record {
-          works = works_then v w x gifts [] first.sound (works_less v w [] gifts [] (λ o value never. absurd never) first.works) (subst (λ gs. Works w x gs []) (ap (λ (d : Disk). gift_shown d from to ∷ []) cleared_same) part.works);
+          works = works_then v w x given_bytes [] first.sound (works_less v w [] given_bytes [] (λ o value never. absurd never) first.works) (subst (λ gs. EffectOnSound w x gs []) (ap (λ (d : Disk). given_shown d from to ∷ []) cleared_same) part.works);
           sound = part.sound;
           shows = part.shows ∙ ap (λ (d : Disk). with_disk (guest_of w) d) cleared_same ∙ ap (λ (g : Guest). with_disk g (cleared (setting_of view backing old) (disk_of view backing old) (shown_by how) from to)) first.same;
           header = moves_then old.file.header.fields mid.file.header.fields new.file.header.fields first.header part.header;
@@ -267,7 +267,7 @@ module _ {S F : Type 0} (view : S → StorageView) (backing : F → BackingView)
       place = holds.entry.place;
       within = fits;
       copied = holds.copied;
-      found = holds.held;
+      found = holds.new_data;
       unpinned = unpinned;
       version = whole.version;
       reach = λ i at. subst (λ c. IsInReach (cover h known (c + i))) (sym g_is) (all_read.1 i at);

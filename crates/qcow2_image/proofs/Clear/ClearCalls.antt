@@ -12,9 +12,9 @@ use Rattle.qcow2_metadata.specs.Header.{cluster_size, entries_per_cluster}
 use Rattle.qcow2_metadata.specs.Guest.{Value, known_byte}
 use Rattle.qcow2_metadata.specs.Bytes.{Bytes, laid_over}
 use Rattle.qcow2_disk.specs.AbstractImages.{AbstractImage, Setting, guest_of}
-use Rattle.qcow2_disk.specs.Calls.{Clearing, to_zero, to_kept_zero, to_backing, IsRefusalByFault, IsSame, Refusal, storage, another, Works, Refuses, cleared, with_disk}
+use Rattle.qcow2_disk.specs.Calls.{Clearing, to_zero, to_kept_zero, to_backing, IsRefusalByFault, IsSame, Refusal, storage, another, EffectOnSound, RefusedEffect, cleared, with_disk}
 use Rattle.qcow2_disk.specs.Disk.{Disk}
-use Rattle.qcow2_disk.specs.Mappings.{gift_shown}
+use Rattle.qcow2_disk.specs.Mappings.{given_shown}
 use Rattle.qcow2_disk.specs.Rules.{answered, touched_to}
 use Rattle.qcow2_disk.specs.Stops.{GivenBytes}
 use Rattle.qcow2_laws.proofs.Places.{Sizes-from}
@@ -25,7 +25,7 @@ use Rattle.qcow2_alloc.specs.declared.error.ImageError.TheVariants as I
 use Rattle.qcow2_alloc.specs.ImageFile.{contents_in, known_in}
 use Rattle.qcow2_image.specs.CallParts.{EndsFreeing, RefusedCall, UnseenCall}
 use Rattle.qcow2_image.specs.Calls.{refusal_of}
-use Rattle.qcow2_image.specs.Clearing.{Clears, ClearsImageCovers, ClearsPart, IsUnderMapping, IsClearable, RefusesUngiven, from_in, gifts_between, gifts_of_clear, needs_zero_entries, refuses_to_clear, rounds_past, setting_of, shown_by, to_in}
+use Rattle.qcow2_image.specs.Clearing.{Clears, ClearsImageCovers, ClearsPart, IsUnderMapping, IsClearable, RefusesUngiven, from_in, given_bytes_between, all_given_by_clear, needs_zero_entries, refuses_to_clear, rounds_past, setting_of, shown_by, to_in}
 use Rattle.qcow2_image.specs.declared.discarding.Clearance.{Clearance}
 use Rattle.qcow2_image.specs.declared.image.Qcow2.{Qcow2}
 use Rattle.qcow2_image.specs.declared.prepared.Prepared.{Prepared}
@@ -93,7 +93,7 @@ none_cleared x d to_zero from to le = none_laid from to (λ f i. known_byte 0) d
 none_cleared x d to_kept_zero from to le = none_laid from to (λ f i. known_byte 0) d le
 
 -- what is refused gives nothing more
-pub refuses_more : (v w : AbstractImage) (gs : List GivenBytes) (e : Refusal) (still : Type 0) → Refuses v w [] [] e still → Refuses v w gs [] e still
+pub refuses_more : (v w : AbstractImage) (gs : List GivenBytes) (e : Refusal) (still : Type 0) → RefusedEffect v w [] [] e still → RefusedEffect v w gs [] e still
 refuses_more v w gs e still r = record {
   acts = record { number = r.acts.number; works = λ sound. works_less v w [] gs [] (λ o x never. absurd never) (r.acts.works sound); rests = r.acts.rests };
   answer = r.answer;
@@ -104,7 +104,7 @@ refuses_more v w gs e still r = record {
 pub clears_early : {S F : Type 0} (view : S → StorageView) (backing : F → BackingView) (old : Qcow2 S F) (how : Clearance) (offset n : ℕ) (x : ImageError) → refuses_to_clear old offset n how ≡ Some x → Clears view backing how old old offset n (Err x)
 clears_early view backing old how offset n x is = λ out.
     let v = abstract_of view backing old out in
-    refuses_more v v (gifts_of_clear view backing old how offset n) (refusal_of x) _
+    refuses_more v v (all_given_by_clear view backing old how offset n) (refusal_of x) _
     (refuses_early v (refusal_of x) (none_fails (is_failed old) (is_external old) (not (is_writable old)) (passes (size_of old) offset n) (needs_zero_entries how && nat_lt old.file.header.fields.version 3) (rounds_past (cluster_size old.file.header.fields) (size_of old) offset n) x is))
 
 -- nor did that give anything
@@ -130,8 +130,8 @@ module _ {S F : Type 0} (view : S → StorageView) (backing : F → BackingView)
   abbrev to : ℕ
   to = to_in old offset n
 
-  abbrev gifts : List GivenBytes
-  gifts = gifts_of_clear view backing old how offset n
+  abbrev given_bytes : List GivenBytes
+  given_bytes = all_given_by_clear view backing old how offset n
 
   module _ (out : List (Option Prepared)) (sound : ImageInvariant view backing (pending_in view backing old out) old out) where
     abbrev v : AbstractImage
@@ -143,8 +143,8 @@ module _ {S F : Type 0} (view : S → StorageView) (backing : F → BackingView)
     to_shown : to ≡ touched_to (cluster_size old.file.header.fields) (disk_of view backing old).size offset n
     to_shown = ap (λ size. touched_to (cluster_size old.file.header.fields) size offset n) size_is
 
-    gifts_are : gifts_between view backing old how from to ≡ gifts
-    gifts_are = ap (λ end. gift_shown (cleared (setting_of view backing old) (disk_of view backing old) (shown_by how) from end) from end ∷ []) to_shown
+    given_bytes_are : given_bytes_between view backing old how from to ≡ given_bytes
+    given_bytes_are = ap (λ end. given_shown (cleared (setting_of view backing old) (disk_of view backing old) (shown_by how) from end) from end ∷ []) to_shown
 
     disk_is : cleared (setting_of view backing old) (disk_of view backing old) (shown_by how) from to ≡ cleared (setting_of view backing old) (disk_of view backing old) (shown_by how) from (touched_to (cluster_size old.file.header.fields) (disk_of view backing old).size offset n)
     disk_is = ap (cleared (setting_of view backing old) (disk_of view backing old) (shown_by how) from) to_shown
@@ -162,7 +162,7 @@ module _ {S F : Type 0} (view : S → StorageView) (backing : F → BackingView)
   -- nothing is touched
   pub clears_nothing : to ≤ from → Clears view backing how old old offset n (Ok (from, 0))
   clears_nothing le = λ out.
-      settled_does view backing old old out out gifts (λ sound. works_less (v out sound) (v out sound) [] gifts [] (λ o x never. absurd never) (works_none (v out sound) sound)) (λ sound. sound) refl usable
+      settled_does view backing old old out out given_bytes (λ sound. works_less (v out sound) (v out sound) [] given_bytes [] (λ o x never. absurd never) (works_none (v out sound) sound)) (λ sound. sound) refl usable
       (λ sound. (answer_none out sound le, ap (λ d. with_disk (guest_of (v out sound)) d) (sym (none_cleared (setting_of view backing old) (disk_of view backing old) (shown_by how) from to le) ∙ disk_is out sound)))
 
   -- ---- it begins, and clusters are cleared
@@ -184,7 +184,7 @@ module _ {S F : Type 0} (view : S → StorageView) (backing : F → BackingView)
     -- that was refused
     refused_ungiven : (e : ImageError) (marked : Bool) → number_of entries ≡ number_of old → MayMark e (is_failed entries) marked → (e ≡ I.Memory → IsTrue entries.file.caches.is_changed → IsTrue marked)
         → ((out : List (Option Prepared)) → UnseenCall view backing old begun out → RefusedCall view backing begun entries out e) → (out : List (Option Prepared))
-        → Refuses (abstract_of view backing old out) (abstract_of view backing (record entries { is_failed = marked }) out) [] [] (refusal_of e) (IsSame (abstract_of view backing old out) (abstract_of view backing (record entries { is_failed = marked }) out))
+        → RefusedEffect (abstract_of view backing old out) (abstract_of view backing (record entries { is_failed = marked }) out) [] [] (refusal_of e) (IsSame (abstract_of view backing old out) (abstract_of view backing (record entries { is_failed = marked }) out))
     refused_ungiven e marked number marks memory refused out = refuses_left view backing out old usable entries marked number e marks memory (λ sound. refused_then view backing out old begun entries (begins out sound) e (refused out (begins out sound)))
 
     pub ungiven_refused : (e : ImageError) (marked : Bool) → number_of entries ≡ number_of old → MayMark e (is_failed entries) marked → (e ≡ I.Memory → IsTrue entries.file.caches.is_changed → IsTrue marked)
@@ -194,7 +194,7 @@ module _ {S F : Type 0} (view : S → StorageView) (backing : F → BackingView)
     pub clear_refused : (e : ImageError) (marked : Bool) → number_of entries ≡ number_of old → MayMark e (is_failed entries) marked → (e ≡ I.Memory → IsTrue entries.file.caches.is_changed → IsTrue marked)
         → ((out : List (Option Prepared)) → UnseenCall view backing old begun out → RefusedCall view backing begun entries out e) → Clears view backing how old (record entries { is_failed = marked }) offset n (Err e)
     clear_refused e marked number marks memory refused = λ out.
-        refuses_more (abstract_of view backing old out) (abstract_of view backing (record entries { is_failed = marked }) out) gifts (refusal_of e) _
+        refuses_more (abstract_of view backing old out) (abstract_of view backing (record entries { is_failed = marked }) out) given_bytes (refusal_of e) _
         (refused_ungiven e marked number marks memory refused out)
 
     module _ (parts : (out : List (Option Prepared)) → UnseenCall view backing old begun out → ClearsPart view backing how from to begun entries out) (freed : Qcow2 S F) (r : Result (Unit {0}) ImageError)
@@ -202,8 +202,8 @@ module _ {S F : Type 0} (view : S → StorageView) (backing : F → BackingView)
       pub part : (out : List (Option Prepared)) → ImageInvariant view backing (pending_in view backing old out) old out → ClearsPart view backing how from to old entries out
       part out sound = clears_after view backing out old begun entries how from to (begins out sound) (parts out (begins out sound))
 
-      part_works : (out : List (Option Prepared)) (sound : ImageInvariant view backing (pending_in view backing old out) old out) → Works (abstract_of view backing old out) (abstract_of view backing entries out) gifts []
-      part_works out sound = subst (λ gs. Works (abstract_of view backing old out) (abstract_of view backing entries out) gs []) (gifts_are out sound) (part out sound).works
+      part_works : (out : List (Option Prepared)) (sound : ImageInvariant view backing (pending_in view backing old out) old out) → EffectOnSound (abstract_of view backing old out) (abstract_of view backing entries out) given_bytes []
+      part_works out sound = subst (λ gs. EffectOnSound (abstract_of view backing old out) (abstract_of view backing entries out) gs []) (given_bytes_are out sound) (part out sound).works
 
       -- what stands for guest clusters then
       pub clear_covers : r ≡ Ok tt → (out : List (Option Prepared)) → ImageInvariant view backing (pending_in view backing old out) old out
@@ -220,8 +220,8 @@ module _ {S F : Type 0} (view : S → StorageView) (backing : F → BackingView)
           let e = abstract_of view backing entries out in
           let f = abstract_of view backing freed out in
           let call : ImageInvariant view backing (pending_in view backing old out) old out → UnseenCall view backing entries freed out = λ sound. subst (EndsFreeing view backing entries freed out) ok (ends out (part out sound).sound) in
-          settled_does view backing old freed out out gifts
-          (λ sound. works_then a e f gifts [] (part out sound).sound (part_works out sound) (works_less e f [] gifts [] (λ o x never. absurd never) (call sound).works))
+          settled_does view backing old freed out out given_bytes
+          (λ sound. works_then a e f given_bytes [] (part out sound).sound (part_works out sound) (works_less e f [] given_bytes [] (λ o x never. absurd never) (call sound).works))
           (λ sound. (call sound).sound) number usable
           (λ sound. (answer_some out sound lt, (call sound).same ∙ (part out sound).shows ∙ ap (λ d. with_disk (guest_of a) d) (disk_is out sound)))
 
@@ -236,7 +236,7 @@ module _ {S F : Type 0} (view : S → StorageView) (backing : F → BackingView)
           record {
             acts = record {
               number = number;
-              works = λ sound. works_then a e f gifts [] (part out sound).sound (part_works out sound) (works_less e f [] gifts [] (λ o y never. absurd never) ((ended sound).0.acts.works (part out sound).sound));
+              works = λ sound. works_then a e f given_bytes [] (part out sound).sound (part_works out sound) (works_less e f [] given_bytes [] (λ o y never. absurd never) ((ended sound).0.acts.works (part out sound).sound));
               rests = λ was. absurd (let no : true ≡ false = sym was ∙ usable in cc);
             };
             answer = λ sound. inr ((ended sound).1, failed sound);

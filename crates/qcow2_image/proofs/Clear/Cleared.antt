@@ -10,24 +10,24 @@ use Rattle.qcow2_metadata.specs.Bytes.{Bytes}
 use Rattle.qcow2_metadata.specs.declared.header.HeaderFields.{HeaderFields}
 use Rattle.qcow2_metadata.specs.Header.{cluster_size}
 use Rattle.qcow2_metadata.specs.Cover.{cover}
-use Rattle.qcow2_metadata.specs.L2Mapping.{IsInReach, dropped_run}
+use Rattle.qcow2_metadata.specs.L2Mapping.{IsInReach, old_data_run}
 use Rattle.qcow2_disk.specs.AbstractImages.{Setting}
-use Rattle.qcow2_disk.specs.Calls.{Works, cleared}
+use Rattle.qcow2_disk.specs.Calls.{EffectOnSound, cleared}
 use Rattle.qcow2_laws.specs.CrashInvariant.{Pending}
 use Rattle.qcow2_disk.specs.Disk.{Disk, disk, uncovered, zeroed_between}
 use Rattle.qcow2_laws.specs.GuestLaws.{ClearsRange, MapsEntry, MapsInTurn}
-use Rattle.qcow2_disk.specs.Mappings.{gift_shown}
+use Rattle.qcow2_disk.specs.Mappings.{given_shown}
 use Rattle.qcow2_laws.specs.SafeSteps.{DriverState}
 use Rattle.qcow2_laws.specs.Steps.{guest_at}
 use Rattle.qcow2_disk.specs.Stops.{GivenBytes}
 use Rattle.qcow2_laws.proofs.MappedRanges.{clusters_in_turn_are_a_range}
 use Rattle.qcow2_laws.proofs.SafeSteps.{entries_endure}
-use Rattle.qcow2_alloc.specs.CacheMarks.{KeepsMarks}
+use Rattle.qcow2_alloc.specs.CachePins.{KeepsPinsAndNotes}
 use Rattle.qcow2_alloc.specs.declared.cache.MetadataCaches.{MetadataCaches}
 use Rattle.qcow2_alloc.specs.declared.clusters_to_free.ClustersToFreeEntry.{ClustersToFreeEntry}
 use Rattle.qcow2_alloc.specs.ImageFile.{state_in, view_in, contents_in, known_in}
 use Rattle.qcow2_alloc.specs.MetadataCaches.{IsEntryAt, l2_at}
-use Rattle.qcow2_image.specs.Clearing.{AreCleared, ClearsImageCovers, ClearsEntry, ClearsPart, ClearsTable, MayClear, cover_once_cleared, gifts_between, is_between, is_cleared, listed_by, setting_of, shown_by, with_caches}
+use Rattle.qcow2_image.specs.Clearing.{AreCleared, ClearsImageCovers, ClearsEntry, ClearsPart, ClearsTable, MayClear, cover_once_cleared, given_bytes_between, is_between, is_cleared, listed_by, setting_of, shown_by, with_caches}
 use Rattle.qcow2_image.specs.declared.discarding.Clearance.{Clearance}
 use Rattle.qcow2_image.specs.declared.discarding.Clearance.TheVariants.{Uncovered, Zeros, KeptZeros}
 use Rattle.qcow2_image.specs.declared.image.Qcow2.{Qcow2}
@@ -44,7 +44,7 @@ use Rattle.qcow2_image.proofs.Sound.{free_more}
 listed_no_table : (how : Clearance) (h : HeaderFields) (known : Bytes) (first n k : ℕ) → to_free of_tables (listed_by how h known first n) k ≡ 0
 listed_no_table how h known first zero k = refl
 listed_no_table how h known first (suc n) k =
-    let run = dropped_run h.cluster_bits (cover h known (first + n)) (cover_once_cleared how (cover h known (first + n))) in
+    let run = old_data_run h.cluster_bits (cover h known (first + n)) (cover_once_cleared how (cover h known (first + n))) in
     let more = free_more of_tables (listed_by how h known first n) (listed_run run) k in
     let none = listed_no_table how h known first n k in
     let last = listed_tables run k in
@@ -60,16 +60,16 @@ module _ {S F : Type 0} (view : S → StorageView) (backing : F → BackingView)
     cleared_all = λ i lt. absurd (omega (arith, lt));
     stays = λ g out. refl;
     table_stays = refl;
-    held = λ k. refl;
-    fresh = λ k. refl;
-    spent = λ k. refl;
+    new_data = λ k. refl;
+    new_tables = λ k. refl;
+    old_tables = λ k. refl;
     surplus = refl;
-    dropped = λ k. sym (omega arith);
+    old_data = λ k. sym (omega arith);
   }
 
   -- one more is
   module _ (how : Clearance) (t row column n : ℕ) (a : Qcow2 S F) (caches : MetadataCaches S) (out : List (Option Prepared)) (p : Pending) (may : MayClear view backing how t row column (suc n) a out p)
-      (so_far : AreCleared view backing how row column n a caches out p) (found : IsSome (l2_at caches t)) (marks : KeepsMarks a.file.caches caches) (c : Qcow2 S F) (clears : ClearsEntry how t (column + n) (with_caches a caches) c) where
+      (so_far : AreCleared view backing how row column n a caches out p) (found : IsSome (l2_at caches t)) (marks : KeepsPinsAndNotes a.file.caches caches) (c : Qcow2 S F) (clears : ClearsEntry how t (column + n) (with_caches a caches) c) where
     abbrev h : HeaderFields
     h = a.file.header.fields
 
@@ -100,9 +100,9 @@ module _ {S F : Type 0} (view : S → StorageView) (backing : F → BackingView)
     reached : IsInReach (cover h (known_in view b.file) (guest_at h row (column + n)))
     reached = subst (λ g. IsInReach (cover h (known_in view b.file) g)) (sym guest_is) (subst IsInReach (sym same_word) (may.reach n (omega arith)))
 
-    last_run : listed_run (dropped_run h.cluster_bits (cover h (known_in view b.file) (guest_at h row (column + n))) (cover_once_cleared how (cover h (known_in view b.file) (guest_at h row (column + n)))))
-        ≡ listed_run (dropped_run h.cluster_bits (cover h (known_in view a.file) (first + n)) (cover_once_cleared how (cover h (known_in view a.file) (first + n))))
-    last_run = ap (λ v. listed_run (dropped_run h.cluster_bits v (cover_once_cleared how v))) (ap (cover h (known_in view b.file)) guest_is ∙ same_word)
+    last_run : listed_run (old_data_run h.cluster_bits (cover h (known_in view b.file) (guest_at h row (column + n))) (cover_once_cleared how (cover h (known_in view b.file) (guest_at h row (column + n)))))
+        ≡ listed_run (old_data_run h.cluster_bits (cover h (known_in view a.file) (first + n)) (cover_once_cleared how (cover h (known_in view a.file) (first + n))))
+    last_run = ap (λ v. listed_run (old_data_run h.cluster_bits v (cover_once_cleared how v))) (ap (cover h (known_in view b.file)) guest_is ∙ same_word)
 
     pub next_cleared : AreCleared view backing how row column (suc n) a c.file.caches out p
     next_cleared = record {
@@ -117,15 +117,15 @@ module _ {S F : Type 0} (view : S → StorageView) (backing : F → BackingView)
       ];
       stays = λ g out. so_far.stays g (elim out [ inl below ↦ inl below | inr past ↦ inr (omega (arith, past)) ]) ∙ next.stays g (λ same. let is = guest_is in elim out [ inl below ↦ absurd (omega (arith, below, same, is)) | inr past ↦ absurd (omega (arith, past, same, is)) ]);
       table_stays = next.table_stays ∙ so_far.table_stays;
-      held = λ k. next.held reached k ∙ so_far.held k;
-      fresh = λ k. next.fresh k ∙ so_far.fresh k;
-      spent = λ k. next.spent k ∙ so_far.spent k;
+      new_data = λ k. next.new_data reached k ∙ so_far.new_data k;
+      new_tables = λ k. next.new_tables k ∙ so_far.new_tables k;
+      old_tables = λ k. next.old_tables k ∙ so_far.old_tables k;
       surplus = next.surplus ∙ so_far.surplus;
-      dropped = λ k.
-          let before = so_far.dropped k in
-          let last = next.dropped reached k in
+      old_data = λ k.
+          let before = so_far.old_data k in
+          let last = next.old_data reached k in
           let run = ap (λ l. to_free of_data l k) last_run in
-          let more = free_more of_data (listed_by how h (known_in view a.file) first n) (listed_run (dropped_run h.cluster_bits (cover h (known_in view a.file) (first + n)) (cover_once_cleared how (cover h (known_in view a.file) (first + n))))) k in
+          let more = free_more of_data (listed_by how h (known_in view a.file) first n) (listed_run (old_data_run h.cluster_bits (cover h (known_in view a.file) (first + n)) (cover_once_cleared how (cover h (known_in view a.file) (first + n))))) k in
           omega (arith, before, last, run, more);
     }
 
@@ -133,7 +133,7 @@ module _ {S F : Type 0} (view : S → StorageView) (backing : F → BackingView)
   first_none how t column a = record {
     rest = refl;
     marks = record { pins = λ cluster. refl; room = λ room. room; changed = λ changed. changed };
-    held = λ some. some;
+    new_data = λ some. some;
     part = λ out p row may. none_cleared how row column a out p may.sound;
     noted = λ out p row may some. absurd (omega (arith, some));
   }
@@ -172,12 +172,12 @@ module _ {S F : Type 0} (view : S → StorageView) (backing : F → BackingView)
     first_next = record {
       rest = clears_here.rest;
       marks = record { pins = λ cluster. clears_here.marks.pins cluster ∙ first.marks.pins cluster; room = λ room. clears_here.marks.room (first.marks.room room); changed = λ changed. clears_here.marks.changed (first.marks.changed changed) };
-      held = λ some. clears_here.held (first.held some);
-      part = λ out p row may. next_cleared how t row column n a b.file.caches out p may (first.part out p row (fewer out p row may)) (first.held may.found) first.marks c (clears_at out p row may);
+      new_data = λ some. clears_here.new_data (first.new_data some);
+      part = λ out p row may. next_cleared how t row column n a b.file.caches out p may (first.part out p row (fewer out p row may)) (first.new_data may.found) first.marks c (clears_at out p row may);
       noted = λ out p row may some.
           let so_far = first.part out p row (fewer out p row may) in
           (clears_at out p row may).noted a.file.header.fields so_far.now (contents_in view a.file) row so_far.sound_now.file.caches
-          (record { real = λ none. may.real (sym so_far.table_stays ∙ none); place = so_far.table_stays ∙ may.place; within = let w = may.within in omega (arith, w) }) (first.held may.found);
+          (record { real = λ none. may.real (sym so_far.table_stays ∙ none); place = so_far.table_stays ∙ may.place; within = let w = may.within in omega (arith, w) }) (first.new_data may.found);
     }
 
   -- ---- all are, and what they named is to be freed
@@ -230,7 +230,7 @@ module _ {S F : Type 0} (view : S → StorageView) (backing : F → BackingView)
     disk_now = range.shows (backing_bytes view backing a.backing) ∙ shown_is how (setting_of view backing a) (disk_of view backing a) from to
 
     abbrev given : Bytes → List GivenBytes
-    given below = gift_shown (disk s'.known below) from to ∷ []
+    given below = given_shown (disk s'.known below) from to ∷ []
 
     steps : Steps view backing a final out out given all.now
     steps = record {
@@ -245,10 +245,10 @@ module _ {S F : Type 0} (view : S → StorageView) (backing : F → BackingView)
         once = all.sound_now.once;
       };
       only = record {
-        held = all.held;
-        fresh = all.fresh;
-        spent = λ k. let same = all.spent k in let more = free_more of_tables a.file.free_list listed k in let none = listed_no_table how h' (known_in view a.file) g n k in omega (arith, same, more, none);
-        dropped = λ k. let is = all.dropped k in let more = free_more of_data a.file.free_list listed k in omega (arith, is, more);
+        new_data = all.new_data;
+        new_tables = all.new_tables;
+        old_tables = λ k. let same = all.old_tables k in let more = free_more of_tables a.file.free_list listed k in let none = listed_no_table how h' (known_in view a.file) g n k in omega (arith, same, more, none);
+        old_data = λ k. let is = all.old_data k in let more = free_more of_data a.file.free_list listed k in omega (arith, is, more);
       };
       leads = range.leads;
       since = entries_endure (view_in view a.file) s s' (is_cleared how) g n given refl all.turn range.leads;
@@ -257,8 +257,8 @@ module _ {S F : Type 0} (view : S → StorageView) (backing : F → BackingView)
       surplus = all.surplus;
     }
 
-    given_is : given (backing_bytes view backing a.backing) ≡ gifts_between view backing a how from to
-    given_is = ap (λ d. gift_shown d from to ∷ []) disk_now
+    given_is : given (backing_bytes view backing a.backing) ≡ given_bytes_between view backing a how from to
+    given_is = ap (λ d. given_shown d from to ∷ []) disk_now
 
     -- a guest cluster outside lies outside in bytes too
     module _ (c : ℕ) where
@@ -307,7 +307,7 @@ module _ {S F : Type 0} (view : S → StorageView) (backing : F → BackingView)
     pub all_cleared : ClearsPart view backing how (guest_at a.file.header.fields row column * cluster_size a.file.header.fields) ((guest_at a.file.header.fields row column + n) * cluster_size a.file.header.fields) a
         (record a { file = record a.file { caches = caches; free_list = a.file.free_list ++ listed_by how a.file.header.fields (known_in view a.file) (guest_at a.file.header.fields row column) n } }) out
     all_cleared = record {
-      works = subst (λ gs. Works (abstract_of view backing a out) (abstract_of view backing final out) gs []) given_is (stepped_works view backing a final out out given all.now steps);
+      works = subst (λ gs. EffectOnSound (abstract_of view backing a out) (abstract_of view backing final out) gs []) given_is (stepped_works view backing a final out out given all.now steps);
       sound = stepped_sound view backing a final out out given all.now steps;
       shows = same_guest _ _ disk_now refl;
       header = refl;

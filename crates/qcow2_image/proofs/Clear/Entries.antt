@@ -15,7 +15,7 @@ use Rattle.qcow2_metadata.specs.Header.{cluster_size, entries_per_cluster, has_d
 use Rattle.qcow2_metadata.specs.Cover.{cover, cover_of, entry_cover}
 use Rattle.qcow2_metadata.specs.Entries.{is_copied, l1_entry, l2_entry, host_offset, count}
 use Rattle.qcow2_metadata.specs.Consistent.{CoverIsAligned}
-use Rattle.qcow2_metadata.specs.L2Mapping.{IsInReach, named_run, run_has, is_same_run, dropped_run}
+use Rattle.qcow2_metadata.specs.L2Mapping.{IsInReach, named_run, run_has, is_same_run, old_data_run}
 use Rattle.qcow2_metadata.specs.L2Table.{copied_host, copied_kept, zero_cover}
 use Rattle.qcow2_metadata.specs.Named.{named_by_cover}
 use Rattle.qcow2_metadata.proofs.MadeEntries.{copied_host_is, cover_of-0, cover_of-zero_entry}
@@ -29,7 +29,7 @@ use Rattle.qcow2_laws.specs.Unseen.{SameOtherCovers}
 use Rattle.qcow2_laws.proofs.CachedChanges.{Takes, takes_nothing, takes_own}
 use Rattle.qcow2_laws.proofs.MappedAnew.{entry_uncovered, entry_zeroed, pending_after}
 use Rattle.qcow2_laws.proofs.Places.{Sizes-from, cover_at}
-use Rattle.qcow2_alloc.specs.CacheMarks.{l2_pins}
+use Rattle.qcow2_alloc.specs.CachePins.{l2_pins}
 use Rattle.qcow2_alloc.specs.declared.cache.MetadataCaches.{MetadataCaches}
 use Rattle.qcow2_alloc.specs.ImageFile.{state_in, contents_in, known_in}
 use Rattle.qcow2_alloc.specs.MetadataCaches.{IsEntryAt, MadeEntry, known_of, l2_at}
@@ -61,38 +61,38 @@ same_self None = refl
 same_self (Some r) = let a = eq-eqb r.0 r.0 refl in let b = eq-eqb r.1 r.1 refl in ap (λ x. x && r.1 == r.1) a ∙ b
 
 -- all that was named
-all_dropped : (run : Option (ℕ × ℕ)) (c : ℕ) → run_has (cond (is_same_run run None) None run) c ≡ run_has run c
-all_dropped None c = refl
-all_dropped (Some r) c = refl
+all_old_data : (run : Option (ℕ × ℕ)) (c : ℕ) → run_has (cond (is_same_run run None) None run) c ≡ run_has run c
+all_old_data None c = refl
+all_old_data (Some r) c = refl
 
-none_dropped : (run : Option (ℕ × ℕ)) (c : ℕ) → run_has (cond (is_same_run run run) None run) c ≡ 0
-none_dropped run c = ap (λ b. run_has (cond b None run) c) (same_self run)
+none_old_data : (run : Option (ℕ × ℕ)) (c : ℕ) → run_has (cond (is_same_run run run) None run) c ≡ 0
+none_old_data run c = ap (λ b. run_has (cond b None run) c) (same_self run)
 
 module _ (h : HeaderFields) (c : ℕ) where
   -- it names nothing then
-  gone : (v w : L2Mapping) → IsInReach v → named_run h.cluster_bits w ≡ None → named_by_cover h c w ≡ 0 → named_by_cover h c v ≡ named_by_cover h c w + run_has (dropped_run h.cluster_bits v w) c
+  gone : (v w : L2Mapping) → IsInReach v → named_run h.cluster_bits w ≡ None → named_by_cover h c w ≡ 0 → named_by_cover h c v ≡ named_by_cover h c w + run_has (old_data_run h.cluster_bits v w) c
   gone v w reach none unnamed =
       let is = named_by_cover-run v h c reach in
-      let all : run_has (dropped_run h.cluster_bits v w) c ≡ run_has (named_run h.cluster_bits v) c =
-      ap (λ r. run_has (cond (is_same_run (named_run h.cluster_bits v) r) None (named_run h.cluster_bits v)) c) none ∙ all_dropped (named_run h.cluster_bits v) c in
+      let all : run_has (old_data_run h.cluster_bits v w) c ≡ run_has (named_run h.cluster_bits v) c =
+      ap (λ r. run_has (cond (is_same_run (named_run h.cluster_bits v) r) None (named_run h.cluster_bits v)) c) none ∙ all_old_data (named_run h.cluster_bits v) c in
       omega arith
 
   -- it names what it named
-  same : (v w : L2Mapping) → named_run h.cluster_bits w ≡ named_run h.cluster_bits v → named_by_cover h c w ≡ named_by_cover h c v → named_by_cover h c v ≡ named_by_cover h c w + run_has (dropped_run h.cluster_bits v w) c
+  same : (v w : L2Mapping) → named_run h.cluster_bits w ≡ named_run h.cluster_bits v → named_by_cover h c w ≡ named_by_cover h c v → named_by_cover h c v ≡ named_by_cover h c w + run_has (old_data_run h.cluster_bits v w) c
   same v w runs names =
-      let none : run_has (dropped_run h.cluster_bits v w) c ≡ 0 =
-      ap (λ r. run_has (cond (is_same_run (named_run h.cluster_bits v) r) None (named_run h.cluster_bits v)) c) runs ∙ none_dropped (named_run h.cluster_bits v) c in
+      let none : run_has (old_data_run h.cluster_bits v w) c ≡ 0 =
+      ap (λ r. run_has (cond (is_same_run (named_run h.cluster_bits v) r) None (named_run h.cluster_bits v)) c) runs ∙ none_old_data (named_run h.cluster_bits v) c in
       omega arith
 
-  kept_by : (place : ℕ) (mark : Bool) (k : ℕ × Bool) → k ≡ (place, mark) → IsInReach (Zero (Some k)) → named_by_cover h c (Zero (Some k)) ≡ named_by_cover h c (zero_cover (copied_kept (Some k))) + run_has (dropped_run h.cluster_bits (Zero (Some k)) (zero_cover (copied_kept (Some k)))) c
+  kept_by : (place : ℕ) (checkpoint : Bool) (k : ℕ × Bool) → k ≡ (place, checkpoint) → IsInReach (Zero (Some k)) → named_by_cover h c (Zero (Some k)) ≡ named_by_cover h c (zero_cover (copied_kept (Some k))) + run_has (old_data_run h.cluster_bits (Zero (Some k)) (zero_cover (copied_kept (Some k)))) c
   kept_by place true k is reach =
-      subst (λ (x : ℕ × Bool). named_by_cover h c (Zero (Some x)) ≡ named_by_cover h c (zero_cover (copied_kept (Some x))) + run_has (dropped_run h.cluster_bits (Zero (Some x)) (zero_cover (copied_kept (Some x)))) c) (sym is)
+      subst (λ (x : ℕ × Bool). named_by_cover h c (Zero (Some x)) ≡ named_by_cover h c (zero_cover (copied_kept (Some x))) + run_has (old_data_run h.cluster_bits (Zero (Some x)) (zero_cover (copied_kept (Some x)))) c) (sym is)
       (same (Zero (Some (place, true))) (Zero (Some (place, true))) refl refl)
   kept_by place false k is reach =
-      subst (λ (x : ℕ × Bool). named_by_cover h c (Zero (Some x)) ≡ named_by_cover h c (zero_cover (copied_kept (Some x))) + run_has (dropped_run h.cluster_bits (Zero (Some x)) (zero_cover (copied_kept (Some x)))) c) (sym is)
+      subst (λ (x : ℕ × Bool). named_by_cover h c (Zero (Some x)) ≡ named_by_cover h c (zero_cover (copied_kept (Some x))) + run_has (old_data_run h.cluster_bits (Zero (Some x)) (zero_cover (copied_kept (Some x)))) c) (sym is)
       (gone (Zero (Some (place, false))) (Zero None) (subst (λ (x : ℕ × Bool). IsInReach (Zero (Some x))) is reach) refl refl)
 
-  kept_zeros : (v : L2Mapping) → IsInReach v → named_by_cover h c v ≡ named_by_cover h c (zero_cover (copied_host v)) + run_has (dropped_run h.cluster_bits v (zero_cover (copied_host v))) c
+  kept_zeros : (v : L2Mapping) → IsInReach v → named_by_cover h c v ≡ named_by_cover h c (zero_cover (copied_host v)) + run_has (old_data_run h.cluster_bits v (zero_cover (copied_host v))) c
   kept_zeros (Data host true) reach = same (Data host true) (Zero (Some (host, true))) refl refl
   kept_zeros (Data host false) reach = gone (Data host false) (Zero None) reach refl refl
   kept_zeros (Zero None) reach = gone (Zero None) (Zero None) reach refl refl
@@ -101,7 +101,7 @@ module _ (h : HeaderFields) (c : ℕ) where
   kept_zeros M.Uncovered reach = gone M.Uncovered (Zero None) reach refl refl
 
   -- what was named is named still, or is dropped
-  pub names_cleared : (how : Clearance) (v : L2Mapping) → IsInReach v → named_by_cover h c v ≡ named_by_cover h c (cover_once_cleared how v) + run_has (dropped_run h.cluster_bits v (cover_once_cleared how v)) c
+  pub names_cleared : (how : Clearance) (v : L2Mapping) → IsInReach v → named_by_cover h c v ≡ named_by_cover h c (cover_once_cleared how v) + run_has (old_data_run h.cluster_bits v (cover_once_cleared how v)) c
   names_cleared Uncovered v reach = gone v M.Uncovered reach refl refl
   names_cleared Zeros v reach = gone v (Zero None) reach refl refl
   names_cleared KeptZeros v reach = kept_zeros v reach
@@ -121,20 +121,20 @@ kept_aligned h (Data place true) host aligned is = let e : place ≡ host = cc i
 kept_aligned h (Data place false) host aligned is = absurd cc
 kept_aligned h (Zero None) host aligned is = absurd cc
 kept_aligned h (Zero (Some k)) host aligned is = by_mark k.0 k.1 aligned is where
-  by_mark : (place : ℕ) (mark : Bool) → place % cluster_size h ≡ 0 → cond mark (Some place) None ≡ Some host → host % cluster_size h ≡ 0
+  by_mark : (place : ℕ) (checkpoint : Bool) → place % cluster_size h ≡ 0 → cond checkpoint (Some place) None ≡ Some host → host % cluster_size h ≡ 0
   by_mark place true at e = let p : place ≡ host = cc in subst (λ n. n % cluster_size h ≡ 0) p at
   by_mark place false at e = absurd cc
 kept_aligned h (Compressed place sectors) host aligned is = absurd cc
 kept_aligned h M.Uncovered host aligned is = absurd cc
 
-takes_kept : (h : HeaderFields) (held : ℕ → ℕ) (v : L2Mapping) (kept : Option ℕ) → copied_host v ≡ kept → CoverIsAligned h v → Takes h held v (zero_cover kept)
-takes_kept h held v None is aligned = (takes_nothing h held v).1
-takes_kept h held v (Some host) is aligned = (takes_own h held v host (kept_aligned h v host aligned is) is).1
+takes_kept : (h : HeaderFields) (new_data : ℕ → ℕ) (v : L2Mapping) (kept : Option ℕ) → copied_host v ≡ kept → CoverIsAligned h v → Takes h new_data v (zero_cover kept)
+takes_kept h new_data v None is aligned = (takes_nothing h new_data v).1
+takes_kept h new_data v (Some host) is aligned = (takes_own h new_data v host (kept_aligned h v host aligned is) is).1
 
-takes_cleared : (how : Clearance) (h : HeaderFields) (held : ℕ → ℕ) (v : L2Mapping) → CoverIsAligned h v → Takes h held v (cover_once_cleared how v)
-takes_cleared Uncovered h held v aligned = (takes_nothing h held v).0
-takes_cleared Zeros h held v aligned = (takes_nothing h held v).1
-takes_cleared KeptZeros h held v aligned = takes_kept h held v (copied_host v) refl aligned
+takes_cleared : (how : Clearance) (h : HeaderFields) (new_data : ℕ → ℕ) (v : L2Mapping) → CoverIsAligned h v → Takes h new_data v (cover_once_cleared how v)
+takes_cleared Uncovered h new_data v aligned = (takes_nothing h new_data v).0
+takes_cleared Zeros h new_data v aligned = (takes_nothing h new_data v).1
+takes_cleared KeptZeros h new_data v aligned = takes_kept h new_data v (copied_host v) refl aligned
 
 -- ---- one entry of a sound image
 
@@ -146,12 +146,12 @@ pub record OneCleared {S F : Type 0} (view : S → StorageView) (backing : F →
   pub cleared : cover a.file.header.fields (known_in view c.file) (guest_at a.file.header.fields row column) ≡ cover_once_cleared how (cover a.file.header.fields (known_in view a.file) (guest_at a.file.header.fields row column))
   pub stays : (g : ℕ) → g ≢ guest_at a.file.header.fields row column → cover a.file.header.fields (known_in view a.file) g ≡ cover a.file.header.fields (known_in view c.file) g
   pub table_stays : table_at a.file.header.fields (known_in view c.file) row ≡ table_at a.file.header.fields (known_in view a.file) row
-  pub held : IsInReach (cover a.file.header.fields (known_in view a.file) (guest_at a.file.header.fields row column)) → (k : ℕ) → now.held k ≡ p.held k
-  pub fresh : (k : ℕ) → now.fresh k ≡ p.fresh k
-  pub spent : (k : ℕ) → now.spent k ≡ p.spent k
+  pub new_data : IsInReach (cover a.file.header.fields (known_in view a.file) (guest_at a.file.header.fields row column)) → (k : ℕ) → now.new_data k ≡ p.new_data k
+  pub new_tables : (k : ℕ) → now.new_tables k ≡ p.new_tables k
+  pub old_tables : (k : ℕ) → now.old_tables k ≡ p.old_tables k
   pub surplus : now.surplus ≡ p.surplus
-  pub dropped : IsInReach (cover a.file.header.fields (known_in view a.file) (guest_at a.file.header.fields row column)) → (k : ℕ) → now.dropped k ≡ p.dropped k
-      + to_free of_data (listed_run (dropped_run a.file.header.fields.cluster_bits (cover a.file.header.fields (known_in view a.file) (guest_at a.file.header.fields row column)) (cover_once_cleared how (cover a.file.header.fields (known_in view a.file) (guest_at a.file.header.fields row column))))) k
+  pub old_data : IsInReach (cover a.file.header.fields (known_in view a.file) (guest_at a.file.header.fields row column)) → (k : ℕ) → now.old_data k ≡ p.old_data k
+      + to_free of_data (listed_run (old_data_run a.file.header.fields.cluster_bits (cover a.file.header.fields (known_in view a.file) (guest_at a.file.header.fields row column)) (cover_once_cleared how (cover a.file.header.fields (known_in view a.file) (guest_at a.file.header.fields row column))))) k
 
 module _ {S F : Type 0} (view : S → StorageView) (backing : F → BackingView) (a : Qcow2 S F) (out : List (Option Prepared)) (p : Pending) (sound : ImageInvariant view backing p a out) (how : Clearance) (t row column : ℕ)
     (at : IsEntryAt a.file.header.fields (known_in view a.file) row t column) (copied : is_copied (l1_entry a.file.header.fields (contents_in view a.file) row) ≡ true) (found : IsSome (l2_at a.file.caches t)) (unpinned : l2_pins a.file.caches t ≡ 0)
@@ -200,7 +200,7 @@ module _ {S F : Type 0} (view : S → StorageView) (backing : F → BackingView)
 
   changes : EntryChanges s known row column
   changes = known_entry_changes s known row column (cleared_entry how (entry_cover h word)) guarded at.real at.within entry.change
-      (subst (λ v. Takes h p.held old v) (sym says) (takes_cleared how h p.held old (guarded.known_aligned guest)))
+      (subst (λ v. Takes h p.new_data old v) (sym says) (takes_cleared how h p.new_data old (guarded.known_aligned guest)))
 
   counts_stay : (k : ℕ) → count a.file.header.fields (known_in view a.file) k ≡ count a.file.header.fields (known_of a.file.header.fields b.file.caches (contents_in view a.file)) k
   counts_stay = counts_now s known row column (cleared_entry how (entry_cover h word)) guarded at.real at.within entry.change
@@ -218,7 +218,7 @@ module _ {S F : Type 0} (view : S → StorageView) (backing : F → BackingView)
 
   zeros_mapped : (v : L2Mapping) → cover h known guest ≡ v → IsZeros v → Mapped
   zeros_mapped (Zero kept) is zeros = let m = entry_zeroed s known row column guarded changes kept is in record { sound_then = m.leads.sound; covers = m.unseen.covers }
-  zeros_mapped (Data host mark) is zeros = absurd zeros
+  zeros_mapped (Data host checkpoint) is zeros = absurd zeros
   zeros_mapped (Compressed host sectors) is zeros = absurd zeros
   zeros_mapped M.Uncovered is zeros = absurd zeros
 
@@ -296,14 +296,14 @@ module _ {S F : Type 0} (view : S → StorageView) (backing : F → BackingView)
     cleared = covered;
     stays = others;
     table_stays = ap host_offset (same_l1 row);
-    held = λ reach k. let n = names_cleared h k how old reach in let then = named_then k in omega (arith, n, then);
-    fresh = λ k. refl;
-    spent = λ k. refl;
+    new_data = λ reach k. let n = names_cleared h k how old reach in let then = named_then k in omega (arith, n, then);
+    new_tables = λ k. refl;
+    old_tables = λ k. refl;
     surplus = refl;
-    dropped = λ reach k.
+    old_data = λ reach k.
         let n = names_cleared h k how old reach in
         let then = named_then k in
-        let listed = listed_has (dropped_run h.cluster_bits old (cover_once_cleared how old)) k in
+        let listed = listed_has (old_data_run h.cluster_bits old (cover_once_cleared how old)) k in
         omega (arith, n, then, listed);
   }
 

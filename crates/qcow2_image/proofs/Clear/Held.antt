@@ -16,6 +16,6 @@ module _ {S : Type 0} (old new : MetadataCaches S) (table index : ℕ) (entry : 
     | inr past ↦ subst IsSome (sym (ap (λ (c : MetadataCaches S). l2_at c table) (refused past).1 ∙ is)) refl
   ]
 
-  pub still_held : IfSome (l2_at old table) (λ t. index < entries_of t → SetsEntry old new table index t (entry t) answer)
+  pub still_new_data : IfSome (l2_at old table) (λ t. index < entries_of t → SetsEntry old new table index t (entry t) answer)
       → (IfSome (l2_at old table) (λ t. entries_of t ≤ index) → (answer ≡ None) × (new ≡ old)) → IsSome (l2_at old table) → IsSome (l2_at new table)
-  still_held sets refused some = by_table (l2_at old table) refl sets refused some
+  still_new_data sets refused some = by_table (l2_at old table) refl sets refused some

@@ -5,8 +5,8 @@ use Rattle.std.proofs.lemmas.Bool.{cases_eq, cond-true, cond-false, eq-eqb, ne_e
 use mathlib.Core.Path.{fun_ext}
 use Rattle.image_access.specs.Backing.{BackingView}
 use Rattle.image_access.specs.Moments.{StorageView}
-use Rattle.qcow2_disk.specs.Calls.{Refusal, storage, IsRefusalByFault, IsSame, Works, Rests, Does, Refuses, with_disk, with_slot}
-use Rattle.qcow2_disk.specs.Mappings.{PreparedMapping, gift_of_commit, committed}
+use Rattle.qcow2_disk.specs.Calls.{Refusal, storage, IsRefusalByFault, IsSame, EffectOnSound, EffectOnFailed, AnsweredEffect, RefusedEffect, with_disk, with_slot}
+use Rattle.qcow2_disk.specs.Mappings.{PreparedMapping, given_by_commit, committed}
 use Rattle.qcow2_disk.specs.Stops.{GivenBytes}
 use Rattle.qcow2_disk.specs.AbstractImages.{AbstractImage, Guest, guest_of, meaning_at}
 use Rattle.qcow2_disk.proofs.Compose.{works_less, works_then, stops_as}
@@ -25,7 +25,7 @@ use Rattle.qcow2_image.proofs.Call.Slots.{get_set_same, set_same, set_set}
 use Rattle.qcow2_image.proofs.Shares.{never_private}
 
 -- of an image that isn't sound nothing more is said
-pub refuses_unsound : (v w : AbstractImage) (given : List GivenBytes) (e : Refusal) (still : Type 0) → w.number ≡ v.number → (v.is_sound → ⊥) → (IsTrue v.is_failed → Rests v w) → (e ≡ storage → IsTrue w.is_failed) → Refuses v w given [] e still
+pub refuses_unsound : (v w : AbstractImage) (given : List GivenBytes) (e : Refusal) (still : Type 0) → w.number ≡ v.number → (v.is_sound → ⊥) → (IsTrue v.is_failed → EffectOnFailed v w) → (e ≡ storage → IsTrue w.is_failed) → RefusedEffect v w given [] e still
 refuses_unsound v w given e still number unsound rests fault = record {
   acts = record { number = number; works = λ sound. absurd (unsound sound); rests = rests };
   answer = λ sound. absurd (unsound sound);
@@ -62,14 +62,14 @@ module _ {S F : Type 0} (view : S → StorageView) (backing : F → BackingView)
     m0 = meaning view backing old p
 
     abbrev gifts0 : List GivenBytes
-    gifts0 = gift_of_commit v0.setting.cluster_size (guest_of v0).disk m0 ∷ []
+    gifts0 = given_by_commit v0.setting.cluster_size (guest_of v0).disk m0 ∷ []
 
     nothing_new : ImageInvariant view backing (pending_in view backing old out) old out → committed (guest_of v0).disk m0 ≡ (guest_of v0).disk
     nothing_new sound =
         let none : p.shares.items ≡ [] = subst (IsReadyWith old.file.header.fields (known_in view old.file) (contents_in view old.file) p) existing (sound.ready k p placed).mapped in
         ap (λ f. record (guest_of v0).disk { value = f }) (fun_ext (λ o. cond-false (m0.is_private o) _ _ (never_private view backing old p none o)))
 
-    pub commit_existing : Does v0 w0 gifts0 [] (guest_of w0 ≡ with_slot (with_disk (guest_of v0) (committed (guest_of v0).disk m0)) k None)
+    pub commit_existing : AnsweredEffect v0 w0 gifts0 [] (guest_of w0 ≡ with_slot (with_disk (guest_of v0) (committed (guest_of v0).disk m0)) k None)
     commit_existing =
         let does = discards out k placed in
         settled_does view backing old new out (slice_set out k None) gifts0 (λ sound. works_less v0 w0 [] gifts0 [] (λ o x never. absurd never) (does.acts.works sound)) (λ sound. (does.answer sound).0) does.acts.number usable
@@ -100,8 +100,8 @@ module _ {S F : Type 0} (view : S → StorageView) (backing : F → BackingView)
     abbrev m : PreparedMapping
     m = meaning view backing old p
 
-    abbrev gifts : List GivenBytes
-    gifts = gift_of_commit v.setting.cluster_size (guest_of v).disk m ∷ []
+    abbrev given_bytes : List GivenBytes
+    given_bytes = given_by_commit v.setting.cluster_size (guest_of v).disk m ∷ []
 
     module _ (sound : ImageInvariant view backing (pending_in view backing old out) old out) where
       begun_same : guest_of b ≡ guest_of v
@@ -110,7 +110,7 @@ module _ {S F : Type 0} (view : S → StorageView) (backing : F → BackingView)
       begun_sound : ImageInvariant view backing (pending_in view backing begun out) begun out
       begun_sound = quiet_sound view backing out old begun (begins out) sound
 
-      begun_works : Works v b [] []
+      begun_works : EffectOnSound v b [] []
       begun_works = quiet_works view backing out old begun (begins out) sound
 
       same_meaning : meaning view backing begun p ≡ m
@@ -125,13 +125,13 @@ module _ {S F : Type 0} (view : S → StorageView) (backing : F → BackingView)
       noted : IsTrue changed → IsTrue entered.file.caches.is_changed
       noted = (enters out k placed some begun_sound).1
 
-      gift_is : gift_of_commit b.setting.cluster_size (guest_of b).disk (meaning view backing begun p) ∷ [] ≡ gifts
-      gift_is =
-          ap (λ x. gift_of_commit x.cluster_size (guest_of b).disk (meaning view backing begun p) ∷ []) begun_works.setting ∙ ap (λ (g : Guest). gift_of_commit v.setting.cluster_size g.disk (meaning view backing begun p) ∷ []) begun_same
-          ∙ ap (λ x. gift_of_commit v.setting.cluster_size (guest_of v).disk x ∷ []) same_meaning
+      given_is : given_by_commit b.setting.cluster_size (guest_of b).disk (meaning view backing begun p) ∷ [] ≡ given_bytes
+      given_is =
+          ap (λ x. given_by_commit x.cluster_size (guest_of b).disk (meaning view backing begun p) ∷ []) begun_works.setting ∙ ap (λ (g : Guest). given_by_commit v.setting.cluster_size g.disk (meaning view backing begun p) ∷ []) begun_same
+          ∙ ap (λ x. given_by_commit v.setting.cluster_size (guest_of v).disk x ∷ []) same_meaning
 
-      entered_works : Works v e gifts []
-      entered_works = works_then v b e gifts [] begun_sound (works_less v b [] gifts [] (λ o x never. absurd never) begun_works) (subst (λ gs. Works b e gs []) gift_is all.part.works)
+      entered_works : EffectOnSound v e given_bytes []
+      entered_works = works_then v b e given_bytes [] begun_sound (works_less v b [] given_bytes [] (λ o x never. absurd never) begun_works) (subst (λ gs. EffectOnSound b e gs []) given_is all.part.works)
 
       entered_shows : ShowsPart (guest_of v) (guest_of e) k m (meaning view backing entered q)
       entered_shows = subst (λ x. ShowsPart (guest_of v) (guest_of e) k x (meaning view backing entered q)) same_meaning (subst (λ (g : Guest). ShowsPart g (guest_of e) k (meaning view backing begun p) (meaning view backing entered q)) begun_same all.part.shows)
@@ -144,7 +144,7 @@ module _ {S F : Type 0} (view : S → StorageView) (backing : F → BackingView)
         freed_call : UnseenCall view backing entered freed left
         freed_call = subst (EndsFreeing view backing entered freed left) ok ended
 
-        let_go : Does f (abstract_of view backing new (slice_set left k None)) [] [] (guest_of (abstract_of view backing new (slice_set left k None)) ≡ with_slot (guest_of f) k None)
+        let_go : AnsweredEffect f (abstract_of view backing new (slice_set left k None)) [] [] (guest_of (abstract_of view backing new (slice_set left k None)) ≡ with_slot (guest_of f) k None)
         let_go = discards left k (get_set_same out k (Some q) (Some p) placed)
 
         end : slice_set left k None ≡ slice_set out k None
@@ -153,12 +153,12 @@ module _ {S F : Type 0} (view : S → StorageView) (backing : F → BackingView)
         abbrev w : AbstractImage
         w = abstract_of view backing new (slice_set out k None)
 
-        works_all : Works v w gifts []
+        works_all : EffectOnSound v w given_bytes []
         works_all =
             let last = (let_go.acts.works freed_call.sound) in
-            let freeing : Works v f gifts [] = works_then v e f gifts [] all.part.sound entered_works (works_less e f [] gifts [] (λ o x never. absurd never) freed_call.works) in
-            subst (λ now. Works v (abstract_of view backing new now) gifts []) end
-            (works_then v f (abstract_of view backing new (slice_set left k None)) gifts [] freed_call.sound freeing (works_less f (abstract_of view backing new (slice_set left k None)) [] gifts [] (λ o x never. absurd never) last))
+            let freeing : EffectOnSound v f given_bytes [] = works_then v e f given_bytes [] all.part.sound entered_works (works_less e f [] given_bytes [] (λ o x never. absurd never) freed_call.works) in
+            subst (λ now. EffectOnSound v (abstract_of view backing new now) given_bytes []) end
+            (works_then v f (abstract_of view backing new (slice_set left k None)) given_bytes [] freed_call.sound freeing (works_less f (abstract_of view backing new (slice_set left k None)) [] given_bytes [] (λ o x never. absurd never) last))
 
         sound_all : ImageInvariant view backing (pending_in view backing new (slice_set out k None)) new (slice_set out k None)
         sound_all = subst (λ now. ImageInvariant view backing (pending_in view backing new now) new now) end (let_go.answer freed_call.sound).0
@@ -169,9 +169,9 @@ module _ {S F : Type 0} (view : S → StorageView) (backing : F → BackingView)
             all_shown (guest_of v) (guest_of e) (guest_of w) k m (meaning view backing entered q) entered_shows all.visible gone
 
     pub commit_done : (ok : r ≡ Ok tt) (new : Qcow2 S F) → Discards view backing freed new q → number_of new ≡ number_of old
-        → let w = abstract_of view backing new (slice_set out k None) in Does v w gifts [] (guest_of w ≡ with_slot (with_disk (guest_of v) (committed (guest_of v).disk m)) k None)
+        → let w = abstract_of view backing new (slice_set out k None) in AnsweredEffect v w given_bytes [] (guest_of w ≡ with_slot (with_disk (guest_of v) (committed (guest_of v).disk m)) k None)
     commit_done ok new discards number =
-        settled_does view backing old new out (slice_set out k None) gifts (λ sound. works_all sound ok new discards) (λ sound. sound_all sound ok new discards) number usable (λ sound. is_all sound ok new discards)
+        settled_does view backing old new out (slice_set out k None) given_bytes (λ sound. works_all sound ok new discards) (λ sound. sound_all sound ok new discards) number usable (λ sound. is_all sound ok new discards)
 
     -- ---- that was refused
     module _ (number : number_of freed ≡ number_of old) (x : ImageError) (refused : r ≡ Err x) (marked : refusal_of x ≡ storage → IsTrue (is_failed freed)) where
@@ -179,19 +179,19 @@ module _ {S F : Type 0} (view : S → StorageView) (backing : F → BackingView)
       failed_freeing sound = subst (EndsFreeing view backing entered freed left) refused (ended sound)
 
       -- with its place free, or with it there as it was
-      works_refused : (now : Option Prepared) → IsTrue (is_failed freed) → (sound : ImageInvariant view backing (pending_in view backing old out) old out) → Works v (abstract_of view backing freed (slice_set out k now)) gifts []
+      works_refused : (now : Option Prepared) → IsTrue (is_failed freed) → (sound : ImageInvariant view backing (pending_in view backing old out) old out) → EffectOnSound v (abstract_of view backing freed (slice_set out k now)) given_bytes []
       works_refused now failed sound =
           let then = (failed_freeing sound).0.acts.works (all sound).part.sound in
-          let both = works_then v e f gifts [] (all sound).part.sound (entered_works sound) (works_less e f [] gifts [] (λ o y never. absurd never) then) in
+          let both = works_then v e f given_bytes [] (all sound).part.sound (entered_works sound) (works_less e f [] given_bytes [] (λ o y never. absurd never) then) in
           record {
             setting = both.setting;
             surplus = λ still. absurd (let no : true ≡ false = sym failed ∙ still.works in cc);
-            stops = λ c starts. stops_as v f v (abstract_of view backing freed (slice_set out k now)) gifts [] refl refl refl (λ still. absurd (let no : true ≡ false = sym failed ∙ still.works in cc)) c (both.stops c starts);
+            stops = λ c starts. stops_as v f v (abstract_of view backing freed (slice_set out k now)) given_bytes [] refl refl refl (λ still. absurd (let no : true ≡ false = sym failed ∙ still.works in cc)) c (both.stops c starts);
           }
 
       -- the image failed: it is spent
       pub commit_broke : (ImageInvariant view backing (pending_in view backing old out) old out → IsTrue (is_failed freed))
-          → let w = abstract_of view backing freed (slice_set out k None) in (v.is_sound → IsRefusalByFault (refusal_of x)) × Refuses v w gifts [] (refusal_of x) (IsSame v w)
+          → let w = abstract_of view backing freed (slice_set out k None) in (v.is_sound → IsRefusalByFault (refusal_of x)) × RefusedEffect v w given_bytes [] (refusal_of x) (IsSame v w)
       commit_broke failed = (
         (λ sound. (failed_freeing sound).1),
         record {
@@ -201,22 +201,22 @@ module _ {S F : Type 0} (view : S → StorageView) (backing : F → BackingView)
         },
       )
 
-      pub commit_broke_off : IsTrue changed → let w = abstract_of view backing freed (slice_set out k None) in (v.is_sound → IsRefusalByFault (refusal_of x)) × Refuses v w gifts [] (refusal_of x) (IsSame v w)
+      pub commit_broke_off : IsTrue changed → let w = abstract_of view backing freed (slice_set out k None) in (v.is_sound → IsRefusalByFault (refusal_of x)) × RefusedEffect v w given_bytes [] (refusal_of x) (IsSame v w)
       commit_broke_off is = commit_broke (λ sound. (failed_freeing sound).2 (noted sound is))
 
       -- nothing was changed: it is at its place again
-      pub commit_kept : (entered ≡ begun) × (q ≡ p) → let w = abstract_of view backing freed (slice_set out k (Some p)) in (v.is_sound → IsRefusalByFault (refusal_of x)) × Refuses v w gifts [] (refusal_of x) (IsSame v w)
+      pub commit_kept : (entered ≡ begun) × (q ≡ p) → let w = abstract_of view backing freed (slice_set out k (Some p)) in (v.is_sound → IsRefusalByFault (refusal_of x)) × RefusedEffect v w given_bytes [] (refusal_of x) (IsSame v w)
       commit_kept same =
           let there : slice_set out k (Some q) ≡ slice_set out k (Some p) = ap (λ y. slice_set out k (Some y)) same.1 in
           let w = abstract_of view backing freed (slice_set out k (Some p)) in
           let as_it_was : guest_of e ≡ guest_of b = ap (λ (image : Qcow2 S F). guest_of (abstract_of view backing image left)) same.0 ∙ ap (λ now. guest_of (abstract_of view backing begun now)) (there ∙ set_same out k (Some p) placed) in
-          let refuses : ImageInvariant view backing (pending_in view backing old out) old out → Refuses e w [] [] (refusal_of x) (IsSame e w) = λ sound.
-          subst (λ now. Refuses e (abstract_of view backing freed now) [] [] (refusal_of x) (IsSame e (abstract_of view backing freed now))) there (failed_freeing sound).0 in (
+          let refuses : ImageInvariant view backing (pending_in view backing old out) old out → RefusedEffect e w [] [] (refusal_of x) (IsSame e w) = λ sound.
+          subst (λ now. RefusedEffect e (abstract_of view backing freed now) [] [] (refusal_of x) (IsSame e (abstract_of view backing freed now))) there (failed_freeing sound).0 in (
             (λ sound. (failed_freeing sound).1),
             record {
               acts = record {
                 number = number;
-                works = λ sound. works_then v e w gifts [] (all sound).part.sound (entered_works sound) (works_less e w [] gifts [] (λ o y never. absurd never) ((refuses sound).acts.works (all sound).part.sound));
+                works = λ sound. works_then v e w given_bytes [] (all sound).part.sound (entered_works sound) (works_less e w [] given_bytes [] (λ o y never. absurd never) ((refuses sound).acts.works (all sound).part.sound));
                 rests = λ was. absurd (let no : true ≡ false = sym was ∙ usable in cc);
               };
               answer = λ sound. elim ((refuses sound).answer (all sound).part.sound) [

@@ -26,22 +26,22 @@ use Rattle.qcow2_laws.specs.CrashInvariant.{Pending, CrashInvariant}
 use Rattle.qcow2_laws.specs.GuestLaws.{Kept as HostedKept, Held as HostedHeld}
 use Rattle.qcow2_laws.specs.Guests.{names, marks, marked_by_cover, table_at}
 use Rattle.qcow2_laws.specs.SafeSteps.{DriverState, StateInvariant, SafeStep}
-use Rattle.qcow2_disk.specs.Mappings.{PreparedMapping, gift_shown, gift_of_commit, committed}
+use Rattle.qcow2_disk.specs.Mappings.{PreparedMapping, given_shown, given_by_commit, committed}
 use Rattle.qcow2_disk.specs.Stops.{GivenBytes, IsGiven}
 use Rattle.qcow2_laws.specs.Steps.{guest_at, EntryChanges}
 use Rattle.qcow2_disk.specs.AbstractImages.{guest_of}
 use Rattle.qcow2_laws.proofs.Blocks.{entry_top, entry_counts}
-use Rattle.qcow2_laws.proofs.CachedChanges.{Takes, takes_held, takes_own}
+use Rattle.qcow2_laws.proofs.CachedChanges.{Takes, takes_new_data, takes_own}
 use Rattle.qcow2_disk.proofs.Compose.{works_less}
 use Rattle.qcow2_laws.proofs.KeptClusters.{kept_committed}
-use Rattle.qcow2_laws.proofs.MappedAnew.{Maps, pending_after, private_committed, committed_held, committed_dropped}
+use Rattle.qcow2_laws.proofs.MappedAnew.{Maps, pending_after, private_committed, committed_new_data, committed_old_data}
 use Rattle.qcow2_laws.proofs.Places.{Sizes-from, cover_at}
 use Rattle.qcow2_laws.proofs.PutRuns.{beside_tables}
 use Rattle.qcow2_laws.proofs.Shares.{shares}
 use Rattle.qcow2_laws.proofs.Consistency.{in_own}
 use Rattle.qcow2_laws.proofs.SafeSteps.{entry_endures}
 use Rattle.qcow2_alloc.specs.Allocation.{run_at}
-use Rattle.qcow2_alloc.specs.CacheMarks.{KeepsMarks}
+use Rattle.qcow2_alloc.specs.CachePins.{KeepsPinsAndNotes}
 use Rattle.qcow2_alloc.specs.ClustersToFree.{data_entry}
 use Rattle.qcow2_alloc.specs.declared.cache.MetadataCaches.{MetadataCaches}
 use Rattle.qcow2_alloc.specs.declared.clusters_to_free.ClustersToFreeEntry.{ClustersToFreeEntry}
@@ -53,15 +53,15 @@ use Rattle.qcow2_image.specs.declared.prepared.Prepared.{Prepared}
 use Rattle.qcow2_image.specs.declared.prepared.Share.{Share}
 use Rattle.qcow2_image.specs.declared.prepared.Share.TheVariants.{InPlace, Kept, New}
 use Rattle.qcow2_image.specs.CallParts.{CommitsPart, ShowsPart}
-use Rattle.qcow2_image.specs.UnseenSteps.{dropped_by}
+use Rattle.qcow2_image.specs.UnseenSteps.{old_data_by}
 use Rattle.qcow2_image.proofs.Sound.{free_more}
-use Rattle.qcow2_image.specs.ImageInvariant.{to_free, of_data, of_tables, listed_run, held_in, held_by, pins_by, over_all, pending_in, abstract_of, meaning, is_entered, is_private, cluster_of, host_begin_of, share_of, backing_bytes, IsNewAt, IsShareAt, IsPending, IsReady, IsReadyWith, ImageInvariant}
+use Rattle.qcow2_image.specs.ImageInvariant.{to_free, of_data, of_tables, listed_run, new_data_in, new_data_by, pins_by, over_all, pending_in, abstract_of, meaning, is_entered, is_private, cluster_of, host_begin_of, share_of, backing_bytes, IsNewAt, IsShareAt, IsPending, IsReady, IsReadyWith, ImageInvariant}
 use Rattle.qcow2_image.proofs.Apart.{apart_guests}
 use Rattle.qcow2_image.proofs.Ready.{still_pending, still_share}
 use Rattle.qcow2_image.proofs.Open.Reftables.{reftable_still}
 use Rattle.qcow2_image.proofs.Call.Slots.{get_set_other, get_set_same, length_set, over_all_set, slot_set}
 use Rattle.qcow2_image.proofs.Call.Stepped.{Steps, stepped_sound, stepped_works}
-use Rattle.qcow2_image.proofs.Shares.{held_less, over_all_at, place_in, private_is}
+use Rattle.qcow2_image.proofs.Shares.{new_data_less, over_all_at, place_in, private_is}
 
 -- ---- the entry of a held table changes to a held cluster
 module _ (s : DriverState) (known' : Bytes) (i j entry : ℕ) (sound : StateInvariant s) (real : table_at s.header s.known i ≢ 0) (within : j < entries_per_cluster s.header)
@@ -80,13 +80,13 @@ module _ (s : DriverState) (known' : Bytes) (i j entry : ℕ) (sound : StateInva
       cover_at s.header known' i j (Sizes-from s.header s.on_storage sound.top.header_reads) (λ none. real (sym same_table ∙ none)) within
       ∙ ap (λ t. entry_cover s.header (l2_entry known' t j)) same_table ∙ ap (entry_cover s.header) c.is
 
-  pub known_entry_changes : Takes s.header s.pending.held (cover s.header s.known (guest_at s.header i j)) (entry_cover s.header entry) → EntryChanges s known' i j
+  pub known_entry_changes : Takes s.header s.pending.new_data (cover s.header s.known (guest_at s.header i j)) (entry_cover s.header entry) → EntryChanges s known' i j
   known_entry_changes takes = record {
     real = real;
     within = within;
     outside = c.outside;
     entries = same_entries;
-    held = λ k. let b : names s.header known' k (guest_at s.header i j) ≡ named_by_cover s.header k (entry_cover s.header entry) = ap (named_by_cover s.header k) cover_now in let t = takes.held k in omega arith;
+    new_data = λ k. let b : names s.header known' k (guest_at s.header i j) ≡ named_by_cover s.header k (entry_cover s.header entry) = ap (named_by_cover s.header k) cover_now in let t = takes.new_data k in omega arith;
     marked = λ k.
         let b : names s.header known' k (guest_at s.header i j) ≡ named_by_cover s.header k (entry_cover s.header entry) = ap (named_by_cover s.header k) cover_now in
         let n : marks s.header known' k (guest_at s.header i j) ≡ marked_by_cover s.header k (entry_cover s.header entry) = ap (marked_by_cover s.header k) cover_now in
@@ -140,7 +140,7 @@ share_same h p q i same items g other =
     ])
 
 module _ {S F : Type 0} (view : S → StorageView) (backing : F → BackingView) (old : Qcow2 S F) (p like : Prepared) (t i : ℕ) (share : Share) (is_table : p.table ≡ Some t) (was : slice_get p.shares.items i ≡ Some share) (is_entered_now : IsTrue (is_entered share))
-    (items : like.shares.items ≡ slice_set p.shares.items i InPlace) (caches : MetadataCaches S) (marks : KeepsMarks old.file.caches caches) (order : order_of caches ≡ order_of old.file.caches) (answer : Option (ℕ × ℕ))
+    (items : like.shares.items ≡ slice_set p.shares.items i InPlace) (caches : MetadataCaches S) (marks : KeepsPinsAndNotes old.file.caches caches) (order : order_of caches ≡ order_of old.file.caches) (answer : Option (ℕ × ℕ))
     (out : List (Option Prepared)) (k : ℕ) (placed : slice_get out k ≡ Some (Some p)) (sound : ImageInvariant view backing (pending_in view backing old out) old out) where
   abbrev h : HeaderFields
   h = old.file.header.fields
@@ -197,21 +197,21 @@ module _ {S F : Type 0} (view : S → StorageView) (backing : F → BackingView)
     entry = maps h before s.on_storage row sound.file.caches at_entry pending.copied found nameable
 
     -- ---- of a new cluster
-    module _ (taken dropped : List ClustersToFreeEntry) (is_new : share ≡ New taken dropped) (new_at : IsNewAt h s.known s.on_storage p i taken dropped) where
+    module _ (taken old_data : List ClustersToFreeEntry) (is_new : share ≡ New taken old_data) (new_at : IsNewAt h s.known s.on_storage p i taken old_data) where
       same_first : new_at.first ≡ first
       same_first =
           let e : new_at.first * cluster_size h ≡ new_at.first * cluster_size h + 0 = omega arith in
           sym (ap (λ o. o / cluster_size h) e ∙ div-mul-add new_at.first (cluster_size h) 0 (pow_pos h.cluster_bits)) ∙ ap (λ o. o / cluster_size h) (new_at.place ∙ sym place) ∙ host_first
 
-      mine : (c : ℕ) → held_in (share ∷ []) c ≡ in_cluster h c host
+      mine : (c : ℕ) → new_data_in (share ∷ []) c ≡ in_cluster h c host
       mine c =
-          ap (λ (x : Share). held_in (x ∷ []) c) is_new ∙ ap (λ l. to_free of_data l c + 0) (new_at.is ∙ ap (λ f. data_entry f 1 ∷ []) same_first)
+          ap (λ (x : Share). new_data_in (x ∷ []) c) is_new ∙ ap (λ l. to_free of_data l c + 0) (new_at.is ∙ ap (λ f. data_entry f 1 ∷ []) same_first)
           ∙ (let one = run_one h first c in omega arith)
 
-      held_there : 0 < before.held (host / cluster_size h)
-      held_there =
-          let less = held_less p.shares.items i share was (host / cluster_size h) in
-          let all = over_all_at held_by out k p placed (host / cluster_size h) in
+      new_data_there : 0 < before.new_data (host / cluster_size h)
+      new_data_there =
+          let less = new_data_less p.shares.items i share was (host / cluster_size h) in
+          let all = over_all_at new_data_by out k p placed (host / cluster_size h) in
           let one = mine (host / cluster_size h) in
           let own : in_cluster h (host / cluster_size h) host ≡ 1 = in_own h host in
           omega arith
@@ -231,12 +231,12 @@ module _ {S F : Type 0} (view : S → StorageView) (backing : F → BackingView)
           omega arith
           ),
     )
-    no_table_as (New taken dropped) is entered at = beside_tables s HostedHeld 0 host sound.file.caches.kept.kept.guarded (held_there taken dropped is at)
+    no_table_as (New taken old_data) is entered at = beside_tables s HostedHeld 0 host sound.file.caches.kept.kept.guarded (new_data_there taken old_data is at)
 
-    takes_as : (x : Share) → share ≡ x → IsTrue (is_entered x) → IsShareAt h s.known s.on_storage p i x → Takes h before.held (cover h s.known (guest_at h row column)) (Data host true)
+    takes_as : (x : Share) → share ≡ x → IsTrue (is_entered x) → IsShareAt h s.known s.on_storage p i x → Takes h before.new_data (cover h s.known (guest_at h row column)) (Data host true)
     takes_as InPlace is entered at = absurd (let e : false ≡ true = entered in cc)
-    takes_as Kept is entered at = (takes_own h before.held (cover h s.known (guest_at h row column)) host host_aligned (ap copied_host (ap (cover h s.known) guest_is ∙ at.entry) ∙ ap Some (sym place))).0
-    takes_as (New taken dropped) is entered at = takes_held s (guest_at h row column) host sound.file.caches.kept.kept.guarded host_aligned (held_there taken dropped is at)
+    takes_as Kept is entered at = (takes_own h before.new_data (cover h s.known (guest_at h row column)) host host_aligned (ap copied_host (ap (cover h s.known) guest_is ∙ at.entry) ∙ ap Some (sym place))).0
+    takes_as (New taken old_data) is entered at = takes_new_data s (guest_at h row column) host sound.file.caches.kept.kept.guarded host_aligned (new_data_there taken old_data is at)
 
     -- it isn't the header's
     host_real : host ≡ 0 → ⊥
@@ -258,7 +258,7 @@ module _ {S F : Type 0} (view : S → StorageView) (backing : F → BackingView)
 
     changes : EntryChanges s known row column
     changes = known_entry_changes s known row column (copied_entry host) sound.file.caches.kept.kept.guarded at_entry.real at_entry.within entry.change
-        (subst (λ v. Takes h before.held (cover h s.known (guest_at h row column)) v) (sym covers_host) (takes_as share refl is_entered_now stands))
+        (subst (λ v. Takes h before.new_data (cover h s.known (guest_at h row column)) v) (sym covers_host) (takes_as share refl is_entered_now stands))
 
     abbrev values : Bytes → ℕ → Value
     values below o = known_byte (s.on_storage (host + o % cluster_size h))
@@ -267,10 +267,10 @@ module _ {S F : Type 0} (view : S → StorageView) (backing : F → BackingView)
     record Made : Type 0 where
       after : Pending
       mapped : Maps (guest_at h row column) s (record s { pending = after; known = known }) values
-      held : (c : ℕ) → after.held c + held_in (share ∷ []) c ≡ before.held c
-      fresh : (c : ℕ) → after.fresh c ≡ 0
-      spent : (c : ℕ) → after.spent c ≡ before.spent c + to_free of_tables (dropped_by share) c
-      dropped : (c : ℕ) → after.dropped c ≡ before.dropped c + to_free of_data (dropped_by share) c
+      new_data : (c : ℕ) → after.new_data c + new_data_in (share ∷ []) c ≡ before.new_data c
+      new_tables : (c : ℕ) → after.new_tables c ≡ 0
+      old_tables : (c : ℕ) → after.old_tables c ≡ before.old_tables c + to_free of_tables (old_data_by share) c
+      old_data : (c : ℕ) → after.old_data c ≡ before.old_data c + to_free of_data (old_data_by share) c
       surplus : after.surplus ≡ before.surplus
 
     made_as : (x : Share) → share ≡ x → IsTrue (is_entered x) → IsShareAt h s.known s.on_storage p i x → Made
@@ -278,30 +278,30 @@ module _ {S F : Type 0} (view : S → StorageView) (backing : F → BackingView)
     made_as Kept is entered at = record {
       after = before;
       mapped = kept_committed s known row column host sound.file.caches.kept.kept.guarded changes (ap (cover h s.known) guest_is ∙ at.entry ∙ ap (λ n. Zero (Some (n, true))) (sym place)) covered;
-      held = λ c. let none : held_in (share ∷ []) c ≡ 0 = ap (λ (x : Share). held_in (x ∷ []) c) is in omega arith;
-      fresh = λ c. refl;
-      spent = λ c. let none : to_free of_tables (dropped_by share) c ≡ 0 = ap (λ (x : Share). to_free of_tables (dropped_by x) c) is in omega arith;
-      dropped = λ c. let none : to_free of_data (dropped_by share) c ≡ 0 = ap (λ (x : Share). to_free of_data (dropped_by x) c) is in omega arith;
+      new_data = λ c. let none : new_data_in (share ∷ []) c ≡ 0 = ap (λ (x : Share). new_data_in (x ∷ []) c) is in omega arith;
+      new_tables = λ c. refl;
+      old_tables = λ c. let none : to_free of_tables (old_data_by share) c ≡ 0 = ap (λ (x : Share). to_free of_tables (old_data_by x) c) is in omega arith;
+      old_data = λ c. let none : to_free of_data (old_data_by share) c ≡ 0 = ap (λ (x : Share). to_free of_data (old_data_by x) c) is in omega arith;
       surplus = refl;
     }
-    made_as (New taken dropped) is entered at =
-        let held_host = held_there taken dropped is at in
+    made_as (New taken old_data) is entered at =
+        let new_data_host = new_data_there taken old_data is at in
         record {
           after = pending_after s known (guest_at h row column);
-          mapped = private_committed s known row column sound.file.caches.kept.kept.guarded changes host covered held_host;
-          held = λ c.
-              let left = committed_held s known row column sound.file.caches.kept.kept.guarded changes host covered held_host c in
-              let one = mine taken dropped is at c in
-              let less = held_less p.shares.items i share was c in
-              let all = over_all_at held_by out k p placed c in
+          mapped = private_committed s known row column sound.file.caches.kept.kept.guarded changes host covered new_data_host;
+          new_data = λ c.
+              let left = committed_new_data s known row column sound.file.caches.kept.kept.guarded changes host covered new_data_host c in
+              let one = mine taken old_data is at c in
+              let less = new_data_less p.shares.items i share was c in
+              let all = over_all_at new_data_by out k p placed c in
               omega arith;
-          fresh = λ c. refl;
-          spent = λ c. let none : to_free of_tables (dropped_by share) c ≡ 0 = ap (λ (x : Share). to_free of_tables (dropped_by x) c) is ∙ ap (λ l. to_free of_tables l c) at.drops ∙ listed_tables (named_run h.cluster_bits (cover h s.known (cluster_of h p + i))) c in omega arith;
-          dropped = λ c.
-              let more = committed_dropped s known row column sound.file.caches.kept.kept.guarded changes host covered held_host c in
+          new_tables = λ c. refl;
+          old_tables = λ c. let none : to_free of_tables (old_data_by share) c ≡ 0 = ap (λ (x : Share). to_free of_tables (old_data_by x) c) is ∙ ap (λ l. to_free of_tables l c) at.drops ∙ listed_tables (named_run h.cluster_bits (cover h s.known (cluster_of h p + i))) c in omega arith;
+          old_data = λ c.
+              let more = committed_old_data s known row column sound.file.caches.kept.kept.guarded changes host covered new_data_host c in
               let named : names h s.known c (guest_at h row column) ≡ run_has (named_run h.cluster_bits (cover h s.known (cluster_of h p + i))) c = ap (names h s.known c) guest_is ∙ named_by_cover-run (cover h s.known (cluster_of h p + i)) h c at.reach in
-              let gone : to_free of_data (dropped_by share) c ≡ run_has (named_run h.cluster_bits (cover h s.known (cluster_of h p + i))) c =
-              ap (λ (x : Share). to_free of_data (dropped_by x) c) is ∙ ap (λ l. to_free of_data l c) at.drops ∙ listed_has (named_run h.cluster_bits (cover h s.known (cluster_of h p + i))) c in
+              let gone : to_free of_data (old_data_by share) c ≡ run_has (named_run h.cluster_bits (cover h s.known (cluster_of h p + i))) c =
+              ap (λ (x : Share). to_free of_data (old_data_by x) c) is ∙ ap (λ l. to_free of_data l c) at.drops ∙ listed_has (named_run h.cluster_bits (cover h s.known (cluster_of h p + i))) c in
               omega arith;
           surplus = refl;
         }
@@ -310,13 +310,13 @@ module _ {S F : Type 0} (view : S → StorageView) (backing : F → BackingView)
     made = made_as share refl is_entered_now stands
 
     abbrev final : Qcow2 S F
-    final = record old { file = record old.file { caches = caches; free_list = old.file.free_list ++ dropped_by share } }
+    final = record old { file = record old.file { caches = caches; free_list = old.file.free_list ++ old_data_by share } }
 
     same_stand : state_in view final.file made.after ≡ record s { pending = made.after; known = known }
     same_stand = ap (λ d. record s { pending = made.after; direction = d; known = known }) order
 
     abbrev given : Bytes → List GivenBytes
-    given below = gift_shown (disk known below) (guest_at h row column * cluster_size h) (guest_at h row column * cluster_size h + cluster_size h) ∷ []
+    given below = given_shown (disk known below) (guest_at h row column * cluster_size h) (guest_at h row column * cluster_size h + cluster_size h) ∷ []
 
     leads : SafeStep s (state_in view final.file made.after) given []
     leads = subst (λ x. SafeStep s x given []) (sym same_stand) made.mapped.leads
@@ -347,7 +347,7 @@ module _ {S F : Type 0} (view : S → StorageView) (backing : F → BackingView)
       left_as : (x : Share) → IsShareAt h known s.on_storage p l x → IsShareAt h known s.on_storage q l x
       left_as InPlace at = at
       left_as Kept at = record { first = at.first; place = at.place; nameable = at.nameable; entry = at.entry }
-      left_as (New taken dropped) at = record { first = at.first; is = at.is; place = at.place; nameable = at.nameable; entry = at.entry; reach = at.reach; drops = at.drops }
+      left_as (New taken old_data) at = record { first = at.first; is = at.is; place = at.place; nameable = at.nameable; entry = at.entry; reach = at.reach; drops = at.drops }
 
     as_many : length q.shares.items ≡ length p.shares.items
     as_many = ap (λ (l : List Share). length l) items ∙ length_set p.shares.items i InPlace
@@ -403,15 +403,15 @@ module _ {S F : Type 0} (view : S → StorageView) (backing : F → BackingView)
     steps = record {
       sound = enters_sound;
       only = record {
-        held = λ c.
-            let all = over_all_set held_by out k p q placed c in
-            let less = held_less p.shares.items i share was c in
-            let mine : held_by q c ≡ held_in (slice_set p.shares.items i InPlace) c = ap (λ (l : List Share). held_in l c) items in
-            let left = made.held c in
+        new_data = λ c.
+            let all = over_all_set new_data_by out k p q placed c in
+            let less = new_data_less p.shares.items i share was c in
+            let mine : new_data_by q c ≡ new_data_in (slice_set p.shares.items i InPlace) c = ap (λ (l : List Share). new_data_in l c) items in
+            let left = made.new_data c in
             omega arith;
-        fresh = made.fresh;
-        spent = λ c. let more = free_more of_tables old.file.free_list (dropped_by share) c in let is = made.spent c in omega arith;
-        dropped = λ c. let more = free_more of_data old.file.free_list (dropped_by share) c in let is = made.dropped c in omega arith;
+        new_tables = made.new_tables;
+        old_tables = λ c. let more = free_more of_tables old.file.free_list (old_data_by share) c in let is = made.old_tables c in omega arith;
+        old_data = λ c. let more = free_more of_data old.file.free_list (old_data_by share) c in let is = made.old_data c in omega arith;
       };
       leads = leads;
       since = entry_endures (view_in view old.file) s (state_in view final.file made.after) row column given refl changes leads;
@@ -475,7 +475,7 @@ module _ {S F : Type 0} (view : S → StorageView) (backing : F → BackingView)
     }
 
     -- what it gives is of what the whole mapping gives
-    gives_less : (o : ℕ) (v : Value) → IsGiven (given below) o v → (v ≡ d.value o) ⊎ IsGiven (gift_of_commit (cluster_size h) d m ∷ []) o v
+    gives_less : (o : ℕ) (v : Value) → IsGiven (given below) o v → (v ≡ d.value o) ⊎ IsGiven (given_by_commit (cluster_size h) d m ∷ []) o v
     gives_less o v (inr never) = absurd never
     gives_less o v (inl is) =
         let lt = within in
@@ -511,7 +511,7 @@ module _ {S F : Type 0} (view : S → StorageView) (backing : F → BackingView)
 
     enters_q : CommitsPart view backing old final out k p q
     enters_q = record {
-      works = works_less (abstract_of view backing old out) (abstract_of view backing final now) (given below) (gift_of_commit (cluster_size h) d m ∷ []) [] gives_less (stepped_works view backing old final out now given made.after steps);
+      works = works_less (abstract_of view backing old out) (abstract_of view backing final now) (given below) (given_by_commit (cluster_size h) d m ∷ []) [] gives_less (stepped_works view backing old final out now given made.after steps);
       sound = stepped_sound view backing old final out now given made.after steps;
       shows = shows_part;
       beside = λ g outside. made.mapped.unseen.covers g (λ same. beside_mine g outside (same ∙ guest_is));

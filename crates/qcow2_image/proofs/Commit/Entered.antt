@@ -16,10 +16,10 @@ use Rattle.qcow2_metadata.specs.declared.header.HeaderFields.{HeaderFields}
 use Rattle.qcow2_metadata.specs.Header.{cluster_size, entries_per_cluster, rounded_down, rounded_up}
 use Rattle.qcow2_metadata.specs.L2Mapping.{IsHostCluster}
 use Rattle.qcow2_disk.specs.AbstractImages.{Guest, Setting, guest_of, meaning_at}
-use Rattle.qcow2_disk.specs.Calls.{Works}
-use Rattle.qcow2_disk.specs.Mappings.{PreparedMapping, first_of, end_of, gift_shown, gift_of_commit, committed}
+use Rattle.qcow2_disk.specs.Calls.{EffectOnSound}
+use Rattle.qcow2_disk.specs.Mappings.{PreparedMapping, first_of, end_of, given_shown, given_by_commit, committed}
 use Rattle.qcow2_disk.proofs.Compose.{works_less, works_then}
-use Rattle.qcow2_alloc.specs.CacheMarks.{l2_pins}
+use Rattle.qcow2_alloc.specs.CachePins.{l2_pins}
 use Rattle.qcow2_alloc.specs.declared.cache.MetadataCaches.{MetadataCaches}
 use Rattle.qcow2_alloc.specs.declared.async_lru_cache.slot.Slot.{Slot}
 use Rattle.qcow2_alloc.specs.MetadataCaches.{MapsCachedEntry, l2_at}
@@ -30,7 +30,7 @@ use Rattle.qcow2_image.specs.declared.prepared.Share.{Share}
 use Rattle.qcow2_image.specs.declared.prepared.Share.TheVariants.{InPlace, Kept, New}
 use Rattle.qcow2_image.specs.CallParts.{CommitsPart, EntersAll, IsEntered, ShowsPart}
 use Rattle.qcow2_image.specs.Image.{ImageStays}
-use Rattle.qcow2_image.specs.UnseenSteps.{DropsNothing, EntersShare, dropped_by}
+use Rattle.qcow2_image.specs.UnseenSteps.{DropsNothing, EntersShare, old_data_by}
 use Rattle.qcow2_image.specs.ImageInvariant.{cluster_of, host_begin_of, is_entered, pins_by, pending_in, abstract_of, meaning, is_private, IsShareAt, IsPending, IsReadyWith, ImageInvariant}
 use Rattle.qcow2_image.proofs.Apart.{pins_own}
 use Rattle.qcow2_image.proofs.Call.Called.{works_none}
@@ -65,11 +65,11 @@ module _ (a b c : Guest) (k : ℕ) (ma mb mc : PreparedMapping) (first : ShowsPa
       let sizes = first.size in
       λ i. record { size = sizes i; value = values i }
 
-  pub gift_same : (size : ℕ) → gift_of_commit size b.disk mb ≡ gift_of_commit size a.disk ma
-  gift_same size =
-      ap (λ d. gift_shown d (first_of size mb) (end_of size mb)) committed_same
-      ∙ ap (λ f. gift_shown (committed a.disk ma) (rounded_down size f) (rounded_up size (f + mb.length))) first.from
-      ∙ ap (λ l. gift_shown (committed a.disk ma) (rounded_down size ma.from) (rounded_up size (ma.from + l))) first.length
+  pub given_same : (size : ℕ) → given_by_commit size b.disk mb ≡ given_by_commit size a.disk ma
+  given_same size =
+      ap (λ d. given_shown d (first_of size mb) (end_of size mb)) committed_same
+      ∙ ap (λ f. given_shown (committed a.disk ma) (rounded_down size f) (rounded_up size (f + mb.length))) first.from
+      ∙ ap (λ l. given_shown (committed a.disk ma) (rounded_down size ma.from) (rounded_up size (ma.from + l))) first.length
 
   pub shows_then : ShowsPart b c k mb mc → ShowsPart a c k ma mc
   shows_then then = record {
@@ -99,9 +99,9 @@ module _ {S F : Type 0} (view : S → StorageView) (backing : F → BackingView)
       let v = abstract_of view backing image out in
       let same : slice_set out k (Some p) ≡ out = set_same out k (Some p) placed in
       let m = meaning view backing image p in
-      let gifts = gift_of_commit v.setting.cluster_size (guest_of v).disk (meaning view backing image p) ∷ [] in
+      let given_bytes = given_by_commit v.setting.cluster_size (guest_of v).disk (meaning view backing image p) ∷ [] in
       record {
-        works = subst (λ now. Works v (abstract_of view backing image now) gifts []) (sym same) (works_less v v [] gifts [] (λ o x never. absurd never) (works_none v sound));
+        works = subst (λ now. EffectOnSound v (abstract_of view backing image now) given_bytes []) (sym same) (works_less v v [] given_bytes [] (λ o x never. absurd never) (works_none v sound));
         sound = subst (λ now. ImageInvariant view backing (pending_in view backing image now) image now) (sym same) sound;
         shows = subst (λ now. ShowsPart (guest_of v) (guest_of (abstract_of view backing image now)) k m m) (sym same) (shows_none (guest_of v) k m (ap (meaning_at (meaning view backing image)) placed));
         beside = λ g outside. refl;
@@ -116,13 +116,13 @@ module _ {S F : Type 0} (view : S → StorageView) (backing : F → BackingView)
       let ma = meaning view backing a p in
       let mb = meaning view backing b q in
       let mc = meaning view backing c r in
-      let gifts = gift_of_commit va.setting.cluster_size (guest_of va).disk ma ∷ [] in
+      let given_bytes = given_by_commit va.setting.cluster_size (guest_of va).disk ma ∷ [] in
       let sizes : vb.setting.cluster_size ≡ va.setting.cluster_size = ap (λ (x : Setting). x.cluster_size) first.works.setting in
-      let gift : gift_of_commit vb.setting.cluster_size (guest_of vb).disk mb ∷ [] ≡ gifts =
-      ap (λ n. gift_of_commit n (guest_of vb).disk mb ∷ []) sizes ∙ ap (λ g. g ∷ []) (gift_same (guest_of va) (guest_of vb) (guest_of vb) k ma mb mb first.shows va.setting.cluster_size) in
+      let bytes_given : given_by_commit vb.setting.cluster_size (guest_of vb).disk mb ∷ [] ≡ given_bytes =
+      ap (λ n. given_by_commit n (guest_of vb).disk mb ∷ []) sizes ∙ ap (λ g. g ∷ []) (given_same (guest_of va) (guest_of vb) (guest_of vb) k ma mb mb first.shows va.setting.cluster_size) in
       record {
-        works = works_then va vb (abstract_of view backing c (slice_set out k (Some r))) gifts [] first.sound first.works
-            (subst (λ now. Works vb (abstract_of view backing c now) gifts []) end (subst (λ gs. Works vb (abstract_of view backing c (slice_set mid k (Some r))) gs []) gift then.works));
+        works = works_then va vb (abstract_of view backing c (slice_set out k (Some r))) given_bytes [] first.sound first.works
+            (subst (λ now. EffectOnSound vb (abstract_of view backing c now) given_bytes []) end (subst (λ gs. EffectOnSound vb (abstract_of view backing c (slice_set mid k (Some r))) gs []) bytes_given then.works));
         sound = subst (λ now. ImageInvariant view backing (pending_in view backing c now) c now) end then.sound;
         shows = shows_then (guest_of va) (guest_of vb) (guest_of (abstract_of view backing c (slice_set out k (Some r)))) k ma mb mc first.shows
             (subst (λ now. ShowsPart (guest_of vb) (guest_of (abstract_of view backing c now)) k mb mc) end then.shows);
@@ -132,12 +132,12 @@ module _ {S F : Type 0} (view : S → StorageView) (backing : F → BackingView)
 -- ---- one share is entered
 
 -- a table with a pin is held
-slot_held : {V : Type 0} (x : Option (Slot V)) → 0 < option_map_or (λ (s : Slot V). s.pins) x 0 → IsSome (option_map (λ (s : Slot V). s.value) x)
-slot_held None some = absurd (omega arith)
-slot_held (Some s) some = refl
+slot_new_data : {V : Type 0} (x : Option (Slot V)) → 0 < option_map_or (λ (s : Slot V). s.pins) x 0 → IsSome (option_map (λ (s : Slot V). s.value) x)
+slot_new_data None some = absurd (omega arith)
+slot_new_data (Some s) some = refl
 
-pub pinned_held : {S : Type 0} (caches : MetadataCaches S) (t : ℕ) → 0 < l2_pins caches t → IsSome (l2_at caches t)
-pinned_held caches t some = slot_held (lookup (λ k. t == k) caches.l2.entries) some
+pub pinned_new_data : {S : Type 0} (caches : MetadataCaches S) (t : ℕ) → 0 < l2_pins caches t → IsSome (l2_at caches t)
+pinned_new_data caches t some = slot_new_data (lookup (λ k. t == k) caches.l2.entries) some
 
 -- the cluster of a share that is entered
 pub record HasFirst (h : HeaderFields) (p : Prepared) (i : ℕ) : Type 0 where
@@ -148,7 +148,7 @@ pub record HasFirst (h : HeaderFields) (p : Prepared) (i : ℕ) : Type 0 where
 first_as : (h : HeaderFields) (known on_storage : Bytes) (p : Prepared) (i : ℕ) (share : Share) → IsTrue (is_entered share) → IsShareAt h known on_storage p i share → HasFirst h p i
 first_as h known on_storage p i InPlace entered at = absurd (let e : false ≡ true = entered in cc)
 first_as h known on_storage p i Kept entered at = record { first = at.first; place = at.place; nameable = at.nameable }
-first_as h known on_storage p i (New taken dropped) entered at = record { first = at.first; place = at.place; nameable = at.nameable }
+first_as h known on_storage p i (New taken old_data) entered at = record { first = at.first; place = at.place; nameable = at.nameable }
 
 module _ {S F : Type 0} (view : S → StorageView) (backing : F → BackingView) (old new : Qcow2 S F) (i : ℕ) (p q : Prepared) (enters : EntersShare i p q old new) (out : List (Option Prepared)) (k : ℕ) (placed : slice_get out k ≡ Some (Some p)) (t : ℕ) (is_table : p.table ≡ Some t)
     (sound : ImageInvariant view backing (pending_in view backing old out) old out) where
@@ -165,7 +165,7 @@ module _ {S F : Type 0} (view : S → StorageView) (backing : F → BackingView)
   its = first_as h (known_in view old.file) (contents_in view old.file) p i enters.share enters.entered stands
 
   found : IsSome (l2_at old.file.caches t)
-  found = pinned_held old.file.caches t (
+  found = pinned_new_data old.file.caches t (
       let all = over_all_at pins_by out k p placed t in
       let mine = pins_own p t is_table in
       let pins = sound.pinned t in
@@ -198,7 +198,7 @@ module _ {S F : Type 0} (view : S → StorageView) (backing : F → BackingView)
 
   pub entered_part : CommitsPart view backing old new out k p q
   entered_part = enters_part view backing old p q t i enters.share is_table enters.was enters.entered enters.shares enters.mid.file.caches enters.enters.marks enters.enters.order made.0 out k placed sound its.first its.place its.nameable found made.1 stands q enters.mapping new
-      (enters.lists ∙ ap (λ (m : Qcow2 S F). record m { file = record m.file { free_list = m.file.free_list ++ dropped_by enters.share } }) enters.enters.rest)
+      (enters.lists ∙ ap (λ (m : Qcow2 S F). record m { file = record m.file { free_list = m.file.free_list ++ old_data_by enters.share } }) enters.enters.rest)
 
   -- a change is noted
   pub entered_noted : IsTrue new.file.caches.is_changed
@@ -279,7 +279,7 @@ module _ {S F : Type 0} (view : S → StorageView) (backing : F → BackingView)
           let there : Some share ≡ Some InPlace =
           sym at ∙ ap (λ (l : List Share). slice_get l i) enters.shares ∙ ap (slice_get (slice_set q.shares.items n InPlace)) here ∙ get_set_same q.shares.items n InPlace enters.share enters.was in
           let is : share ≡ InPlace = cc in
-          ap dropped_by is
+          ap old_data_by is
       | inr other ↦ none i share (sym (ap (λ (l : List Share). slice_get l i) enters.shares ∙ get_set_other q.shares.items n i InPlace other) ∙ at)
     ]
 
@@ -311,7 +311,7 @@ module _ {S F : Type 0} (view : S → StorageView) (backing : F → BackingView)
           below = ap (λ (m : Qcow2 S F). m.backing) enters.lists ∙ ap (λ (m : Qcow2 S F). m.backing) enters.enters.rest ∙ first.below;
           quiet = λ none.
               let before = first.quiet none in
-              let last : new.file.free_list ≡ enters.mid.file.free_list ++ dropped_by enters.share = ap (λ (m : Qcow2 S F). m.file.free_list) enters.lists in
+              let last : new.file.free_list ≡ enters.mid.file.free_list ++ old_data_by enters.share = ap (λ (m : Qcow2 S F). m.file.free_list) enters.lists in
               let rest : enters.mid.file.free_list ≡ now.file.free_list = ap (λ (m : Qcow2 S F). m.file.free_list) enters.enters.rest in (
                 λ i share at. left_of q r n enters before.0 i share at,
                 last ∙ ap (λ l. enters.mid.file.free_list ++ l) (before.0 n enters.share enters.was) ∙ append-nil enters.mid.file.free_list ∙ rest ∙ before.1,

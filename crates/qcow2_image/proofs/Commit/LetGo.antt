@@ -7,18 +7,18 @@ use Rattle.image_access.specs.Backing.{BackingView}
 use Rattle.image_access.specs.Moments.{StorageView}
 use Rattle.qcow2_metadata.specs.Bytes.{Bytes}
 use Rattle.qcow2_metadata.specs.declared.header.HeaderFields.{HeaderFields}
-use Rattle.qcow2_laws.specs.Changes.{held_to_dropped}
+use Rattle.qcow2_laws.specs.Changes.{new_data_to_old_data}
 use Rattle.qcow2_disk.specs.Disk.{disk}
 use Rattle.qcow2_laws.specs.CrashInvariant.{Pending, CrashInvariant}
 use Rattle.qcow2_laws.specs.SafeSteps.{DriverState, SafeStep}
-use Rattle.qcow2_laws.specs.Caches.{AreSettled}
+use Rattle.qcow2_laws.specs.Caches.{AreNamedBlocks}
 use Rattle.qcow2_disk.specs.AbstractImages.{guest_of}
 use Rattle.qcow2_disk.specs.Calls.{with_slot}
 use Rattle.qcow2_laws.proofs.SafeSteps.{pending_endures}
 use Rattle.qcow2_laws.proofs.Steps.{pending_is_changed}
 use Rattle.qcow2_metadata.specs.Tables.{CachedTable}
 use Rattle.qcow2_alloc.specs.Allocation.{run_at}
-use Rattle.qcow2_alloc.specs.CacheMarks.{l2_pins, SameTables}
+use Rattle.qcow2_alloc.specs.CachePins.{l2_pins, SameTables}
 use Rattle.qcow2_alloc.specs.declared.cache.MetadataCaches.{MetadataCaches}
 use Rattle.qcow2_alloc.specs.MetadataCaches.{order_of, known_of, CacheInvariant}
 use Rattle.qcow2_alloc.specs.ImageFile.{state_in, view_in, contents_in, known_in, nothing_given}
@@ -28,7 +28,7 @@ use Rattle.qcow2_image.specs.declared.prepared.Prepared.{Prepared}
 use Rattle.qcow2_image.specs.declared.prepared.Share.{Share}
 use Rattle.qcow2_image.specs.Calls.{Discards}
 use Rattle.qcow2_image.specs.UnseenSteps.{freed_by}
-use Rattle.qcow2_image.specs.ImageInvariant.{of_data, of_tables, held_by, pins_by, pending_in, abstract_of, meaning, backing_bytes, IsReadyWith, ImageInvariant}
+use Rattle.qcow2_image.specs.ImageInvariant.{of_data, of_tables, new_data_by, pins_by, pending_in, abstract_of, meaning, backing_bytes, IsReadyWith, ImageInvariant}
 use Rattle.qcow2_image.proofs.Call.Answered.{same_guest}
 use Rattle.qcow2_image.proofs.Shares.{IsOfData, freed_data, freed_tables, of_data_at, over_all_at, ready_table}
 use Rattle.qcow2_image.proofs.Sound.{free_more}
@@ -65,21 +65,21 @@ module _ {S F : Type 0} (view : S → StorageView) (backing : F → BackingView)
 
   module _ (out : List (Option Prepared)) (k : ℕ) (at : slice_get out k ≡ Some (Some p)) where
     abbrev after : Pending
-    after = held_to_dropped (pending_in view backing old out) (held_by p)
+    after = new_data_to_old_data (pending_in view backing old out) (new_data_by p)
 
     module _ (sound : ImageInvariant view backing (pending_in view backing old out) old out) where
       abbrev before : DriverState
       before = state_in view old.file (pending_in view backing old out)
 
       -- it holds each cluster at most once
-      held_few : (c : ℕ) → held_by p c ≤ 1
-      held_few c = elim (cases_lt 0 (held_by p c)) [
+      new_data_few : (c : ℕ) → new_data_by p c ≤ 1
+      new_data_few c = elim (cases_lt 0 (new_data_by p c)) [
         | inr none ↦ omega arith
         | inl some ↦
-            let all = over_all_at held_by out k p at c in
-            let always = sound.file.caches.kept.kept.guarded.always c in
-            let tally = always.tally in
-            let few = always.pending (omega arith) in
+            let all = over_all_at new_data_by out k p at c in
+            let each_cluster = sound.file.caches.kept.kept.guarded.each_cluster c in
+            let tally = each_cluster.tally in
+            let few = each_cluster.pending (omega arith) in
             omega arith
       ]
 
@@ -88,7 +88,7 @@ module _ {S F : Type 0} (view : S → StorageView) (backing : F → BackingView)
 
       let_go_leads : SafeStep before (state_in view left.file after) nothing_given []
       let_go_leads = subst (λ s. SafeStep before s nothing_given []) (sym same_stand)
-          (pending_is_changed.dropped before (held_by p) sound.file.caches.kept.kept.guarded held_few (λ c some. let all = over_all_at held_by out k p at c in omega arith))
+          (pending_is_changed.old_data before (new_data_by p) sound.file.caches.kept.kept.guarded new_data_few (λ c some. let all = over_all_at new_data_by out k p at c in omega arith))
 
       as_data : (i : ℕ) (share : Share) → slice_get p.shares.items i ≡ Some share → IsOfData share
       as_data i share is =
@@ -101,7 +101,7 @@ module _ {S F : Type 0} (view : S → StorageView) (backing : F → BackingView)
         file = record {
           honest = sound.file.honest;
           caches = sound_while h (pending_in view backing old out) after caches (contents_in view old.file) let_go_leads.sound (tables.sound h (pending_in view backing old out) (contents_in view old.file) sound.file.caches);
-          settled = subst (λ (ts : List CachedTable). AreSettled h ts (contents_in view old.file)) (sym tables.refblocks) sound.file.settled;
+          settled = subst (λ (ts : List CachedTable). AreNamedBlocks h ts (contents_in view old.file)) (sym tables.refblocks) sound.file.settled;
           room = tables.room sound.file.room;
         };
         l1_table = record { cluster = sound.l1_table.cluster; bits = sound.l1_table.bits; count = sound.l1_table.count; entries = sound.l1_table.entries };
@@ -116,10 +116,10 @@ module _ {S F : Type 0} (view : S → StorageView) (backing : F → BackingView)
       let_go_steps = record {
         sound = let_go_sound;
         only = record {
-          held = λ c. let all = over_all_left held_by out k p at c in omega arith;
-          fresh = λ c. refl;
-          spent = λ c. let more = free_more of_tables old.file.free_list (freed_by p.shares.items) c in let none = freed_tables p.shares.items as_data c in omega arith;
-          dropped = λ c. let more = free_more of_data old.file.free_list (freed_by p.shares.items) c in let one = freed_data p.shares.items c in omega arith;
+          new_data = λ c. let all = over_all_left new_data_by out k p at c in omega arith;
+          new_tables = λ c. refl;
+          old_tables = λ c. let more = free_more of_tables old.file.free_list (freed_by p.shares.items) c in let none = freed_tables p.shares.items as_data c in omega arith;
+          old_data = λ c. let more = free_more of_data old.file.free_list (freed_by p.shares.items) c in let one = freed_data p.shares.items c in omega arith;
         };
         leads = let_go_leads;
         since = pending_endures (view_in view old.file) before (state_in view left.file after) refl let_go_leads;

@@ -5,7 +5,7 @@ use Rattle.image_access.specs.Backing.{BackingView}
 use Rattle.image_access.specs.Moments.{StorageView}
 use Rattle.image_access.specs.declared.storage.PreallocateMode.{PreallocateMode}
 use Rattle.image_access.specs.declared.storage.PreallocateMode.TheVariants as Mode
-use Rattle.image_access.proofs.Passing.{passes_on, passes_if}
+use Rattle.image_access.proofs.EachMomentSince.{passes_on, passes_if}
 use Rattle.qcow2_metadata.specs.Bytes.{Bytes, byte_at}
 use Rattle.qcow2_metadata.specs.Consistent.{IsConsistent}
 use Rattle.qcow2_metadata.specs.declared.header.HeaderFields.{HeaderFields}

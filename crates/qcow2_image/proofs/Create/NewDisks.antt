@@ -12,12 +12,12 @@ use Rattle.qcow2_metadata.specs.declared.header.HeaderFields.{HeaderFields}
 use Rattle.qcow2_metadata.specs.declared.l2_mapping.L2Mapping.{L2Mapping}
 use Rattle.qcow2_metadata.specs.declared.l2_mapping.L2Mapping.TheVariants.{Data, Zero, Compressed, Uncovered}
 use Rattle.qcow2_metadata.specs.Header.{header, cluster_size, rounded_up}
-use Rattle.qcow2_disk.specs.Calls.{gift_of_grow, shows_old, to_kept_zero}
+use Rattle.qcow2_disk.specs.Calls.{given_by_grow, shows_old, to_kept_zero}
 use Rattle.qcow2_disk.specs.ClearedCovers.{cleared_cover}
 use Rattle.qcow2_disk.specs.Disk.{Disk, disk, disk_with, zeroed_between}
 use Rattle.qcow2_disk.specs.AbstractImages.{Setting}
 use Rattle.qcow2_disk.specs.GrownCovers.{FilledCovers, Touches, first_zeros}
-use Rattle.qcow2_disk.specs.Mappings.{gift_shown, is_copied_data}
+use Rattle.qcow2_disk.specs.Mappings.{given_shown, is_copied_data}
 use Rattle.qcow2_disk.specs.Stops.{GivenBytes, IsGiven, Checkpoint, checkpoint_at, checkpoint_with, StopOkEverywhere}
 use Rattle.qcow2_disk.proofs.Stops.{given_split}
 use Rattle.qcow2_image.specs.Created.{IsCoverOf, IsNewDisk, IsPreallocated, IsUnwritten, ShowsZeros}
@@ -124,11 +124,11 @@ pub preallocated_none : (mode : PreallocateMode) (b : Bytes) → ((g : ℕ) → 
 preallocated_none mode b none = record { inside = λ g lt. absurd (omega (arith, lt)); behind = λ g le. none g }
 
 -- ---- calls that give zeros alone
-pub grow_gives_zeros : (x : Setting) (d : Disk) (size : ℕ) (mode : PreallocateMode) (o : ℕ) (v : Value) → IsGiven (gift_of_grow x d size mode) o v → v ≡ known_byte 0
+pub grow_gives_zeros : (x : Setting) (d : Disk) (size : ℕ) (mode : PreallocateMode) (o : ℕ) (v : Value) → IsGiven (given_by_grow x d size mode) o v → v ≡ known_byte 0
 grow_gives_zeros x d size mode o v given = by_test (nat_le size d.size || shows_old mode) given where
-  by_test : (b : Bool) → IsGiven (if b then [] else gift_shown (zeroed_between d d.size (rounded_up x.cluster_size size)) d.size (rounded_up x.cluster_size size) ∷ []) o v → v ≡ known_byte 0
+  by_test : (b : Bool) → IsGiven (if b then [] else given_shown (zeroed_between d d.size (rounded_up x.cluster_size size)) d.size (rounded_up x.cluster_size size) ∷ []) o v → v ≡ known_byte 0
   by_test true none = absurd none
-  by_test false some = ⊎_elim (λ gift. gift.2) (λ no. absurd no) (shown_zeros d d.size (rounded_up x.cluster_size size) o v some)
+  by_test false some = ⊎_elim (λ bytes_given. bytes_given.2) (λ no. absurd no) (shown_zeros d d.size (rounded_up x.cluster_size size) o v some)
 
 abbrev pub kept_since : (size : ℕ) (backing old : Bytes) → List GivenBytes → Checkpoint
 kept_since size backing old given = checkpoint_with given (size ∷ []) (checkpoint_at (disk old backing))
@@ -145,7 +145,7 @@ module _ (size : ℕ) (backing : Bytes) (alone : backing ≡ (λ i. 0)) (old : B
     zeros = subst (λ (b : Bytes). (o : ℕ) → (disk c b).value o ≡ known_byte 0) alone (λ o.
         ⊎_elim
         (λ same. same ∙ unwritten.shows_below backing o ∙ ap (λ (b : Bytes). known_byte (b o)) alone)
-        (λ more. ⊎_elim (λ gift. zeros o _ gift) (λ no. absurd no) (given_split given [] o _ more)) (kept.values o));
+        (λ more. ⊎_elim (λ bytes_given. zeros o _ bytes_given) (λ no. absurd no) (given_split given [] o _ more)) (kept.values o));
   }
 
   pub kept_either : (c : Bytes) → StopOkEverywhere backing (kept_since size backing old given) c → ShowsZeros 0 c ⊎ ShowsZeros size c

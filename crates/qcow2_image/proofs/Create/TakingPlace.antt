@@ -7,14 +7,14 @@ use Rattle.image_access.specs.Backing.{BackingView}
 use Rattle.image_access.specs.Moments.{StorageView}
 use Rattle.image_access.specs.declared.storage.PreallocateMode.{PreallocateMode}
 use Rattle.image_access.specs.declared.storage.PreallocateMode.TheVariants as Mode
-use Rattle.image_access.proofs.Passing.{passes_if, passes_on}
+use Rattle.image_access.proofs.EachMomentSince.{passes_if, passes_on}
 use Rattle.qcow2_metadata.specs.Bytes.{Bytes, byte_at}
 use Rattle.qcow2_metadata.specs.Cover.{cover}
 use Rattle.qcow2_metadata.specs.Header.{header, cluster_size, rounded_up}
 use Rattle.qcow2_metadata.specs.declared.header.HeaderFields.{HeaderFields}
 use Rattle.qcow2_metadata.specs.declared.l2_mapping.L2Mapping.TheVariants.{Uncovered}
 use Rattle.qcow2_disk.specs.AbstractImages.{IsOpened}
-use Rattle.qcow2_disk.specs.Calls.{Stops, Works, shows_old}
+use Rattle.qcow2_disk.specs.Calls.{Stops, EffectOnSound, shows_old}
 use Rattle.qcow2_disk.specs.Disk.{disk}
 use Rattle.qcow2_disk.specs.GrownCovers.{FilledCovers, first_zeros}
 use Rattle.qcow2_disk.specs.Stops.{Checkpoint, GivenBytes, StopOkEverywhere, checkpoint_at}
@@ -33,7 +33,7 @@ use Rattle.qcow2_image.specs.Image.{is_writable, size_of}
 use Rattle.qcow2_image.specs.ImageInvariant.{ImageInvariant, abstract_of, backing_bytes, disk_of}
 use Rattle.qcow2_image.specs.MovedTables.{CoversStay}
 use Rattle.qcow2_image.specs.Refusals.{refuse_if}
-use Rattle.qcow2_image.specs.Resizing.{LeavesTables, gifts_of_grow, refuses_to_resize}
+use Rattle.qcow2_image.specs.Resizing.{LeavesTables, all_given_by_grow, refuses_to_resize}
 use Rattle.qcow2_image.proofs.Create.Creating.{enlarged, format_stored, growing_stops}
 use Rattle.qcow2_image.proofs.Create.NewDisks.{grow_gives_zeros, kept_either, kept_since, kept_zeros, preallocated_none, preallocated_so, starts_unwritten, unwritten_uncovered, zeros_new}
 use Rattle.qcow2_image.proofs.Flush.Freeing.{all_listed, beside}
@@ -73,22 +73,22 @@ module _ {S F : Type 0} (view : S → StorageView) (backing : F → BackingView)
 
   -- ---- place is taken
   module _ (mode : PreallocateMode) (hides : shows_old mode ≡ false) where
-    abbrev gifts : List GivenBytes
-    gifts = gifts_of_grow view backing old size mode
+    abbrev given_bytes : List GivenBytes
+    given_bytes = all_given_by_grow view backing old size mode
 
     abbrev so_far : Checkpoint
-    so_far = kept_since size below before gifts
+    so_far = kept_since size below before given_bytes
 
     keeps_zeros : (c : Bytes) → StopOkEverywhere below so_far c → (n : ℕ) → (header c).size ≡ n → ShowsZeros n c
-    keeps_zeros = kept_zeros size below (none_below backing view old.backing alone) before unwritten gifts (grow_gives_zeros (setting_of view backing old) (disk_of view backing old) size mode)
+    keeps_zeros = kept_zeros size below (none_below backing view old.backing alone) before unwritten given_bytes (grow_gives_zeros (setting_of view backing old) (disk_of view backing old) size mode)
 
     keeps_either : (c : Bytes) → StopOkEverywhere below so_far c → IsStopOfCreating mode size c
     keeps_either c kept =
         ⊎_elim (λ none. inr (inl (zeros_new mode 0 c hides none))) (λ some. inr (inr (zeros_new mode size c hides some)))
-        (kept_either size below (none_below backing view old.backing alone) before unwritten gifts (grow_gives_zeros (setting_of view backing old) (disk_of view backing old) size mode) c kept)
+        (kept_either size below (none_below backing view old.backing alone) before unwritten given_bytes (grow_gives_zeros (setting_of view backing old) (disk_of view backing old) size mode) c kept)
 
-    module _ (works : Works (abstract_of view backing old []) (abstract_of view backing mid []) gifts (size ∷ [])) where
-      stops : Stops (abstract_of view backing old []) (abstract_of view backing mid []) gifts (size ∷ []) (checkpoint_at (disk before below))
+    module _ (works : EffectOnSound (abstract_of view backing old []) (abstract_of view backing mid []) given_bytes (size ∷ [])) where
+      stops : Stops (abstract_of view backing old []) (abstract_of view backing mid []) given_bytes (size ∷ []) (checkpoint_at (disk before below))
       stops = works.stops (checkpoint_at (disk before below)) (starts_unwritten below before unwritten, subst (StopOkEverywhere below (checkpoint_at (disk before below))) (sym opened.clean) (starts_unwritten below before unwritten))
 
       taking_stops : StopsCreating mode size (view_in view old.file) (view_in view mid.file)

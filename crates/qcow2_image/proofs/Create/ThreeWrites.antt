@@ -2,10 +2,10 @@
 use Rattle.std.proofs.Common.{◌≡◌, inl, inr, ℕ, ◌*◌, ◌/◌, ◌^◌, ◌≤◌, List, [], Option, Result, Ok, Err, sym, ap, ◌∙◌, subst, arith}
 use Rattle.std.specs.Prelude.{IfSome, OnOk}
 use Rattle.image_access.specs.Contents.{overwritten}
-use Rattle.image_access.specs.Moments.{StorageView, Passing, Changes, Calls}
+use Rattle.image_access.specs.Moments.{StorageView, EachMomentSince, Changes, Calls}
 use Rattle.image_access.specs.declared.storage.PreallocateMode.TheVariants as Mode
 use Rattle.image_access.specs.declared.error.StorageError.{StorageError}
-use Rattle.image_access.proofs.Passing.{passes_none, passes_on, passes_if, passes_change}
+use Rattle.image_access.proofs.EachMomentSince.{passes_none, passes_on, passes_if, passes_change}
 use Rattle.qcow2_metadata.specs.Bytes.{Bytes, byte_at}
 use Rattle.qcow2_metadata.specs.declared.header.HeaderFields.{HeaderFields}
 use Rattle.qcow2_metadata.specs.Header.{HeaderView, header, cluster_size, entries_per_cluster}
@@ -134,7 +134,7 @@ module _ {S : Type 0} (view : S → StorageView) (v : HeaderView) (new : IsNewHe
 pub stops_then : (n : ℕ) (old mid new : StorageView) → StaysCreating Mode.None n old mid → StaysCreating Mode.None n mid new → StaysCreating Mode.None n old new
 stops_then n old mid new first then = record { honest = then.honest; moments = passes_on (λ c. IsStopOfCreating Mode.None n (byte_at c)) first.moments then.moments (λ c is. is) }
 
-pub stops_cleared : (n : ℕ) (old new : StorageView) → new.is_honest → Passing old new (λ c. c ≡ []) → StaysCreating Mode.None n old new
+pub stops_cleared : (n : ℕ) (old new : StorageView) → new.is_honest → EachMomentSince old new (λ c. c ≡ []) → StaysCreating Mode.None n old new
 stops_cleared n old new honest time = record { honest = honest; moments = passes_if (λ c. IsStopOfCreating Mode.None n (byte_at c)) (λ c none. inl (no_image c (λ i lt. ap (λ (l : List ℕ). byte_at l i) none))) time }
 
 pub writes_then : (h : HeaderFields) (old mid new : StorageView) (r : Result (Unit {0}) ImageError) → StaysCreating Mode.None 0 old mid → WritesThree h mid new r → WritesThree h old new r

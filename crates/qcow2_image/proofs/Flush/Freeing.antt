@@ -4,7 +4,7 @@ use Rattle.std.specs.Prelude.{Result, Ok, Err, IfOk, IfErr, IsTrue}
 use Rattle.image_access.specs.Backing.{BackingView}
 use Rattle.image_access.specs.Moments.{StorageView}
 use Rattle.qcow2_laws.specs.CrashInvariant.{Pending}
-use Rattle.qcow2_disk.specs.Calls.{Does, IsRefusalByFault, IsSame}
+use Rattle.qcow2_disk.specs.Calls.{AnsweredEffect, IsRefusalByFault, IsSame}
 use Rattle.qcow2_laws.specs.SafeSteps.{SafeStep}
 use Rattle.qcow2_disk.specs.AbstractImages.{stored_bytes}
 use Rattle.qcow2_laws.proofs.Formats.{format_same, format_then}
@@ -15,7 +15,7 @@ use Rattle.qcow2_alloc.specs.declared.error.ImageError.{ImageError}
 use Rattle.qcow2_alloc.specs.declared.image_file.ImageFile.{ImageFile}
 use Rattle.qcow2_alloc.specs.Allocation.{Frees}
 use Rattle.qcow2_alloc.specs.ImageError.{IsFault as FaultOfTables}
-use Rattle.qcow2_alloc.specs.CacheMarks.{l2_pins}
+use Rattle.qcow2_alloc.specs.CachePins.{l2_pins}
 use Rattle.qcow2_alloc.specs.FreeList.{with_listed}
 use Rattle.qcow2_alloc.specs.ImageFile.{state_in, view_in, contents_in, known_in, nothing_given}
 use Rattle.qcow2_alloc.specs.declared.error.ImageError.TheVariants as I
@@ -37,12 +37,12 @@ use Rattle.qcow2_image.proofs.Call.Refused.{broke_off, marks_fault, refuses_left
 use Rattle.qcow2_image.proofs.Call.Settled.{settled_does}
 
 module _ {S F : Type 0} (view : S → StorageView) (backing : F → BackingView) (out : List (Option Prepared)) where
-  pub tidies_then : (a b c : Qcow2 S F) (p q r : Pending) → ((k : ℕ) → 0 < p.held k → 0 < q.held k) → UnseenFreeingStep view backing p q a b out → UnseenFreeingStep view backing q r b c out → UnseenFreeingStep view backing p r a c out
-  tidies_then a b c p q r held first then = record {
+  pub tidies_then : (a b c : Qcow2 S F) (p q r : Pending) → ((k : ℕ) → 0 < p.new_data k → 0 < q.new_data k) → UnseenFreeingStep view backing p q a b out → UnseenFreeingStep view backing q r b c out → UnseenFreeingStep view backing p r a c out
+  tidies_then a b c p q r new_data first then = record {
     sound = then.sound;
     leads = leads_then (state_in view a.file p) (state_in view b.file q) (state_in view c.file r) nothing_given nothing_given [] [] first.leads then.leads;
     since = steps_endure (view_in view a.file) (view_in view b.file) (view_in view c.file) (state_in view a.file p) (state_in view b.file q) nothing_given nothing_given [] [] refl first.since first.leads then.since;
-    unseen = unseen_then (state_in view a.file p) (state_in view b.file q) (state_in view c.file r) first.unseen then.unseen held;
+    unseen = unseen_then (state_in view a.file p) (state_in view b.file q) (state_in view c.file r) first.unseen then.unseen new_data;
     copied = copied_then view backing out a b c p q r first.unseen.header first.copied then.copied;
     below = then.below ∙ first.below;
   }
@@ -101,7 +101,7 @@ module _ {S F : Type 0} (view : S → StorageView) (backing : F → BackingView)
 module _ {S F : Type 0} (view : S → StorageView) (backing : F → BackingView) (old : Qcow2 S F) (out : List (Option Prepared)) where
   -- what is pending beside the list
   abbrev pub beside : Pending
-  beside = record (pending_in view backing old out) { spent = λ k. 0; dropped = λ k. 0 }
+  beside = record (pending_in view backing old out) { old_tables = λ k. 0; old_data = λ k. 0 }
 
   pub all_listed : pending_in view backing old out ≡ with_listed beside old.file.free_list
   all_listed = pending_same (pending_in view backing old out) (with_listed beside old.file.free_list) (λ k. refl) (λ k. refl) (λ k. sym (omega arith)) (λ k. sym (omega arith)) (λ k. refl)
@@ -111,7 +111,7 @@ module _ {S F : Type 0} (view : S → StorageView) (backing : F → BackingView)
     tidy_stays =
         stays_stepped view backing out old new (with_listed beside new.file.free_list) (record {
           sound = tidies.sound;
-          only = record { held = λ k. refl; fresh = λ k. refl; spent = λ k. omega arith; dropped = λ k. omega arith };
+          only = record { new_data = λ k. refl; new_tables = λ k. refl; old_tables = λ k. omega arith; old_data = λ k. omega arith };
           leads = subst (λ (p : Pending). SafeStep (state_in view old.file p) (state_in view new.file (with_listed beside new.file.free_list)) nothing_given []) (sym all_listed) tidies.leads;
           since = tidies.since;
           header = tidies.unseen.header;
@@ -131,7 +131,7 @@ module _ {S F : Type 0} (view : S → StorageView) (backing : F → BackingView)
       → IfOk r (λ done. known_in view new.file ≡ contents_in view new.file) → FlushesImage view backing old (record new { is_failed = marked }) r
   flushes_settled (Ok done) marks memory frees written = λ out.
       let stays : ImageInvariant view backing (pending_in view backing old out) old out → UnseenCall view backing old new out = λ sound. tidy_stays view backing old out new sound (frees out sound) in
-      subst (λ (f : Bool). let v = abstract_of view backing old out in let w = abstract_of view backing (record new { is_failed = f }) out in Does v w [] [] ((w.known ≡ stored_bytes w) × IsSame v w)) (sym marks)
+      subst (λ (f : Bool). let v = abstract_of view backing old out in let w = abstract_of view backing (record new { is_failed = f }) out in AnsweredEffect v w [] [] ((w.known ≡ stored_bytes w) × IsSame v w)) (sym marks)
       (settled_does view backing old new out out [] (λ sound. (stays sound).works) (λ sound. (stays sound).sound) number usable (λ sound. (written, (stays sound).same)))
   flushes_settled (Err e) marks memory frees written = λ out. refuses_left view backing out old usable new marked number e marks memory (λ sound. freed_refused view backing old out new e sound (frees out sound))
 

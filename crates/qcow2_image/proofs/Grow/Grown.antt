@@ -105,10 +105,10 @@ module _ {S F : Type 0} (view : S → StorageView) (backing : F → BackingView)
 
     nothing_else : ListGrows mid big → IsOnly view backing big [] (pending_with_listed p mid big)
     nothing_else grows = record {
-      held = λ k. refl;
-      fresh = λ k. refl;
-      spent = λ k. let more = ap (λ l. to_free of_tables l k) grows.is ∙ free_more of_tables mid.file.free_list grows.more k in let e = ap (λ l. to_free of_tables l k) same in omega (arith, more, e);
-      dropped = λ k. let more = ap (λ l. to_free of_data l k) grows.is ∙ free_more of_data mid.file.free_list grows.more k in let e = ap (λ l. to_free of_data l k) same in omega (arith, more, e);
+      new_data = λ k. refl;
+      new_tables = λ k. refl;
+      old_tables = λ k. let more = ap (λ l. to_free of_tables l k) grows.is ∙ free_more of_tables mid.file.free_list grows.more k in let e = ap (λ l. to_free of_tables l k) same in omega (arith, more, e);
+      old_data = λ k. let more = ap (λ l. to_free of_data l k) grows.is ∙ free_more of_data mid.file.free_list grows.more k in let e = ap (λ l. to_free of_data l k) same in omega (arith, more, e);
     }
 
     grown : (r : Result (Unit {0}) ImageError) (failed : Bool) → Resizes view backing p mid big size r → OnOk r (ListGrows mid big) → OnOk r (ReachesSize big.file.header.fields) → MayMarkBy r (is_failed big) failed

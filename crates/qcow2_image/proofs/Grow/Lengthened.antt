@@ -10,7 +10,7 @@ use Rattle.qcow2_metadata.specs.Header.{HeaderView, cluster_size}
 use Rattle.qcow2_metadata.specs.EntryTable.{EntryTableView, entry_count}
 use Rattle.qcow2_metadata.specs.Named.{in_run, named_by_cover}
 use Rattle.qcow2_metadata.specs.TableBytes.{entry_at}
-use Rattle.qcow2_laws.specs.Changes.{fresh_to_spent}
+use Rattle.qcow2_laws.specs.Changes.{new_tables_to_old_tables}
 use Rattle.qcow2_laws.specs.CrashInvariant.{Pending}
 use Rattle.qcow2_laws.specs.Guests.{over_guests, names}
 use Rattle.qcow2_laws.specs.SafeSteps.{SafeStep}
@@ -21,7 +21,7 @@ use Rattle.qcow2_laws.proofs.SafeSteps.{leads_none, leads_then, steps_endure}
 use Rattle.qcow2_laws.proofs.Steps.{pending_is_changed}
 use Rattle.qcow2_laws.proofs.Unseen.{unseen_disk}
 use Rattle.qcow2_alloc.specs.Allocation.{run_at, taken_as, UnseenAllocatorGrowth, RefusedGrowth}
-use Rattle.qcow2_alloc.specs.CacheMarks.{KeepsMarks}
+use Rattle.qcow2_alloc.specs.CachePins.{KeepsPinsAndNotes}
 use Rattle.qcow2_alloc.specs.declared.allocation.Allocator.{Allocator}
 use Rattle.qcow2_alloc.specs.declared.clusters_to_free.ClusterKind.{ClusterKind}
 use Rattle.qcow2_alloc.specs.declared.clusters_to_free.ClusterKind.TheVariants as Kind
@@ -59,14 +59,14 @@ run_few first n k = elim (nat_le first k && nat_lt k (first + n)) as (λ (b : Bo
 
 module _ {S F : Type 0} (view : S → StorageView) (backing : F → BackingView) (out : List (Option Prepared)) where
   -- ---- one part after another
-  module _ (p q : Pending) (a b : Qcow2 S F) (held : (k : ℕ) → 0 < p.held k → 0 < q.held k) (keeps : UnseenStep view backing p q a b out) where
+  module _ (p q : Pending) (a b : Qcow2 S F) (new_data : (k : ℕ) → 0 < p.new_data k → 0 < q.new_data k) (keeps : UnseenStep view backing p q a b out) where
     used_stay : (c : ℕ) → 0 < used_by_guests (state_in view a.file p) c → 0 < used_by_guests (state_in view b.file q) c
     used_stay c some =
         let h = a.file.header.fields in
         let same : over_guests h (names h (known_in view a.file) c) ≡ over_guests h (names h (known_in view b.file) c) =
         over_guests-same h (names h (known_in view a.file) c) (names h (known_in view b.file) c) (λ g. ap (named_by_cover h c) (keeps.unseen.covers g)) in
         let is = guests_format h b.file.header.fields keeps.unseen.header (known_in view b.file) c in
-        let still = held c in
+        let still = new_data c in
         grind arith
 
     pub moves_kept : ImageInvariant view backing p a out → UnseenMove view backing p q a b out
@@ -127,7 +127,7 @@ module _ {S F : Type 0} (view : S → StorageView) (backing : F → BackingView)
 
   -- ---- clusters that were taken for a table aren't used
   abbrev pub run_given_up : Pending → EntryTableView → ℕ → Pending
-  run_given_up p t cluster = record p { spent = λ k. p.spent k + run_at cluster (clusters_of t) k }
+  run_given_up p t cluster = record p { old_tables = λ k. p.old_tables k + run_at cluster (clusters_of t) k }
 
   abandoned_run : (p : Pending) (t : EntryTableView) (cluster : ℕ) (image : Qcow2 S F) (list more : List ClustersToFreeEntry) → ImageInvariant view backing (with_table p t cluster) image out → (is : list ≡ image.file.free_list ++ more)
       → UnseenStep view backing (with_table p t cluster) (run_given_up p t cluster) image (record image { file = record image.file { free_list = list } }) out
@@ -137,7 +137,7 @@ module _ {S F : Type 0} (view : S → StorageView) (backing : F → BackingView)
       let n = run_at cluster (clusters_of t) in
       let first = pending_is_changed.abandoned s n sound.file.caches.kept.kept.guarded (run_few cluster (clusters_of t)) (λ k some. omega (arith, some)) in
       keeps_listed view backing out q (run_given_up p t cluster) image list more sound is
-      (subst (λ (r : Pending). SafeStep s (state_in view image.file r) nothing_given []) (pending_same (fresh_to_spent q n) (run_given_up p t cluster) (λ k. refl) (λ k. omega arith) (λ k. refl) (λ k. refl) (λ k. refl)) first)
+      (subst (λ (r : Pending). SafeStep s (state_in view image.file r) nothing_given []) (pending_same (new_tables_to_old_tables q n) (run_given_up p t cluster) (λ k. refl) (λ k. omega arith) (λ k. refl) (λ k. refl) (λ k. refl)) first)
 
   -- they come to the list of those to be freed, behind what was listed since
   freed_run : (p : Pending) (t : EntryTableView) (cluster : ℕ) (old mid new : Qcow2 S F) (e : ClustersToFreeEntry) → ListGrows old mid → e.first_cluster ≡ cluster → e.count ≡ clusters_of t → e.kind ≡ Kind.Metadata → new.file.free_list ≡ mid.file.free_list ++ e ∷ []
@@ -157,7 +157,7 @@ module _ {S F : Type 0} (view : S → StorageView) (backing : F → BackingView)
       (λ k. refl)
 
   -- ---- clusters are taken for it, or aren't
-  module _ (p : Pending) (old : Qcow2 S F) (sound : ImageInvariant view backing p old out) (file : ImageFile S) (a : Allocator) (marks : KeepsMarks old.file.caches file.caches) (lists : ListsTables old.file.free_list file.free_list)
+  module _ (p : Pending) (old : Qcow2 S F) (sound : ImageInvariant view backing p old out) (file : ImageFile S) (a : Allocator) (marks : KeepsPinsAndNotes old.file.caches file.caches) (lists : ListsTables old.file.free_list file.free_list)
       (header : KeepsHeader old.file.header file.header) where
     abbrev taken : Qcow2 S F
     taken = record old { file = file; allocator = Some a }

@@ -6,7 +6,7 @@ use Rattle.image_access.specs.Backing.{BackingView}
 use Rattle.image_access.specs.Contents.{overwritten}
 use Rattle.image_access.specs.Moments.{StorageView, Changes, Calls}
 use Rattle.image_access.specs.declared.error.StorageError.{StorageError}
-use Rattle.image_access.proofs.Passing.{whole_or_nothing}
+use Rattle.image_access.proofs.EachMomentSince.{whole_or_nothing}
 use Rattle.qcow2_metadata.specs.Bytes.{byte_at, one_if}
 use Rattle.qcow2_metadata.specs.declared.header.HeaderFields.{HeaderFields}
 use Rattle.qcow2_metadata.specs.Header.{cluster_size}
@@ -65,10 +65,10 @@ run_free view p image t cluster sound bits covers c some =
     let h = image.file.header.fields in
     let run = same_run h t cluster c bits in
     let guarded = sound.caches.kept.kept.guarded in
-    let fresh : 0 < p.fresh c + run_at cluster (clusters_of t) c = omega (arith, run, some) in
-    let tally = (guarded.always c).tally in
-    let few = (guarded.always c).pending (omega (arith, fresh)) in
-    record { unnamed = data_is_written.fresh (state_in view image.file (with_table p t cluster)) c guarded fresh covers; unheld = omega (arith, tally, few, fresh) }
+    let new_tables : 0 < p.new_tables c + run_at cluster (clusters_of t) c = omega (arith, run, some) in
+    let tally = (guarded.each_cluster c).tally in
+    let few = (guarded.each_cluster c).pending (omega (arith, new_tables)) in
+    record { unnamed = data_is_written.new_tables (state_in view image.file (with_table p t cluster)) c guarded new_tables covers; unheld = omega (arith, tally, few, new_tables) }
 
 module _ {S F : Type 0} (view : S → StorageView) (backing : F → BackingView) (out : List (Option Prepared)) (p : Pending) (image : Qcow2 S F) (t : EntryTableView) (cluster : ℕ) (sound : ImageInvariant view backing (with_table p t cluster) image out)
     (longer : IsLongerL1 image t) (clean : AreClean (refblocks image.file.caches)) (may : BlocksMayGo (order_of image.file.caches) (l2_tables image.file.caches)) where
@@ -104,7 +104,7 @@ module _ {S F : Type 0} (view : S → StorageView) (backing : F → BackingView)
       ]
     ])
 
-    each : (c : ℕ) → SameIn (cluster_size h) c (contents_in view image.file) (byte_at (view after).contents) ⊎ (IsUnnamed h (contents_in view image.file) (known_in view image.file) c × (q.held c ≡ 0))
+    each : (c : ℕ) → SameIn (cluster_size h) c (contents_in view image.file) (byte_at (view after).contents) ⊎ (IsUnnamed h (contents_in view image.file) (known_in view image.file) c × (q.new_data c ≡ 0))
     each c = elim (cases_lt 0 (in_run h c place (length t.bytes))) [
       | inl some ↦ let free = run_free view p image t cluster sound.file longer.bits (λ ordered. covers_written view q image.file sound.file may ordered) c some in inr (free.unnamed, free.unheld)
       | inr none ↦ inl (elim (whole_or_nothing result (view_in view image.file).contents (overwritten (view_in view image.file).contents place t.bytes) (view after).contents (writes sound.file.honest)) [
@@ -117,8 +117,8 @@ module _ {S F : Type 0} (view : S → StorageView) (backing : F → BackingView)
       abbrev placed : Qcow2 S F
       placed = record image { file = record image.file { storage = storage } }
 
-      each_now : (c : ℕ) → SameIn (cluster_size h) c (contents_in view image.file) (contents_in view placed.file) ⊎ (IsUnnamed h (contents_in view image.file) (known_in view image.file) c × (q.held c ≡ 0))
-      each_now c = subst (λ (s : S). SameIn (cluster_size h) c (contents_in view image.file) (byte_at (view s).contents) ⊎ (IsUnnamed h (contents_in view image.file) (known_in view image.file) c × (q.held c ≡ 0))) (sym stored) (each c)
+      each_now : (c : ℕ) → SameIn (cluster_size h) c (contents_in view image.file) (contents_in view placed.file) ⊎ (IsUnnamed h (contents_in view image.file) (known_in view image.file) c × (q.new_data c ≡ 0))
+      each_now c = subst (λ (s : S). SameIn (cluster_size h) c (contents_in view image.file) (byte_at (view s).contents) ⊎ (IsUnnamed h (contents_in view image.file) (known_in view image.file) c × (q.new_data c ≡ 0))) (sym stored) (each c)
 
       calls_now : Calls (view_in view image.file) (view (storage_of storage)) result
       calls_now = subst (λ (s : S). Calls (view_in view image.file) (view s) result) (sym stored) calls

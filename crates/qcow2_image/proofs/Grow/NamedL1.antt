@@ -96,7 +96,7 @@ module _ {S F : Type 0} (view : S → StorageView) (backing : F → BackingView)
             (λ lt. known_in_run ((place + 8 * i) / cluster_size h)
             (let has = run_has h place (length t.bytes) (8 * i) sizes.some aligned (let w = ready.table.whole in omega (arith, w, lt)) in omega (arith, has)))
             ∙ same_entries i ∙ sound.file.caches.kept.kept.guarded.same_top.l1 i;
-        fresh = λ c some. (let run = same_run h t cluster c ready.table.bits in let is = run_is c in omega (arith, run, is, some), ready.counts c);
+        new_tables = λ c some. (let run = same_run h t cluster c ready.table.bits in let is = run_is c in omega (arith, run, is, some), ready.counts c);
         written = ready.covers;
       }
 

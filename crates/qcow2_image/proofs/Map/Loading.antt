@@ -14,15 +14,15 @@ use Rattle.qcow2_laws.proofs.Unseen.{unseen_known}
 use Rattle.qcow2_alloc.specs.declared.cache.MetadataCaches.{MetadataCaches}
 use Rattle.qcow2_alloc.specs.declared.image_storage.ImageStorage.{ImageStorage}
 use Rattle.qcow2_alloc.specs.declared.allocation.Allocator.{Allocator}
-use Rattle.qcow2_alloc.specs.CacheMarks.{l2_pins, CachesHaveRoom, SameTables}
+use Rattle.qcow2_alloc.specs.CachePins.{l2_pins, CachesHaveRoom, SameTables}
 use Rattle.qcow2_alloc.specs.ImageStorage.{storage_of}
 use Rattle.qcow2_metadata.specs.declared.header.HeaderFields.{HeaderFields}
 use Rattle.qcow2_metadata.specs.Header.{cluster_size}
 use Rattle.qcow2_metadata.specs.Tables.{CachedTable, known}
 use Rattle.qcow2_laws.proofs.Lists.{clean_known}
-use Rattle.qcow2_laws.specs.Caches.{AreSettled}
+use Rattle.qcow2_laws.specs.Caches.{AreNamedBlocks}
 use Rattle.image_access.specs.declared.error.StorageError.{StorageError}
-use Rattle.image_access.specs.Moments.{Calls, Passing, ContentsStay}
+use Rattle.image_access.specs.Moments.{Calls, EachMomentSince, ContentsStay}
 use Rattle.qcow2_laws.proofs.SafeSteps.{leads_none, endures_none}
 use Rattle.qcow2_alloc.specs.MetadataCaches.{l2_tables, refblocks, known_of, AreAllWritten, CacheInvariant, UnseenCacheStep}
 use Rattle.qcow2_alloc.specs.ImageFile.{state_in, view_in, contents_in, known_in}
@@ -104,7 +104,7 @@ module _ {S : Type 0} (h : HeaderFields) (p : Pending) (caches caches' : Metadat
     honest = honest;
     sound = tables.sound h p (byte_at v.contents) sound;
     known = tables.known h (byte_at v.contents);
-    settled = λ settled. subst (λ (ts : List CachedTable). AreSettled h ts (byte_at v.contents)) (sym tables.refblocks) settled;
+    settled = λ settled. subst (λ (ts : List CachedTable). AreNamedBlocks h ts (byte_at v.contents)) (sym tables.refblocks) settled;
     since = safe_none v (known_of h caches (byte_at v.contents));
   }
 
@@ -124,17 +124,17 @@ if_ok_any (Err e) all = tt
 -- ---- where the contents stay, while time goes on
 
 module _ {S : Type 0} (h : HeaderFields) (p : Pending) (caches : MetadataCaches S) (v v' : StorageView) where
-  pub stays_still : v'.is_honest → Passing v v' (λ c. c ≡ v'.contents) → v'.contents ≡ v.contents → CacheInvariant h p caches (byte_at v.contents) → UnseenCacheStep h p v caches v' caches
+  pub stays_still : v'.is_honest → EachMomentSince v v' (λ c. c ≡ v'.contents) → v'.contents ≡ v.contents → CacheInvariant h p caches (byte_at v.contents) → UnseenCacheStep h p v caches v' caches
   stays_still honest time same sound = record {
     honest = honest;
     sound = subst (λ c. CacheInvariant h p caches (byte_at c)) (sym same) sound;
     known = ap (λ c. known_of h caches (byte_at c)) same;
-    settled = λ settled. subst (λ c. AreSettled h (refblocks caches) (byte_at c)) (sym same) settled;
+    settled = λ settled. subst (λ c. AreNamedBlocks h (refblocks caches) (byte_at c)) (sym same) settled;
     since = safe_keep v v' (known_of h caches (byte_at v.contents)) time same;
   }
 
 module _ {S F : Type 0} (view : S → StorageView) (backing : F → BackingView) (image : Qcow2 S F) (out : List (Option Prepared)) (p : Pending) (sound : ImageInvariant view backing p image out) where
-  pub still_moved : (storage' : ImageStorage S) → (view (storage_of storage')).is_honest → Passing (view_in view image.file) (view (storage_of storage')) (λ c. c ≡ (view (storage_of storage')).contents)
+  pub still_moved : (storage' : ImageStorage S) → (view (storage_of storage')).is_honest → EachMomentSince (view_in view image.file) (view (storage_of storage')) (λ c. c ≡ (view (storage_of storage')).contents)
       → (view (storage_of storage')).contents ≡ (view_in view image.file).contents → UnseenStep view backing p p image (with_caches view backing image out p sound storage' image.file.caches) out
   still_moved storage' honest time same = caches_moved view backing image out p sound storage' image.file.caches
       (stays_still image.file.header.fields p image.file.caches (view_in view image.file) (view (storage_of storage')) honest time same sound.file.caches) (λ room. room) (λ table. refl)

@@ -142,9 +142,9 @@ mapped_as view image offset n kind found some le is = ⊎_elim
     (λ past. absurd (let none = (is.past past).1 in omega arith)) (cases_lt offset (size_of image))
 
 -- what a held table says of a guest cluster is known
-pub held_says : {S : Type 0} (view : S → StorageView) (file : ImageFile S) (p : Pending) (t : L2TableView) (table i cluster : ℕ) → FileInvariant view p file → ShowsKnown file.caches table t
+pub cached_says : {S : Type 0} (view : S → StorageView) (file : ImageFile S) (p : Pending) (t : L2TableView) (table i cluster : ℕ) → FileInvariant view p file → ShowsKnown file.caches table t
     → IsEntryAt file.header.fields (known_in view file) i table (cluster % entries_per_cluster file.header.fields) → cluster / entries_per_cluster file.header.fields ≡ i → mapping_of t cluster ≡ cover file.header.fields (known_in view file) cluster
-held_says view file p t table i cluster sound shows at here =
+cached_says view file p t table i cluster sound shows at here =
     let h = file.header.fields in
     let guarded = sound.caches.kept.kept.guarded in
     let sizes = Sizes-from h (known_in view file) (IsTop-top h (contents_in view file) (known_in view file) guarded.same_top guarded.top).header_reads in

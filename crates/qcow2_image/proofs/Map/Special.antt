@@ -7,7 +7,7 @@ use Rattle.qcow2_metadata.specs.Header.{header, cluster_size}
 use Rattle.qcow2_metadata.specs.declared.header.HeaderFields.{HeaderFields}
 use Rattle.qcow2_metadata.specs.declared.l2_mapping.L2Mapping.{L2Mapping}
 use Rattle.qcow2_metadata.specs.declared.l2_mapping.L2Mapping.TheVariants.{Data, Zero, Compressed, Uncovered}
-use Rattle.qcow2_disk.specs.Calls.{Refusal, Does, Refuses, IsSame, storage}
+use Rattle.qcow2_disk.specs.Calls.{Refusal, AnsweredEffect, RefusedEffect, IsSame, storage}
 use Rattle.qcow2_disk.specs.AbstractImages.{AbstractImage}
 use Rattle.qcow2_disk.specs.Found.{Kind, raw, indirect, zeros, special, eof, kind_at, IsCompressed, IsCompressedAt, IsFoundIn}
 use Rattle.qcow2_alloc.specs.declared.error.ImageError.TheVariants as I
@@ -46,5 +46,5 @@ module _ (known : Bytes) (b : Bool) (offset max n : ℕ) where
       cc
 
 -- a call refuses by itself, after its work was done
-pub refuses_after : {old new : AbstractImage} (e : Refusal) → (e ≡ storage → ⊥) → Does old new [] [] (IsSame old new) → Refuses old new [] [] e (IsSame old new)
+pub refuses_after : {old new : AbstractImage} (e : Refusal) → (e ≡ storage → ⊥) → AnsweredEffect old new [] [] (IsSame old new) → RefusedEffect old new [] [] e (IsSame old new)
 refuses_after e none d = record { acts = d.acts; answer = λ sound. inl (d.answer sound); fault = λ is. absurd (none is) }

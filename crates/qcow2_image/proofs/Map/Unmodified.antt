@@ -3,9 +3,9 @@ use Rattle.std.proofs.Common.{◌≡◌, ⊎_elim, ℕ, ◌/◌, ◌^◌, List, 
 use mathlib.Core.Path.{fun_ext}
 use Rattle.std.specs.Prelude.{Bool, Option}
 use Rattle.image_access.specs.Backing.{BackingView}
-use Rattle.image_access.specs.Moments.{StorageView, Passing, Calls}
+use Rattle.image_access.specs.Moments.{StorageView, EachMomentSince, Calls}
 use Rattle.image_access.specs.declared.error.StorageError.{StorageError}
-use Rattle.image_access.proofs.Passing.{passes_none, passes_if, passes_on}
+use Rattle.image_access.proofs.EachMomentSince.{passes_none, passes_if, passes_on}
 use Rattle.qcow2_metadata.specs.Bytes.{Bytes, byte_at}
 use Rattle.qcow2_laws.specs.CrashInvariant.{Pending, IsPartly, SameIn}
 use Rattle.qcow2_alloc.specs.declared.cache.MetadataCaches.{MetadataCaches}
@@ -35,11 +35,11 @@ pub holds_then : {old mid new : StorageView} → HoldsSame old mid → HoldsSame
 holds_then {old = old} first second = record { moments = passes_on (λ c. byte_at c ≡ byte_at old.contents) first.moments second.moments (λ c is. is ∙ first.contents); contents = second.contents ∙ first.contents }
 
 -- calls that keep the contents
-pub holds_still : (old new : StorageView) → Passing old new (λ c. c ≡ old.contents) → new.contents ≡ old.contents → HoldsSame old new
+pub holds_still : (old new : StorageView) → EachMomentSince old new (λ c. c ≡ old.contents) → new.contents ≡ old.contents → HoldsSame old new
 holds_still old new time same = record { moments = passes_if (λ c. byte_at c ≡ byte_at old.contents) (λ c is. ap byte_at is) time; contents = ap byte_at same }
 
 -- a storage that was read
-pub holds_read : (old new : StorageView) → Passing old new (λ c. c ≡ new.contents) → new.contents ≡ old.contents → HoldsSame old new
+pub holds_read : (old new : StorageView) → EachMomentSince old new (λ c. c ≡ new.contents) → new.contents ≡ old.contents → HoldsSame old new
 holds_read old new time same = holds_still old new (passes_if (λ c. c ≡ old.contents) (λ c is. is ∙ same) time) same
 
 module _ {S F : Type 0} (view : S → StorageView) where

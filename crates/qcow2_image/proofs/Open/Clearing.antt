@@ -10,7 +10,7 @@ use Rattle.qcow2_metadata.specs.Header.{HeaderView, header, with_fields, without
 use Rattle.qcow2_metadata.specs.HeaderLoad.{IsHeaderIn}
 use Rattle.qcow2_metadata.specs.HeaderWrite.{autoclear_cleared}
 use Rattle.qcow2_metadata.specs.Entries.{l1_entry, reftable_entry}
-use Rattle.qcow2_laws.specs.Caches.{CacheInvariantOver, AreSettled}
+use Rattle.qcow2_laws.specs.Caches.{CacheInvariantOver, AreNamedBlocks}
 use Rattle.qcow2_laws.specs.CrashInvariant.{Pending, CrashInvariant}
 use Rattle.qcow2_disk.specs.Stops.{StopOkEverywhere}
 use Rattle.qcow2_laws.specs.Tops.{WritesHeader, resized_places}
@@ -25,7 +25,7 @@ use Rattle.qcow2_alloc.specs.MetadataCaches.{order_of, l2_tables, refblocks, kno
 use Rattle.qcow2_image.proofs.Open.HeaderKept.{resized_l1, resized_reftable, placed_settled, placed_sound}
 use Rattle.qcow2_image.specs.Opened.{IsFresh, StaysFresh, IsKeptSince}
 
-module _ {S F : Type 0} (view : S → StorageView) (backing : F → BackingView) (p : Pending) (file : ImageFile S) (fresh : IsFresh view backing p file) where
+module _ {S F : Type 0} (view : S → StorageView) (backing : F → BackingView) (p : Pending) (file : ImageFile S) (new_tables : IsFresh view backing p file) where
   abbrev h : HeaderFields
   h = file.header.fields
 
@@ -36,23 +36,23 @@ module _ {S F : Type 0} (view : S → StorageView) (backing : F → BackingView)
   on_storage = contents_in view file
 
   kept : CacheInvariantOver file.header.fields (order_of file.caches) p (l2_tables file.caches) (refblocks file.caches) (contents_in view file)
-  kept = fresh.sound.caches.kept.kept
+  kept = new_tables.sound.caches.kept.kept
 
   module _ (on_storage' : Bytes) (writes : WritesHeader h (resized_places h h.size 0) on_storage (known_in view file) on_storage' (known_of h file.caches on_storage')) where
     cleared_guarded : CrashInvariant h' (order_of file.caches) p on_storage' (known_of h file.caches on_storage')
     cleared_guarded = (header_is_written.same_size (state_in view file p) on_storage' (known_of h file.caches on_storage') 0 kept.guarded writes).sound
 
     l1_still : (i : ℕ) → l1_entry h' on_storage' i ≡ l1_entry h on_storage i
-    l1_still = resized_l1 view p file fresh.sound h.size 0 on_storage' writes
+    l1_still = resized_l1 view p file new_tables.sound h.size 0 on_storage' writes
 
     reftable_still : (k : ℕ) → reftable_entry h' on_storage' k ≡ reftable_entry h on_storage k
-    reftable_still = resized_reftable view p file fresh.sound h.size 0 on_storage' writes
+    reftable_still = resized_reftable view p file new_tables.sound h.size 0 on_storage' writes
 
-    cleared_settled : AreSettled h' (refblocks file.caches) on_storage'
-    cleared_settled = placed_settled view p p file fresh.sound (resized_places h h.size 0) on_storage' writes cleared_guarded l1_still reftable_still
+    cleared_settled : AreNamedBlocks h' (refblocks file.caches) on_storage'
+    cleared_settled = placed_settled view p p file new_tables.sound (resized_places h h.size 0) on_storage' writes cleared_guarded l1_still reftable_still
 
     cleared_sound : CacheInvariant h' p file.caches on_storage'
-    cleared_sound = placed_sound view p p file fresh.sound (resized_places h h.size 0) on_storage' writes cleared_guarded l1_still reftable_still
+    cleared_sound = placed_sound view p p file new_tables.sound (resized_places h h.size 0) on_storage' writes cleared_guarded l1_still reftable_still
 
   pub stays_cleared : (storage : ImageStorage S) → (view (storage_of storage)).is_honest → (view (storage_of storage)).contents ≡ autoclear_cleared (view_in view file).contents
       → header (byte_at (autoclear_cleared (view_in view file).contents)) ≡ without_autoclear (header (byte_at (view_in view file).contents))
@@ -63,12 +63,12 @@ module _ {S F : Type 0} (view : S → StorageView) (backing : F → BackingView)
       let writes : WritesHeader h (resized_places h h.size 0) on_storage (known_in view file) on_storage' (known_of h file.caches on_storage') =
       subst (λ (c : List ℕ). WritesHeader h (resized_places h h.size 0) on_storage (known_in view file) (byte_at c) (known_of h file.caches (byte_at c))) (sym same)
       (autoclear_beside h (order_of file.caches) p (l2_tables file.caches) (refblocks file.caches) (view_in view file).contents kept (with_fields file.header h') fields there) in record {
-        fresh = record {
-          sound = record { honest = honest; caches = cleared_sound on_storage' writes; settled = cleared_settled on_storage' writes; room = fresh.sound.room };
+        new_tables = record {
+          sound = record { honest = honest; caches = cleared_sound on_storage' writes; settled = cleared_settled on_storage' writes; room = new_tables.sound.room };
           header = subst (IsHeaderIn (with_fields file.header h')) (sym same) there;
-          clean = fresh.clean;
-          unpinned = fresh.unpinned;
-          list = fresh.list;
+          clean = new_tables.clean;
+          unpinned = new_tables.unpinned;
+          list = new_tables.list;
         };
         l1_table = λ t has. record { cluster = has.cluster; bits = has.bits; count = has.count; entries = λ i. has.entries i ∙ sym (l1_still on_storage' writes i) };
         reftable = λ t has. record { cluster = has.cluster; bits = has.bits; count = has.count; entries = λ k. has.entries k ∙ sym (reftable_still on_storage' writes k) };
@@ -88,8 +88,8 @@ module _ {S F : Type 0} (view : S → StorageView) (backing : F → BackingView)
             let same : record file { storage = storage; header = with_fields file.header (without_autoclear file.header.fields) } ≡ file =
             ap (λ (s : ImageStorage S). record file { storage = s; header = with_fields file.header (without_autoclear file.header.fields) }) (untouched none)
             ∙ ap (λ (n : ℕ). record file { header = with_fields file.header (record file.header.fields { autoclear = n }) }) (sym none) in
-            subst (StaysFresh view backing p file) (sym same) (record { fresh = fresh; l1_table = λ t has. has; reftable = λ t has. has })
-        | inr some ↦ stays_cleared storage (honest fresh.sound.honest) (written some fresh.sound.honest) fields (reads some fresh.header)
+            subst (StaysFresh view backing p file) (sym same) (record { new_tables = new_tables; l1_table = λ t has. has; reftable = λ t has. has })
+        | inr some ↦ stays_cleared storage (honest new_tables.sound.honest) (written some new_tables.sound.honest) fields (reads some new_tables.header)
       ])
 
   -- whatever the storage answers
@@ -102,8 +102,8 @@ module _ {S F : Type 0} (view : S → StorageView) (backing : F → BackingView)
     | inl none ↦ subst (λ (s : ImageStorage S). IsKeptSince (view_in view file) (view (storage_of s))) (sym (untouched none)) (endures_none (view_in view file) on_storage)
     | inr some ↦
         let new = autoclear_cleared (view_in view file).contents in
-        let writes = autoclear_beside h (order_of file.caches) p (l2_tables file.caches) (refblocks file.caches) (view_in view file).contents kept (with_fields file.header h') fields (reads some fresh.header) in
+        let writes = autoclear_beside h (order_of file.caches) p (l2_tables file.caches) (refblocks file.caches) (view_in view file).contents kept (with_fields file.header h') fields (reads some new_tables.header) in
         let leads = header_is_written.same_size (state_in view file p) (byte_at new) (known_of h file.caches (byte_at new)) 0 kept.guarded writes in
-        endures_write (view_in view file) (view (storage_of storage)) on_storage nothing_given [] new call (written some) fresh.sound.honest
-        (λ backing m ok known_ok. leads.on_storage backing m ok (subst (StopOkEverywhere backing m) (sym (fresh.clean on_storage)) ok))
+        endures_write (view_in view file) (view (storage_of storage)) on_storage nothing_given [] new call (written some) new_tables.sound.honest
+        (λ backing m ok known_ok. leads.on_storage backing m ok (subst (StopOkEverywhere backing m) (sym (new_tables.clean on_storage)) ok))
   ]

@@ -5,7 +5,7 @@ use Rattle.qcow2_metadata.specs.Bytes.{Bytes}
 use Rattle.qcow2_metadata.specs.declared.header.HeaderFields.{HeaderFields}
 use Rattle.qcow2_metadata.specs.Header.{cluster_size}
 use Rattle.qcow2_metadata.specs.Entries.{l1_entry, reftable_entry}
-use Rattle.qcow2_laws.specs.Caches.{HasBlock, AreSettled}
+use Rattle.qcow2_laws.specs.Caches.{HasBlock, AreNamedBlocks}
 use Rattle.qcow2_laws.specs.CrashInvariant.{Pending, CrashInvariant}
 use Rattle.qcow2_laws.specs.Tops.{Places, WritesHeader, with_places, resized_places}
 use Rattle.qcow2_laws.proofs.Headers.{header_l1, header_reftable}
@@ -32,7 +32,7 @@ module _ {S : Type 0} (view : S → StorageView) (p p' : Pending) (file : ImageF
   rb_now : (c : ℕ) → HasBlock h' on_storage' c → HasBlock h (contents_in view file) c ⊎ AreCurrentIn (cluster_size h) c (refblocks file.caches) on_storage'
   rb_now c has = inl (same_block h' h on_storage' (contents_in view file) c refl has (sym (reftable_still has.0)))
 
-  pub placed_settled : AreSettled h' (refblocks file.caches) on_storage'
+  pub placed_settled : AreNamedBlocks h' (refblocks file.caches) on_storage'
   placed_settled = header_settled view p p' file sound a on_storage' writes guarded l1_still rb_still rb_now
 
   pub placed_sound : CacheInvariant h' p' file.caches on_storage'

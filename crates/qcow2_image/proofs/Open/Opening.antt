@@ -2,8 +2,8 @@
 use Rattle.std.proofs.Common.{◌≡◌, ℕ, ◌*◌, ◌/◌, ◌^◌, [], List, Result, length, refl, sym, ap, ◌∙◌, subst, arith}
 use Rattle.std.specs.Prelude.{Some, None, false}
 use Rattle.image_access.specs.Backing.{BackingView}
-use Rattle.image_access.specs.Moments.{StorageView, Passing}
-use Rattle.image_access.proofs.Passing.{passes_if}
+use Rattle.image_access.specs.Moments.{StorageView, EachMomentSince}
+use Rattle.image_access.proofs.EachMomentSince.{passes_if}
 use Rattle.qcow2_metadata.specs.Bytes.{Bytes, byte_at}
 use Rattle.qcow2_metadata.specs.Header.{HeaderView, cluster_size}
 use Rattle.qcow2_metadata.specs.Consistent.{Consistent, IsConsistent}
@@ -13,7 +13,7 @@ use Rattle.qcow2_metadata.specs.HeaderLoad.{IsHeaderIn}
 use Rattle.qcow2_metadata.specs.TableBytes.{entry_at}
 use Rattle.qcow2_metadata.specs.MetadataError.{OnlyReads}
 use Rattle.qcow2_metadata.specs.declared.error.MetadataError.{MetadataError}
-use Rattle.qcow2_laws.specs.Caches.{AreSettled}
+use Rattle.qcow2_laws.specs.Caches.{AreNamedBlocks}
 use Rattle.qcow2_laws.specs.Clusters.{Neither}
 use Rattle.qcow2_laws.specs.CrashInvariant.{Pending, CrashInvariant}
 use Rattle.qcow2_laws.specs.Opened.{nothing_pending, surplus_of}
@@ -38,7 +38,7 @@ pub named_still : (old new : HeaderView) (contents : List ℕ) → IsHeaderIn ol
 named_still old new contents is same = record { fields = refl; reads = is.reads; backing_name = same.0 ∙ is.backing_name; backing_format = same.1 ∙ is.backing_format; data_file_name = same.2 ∙ is.data_file_name }
 
 -- ---- what is kept
-pub kept_read : (old new : StorageView) → Passing old new (λ c. c ≡ new.contents) → new.contents ≡ old.contents → IsKeptSince old new
+pub kept_read : (old new : StorageView) → EachMomentSince old new (λ c. c ≡ new.contents) → new.contents ≡ old.contents → IsKeptSince old new
 kept_read old new time same = keep_endures old new (byte_at old.contents) time same
 
 pub kept_then : (old mid new : StorageView) → IsKeptSince old mid → IsKeptSince mid new → IsKeptSince old new
@@ -71,38 +71,38 @@ module _ {S F : Type 0} (view : S → StorageView) (backing : F → BackingView)
       }
 
   -- ---- a storage that was read
-  pub fresh_read : (p : Pending) (file : ImageFile S) (storage : ImageStorage S) → IsFresh view backing p file → (view (storage_of storage)).is_honest → (view (storage_of storage)).contents ≡ (view_in view file).contents
+  pub new_tables_read : (p : Pending) (file : ImageFile S) (storage : ImageStorage S) → IsFresh view backing p file → (view (storage_of storage)).is_honest → (view (storage_of storage)).contents ≡ (view_in view file).contents
       → StaysFresh view backing p file (record file { storage = storage })
-  fresh_read p file storage fresh honest same = record {
-    fresh = record {
+  new_tables_read p file storage new_tables honest same = record {
+    new_tables = record {
       sound = record {
         honest = honest;
-        caches = subst (λ (c : List ℕ). CacheInvariant file.header.fields p file.caches (byte_at c)) (sym same) fresh.sound.caches;
-        settled = subst (λ (c : List ℕ). AreSettled file.header.fields (refblocks file.caches) (byte_at c)) (sym same) fresh.sound.settled;
-        room = fresh.sound.room;
+        caches = subst (λ (c : List ℕ). CacheInvariant file.header.fields p file.caches (byte_at c)) (sym same) new_tables.sound.caches;
+        settled = subst (λ (c : List ℕ). AreNamedBlocks file.header.fields (refblocks file.caches) (byte_at c)) (sym same) new_tables.sound.settled;
+        room = new_tables.sound.room;
       };
-      header = subst (λ (c : List ℕ). IsHeaderIn file.header c) (sym same) fresh.header;
-      clean = fresh.clean;
-      unpinned = fresh.unpinned;
-      list = fresh.list;
+      header = subst (λ (c : List ℕ). IsHeaderIn file.header c) (sym same) new_tables.header;
+      clean = new_tables.clean;
+      unpinned = new_tables.unpinned;
+      list = new_tables.list;
     };
     l1_table = λ t has. record { cluster = has.cluster; bits = has.bits; count = has.count; entries = λ k. has.entries k ∙ ap (λ (c : List ℕ). l1_entry file.header.fields (byte_at c) k) (sym same) };
     reftable = λ t has. record { cluster = has.cluster; bits = has.bits; count = has.count; entries = λ k. has.entries k ∙ ap (λ (c : List ℕ). reftable_entry file.header.fields (byte_at c) k) (sym same) };
   }
 
-  pub fresh_then : (p : Pending) (old new : ImageFile S) → IsFresh view backing p old → new ≡ record old { storage = new.storage } → ((view_in view old).is_honest → (view_in view new).is_honest)
+  pub new_tables_then : (p : Pending) (old new : ImageFile S) → IsFresh view backing p old → new ≡ record old { storage = new.storage } → ((view_in view old).is_honest → (view_in view new).is_honest)
       → ((view_in view old).is_honest → (view_in view new).contents ≡ (view_in view old).contents) → StaysFresh view backing p old new
-  fresh_then p old new fresh rest honest same =
-      subst (StaysFresh view backing p old) (sym rest) (fresh_read p old new.storage fresh (honest fresh.sound.honest) (same fresh.sound.honest))
+  new_tables_then p old new new_tables rest honest same =
+      subst (StaysFresh view backing p old) (sym rest) (new_tables_read p old new.storage new_tables (honest new_tables.sound.honest) (same new_tables.sound.honest))
 
   -- the storage is told what is written next
-  pub told_fresh : (p : Pending) (old file : ImageFile S) (told : ImageStorage S) → IsFresh view backing p old → file ≡ record old { storage = file.storage } → ((view_in view old).is_honest → (view_in view file).is_honest)
-      → ((view_in view old).is_honest → (view_in view file).contents ≡ (view_in view old).contents) → Passing (view_in view old) (view_in view file) (λ c. c ≡ (view_in view file).contents) → storage_of told ≡ storage_of file.storage
+  pub told_new_tables : (p : Pending) (old file : ImageFile S) (told : ImageStorage S) → IsFresh view backing p old → file ≡ record old { storage = file.storage } → ((view_in view old).is_honest → (view_in view file).is_honest)
+      → ((view_in view old).is_honest → (view_in view file).contents ≡ (view_in view old).contents) → EachMomentSince (view_in view old) (view_in view file) (λ c. c ≡ (view_in view file).contents) → storage_of told ≡ storage_of file.storage
       → IsFresh view backing p (record file { storage = told }) × IsKeptSince (view_in view old) (view (storage_of told))
-  told_fresh p old file told fresh rest honest same time is =
-      let read = fresh_then p old file fresh rest honest same in (
-        (fresh_read p file told read.fresh (subst (λ s. (view s).is_honest) (sym is) read.fresh.sound.honest) (ap (λ s. (view s).contents) is)).fresh,
-        subst (λ s. IsKeptSince (view_in view old) (view s)) (sym is) (kept_read (view_in view old) (view_in view file) time (same fresh.sound.honest)),
+  told_new_tables p old file told new_tables rest honest same time is =
+      let read = new_tables_then p old file new_tables rest honest same in (
+        (new_tables_read p file told read.new_tables (subst (λ s. (view s).is_honest) (sym is) read.new_tables.sound.honest) (ap (λ s. (view s).contents) is)).new_tables,
+        subst (λ s. IsKeptSince (view_in view old) (view s)) (sym is) (kept_read (view_in view old) (view_in view file) time (same new_tables.sound.honest)),
       )
 
   -- after the header the tables are loaded
@@ -115,18 +115,18 @@ module _ {S F : Type 0} (view : S → StorageView) (backing : F → BackingView)
 
   pub stays_then : (p : Pending) (a b c : ImageFile S) → StaysFresh view backing p a b → StaysFresh view backing p b c → StaysFresh view backing p a c
   stays_then p a b c first second = record {
-    fresh = second.fresh;
+    new_tables = second.new_tables;
     l1_table = λ t has. second.l1_table t (first.l1_table t has);
     reftable = λ t has. second.reftable t (first.reftable t has);
   }
 
   -- ---- the image
   -- the header of a consistent image, and new caches
-  pub fresh_new : (contents : List ℕ) (file : ImageFile S) → IsConsistent (byte_at contents) → (view_in view file).is_honest → (view_in view file).contents ≡ contents → IsHeaderIn file.header contents
+  pub new_tables_new : (contents : List ℕ) (file : ImageFile S) → IsConsistent (byte_at contents) → (view_in view file).is_honest → (view_in view file).contents ≡ contents → IsHeaderIn file.header contents
       → ((p : Pending) (on_storage : Bytes) → CrashInvariant file.header.fields Neither p on_storage on_storage → CacheInvariant file.header.fields p file.caches on_storage)
-      → ((on_storage : Bytes) → known_of file.header.fields file.caches on_storage ≡ on_storage) → ((on_storage : Bytes) → AreSettled file.header.fields (refblocks file.caches) on_storage)
+      → ((on_storage : Bytes) → known_of file.header.fields file.caches on_storage ≡ on_storage) → ((on_storage : Bytes) → AreNamedBlocks file.header.fields (refblocks file.caches) on_storage)
       → CachesHaveRoom file.caches → ((cluster : ℕ) → l2_pins file.caches cluster ≡ 0) → file.free_list ≡ [] → IsFresh view backing (nothing_pending (surplus_of file.header.fields (byte_at contents))) file
-  fresh_new contents file consistent honest same there sound known settled room pins list =
+  new_tables_new contents file consistent honest same there sound known settled room pins list =
       let h = file.header.fields in
       let p = nothing_pending (surplus_of file.header.fields (byte_at contents)) in
       let guarded : CrashInvariant h Neither p (byte_at contents) (byte_at contents) =
@@ -149,18 +149,18 @@ module _ {S F : Type 0} (view : S → StorageView) (backing : F → BackingView)
       let p = nothing_pending surplus in
       let at : ImageInvariant view backing p image [] = record {
         works = works;
-        file = loaded.fresh.sound;
+        file = loaded.new_tables.sound;
         l1_table = loaded.l1_table;
         reftable = loaded.reftable;
         below = below;
         ready = λ k q none. absurd cc;
-        pinned = loaded.fresh.unpinned;
+        pinned = loaded.new_tables.unpinned;
         once = λ table. omega arith;
       } in
-      let is : p ≡ pending_in view backing image [] = pending_is view backing image [] p loaded.fresh.sound.caches.kept.kept.guarded (record {
-        held = λ k. refl;
-        fresh = λ k. refl;
-        spent = λ k. ap (λ l. to_free of_tables l k) (sym loaded.fresh.list);
-        dropped = λ k. ap (λ l. to_free of_data l k) (sym loaded.fresh.list);
+      let is : p ≡ pending_in view backing image [] = pending_is view backing image [] p loaded.new_tables.sound.caches.kept.kept.guarded (record {
+        new_data = λ k. refl;
+        new_tables = λ k. refl;
+        old_tables = λ k. ap (λ l. to_free of_tables l k) (sym loaded.new_tables.list);
+        old_data = λ k. ap (λ l. to_free of_data l k) (sym loaded.new_tables.list);
       }) in
-      (record { sound = subst (λ q. ImageInvariant view backing q image []) is at; clean = loaded.fresh.clean (contents_in view image.file) }, sym (ap (λ (q : Pending). q.surplus) is))
+      (record { sound = subst (λ q. ImageInvariant view backing q image []) is at; clean = loaded.new_tables.clean (contents_in view image.file) }, sym (ap (λ (q : Pending). q.surplus) is))

@@ -8,7 +8,7 @@ use Rattle.qcow2_metadata.specs.Header.{cluster_size, entries_per_cluster}
 use Rattle.qcow2_disk.specs.Found.{rest_of_table}
 use Rattle.std.proofs.lemmas.Bool.{cases_lt}
 use Rattle.qcow2_disk.specs.AbstractImages.{Guest, guest_of}
-use Rattle.qcow2_disk.specs.Calls.{Works, with_disk}
+use Rattle.qcow2_disk.specs.Calls.{EffectOnSound, with_disk}
 use Rattle.qcow2_disk.specs.Disk.{Disk, zeroed_between}
 use Rattle.qcow2_disk.specs.Stops.{GivenBytes}
 use Rattle.qcow2_disk.proofs.Compose.{works_less, works_then, stops_as}
@@ -24,7 +24,7 @@ use Rattle.qcow2_image.specs.declared.prepared.Prepared.{Prepared}
 use Rattle.qcow2_image.specs.ImageInvariant.{ImageInvariant, abstract_of, disk_of, pending_in}
 use Rattle.qcow2_image.specs.L1Entries.{ReachesOffset}
 use Rattle.qcow2_image.specs.MovedTables.{MovesTables}
-use Rattle.qcow2_image.specs.Preallocation.{FilledCovers, FillsOrRefuses, FillsPart, FillsSome, InterruptedGiving, IsUnderMappingIn, MayBeZero, RefusedFill, gift_of_zeros}
+use Rattle.qcow2_image.specs.Preallocation.{FilledCovers, FillsOrRefuses, FillsPart, FillsSome, InterruptedGiving, IsUnderMappingIn, MayBeZero, RefusedFill, given_by_zeros}
 use Rattle.qcow2_image.specs.Refusals.{IsMet}
 use Rattle.qcow2_image.proofs.Call.Called.{works_none}
 use Rattle.qcow2_image.proofs.Clear.ClearCalls.{under_before}
@@ -69,14 +69,14 @@ module _ (h : HeaderFields) (some : 0 < cluster_size h) (rows : 0 < entries_per_
 
 module _ {S F : Type 0} (view : S → StorageView) (backing : F → BackingView) (out : List (Option Prepared)) where
   -- zeros of a part are zeros of the whole
-  wider_works : (old new : Qcow2 S F) (from to from' to' : ℕ) → from' ≤ from → to ≤ to' → Works (abstract_of view backing old out) (abstract_of view backing new out) (gift_of_zeros from to ∷ []) []
-      → Works (abstract_of view backing old out) (abstract_of view backing new out) (gift_of_zeros from' to' ∷ []) []
+  wider_works : (old new : Qcow2 S F) (from to from' to' : ℕ) → from' ≤ from → to ≤ to' → EffectOnSound (abstract_of view backing old out) (abstract_of view backing new out) (given_by_zeros from to ∷ []) []
+      → EffectOnSound (abstract_of view backing old out) (abstract_of view backing new out) (given_by_zeros from' to' ∷ []) []
   wider_works old new from to from' to' low high works =
-      works_less (abstract_of view backing old out) (abstract_of view backing new out) (gift_of_zeros from to ∷ []) (gift_of_zeros from' to' ∷ []) [] (λ o w given. inr (zeros_wider from to from' to' low high o w given)) works
+      works_less (abstract_of view backing old out) (abstract_of view backing new out) (given_by_zeros from to ∷ []) (given_by_zeros from' to' ∷ []) [] (λ o w given. inr (zeros_wider from to from' to' low high o w given)) works
 
   -- a sound image that is marked as failed
   pub given_broken : (given : List GivenBytes) (old new : Qcow2 S F) (e : ImageError) → FaultOfTables e → (e ≡ I.Memory → IsTrue new.file.caches.is_changed) → ImageInvariant view backing (pending_in view backing new out) new out
-      → Works (abstract_of view backing old out) (abstract_of view backing new out) given [] → InterruptedGiving view backing given old new out e
+      → EffectOnSound (abstract_of view backing old out) (abstract_of view backing new out) given [] → InterruptedGiving view backing given old new out e
   given_broken given old new e fault noted sound works = record {
     fault = fault;
     noted = noted;
@@ -89,9 +89,9 @@ module _ {S F : Type 0} (view : S → StorageView) (backing : F → BackingView)
   }
 
   -- ---- nothing yet
-  pub fills_none : (image : Qcow2 S F) (first from : ℕ) → ImageInvariant view backing (pending_in view backing image out) image out → Works (abstract_of view backing image out) (abstract_of view backing image out) [] [] → FillsPart view backing first from from image image out
+  pub fills_none : (image : Qcow2 S F) (first from : ℕ) → ImageInvariant view backing (pending_in view backing image out) image out → EffectOnSound (abstract_of view backing image out) (abstract_of view backing image out) [] [] → FillsPart view backing first from from image image out
   fills_none image first from sound works = record {
-    works = none_of _ _ (gift_of_zeros from from ∷ []) works;
+    works = none_of _ _ (given_by_zeros from from ∷ []) works;
     sound = sound;
     shows = ap (λ (d : Disk). with_disk (guest_of (abstract_of view backing image out)) d) (sym (zeroed_none (disk_of view backing image) from from (omega arith)));
     header = refl;
@@ -100,21 +100,21 @@ module _ {S F : Type 0} (view : S → StorageView) (backing : F → BackingView)
   }
 
   -- a refused part that no guest sees
-  pub fill_unseen : (old new : Qcow2 S F) (from to : ℕ) (e : ImageError) → RefusedCall view backing old new out e → FillsSome view backing from to old new out ⊎ InterruptedGiving view backing (gift_of_zeros from to ∷ []) old new out e
+  pub fill_unseen : (old new : Qcow2 S F) (from to : ℕ) (e : ImageError) → RefusedCall view backing old new out e → FillsSome view backing from to old new out ⊎ InterruptedGiving view backing (given_by_zeros from to ∷ []) old new out e
   fill_unseen old new from to e (inl stays) = inl (record {
-    works = none_of _ _ (gift_of_zeros from to ∷ []) stays.works;
+    works = none_of _ _ (given_by_zeros from to ∷ []) stays.works;
     sound = stays.sound;
     now = disk_of view backing old;
     may = may_none from to (disk_of view backing old);
     shows = stays.same;
   })
-  fill_unseen old new from to e (inr breaks) = inr (record { fault = breaks.fault; noted = breaks.noted; works = none_of _ _ (gift_of_zeros from to ∷ []) breaks.works })
+  fill_unseen old new from to e (inr breaks) = inr (record { fault = breaks.fault; noted = breaks.noted; works = none_of _ _ (given_by_zeros from to ∷ []) breaks.works })
 
   -- refused before anything was done
   pub refused_here : (image : Qcow2 S F) (from to : ℕ) (e : ImageError) → (e ≡ I.TablePrepared → ⊥) → ImageInvariant view backing (pending_in view backing image out) image out → RefusedFill view backing from to image image out e
   refused_here image from to e other sound = record {
     left = inl (record {
-      works = none_of _ _ (gift_of_zeros from to ∷ []) (works_none (abstract_of view backing image out) sound);
+      works = none_of _ _ (given_by_zeros from to ∷ []) (works_none (abstract_of view backing image out) sound);
       sound = sound;
       now = disk_of view backing image;
       may = may_none from to (disk_of view backing image);
@@ -131,7 +131,7 @@ module _ {S F : Type 0} (view : S → StorageView) (backing : F → BackingView)
 
     pub fills_then : FillsPart view backing zeros from mid a b out → FillsPart view backing zeros mid to b c out → FillsPart view backing zeros from to a c out
     fills_then first then = record {
-      works = works_then (abstract_of view backing a out) (abstract_of view backing b out) (abstract_of view backing c out) (gift_of_zeros from to ∷ []) [] first.sound (wider_works a b from mid from to (omega arith) high first.works) (wider_works b c mid to from to low (omega arith) then.works);
+      works = works_then (abstract_of view backing a out) (abstract_of view backing b out) (abstract_of view backing c out) (given_by_zeros from to ∷ []) [] first.sound (wider_works a b from mid from to (omega arith) high first.works) (wider_works b c mid to from to low (omega arith) then.works);
       sound = then.sound;
       shows = then.shows ∙ ap (λ (g : Guest). with_disk g (zeroed_between g.disk mid to)) first.shows ∙ ap (λ (d : Disk). with_disk (guest_of (abstract_of view backing a out)) d) (zeroed_then (disk_of view backing a) from mid to low high);
       header = moves_then a.file.header.fields b.file.header.fields c.file.header.fields first.header then.header;
@@ -143,7 +143,7 @@ module _ {S F : Type 0} (view : S → StorageView) (backing : F → BackingView)
     -- the later part of the range may come first
     pub fills_before : FillsPart view backing zeros mid to a b out → FillsPart view backing zeros from mid b c out → FillsPart view backing zeros from to a c out
     fills_before first then = record {
-      works = works_then (abstract_of view backing a out) (abstract_of view backing b out) (abstract_of view backing c out) (gift_of_zeros from to ∷ []) [] first.sound (wider_works a b mid to from to low (omega arith) first.works) (wider_works b c from mid from to (omega arith) high then.works);
+      works = works_then (abstract_of view backing a out) (abstract_of view backing b out) (abstract_of view backing c out) (given_by_zeros from to ∷ []) [] first.sound (wider_works a b mid to from to low (omega arith) first.works) (wider_works b c from mid from to (omega arith) high then.works);
       sound = then.sound;
       shows = then.shows ∙ ap (λ (g : Guest). with_disk g (zeroed_between g.disk from mid)) first.shows ∙ ap (λ (d : Disk). with_disk (guest_of (abstract_of view backing a out)) d) (zeroed_before (disk_of view backing a) from mid to low high);
       header = moves_then a.file.header.fields b.file.header.fields c.file.header.fields first.header then.header;
@@ -156,7 +156,7 @@ module _ {S F : Type 0} (view : S → StorageView) (backing : F → BackingView)
   module _ (a b c : Qcow2 S F) (zeros from to x y x' y' : ℕ) (low : from ≤ x) (high : y ≤ to) (low' : from ≤ x') (high' : y' ≤ to) (first : FillsPart view backing zeros x y a b out) where
     some_after : FillsSome view backing x' y' b c out → FillsSome view backing from to a c out
     some_after then = record {
-      works = works_then (abstract_of view backing a out) (abstract_of view backing b out) (abstract_of view backing c out) (gift_of_zeros from to ∷ []) [] first.sound (wider_works a b x y from to low high first.works) (wider_works b c x' y' from to low' high' then.works);
+      works = works_then (abstract_of view backing a out) (abstract_of view backing b out) (abstract_of view backing c out) (given_by_zeros from to ∷ []) [] first.sound (wider_works a b x y from to low high first.works) (wider_works b c x' y' from to low' high' then.works);
       sound = then.sound;
       now = then.now;
       may = may_then from to (disk_of view backing a) (zeroed_between (disk_of view backing a) x y) then.now (may_wider x y from to (disk_of view backing a) (zeroed_between (disk_of view backing a) x y) low high (may_zeroed x y (disk_of view backing a)))
@@ -164,17 +164,17 @@ module _ {S F : Type 0} (view : S → StorageView) (backing : F → BackingView)
       shows = then.shows ∙ ap (λ (g : Guest). with_disk g then.now) first.shows;
     }
 
-    broken_after : (e : ImageError) → InterruptedGiving view backing (gift_of_zeros x' y' ∷ []) b c out e → InterruptedGiving view backing (gift_of_zeros from to ∷ []) a c out e
+    broken_after : (e : ImageError) → InterruptedGiving view backing (given_by_zeros x' y' ∷ []) b c out e → InterruptedGiving view backing (given_by_zeros from to ∷ []) a c out e
     broken_after e then = record {
       fault = then.fault;
       noted = then.noted;
-      works = works_then (abstract_of view backing a out) (abstract_of view backing b out) (abstract_of view backing (record c { is_failed = true }) out) (gift_of_zeros from to ∷ []) [] first.sound (wider_works a b x y from to low high first.works)
+      works = works_then (abstract_of view backing a out) (abstract_of view backing b out) (abstract_of view backing (record c { is_failed = true }) out) (given_by_zeros from to ∷ []) [] first.sound (wider_works a b x y from to low high first.works)
           (wider_works b (record c { is_failed = true }) x' y' from to low' high' then.works);
     }
 
     pub refused_after : (e : ImageError) → RefusedFill view backing x' y' b c out e → RefusedFill view backing from to a c out e
     refused_after e then = record {
-      left = ⊎_elim (λ (some : FillsSome view backing x' y' b c out). inl (some_after some)) (λ (broken : InterruptedGiving view backing (gift_of_zeros x' y' ∷ []) b c out e). inr (broken_after e broken)) then.left;
+      left = ⊎_elim (λ (some : FillsSome view backing x' y' b c out). inl (some_after some)) (λ (broken : InterruptedGiving view backing (given_by_zeros x' y' ∷ []) b c out e). inr (broken_after e broken)) then.left;
       taken = λ is. taken_wider a.file.header.fields b.file.header.fields x' y' from to out first.header low' high' (then.taken is);
     }
 
@@ -182,7 +182,7 @@ module _ {S F : Type 0} (view : S → StorageView) (backing : F → BackingView)
   module _ (a b c : Qcow2 S F) (zeros from to : ℕ) (first : FillsPart view backing zeros from to a b out) where
     pub fills_stays : UnseenCall view backing b c out → c.file.header ≡ b.file.header → FillsPart view backing zeros from to a c out
     fills_stays then same = record {
-      works = works_then (abstract_of view backing a out) (abstract_of view backing b out) (abstract_of view backing c out) (gift_of_zeros from to ∷ []) [] first.sound first.works (none_of _ _ (gift_of_zeros from to ∷ []) then.works);
+      works = works_then (abstract_of view backing a out) (abstract_of view backing b out) (abstract_of view backing c out) (given_by_zeros from to ∷ []) [] first.sound first.works (none_of _ _ (given_by_zeros from to ∷ []) then.works);
       sound = then.sound;
       shows = then.same ∙ first.shows;
       header = moves_then a.file.header.fields b.file.header.fields c.file.header.fields first.header then.header;
@@ -198,7 +198,7 @@ module _ {S F : Type 0} (view : S → StorageView) (backing : F → BackingView)
   -- whole clusters are cleared
   pub cleared_fills : (old new : Qcow2 S F) (from to : ℕ) → from < to → ReachesOffset from old.file.header.fields new.file.header.fields → from % cluster_size old.file.header.fields ≡ 0 → ClearsPart view backing KeptZeros from to old new out → FillsPart view backing 0 from to old new out
   cleared_fills old new from to lt reaches whole part = record {
-    works = works_less (abstract_of view backing old out) (abstract_of view backing new out) _ (gift_of_zeros from to ∷ []) [] (λ o w given. inr (shown_zeros (disk_of view backing old) from to o w given)) part.works;
+    works = works_less (abstract_of view backing old out) (abstract_of view backing new out) _ (given_by_zeros from to ∷ []) [] (λ o w given. inr (shown_zeros (disk_of view backing old) from to o w given)) part.works;
     sound = part.sound;
     shows = part.shows;
     header = part.header;

@@ -12,7 +12,7 @@ use Rattle.qcow2_metadata.specs.Header.{cluster_size, rounded_up}
 use Rattle.qcow2_disk.specs.AbstractImages.{guest_of}
 use Rattle.qcow2_disk.specs.Calls.{shows_old, with_disk}
 use Rattle.qcow2_disk.specs.Disk.{Disk, zeroed_between}
-use Rattle.qcow2_disk.specs.Mappings.{gift_shown}
+use Rattle.qcow2_disk.specs.Mappings.{given_shown}
 use Rattle.qcow2_disk.specs.Stops.{GivenBytes, IsGiven}
 use Rattle.qcow2_disk.proofs.Compose.{works_less}
 use Rattle.qcow2_alloc.specs.ImageFile.{known_in}
@@ -21,7 +21,7 @@ use Rattle.qcow2_image.specs.declared.image.Qcow2.{Qcow2}
 use Rattle.qcow2_image.specs.declared.prepared.Prepared.{Prepared}
 use Rattle.qcow2_image.specs.Image.{size_of}
 use Rattle.qcow2_image.specs.ImageInvariant.{ImageInvariant, abstract_of, disk_of, pending_in}
-use Rattle.qcow2_image.specs.Preallocation.{FilledCovers, first_zeros, FillsGrown, FillsGrownInPart, FillsGrownOrRefuses, FillsOrRefuses, FillsPart, FillsSome, InterruptedGiving, IsUnderMappingIn, RefusedFill, RefusedGrown, filled_to, gift_of_zeros, gifts_of_growing}
+use Rattle.qcow2_image.specs.Preallocation.{FilledCovers, first_zeros, FillsGrown, FillsGrownInPart, FillsGrownOrRefuses, FillsOrRefuses, FillsPart, FillsSome, InterruptedGiving, IsUnderMappingIn, RefusedFill, RefusedGrown, filled_to, given_by_zeros, all_given_by_growing}
 use Rattle.qcow2_image.specs.Refusals.{IsMet}
 use Rattle.qcow2_image.proofs.Call.Called.{works_none}
 use Rattle.qcow2_image.proofs.Preallocate.Filled.{met_taken, refused_here}
@@ -73,7 +73,7 @@ module _ {S F : Type 0} (view : S → StorageView) (backing : F → BackingView)
   -- of no mode
   pub grown_none : mode ≡ Mode.None → FillsGrown view backing size mode old old out
   grown_none none = record {
-    works = none_of _ _ (gifts_of_growing view backing old size mode) (works_none (abstract_of view backing old out) sound);
+    works = none_of _ _ (all_given_by_growing view backing old size mode) (works_none (abstract_of view backing old out) sound);
     sound = sound;
     shows = ap (λ (e : Disk). with_disk (guest_of (abstract_of view backing old out)) e) (subst (λ (x : PreallocateMode). d ≡ filled_to (cluster_size old.file.header.fields) d size x) (sym none) refl);
     header = refl;
@@ -82,17 +82,17 @@ module _ {S F : Type 0} (view : S → StorageView) (backing : F → BackingView)
   }
 
   module _ (hides : shows_old mode ≡ false) where
-    gifts_are : gifts_of_growing view backing old size mode ≡ gift_shown (zeroed_between d d.size end) d.size end ∷ []
-    gifts_are = cond-false _ _ _ (ap (λ b. b || shows_old mode) (lt-leb size d.size more) ∙ hides)
+    given_bytes_are : all_given_by_growing view backing old size mode ≡ given_shown (zeroed_between d d.size end) d.size end ∷ []
+    given_bytes_are = cond-false _ _ _ (ap (λ b. b || shows_old mode) (lt-leb size d.size more) ∙ hides)
 
-    given_zeros : (o : ℕ) (w : Value) → IsGiven (gift_of_zeros (size_of old) end ∷ []) o w → IsGiven (gifts_of_growing view backing old size mode) o w
+    given_zeros : (o : ℕ) (w : Value) → IsGiven (given_by_zeros (size_of old) end ∷ []) o w → IsGiven (all_given_by_growing view backing old size mode) o w
     given_zeros o w given =
-        subst (λ (gs : List GivenBytes). IsGiven gs o w) (sym gifts_are) (zeros_shown d d.size end o w (subst (λ n. IsGiven (gift_of_zeros n end ∷ []) o w) size_is given))
+        subst (λ (gs : List GivenBytes). IsGiven gs o w) (sym given_bytes_are) (zeros_shown d d.size end o w (subst (λ n. IsGiven (given_by_zeros n end ∷ []) o w) size_is given))
 
     module _ (new : Qcow2 S F) where
       pub grown_all : (first : ℕ) → first ≡ first_zeros (cluster_size old.file.header.fields) (size_of old) size mode → FillsPart view backing first (size_of old) end old new out → FillsGrown view backing size mode old new out
       grown_all first begins part = record {
-        works = works_less (abstract_of view backing old out) (abstract_of view backing new out) (gift_of_zeros (size_of old) end ∷ []) (gifts_of_growing view backing old size mode) [] (λ o w given. inr (given_zeros o w given)) part.works;
+        works = works_less (abstract_of view backing old out) (abstract_of view backing new out) (given_by_zeros (size_of old) end ∷ []) (all_given_by_growing view backing old size mode) [] (λ o w given. inr (given_zeros o w given)) part.works;
         sound = part.sound;
         shows = part.shows ∙ ap (λ (e : Disk). with_disk (guest_of (abstract_of view backing old out)) e) (ap (λ n. zeroed_between d n end) size_is ∙ sym (cond-false (shows_old mode) d (zeroed_between d d.size end) hides));
         header = part.header;
@@ -105,7 +105,7 @@ module _ {S F : Type 0} (view : S → StorageView) (backing : F → BackingView)
 
       in_part : FillsSome view backing (size_of old) end old new out → FillsGrownInPart view backing size mode old new out
       in_part part = record {
-        works = works_less (abstract_of view backing old out) (abstract_of view backing new out) (gift_of_zeros (size_of old) end ∷ []) (gifts_of_growing view backing old size mode) [] (λ o w given. inr (given_zeros o w given)) part.works;
+        works = works_less (abstract_of view backing old out) (abstract_of view backing new out) (given_by_zeros (size_of old) end ∷ []) (all_given_by_growing view backing old size mode) [] (λ o w given. inr (given_zeros o w given)) part.works;
         sound = part.sound;
         now = part.now;
         may = record {
@@ -116,16 +116,16 @@ module _ {S F : Type 0} (view : S → StorageView) (backing : F → BackingView)
         shows = part.shows;
       }
 
-      broken : (e : ImageError) → InterruptedGiving view backing (gift_of_zeros (size_of old) end ∷ []) old new out e → InterruptedGiving view backing (gifts_of_growing view backing old size mode) old new out e
+      broken : (e : ImageError) → InterruptedGiving view backing (given_by_zeros (size_of old) end ∷ []) old new out e → InterruptedGiving view backing (all_given_by_growing view backing old size mode) old new out e
       broken e breaks = record {
         fault = breaks.fault;
         noted = breaks.noted;
-        works = works_less (abstract_of view backing old out) (abstract_of view backing (record new { is_failed = true }) out) (gift_of_zeros (size_of old) end ∷ []) (gifts_of_growing view backing old size mode) [] (λ o w given. inr (given_zeros o w given)) breaks.works;
+        works = works_less (abstract_of view backing old out) (abstract_of view backing (record new { is_failed = true }) out) (given_by_zeros (size_of old) end ∷ []) (all_given_by_growing view backing old size mode) [] (λ o w given. inr (given_zeros o w given)) breaks.works;
       }
 
       pub grown_refused : (e : ImageError) → RefusedFill view backing (size_of old) end old new out e → RefusedGrown view backing size mode old new out e
       grown_refused e refused = record {
-        left = ⊎_elim (λ (part : FillsSome view backing (size_of old) end old new out). inl (in_part part)) (λ (breaks : InterruptedGiving view backing (gift_of_zeros (size_of old) end ∷ []) old new out e). inr (broken e breaks)) refused.left;
+        left = ⊎_elim (λ (part : FillsSome view backing (size_of old) end old new out). inl (in_part part)) (λ (breaks : InterruptedGiving view backing (given_by_zeros (size_of old) end ∷ []) old new out e). inr (broken e breaks)) refused.left;
         taken = λ is. subst (λ n. IsUnderMappingIn old.file.header.fields n end out) size_is (refused.taken is);
       }
 

@@ -6,15 +6,15 @@ use Rattle.std.proofs.lemmas.List.{length-replicate}
 use Rattle.std.proofs.lemmas.Nat.{div-add-mod', div-mul-add, mod_below, pow_pos}
 use Rattle.image_access.specs.Backing.{BackingView}
 use Rattle.image_access.specs.Contents.{overwritten}
-use Rattle.image_access.specs.Moments.{StorageView, Passing}
+use Rattle.image_access.specs.Moments.{StorageView, EachMomentSince}
 use Rattle.qcow2_metadata.specs.Bytes.{Bytes}
 use Rattle.qcow2_metadata.specs.declared.header.HeaderFields.{HeaderFields}
 use Rattle.qcow2_metadata.specs.Cover.{cover}
 use Rattle.qcow2_metadata.specs.Header.{cluster_size}
 use Rattle.qcow2_disk.specs.AbstractImages.{Setting, guest_of}
 use Rattle.qcow2_disk.specs.Alike.{AreDataAt, IsDataAt}
-use Rattle.qcow2_disk.specs.Calls.{Works, with_slot}
-use Rattle.qcow2_disk.specs.Mappings.{gift_of_commit}
+use Rattle.qcow2_disk.specs.Calls.{EffectOnSound, with_slot}
+use Rattle.qcow2_disk.specs.Mappings.{given_by_commit}
 use Rattle.qcow2_disk.proofs.Compose.{works_then}
 use Rattle.qcow2_alloc.specs.declared.error.ImageError.{ImageError}
 use Rattle.qcow2_alloc.specs.declared.error.ImageError.TheVariants as I
@@ -32,7 +32,7 @@ use Rattle.qcow2_disk.specs.Mappings.{is_copied_data}
 use Rattle.qcow2_image.specs.ImageInvariant.{ImageInvariant, IsPending, IsReadyWith, cluster_of, abstract_of, disk_of, image_abstraction, meaning, pending_in}
 use Rattle.qcow2_image.specs.L1Entries.{ReachesOffset, StaysAsLong}
 use Rattle.qcow2_image.specs.MovedTables.{CoversStay, MovesTables}
-use Rattle.qcow2_image.specs.Preallocation.{FilledCovers, CommitsWhole, FillsPart, FillsSome, InterruptedGiving, gift_of_zeros}
+use Rattle.qcow2_image.specs.Preallocation.{FilledCovers, CommitsWhole, FillsPart, FillsSome, InterruptedGiving, given_by_zeros}
 use Rattle.qcow2_image.specs.Preparing.{IsAnswered}
 use Rattle.qcow2_image.proofs.Call.Slots.{get_set_same, set_set}
 use Rattle.qcow2_image.proofs.Commit.CommitCalls.{all_shown, commit_existing}
@@ -159,11 +159,11 @@ module _ {S F : Type 0} (view : S → StorageView) (backing : F → BackingView)
         let end : slice_set (slice_set out k (Some q)) k None ≡ slice_set out k None = set_set out k (Some q) None in
         let v = abstract_of view backing old out in
         let e = abstract_of view backing entered (slice_set out k (Some q)) in
-        let gifts = gift_of_commit v.setting.cluster_size (guest_of v).disk (meaning view backing old p) ∷ [] in
+        let given_bytes = given_by_commit v.setting.cluster_size (guest_of v).disk (meaning view backing old p) ∷ [] in
         record {
-          works = subst (λ (now : List (Option Prepared)). Works v (abstract_of view backing new now) gifts []) end
-              (works_then v e (abstract_of view backing new (slice_set (slice_set out k (Some q)) k None)) gifts [] all.part.sound all.part.works
-              (none_of e (abstract_of view backing new (slice_set (slice_set out k (Some q)) k None)) gifts (gone.acts.works all.part.sound)));
+          works = subst (λ (now : List (Option Prepared)). EffectOnSound v (abstract_of view backing new now) given_bytes []) end
+              (works_then v e (abstract_of view backing new (slice_set (slice_set out k (Some q)) k None)) given_bytes [] all.part.sound all.part.works
+              (none_of e (abstract_of view backing new (slice_set (slice_set out k (Some q)) k None)) given_bytes (gone.acts.works all.part.sound)));
           sound = subst (λ (now : List (Option Prepared)). ImageInvariant view backing (pending_in view backing new now) new now) end answer.0;
           shows = all_shown (guest_of v) (guest_of e) (guest_of (abstract_of view backing new (slice_set out k None))) k (meaning view backing old p) (meaning view backing entered q) all.part.shows all.visible
               (subst (λ (now : List (Option Prepared)). guest_of (abstract_of view backing new now) ≡ with_slot (guest_of e) k None) end answer.1);
@@ -193,7 +193,7 @@ module _ {S F : Type 0} (view : S → StorageView) (backing : F → BackingView)
         (data_moved old.file.header.fields mid.file.header.fields (known_in view old.file) (known_in view mid.file) ready.header ready.covers (from + i) (p.offset + i) was))
 
     -- zeros are written
-    module _ (storage : ImageStorage S) (honest : (view (storage_of storage)).is_honest) (time : Passing (view_in view mid.file) (view (storage_of storage)) (λ c. c ≡ (view (storage_of storage)).contents)) where
+    module _ (storage : ImageStorage S) (honest : (view (storage_of storage)).is_honest) (time : EachMomentSince (view_in view mid.file) (view (storage_of storage)) (λ c. c ≡ (view (storage_of storage)).contents)) where
       pub zeros_put : (r : Result (Unit {0}) ImageError) → IsWriteOutcome r (view_in view mid.file).contents (overwritten (view_in view mid.file).contents p.offset (zeros_of p.length)) (view (storage_of storage)).contents
           → PutsPart view backing mid (record mid { file = record mid.file { storage = storage } }) (Some p ∷ out) 0 p 0 (zeros_of p.length) r
       zeros_put r is =
@@ -245,24 +245,24 @@ module _ {S F : Type 0} (view : S → StorageView) (backing : F → BackingView)
       sound_now : ImageInvariant view backing (pending_in view backing gone out) gone out
       sound_now = (free_places view backing).left gone [] out gone_sound
 
-      works_now : Works (abstract_of view backing old out) (abstract_of view backing gone out) (gift_of_zeros from (from + p.length) ∷ []) []
+      works_now : EffectOnSound (abstract_of view backing old out) (abstract_of view backing gone out) (given_by_zeros from (from + p.length) ∷ []) []
       works_now = gone_works (image_abstraction view backing) (free_places view backing) (λ _. refl) old mid p out (cluster_size old.file.header.fields) from n sound ready.sound ready.works ready.prepared ready.is fits mid2 put.sound put.works gone
           ((discards (Some p ∷ out) 0 refl).acts.works put.sound) gone_sound
 
-      pub piece_gone : (frees : ImageInvariant view backing (pending_in view backing gone out) gone out → RefusedCall view backing gone new out e') → FillsSome view backing from (from + p.length) old new out ⊎ InterruptedGiving view backing (gift_of_zeros from (from + p.length) ∷ []) old new out e'
+      pub piece_gone : (frees : ImageInvariant view backing (pending_in view backing gone out) gone out → RefusedCall view backing gone new out e') → FillsSome view backing from (from + p.length) old new out ⊎ InterruptedGiving view backing (given_by_zeros from (from + p.length) ∷ []) old new out e'
       piece_gone frees = ⊎_elim
           (λ (same : guest_of (abstract_of view backing mid2 (Some p ∷ out)) ≡ guest_of (abstract_of view backing mid (Some p ∷ out))).
           let still = gone_same (image_abstraction view backing) (free_places view backing) (λ _. refl) old mid p out (cluster_size old.file.header.fields) from n sound ready.sound ready.works ready.prepared ready.is fits mid2 put.sound put.works gone same ((discards (Some p ∷ out) 0 refl).answer put.sound).1 in
           some_then still (frees sound_now))
           (λ (failed : e ≡ I.Storage).
           let is = fault (inl failed) in
-          inr (subst (λ (x : Qcow2 S F). InterruptedGiving view backing (gift_of_zeros from (from + p.length) ∷ []) old x out e') (sym is.1)
-          (given_broken view backing out (gift_of_zeros from (from + p.length) ∷ []) old gone e' (inl (is.0 ∙ failed)) (λ memory. absurd (let no : I.Storage ≡ I.Memory = sym (is.0 ∙ failed) ∙ memory in cc)) sound_now works_now))) put.is
+          inr (subst (λ (x : Qcow2 S F). InterruptedGiving view backing (given_by_zeros from (from + p.length) ∷ []) old x out e') (sym is.1)
+          (given_broken view backing out (given_by_zeros from (from + p.length) ∷ []) old gone e' (inl (is.0 ∙ failed)) (λ memory. absurd (let no : I.Storage ≡ I.Memory = sym (is.0 ∙ failed) ∙ memory in cc)) sound_now works_now))) put.is
         where
           some_then : guest_of (abstract_of view backing gone out) ≡ guest_of (abstract_of view backing old out) → RefusedCall view backing gone new out e'
-              → FillsSome view backing from (from + p.length) old new out ⊎ InterruptedGiving view backing (gift_of_zeros from (from + p.length) ∷ []) old new out e'
+              → FillsSome view backing from (from + p.length) old new out ⊎ InterruptedGiving view backing (given_by_zeros from (from + p.length) ∷ []) old new out e'
           some_then still (inl stays) = inl (record {
-            works = works_then (abstract_of view backing old out) (abstract_of view backing gone out) (abstract_of view backing new out) (gift_of_zeros from (from + p.length) ∷ []) [] sound_now works_now (none_of _ _ (gift_of_zeros from (from + p.length) ∷ []) stays.works);
+            works = works_then (abstract_of view backing old out) (abstract_of view backing gone out) (abstract_of view backing new out) (given_by_zeros from (from + p.length) ∷ []) [] sound_now works_now (none_of _ _ (given_by_zeros from (from + p.length) ∷ []) stays.works);
             sound = stays.sound;
             now = disk_of view backing old;
             may = may_none from (from + p.length) (disk_of view backing old);
@@ -271,7 +271,7 @@ module _ {S F : Type 0} (view : S → StorageView) (backing : F → BackingView)
           some_then still (inr breaks) = inr (record {
             fault = breaks.fault;
             noted = breaks.noted;
-            works = works_then (abstract_of view backing old out) (abstract_of view backing gone out) (abstract_of view backing (record new { is_failed = true }) out) (gift_of_zeros from (from + p.length) ∷ []) [] sound_now works_now (none_of _ _ (gift_of_zeros from (from + p.length) ∷ []) breaks.works);
+            works = works_then (abstract_of view backing old out) (abstract_of view backing gone out) (abstract_of view backing (record new { is_failed = true }) out) (given_by_zeros from (from + p.length) ∷ []) [] sound_now works_now (none_of _ _ (given_by_zeros from (from + p.length) ∷ []) breaks.works);
           })
 
   -- ---- as a call makes it

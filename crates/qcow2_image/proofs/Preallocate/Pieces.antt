@@ -4,16 +4,16 @@ use Rattle.std.proofs.lemmas.Bool.{cond-false, ne_eqb}
 use mathlib.Core.Path.{fun_ext}
 use Rattle.qcow2_metadata.specs.Guest.{Value}
 use Rattle.qcow2_disk.specs.Disk.{Disk, disk, zeroed_between}
-use Rattle.qcow2_disk.specs.Mappings.{PreparedMapping, IsPrepared, committed, gift_of_commit, gift_of_put, put_disk, put_mapping}
+use Rattle.qcow2_disk.specs.Mappings.{PreparedMapping, IsPrepared, committed, given_by_commit, given_by_put, put_disk, put_mapping}
 use Rattle.qcow2_disk.specs.Stops.{GivenBytes, IsGiven}
 use Rattle.qcow2_disk.specs.AbstractImages.{Abstraction, AbstractImage, Guest, HasFreePlaces, abstract_image, guest_of}
-use Rattle.qcow2_disk.specs.Calls.{Works, with_disk, with_slot}
+use Rattle.qcow2_disk.specs.Calls.{EffectOnSound, with_disk, with_slot}
 use Rattle.qcow2_disk.proofs.Compose.{shown_is, works_less, works_then, stops_none}
-use Rattle.qcow2_image.specs.Preallocation.{gift_of_zeros}
+use Rattle.qcow2_image.specs.Preallocation.{given_by_zeros}
 use Rattle.qcow2_image.proofs.Preallocate.Zeros.{commit_within, filled, put_within, zeros_of}
 
 -- nothing is given
-pub none_of : (v w : AbstractImage) (given : List GivenBytes) → Works v w [] [] → Works v w given []
+pub none_of : (v w : AbstractImage) (given : List GivenBytes) → EffectOnSound v w [] [] → EffectOnSound v w given []
 none_of v w given works = works_less v w [] given [] (λ o x never. absurd never) works
 
 -- the guest without its first place
@@ -31,14 +31,14 @@ module _ {D P : Type 0} (spec : Abstraction D P) (has : HasFreePlaces spec) (in_
   at_place d p out = abstract_image spec d (p ∷ out)
 
   -- a free place more, or less
-  pub enters : (d : D) (out : List (Option P)) → Works (abstract_image spec d out) (at_place d None out) [] []
+  pub enters : (d : D) (out : List (Option P)) → EffectOnSound (abstract_image spec d out) (at_place d None out) [] []
   enters d out = record { setting = refl; surplus = λ _. has.surplus d [] out; stops = stops_none (abstract_image spec d out) (at_place d None out) [] [] refl (λ _. refl) }
 
-  pub leaves : (d : D) (out : List (Option P)) → Works (at_place d None out) (abstract_image spec d out) [] []
+  pub leaves : (d : D) (out : List (Option P)) → EffectOnSound (at_place d None out) (abstract_image spec d out) [] []
   leaves d out = record { setting = refl; surplus = λ _. sym (has.surplus d [] out); stops = stops_none (at_place d None out) (abstract_image spec d out) [] [] refl (λ _. refl) }
 
   -- it is prepared
-  module _ (d0 d1 : D) (p : P) (out : List (Option P)) (size offset n : ℕ) (sound0 : spec.is_sound d0 out) (sound1 : spec.is_sound d1 (Some p ∷ out)) (readies : Works (at_place d0 None out) (at_place d1 (Some p) out) [] [])
+  module _ (d0 d1 : D) (p : P) (out : List (Option P)) (size offset n : ℕ) (sound0 : spec.is_sound d0 out) (sound1 : spec.is_sound d1 (Some p ∷ out)) (readies : EffectOnSound (at_place d0 None out) (at_place d1 (Some p) out) [] [])
       (prepared : IsPrepared size (guest_of (at_place d0 None out)).disk offset n true (spec.means d1 p))
       (ready_is : guest_of (at_place d1 (Some p) out) ≡ with_slot (guest_of (at_place d0 None out)) 0 (Some (spec.means d1 p))) (fits : (spec.means d1 p).length ≤ n) where
     abbrev m : PreparedMapping
@@ -47,8 +47,8 @@ module _ {D P : Type 0} (spec : Abstraction D P) (has : HasFreePlaces spec) (in_
     abbrev end : ℕ
     end = offset + m.length
 
-    abbrev gifts : List GivenBytes
-    gifts = gift_of_zeros offset end ∷ []
+    abbrev given_bytes : List GivenBytes
+    given_bytes = given_by_zeros offset end ∷ []
 
     abbrev zeros : List ℕ
     zeros = zeros_of m.length
@@ -62,25 +62,25 @@ module _ {D P : Type 0} (spec : Abstraction D P) (has : HasFreePlaces spec) (in_
     ready_guest : behind_first (guest_of (at_place d1 (Some p) out)) ≡ guest_of (abstract_image spec d0 out)
     ready_guest = ap behind_first ready_is ∙ behind_slot (guest_of (at_place d0 None out)) (Some m)
 
-    pub ready_works : (given : List GivenBytes) → Works (abstract_image spec d0 out) (at_place d1 (Some p) out) given []
+    pub ready_works : (given : List GivenBytes) → EffectOnSound (abstract_image spec d0 out) (at_place d1 (Some p) out) given []
     ready_works given =
         works_then (abstract_image spec d0 out) (at_place d0 None out) (at_place d1 (Some p) out) given [] (has.free d0 [] out sound0) (none_of _ _ given (enters d0 out)) (none_of _ _ given readies)
 
     -- zeros are put into it
-    module _ (d2 : D) (sound2 : spec.is_sound d2 (Some p ∷ out)) (puts : Works (at_place d1 (Some p) out) (at_place d2 (Some p) out) (gift_of_put (guest_of (at_place d1 (Some p) out)).disk m 0 zeros ∷ []) []) where
-      puts_given : (o : ℕ) (w : Value) → IsGiven (gift_of_put (guest_of (at_place d1 (Some p) out)).disk m 0 zeros ∷ []) o w → (w ≡ (disk (spec.known d1) (spec.setting d1).backing).value o) ⊎ IsGiven gifts o w
+    module _ (d2 : D) (sound2 : spec.is_sound d2 (Some p ∷ out)) (puts : EffectOnSound (at_place d1 (Some p) out) (at_place d2 (Some p) out) (given_by_put (guest_of (at_place d1 (Some p) out)).disk m 0 zeros ∷ []) []) where
+      puts_given : (o : ℕ) (w : Value) → IsGiven (given_by_put (guest_of (at_place d1 (Some p) out)).disk m 0 zeros ∷ []) o w → (w ≡ (disk (spec.known d1) (spec.setting d1).backing).value o) ⊎ IsGiven given_bytes o w
       puts_given o w given =
-          ⊎_elim (λ (same : w ≡ disk0.value o). inl (same ∙ ap (λ (d : Disk). d.value o) (sym ready_disk ∙ shown_is (at_place d1 (Some p) out) (in_image d1)))) (λ (zero : IsGiven gifts o w). inr zero)
-          (put_within size disk0 m offset n prepared fits o w (subst (λ (d : Disk). IsGiven (gift_of_put d m 0 zeros ∷ []) o w) ready_disk given))
+          ⊎_elim (λ (same : w ≡ disk0.value o). inl (same ∙ ap (λ (d : Disk). d.value o) (sym ready_disk ∙ shown_is (at_place d1 (Some p) out) (in_image d1)))) (λ (zero : IsGiven given_bytes o w). inr zero)
+          (put_within size disk0 m offset n prepared fits o w (subst (λ (d : Disk). IsGiven (given_by_put d m 0 zeros ∷ []) o w) ready_disk given))
 
-      pub put_works : Works (abstract_image spec d0 out) (at_place d2 (Some p) out) gifts []
-      put_works = works_then (abstract_image spec d0 out) (at_place d1 (Some p) out) (at_place d2 (Some p) out) gifts [] sound1 (ready_works gifts) (works_less _ _ _ gifts [] puts_given puts)
+      pub put_works : EffectOnSound (abstract_image spec d0 out) (at_place d2 (Some p) out) given_bytes []
+      put_works = works_then (abstract_image spec d0 out) (at_place d1 (Some p) out) (at_place d2 (Some p) out) given_bytes [] sound1 (ready_works given_bytes) (works_less _ _ _ given_bytes [] puts_given puts)
 
       -- and it is let go
-      pub gone_works : (d3 : D) → Works (at_place d2 (Some p) out) (at_place d3 None out) [] [] → spec.is_sound d3 (None ∷ out) → Works (abstract_image spec d0 out) (abstract_image spec d3 out) gifts []
+      pub gone_works : (d3 : D) → EffectOnSound (at_place d2 (Some p) out) (at_place d3 None out) [] [] → spec.is_sound d3 (None ∷ out) → EffectOnSound (abstract_image spec d0 out) (abstract_image spec d3 out) given_bytes []
       gone_works d3 goes sound3 =
-          works_then (abstract_image spec d0 out) (at_place d3 None out) (abstract_image spec d3 out) gifts [] sound3
-          (works_then (abstract_image spec d0 out) (at_place d2 (Some p) out) (at_place d3 None out) gifts [] sound2 put_works (none_of _ _ gifts goes)) (none_of _ _ gifts (leaves d3 out))
+          works_then (abstract_image spec d0 out) (at_place d3 None out) (abstract_image spec d3 out) given_bytes [] sound3
+          (works_then (abstract_image spec d0 out) (at_place d2 (Some p) out) (at_place d3 None out) given_bytes [] sound2 put_works (none_of _ _ given_bytes goes)) (none_of _ _ given_bytes (leaves d3 out))
 
       -- where none was put nothing changed
       pub gone_same : (d3 : D) → guest_of (at_place d2 (Some p) out) ≡ guest_of (at_place d1 (Some p) out) → guest_of (at_place d3 None out) ≡ with_slot (guest_of (at_place d2 (Some p) out)) 0 None
@@ -89,7 +89,7 @@ module _ {D P : Type 0} (spec : Abstraction D P) (has : HasFreePlaces spec) (in_
 
       -- they are there, and it is committed
       module _ (put_is : guest_of (at_place d2 (Some p) out) ≡ with_slot (with_disk (guest_of (at_place d1 (Some p) out)) (put_disk (guest_of (at_place d1 (Some p) out)).disk m 0 zeros)) 0 (Some (put_mapping m 0 zeros)))
-          (d3 : D) (cs : ℕ) (sound3 : spec.is_sound d3 (None ∷ out)) (commits : Works (at_place d2 (Some p) out) (at_place d3 None out) (gift_of_commit cs (guest_of (at_place d2 (Some p) out)).disk (spec.means d2 p) ∷ []) [])
+          (d3 : D) (cs : ℕ) (sound3 : spec.is_sound d3 (None ∷ out)) (commits : EffectOnSound (at_place d2 (Some p) out) (at_place d3 None out) (given_by_commit cs (guest_of (at_place d2 (Some p) out)).disk (spec.means d2 p) ∷ []) [])
           (commit_is : guest_of (at_place d3 None out) ≡ with_slot (with_disk (guest_of (at_place d2 (Some p) out)) (committed (guest_of (at_place d2 (Some p) out)).disk (spec.means d2 p))) 0 None) where
         abbrev disk2 : Disk
         disk2 = put_disk disk0 m 0 zeros
@@ -108,17 +108,17 @@ module _ {D P : Type 0} (spec : Abstraction D P) (has : HasFreePlaces spec) (in_
         disk2_is : (guest_of (at_place d2 (Some p) out)).disk ≡ disk2
         disk2_is = ap (λ (g : Guest). g.disk) guest2
 
-        commits_given : (o : ℕ) (w : Value) → IsGiven (gift_of_commit cs (guest_of (at_place d2 (Some p) out)).disk (spec.means d2 p) ∷ []) o w → (w ≡ (disk (spec.known d2) (spec.setting d2).backing).value o) ⊎ IsGiven gifts o w
+        commits_given : (o : ℕ) (w : Value) → IsGiven (given_by_commit cs (guest_of (at_place d2 (Some p) out)).disk (spec.means d2 p) ∷ []) o w → (w ≡ (disk (spec.known d2) (spec.setting d2).backing).value o) ⊎ IsGiven given_bytes o w
         commits_given o w given =
-            ⊎_elim (λ (same : w ≡ disk2.value o). inl (same ∙ ap (λ (d : Disk). d.value o) (sym disk2_is ∙ shown_is (at_place d2 (Some p) out) (in_image d2)))) (λ (zero : IsGiven gifts o w). inr zero)
+            ⊎_elim (λ (same : w ≡ disk2.value o). inl (same ∙ ap (λ (d : Disk). d.value o) (sym disk2_is ∙ shown_is (at_place d2 (Some p) out) (in_image d2)))) (λ (zero : IsGiven given_bytes o w). inr zero)
             (commit_within size disk0 m offset n prepared fits cs o w
-            (subst (λ (d : Disk). IsGiven (gift_of_commit cs d mapping2 ∷ []) o w) disk2_is
-            (subst (λ (x : PreparedMapping). IsGiven (gift_of_commit cs (guest_of (at_place d2 (Some p) out)).disk x ∷ []) o w) means_is given)))
+            (subst (λ (d : Disk). IsGiven (given_by_commit cs d mapping2 ∷ []) o w) disk2_is
+            (subst (λ (x : PreparedMapping). IsGiven (given_by_commit cs (guest_of (at_place d2 (Some p) out)).disk x ∷ []) o w) means_is given)))
 
-        pub filled_works : Works (abstract_image spec d0 out) (abstract_image spec d3 out) gifts []
+        pub filled_works : EffectOnSound (abstract_image spec d0 out) (abstract_image spec d3 out) given_bytes []
         filled_works =
-            works_then (abstract_image spec d0 out) (at_place d3 None out) (abstract_image spec d3 out) gifts [] sound3
-            (works_then (abstract_image spec d0 out) (at_place d2 (Some p) out) (at_place d3 None out) gifts [] sound2 put_works (works_less _ _ _ gifts [] commits_given commits)) (none_of _ _ gifts (leaves d3 out))
+            works_then (abstract_image spec d0 out) (at_place d3 None out) (abstract_image spec d3 out) given_bytes [] sound3
+            (works_then (abstract_image spec d0 out) (at_place d2 (Some p) out) (at_place d3 None out) given_bytes [] sound2 put_works (works_less _ _ _ given_bytes [] commits_given commits)) (none_of _ _ given_bytes (leaves d3 out))
 
         pub filled_sound : spec.is_sound d3 out
         filled_sound = has.left d3 [] out sound3

@@ -8,11 +8,11 @@ use Rattle.qcow2_metadata.specs.Bytes.{byte_at, is_within}
 use Rattle.qcow2_metadata.specs.Guest.{Value, known_byte}
 use Rattle.qcow2_metadata.specs.Header.{rounded_down}
 use Rattle.qcow2_disk.specs.Disk.{Disk, with_bytes, zeroed_between}
-use Rattle.qcow2_disk.specs.Mappings.{PreparedMapping, IsPrepared, committed, gift_of_commit, gift_of_put, gift_shown, put_disk, put_mapping}
+use Rattle.qcow2_disk.specs.Mappings.{PreparedMapping, IsPrepared, committed, given_by_commit, given_by_put, given_shown, put_disk, put_mapping}
 use Rattle.qcow2_disk.specs.Stops.{IsGiven}
 use Rattle.qcow2_disk.proofs.ForUsers.{laid_inside, laid_outside, put_given}
 use Rattle.qcow2_disk.proofs.Within.{within_is}
-use Rattle.qcow2_image.specs.Preallocation.{MayBeZero, gift_of_zeros}
+use Rattle.qcow2_image.specs.Preallocation.{MayBeZero, given_by_zeros}
 
 -- where an offset lies
 pub cases_range : (from to o : ℕ) → ((from ≤ o) × (o < to)) ⊎ ((o < from) ⊎ (to ≤ o))
@@ -95,18 +95,18 @@ may_then from to d e f first then = record {
 }
 
 -- ---- what zeros give
-pub zeros_wider : (from to from' to' : ℕ) → from' ≤ from → to ≤ to' → (o : ℕ) (w : Value) → IsGiven (gift_of_zeros from to ∷ []) o w → IsGiven (gift_of_zeros from' to' ∷ []) o w
+pub zeros_wider : (from to from' to' : ℕ) → from' ≤ from → to ≤ to' → (o : ℕ) (w : Value) → IsGiven (given_by_zeros from to ∷ []) o w → IsGiven (given_by_zeros from' to' ∷ []) o w
 zeros_wider from to from' to' low high o w (inr none) = absurd none
 zeros_wider from to from' to' low high o w (inl given) = inl (omega (arith, given.0, low), omega (arith, given.0, given.1, low, high), given.2)
 
-pub zeros_shown : (d : Disk) (from to o : ℕ) (w : Value) → IsGiven (gift_of_zeros from to ∷ []) o w → IsGiven (gift_shown (zeroed_between d from to) from to ∷ []) o w
+pub zeros_shown : (d : Disk) (from to o : ℕ) (w : Value) → IsGiven (given_by_zeros from to ∷ []) o w → IsGiven (given_shown (zeroed_between d from to) from to ∷ []) o w
 zeros_shown d from to o w (inr none) = absurd none
 zeros_shown d from to o w (inl given) =
     let low : from ≤ o = given.0 in
     let high : o < from + (to - from) = given.1 in
     inl (low, high, given.2 ∙ sym (zero_in d from to (from + (o - from)) (omega arith) (omega arith)))
 
-pub shown_zeros : (d : Disk) (from to o : ℕ) (w : Value) → IsGiven (gift_shown (zeroed_between d from to) from to ∷ []) o w → IsGiven (gift_of_zeros from to ∷ []) o w
+pub shown_zeros : (d : Disk) (from to o : ℕ) (w : Value) → IsGiven (given_shown (zeroed_between d from to) from to ∷ []) o w → IsGiven (given_by_zeros from to ∷ []) o w
 shown_zeros d from to o w (inr none) = absurd none
 shown_zeros d from to o w (inl given) =
     let low : from ≤ o = given.0 in
@@ -185,7 +185,7 @@ module _ (size : ℕ) (d : Disk) (m : PreparedMapping) (offset n : ℕ) (prepare
   ])
 
   -- what is put is zeros, or where it is hidden what was there
-  pub put_within : (o : ℕ) (w : Value) → IsGiven (gift_of_put d m 0 zeros ∷ []) o w → (w ≡ d.value o) ⊎ IsGiven (gift_of_zeros offset end ∷ []) o w
+  pub put_within : (o : ℕ) (w : Value) → IsGiven (given_by_put d m 0 zeros ∷ []) o w → (w ≡ d.value o) ⊎ IsGiven (given_by_zeros offset end ∷ []) o w
   put_within o w given =
       let is = put_given d m 0 zeros o w given in
       let from = prepared.from in
@@ -202,7 +202,7 @@ module _ (size : ℕ) (d : Disk) (m : PreparedMapping) (offset n : ℕ) (prepare
       ]
 
   -- what becomes visible is zeros, or was there
-  pub commit_within : (cs o : ℕ) (w : Value) → IsGiven (gift_of_commit cs (put_disk d m 0 zeros) (put_mapping m 0 zeros) ∷ []) o w → (w ≡ (put_disk d m 0 zeros).value o) ⊎ IsGiven (gift_of_zeros offset end ∷ []) o w
+  pub commit_within : (cs o : ℕ) (w : Value) → IsGiven (given_by_commit cs (put_disk d m 0 zeros) (put_mapping m 0 zeros) ∷ []) o w → (w ≡ (put_disk d m 0 zeros).value o) ⊎ IsGiven (given_by_zeros offset end ∷ []) o w
   commit_within cs o w (inr none) = absurd none
   commit_within cs o w (inl given) =
       let first = rounded_down cs m.from in

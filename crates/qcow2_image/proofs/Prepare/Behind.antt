@@ -13,7 +13,7 @@ use Rattle.qcow2_metadata.specs.Guest.{known_byte}
 use Rattle.qcow2_metadata.specs.Entries.{count as count_of}
 use Rattle.qcow2_metadata.specs.Header.{cluster_size, entries_per_cluster}
 use Rattle.qcow2_metadata.specs.L2Mapping.{IsHostCluster, IsInReach, named_run}
-use Rattle.qcow2_laws.specs.Changes.{with_held}
+use Rattle.qcow2_laws.specs.Changes.{with_new_data}
 use Rattle.qcow2_disk.specs.Mappings.{is_copied_data}
 use Rattle.qcow2_laws.proofs.Formats.{cover_format, size_format}
 use Rattle.qcow2_alloc.specs.declared.clusters_to_free.ClustersToFreeEntry.{ClustersToFreeEntry}
@@ -110,10 +110,10 @@ module _ {S F : Type 0} (view : S → StorageView) (backing : F → BackingView)
   behind_in_place is = record {
     pending = pending_in view backing old out;
     goes = goes_none view backing out old (pending_in view backing old out) sound;
-    held = λ c. omega arith;
-    fresh = λ c. refl;
-    spent = λ c. refl;
-    dropped = λ c. refl;
+    new_data = λ c. omega arith;
+    new_tables = λ c. refl;
+    old_tables = λ c. refl;
+    old_data = λ c. refl;
     surplus = refl;
     stands = is ∙ ap (λ b. Data b true) (sym host_is);
     filled = λ o here entered. absurd (let e : false ≡ true = entered in cc);
@@ -156,8 +156,8 @@ module _ {S F : Type 0} (view : S → StorageView) (backing : F → BackingView)
     abbrev run : ClustersToFreeEntry
     run = shared.run
 
-    abbrev dropped : List ClustersToFreeEntry
-    dropped = listed_run (named_run old.file.header.fields.cluster_bits mapping)
+    abbrev old_data : List ClustersToFreeEntry
+    old_data = listed_run (named_run old.file.header.fields.cluster_bits mapping)
 
     size : cluster_size hn ≡ cluster_size h
     size = size_format h hn shared.gained.goes.header
@@ -174,7 +174,7 @@ module _ {S F : Type 0} (view : S → StorageView) (backing : F → BackingView)
     place : run.first_cluster * cluster_size hn ≡ host_begin_of hn p count
     place = ap (λ s. run.first_cluster * s) size ∙ shared.place ∙ sym host_is ∙ sym host_same
 
-    stands : IsNewAt hn (known_in view new.file) (contents_in view new.file) p count (run ∷ []) dropped
+    stands : IsNewAt hn (known_in view new.file) (contents_in view new.file) p count (run ∷ []) old_data
     stands = record {
       first = run.first_cluster;
       is = ap (λ (e : ClustersToFreeEntry). e ∷ []) (ap (λ c. record run { count = c }) shared.gained.one ∙ ap (λ x. record run { count = 1; kind = x }) shared.gained.kind);
@@ -185,16 +185,16 @@ module _ {S F : Type 0} (view : S → StorageView) (backing : F → BackingView)
       drops = ap (λ (x : HeaderFields). listed_run (named_run x.cluster_bits mapping)) (sym shared.gained.goes.header) ∙ ap (λ v. listed_run (named_run hn.cluster_bits v)) (sym stays_covered);
     }
 
-    behind_as_new : StandsBehind view backing old new out n overwrite p (New (run ∷ []) dropped)
+    behind_as_new : StandsBehind view backing old new out n overwrite p (New (run ∷ []) old_data)
     behind_as_new = record {
-      pending = with_held (pending_with_listed (pending_in view backing old out) old new) (run_of run);
+      pending = with_new_data (pending_with_listed (pending_in view backing old out) old new) (run_of run);
       goes = shared.gained.goes;
-      held = λ c.
+      new_data = λ c.
           let as_data : to_free of_data (run ∷ []) c ≡ run_of run c = ap (λ x. of_data x (run_of run c) + 0) shared.gained.kind ∙ omega arith in
           omega arith;
-      fresh = λ c. refl;
-      spent = λ c. let more = ap (λ l. to_free of_tables l c) shared.gained.goes.list.is ∙ free_more of_tables old.file.free_list shared.gained.goes.list.more c in omega arith;
-      dropped = λ c. let more = ap (λ l. to_free of_data l c) shared.gained.goes.list.is ∙ free_more of_data old.file.free_list shared.gained.goes.list.more c in omega arith;
+      new_tables = λ c. refl;
+      old_tables = λ c. let more = ap (λ l. to_free of_tables l c) shared.gained.goes.list.is ∙ free_more of_tables old.file.free_list shared.gained.goes.list.more c in omega arith;
+      old_data = λ c. let more = ap (λ l. to_free of_data l c) shared.gained.goes.list.is ∙ free_more of_data old.file.free_list shared.gained.goes.list.more c in omega arith;
       surplus = refl;
       stands = stands;
       filled = λ o here entered opened.

@@ -4,14 +4,14 @@ use Rattle.std.specs.Prelude.{Some}
 use Rattle.std.proofs.lemmas.Bool.{cases_lt}
 use Rattle.image_access.specs.Backing.{BackingView}
 use Rattle.image_access.specs.Moments.{StorageView}
-use Rattle.image_access.proofs.Passing.{passes_none}
+use Rattle.image_access.proofs.EachMomentSince.{passes_none}
 use Rattle.qcow2_metadata.specs.declared.header.HeaderFields.{HeaderFields}
 use Rattle.qcow2_metadata.specs.Entries.{l1_entry, host_offset}
 use Rattle.qcow2_metadata.specs.EntryTable.{EntryTableView}
 use Rattle.qcow2_metadata.specs.L2Table.{L2TableView}
 use Rattle.qcow2_metadata.specs.Named.{table_in}
 use Rattle.qcow2_metadata.specs.TableBytes.{entry_at}
-use Rattle.qcow2_laws.specs.Changes.{one_at, with_fresh, fresh_to_spent}
+use Rattle.qcow2_laws.specs.Changes.{one_at, with_new_tables, new_tables_to_old_tables}
 use Rattle.qcow2_laws.specs.CrashInvariant.{Pending}
 use Rattle.qcow2_laws.specs.SafeSteps.{SafeStep}
 use Rattle.qcow2_laws.specs.Unseen.{KeepsFormat}
@@ -20,7 +20,7 @@ use Rattle.qcow2_laws.proofs.Steps.{pending_is_changed}
 use Rattle.qcow2_laws.proofs.Unseen.{unseen_known}
 use Rattle.qcow2_alloc.specs.Allocation.{run_at, taken_as, UnseenAllocatorGrowth, RefusedGrowth}
 use Rattle.qcow2_alloc.specs.declared.allocation.Allocator.{Allocator}
-use Rattle.qcow2_alloc.specs.CacheMarks.{KeepsMarks}
+use Rattle.qcow2_alloc.specs.CachePins.{KeepsPinsAndNotes}
 use Rattle.qcow2_alloc.specs.declared.image_file.ImageFile.{ImageFile}
 use Rattle.qcow2_alloc.specs.declared.clusters_to_free.ClustersToFreeEntry.{ClustersToFreeEntry}
 use Rattle.qcow2_alloc.specs.declared.clusters_to_free.ClusterKind.{ClusterKind}
@@ -54,8 +54,8 @@ run_one first k =
     let none : run_at first 0 k ≡ 0 = elim (cases_lt k first) [ inl below ↦ run_before first 0 k below | inr above ↦ run_after first 0 k (omega arith) ] in
     omega (arith, sum, none)
 
-one_taken : (p : Pending) (first : ℕ) → taken_as false p (run_at first 1) ≡ with_fresh p (one_at first)
-one_taken p first = pending_same (taken_as false p (run_at first 1)) (with_fresh p (one_at first)) (λ k. refl) (λ k. let one = run_one first k in omega arith) (λ k. refl) (λ k. refl) (λ k. refl)
+one_taken : (p : Pending) (first : ℕ) → taken_as false p (run_at first 1) ≡ with_new_tables p (one_at first)
+one_taken p first = pending_same (taken_as false p (run_at first 1)) (with_new_tables p (one_at first)) (λ k. refl) (λ k. let one = run_one first k in omega arith) (λ k. refl) (λ k. refl) (λ k. refl)
 
 module _ {S F : Type 0} (view : S → StorageView) (backing : F → BackingView) (out : List (Option Prepared)) where
   -- nothing was done
@@ -83,7 +83,7 @@ module _ {S F : Type 0} (view : S → StorageView) (backing : F → BackingView)
     pub replacing_same : (r : Pending) (index : ℕ) → KeepsFormat a.file.header.fields b.file.header.fields → replacing view r b index ≡ replacing view r a index
     replacing_same r index header =
         pending_same (replacing view r b index) (replacing view r a index) (λ k. refl) (λ k. refl)
-        (λ k. ap (λ (x : HeaderFields). r.spent k + table_in x k (host_offset (l1_entry b.file.header.fields (contents_in view b.file) index))) header ∙ ap (λ e. r.spent k + table_in a.file.header.fields k (host_offset e)) (same_l1 index))
+        (λ k. ap (λ (x : HeaderFields). r.old_tables k + table_in x k (host_offset (l1_entry b.file.header.fields (contents_in view b.file) index))) header ∙ ap (λ e. r.old_tables k + table_in a.file.header.fields k (host_offset e)) (same_l1 index))
         (λ k. refl) (λ k. refl)
 
   pub says_still : (p q : Pending) (a b : Qcow2 S F) (index : ℕ) (t : L2TableView) → UnseenStep view backing p q a b out → SaysKnown a.file.header.fields (known_in view a.file) index t → SaysKnown b.file.header.fields (known_in view b.file) index t
@@ -91,19 +91,19 @@ module _ {S F : Type 0} (view : S → StorageView) (backing : F → BackingView)
       says_format a.file.header.fields b.file.header.fields keeps.unseen.header (known_in view b.file) (contents_in view b.file) index t (record { format = says.format; says = λ g here. sym (keeps.unseen.covers g) ∙ says.says g here })
 
   -- ---- the bytes stand there, and then the entry is written
-  pub written_so : (p : Pending) (a b c : Qcow2 S F) (index at : ℕ) (r : Result (Unit {0}) ImageError) → ImageInvariant view backing (with_fresh p (one_at at)) a out → b.l1_table ≡ a.l1_table
-      → UnseenStep view backing (with_fresh p (one_at at)) (with_fresh p (one_at at)) a b out → NamesNew view backing p b c out index at r → WritesNew view backing p a c out index at r
+  pub written_so : (p : Pending) (a b c : Qcow2 S F) (index at : ℕ) (r : Result (Unit {0}) ImageError) → ImageInvariant view backing (with_new_tables p (one_at at)) a out → b.l1_table ≡ a.l1_table
+      → UnseenStep view backing (with_new_tables p (one_at at)) (with_new_tables p (one_at at)) a b out → NamesNew view backing p b c out index at r → WritesNew view backing p a c out index at r
   written_so p a b c index at (Ok x) sound same first names =
-      let q = with_fresh p (one_at at) in (
+      let q = with_new_tables p (one_at at) in (
         subst (λ (r : Pending). UnseenStep view backing q r a c out) (replacing_same q q a b sound first.sound same p index first.unseen.header)
             (keeps_then view backing out a b c q q (replacing view p b index) (λ k h. h) first names.0),
         names.1,
       )
-  written_so p a b c index at (Err e) sound same first breaks = let q = with_fresh p (one_at at) in inr (breaks_on q q a b c e first breaks)
+  written_so p a b c index at (Err e) sound same first breaks = let q = with_new_tables p (one_at at) in inr (breaks_on q q a b c e first breaks)
 
   -- ---- more is to be freed
   module _ (p q : Pending) (image : Qcow2 S F) (list more : List ClustersToFreeEntry) (sound : ImageInvariant view backing p image out) (is : list ≡ image.file.free_list ++ more)
-      (held : SafeStep (state_in view image.file p) (state_in view image.file q) nothing_given []) where
+      (new_data : SafeStep (state_in view image.file p) (state_in view image.file q) nothing_given []) where
     abbrev relisted : Qcow2 S F
     relisted = record image { file = record image.file { free_list = list } }
 
@@ -111,7 +111,7 @@ module _ {S F : Type 0} (view : S → StorageView) (backing : F → BackingView)
     keeps_listed = record {
       sound = record {
         works = sound.works;
-        file = record { honest = sound.file.honest; caches = sound_while image.file.header.fields p q image.file.caches (contents_in view image.file) held.sound sound.file.caches; settled = sound.file.settled; room = sound.file.room };
+        file = record { honest = sound.file.honest; caches = sound_while image.file.header.fields p q image.file.caches (contents_in view image.file) new_data.sound sound.file.caches; settled = sound.file.settled; room = sound.file.room };
         l1_table = record { cluster = sound.l1_table.cluster; bits = sound.l1_table.bits; count = sound.l1_table.count; entries = sound.l1_table.entries };
         reftable = reftable_still view image.file relisted.file refl refl (λ k. refl) image.allocator sound.reftable;
         below = sound.below;
@@ -119,8 +119,8 @@ module _ {S F : Type 0} (view : S → StorageView) (backing : F → BackingView)
         pinned = sound.pinned;
         once = sound.once;
       };
-      leads = record { sound = held.sound; on_storage = held.on_storage; known = held.known };
-      since = pending_endures (view_in view image.file) (state_in view image.file p) (state_in view image.file q) refl held;
+      leads = record { sound = new_data.sound; on_storage = new_data.on_storage; known = new_data.known };
+      since = pending_endures (view_in view image.file) (state_in view image.file p) (state_in view image.file q) refl new_data;
       unseen = unseen_known (state_in view image.file p) (state_in view relisted.file q) refl refl;
       copied = λ i own. refl;
       below = refl;
@@ -129,17 +129,17 @@ module _ {S F : Type 0} (view : S → StorageView) (backing : F → BackingView)
 
   -- a cluster that was taken for a table isn't used
   abbrev pub given_up : Pending → ℕ → Pending
-  given_up p at = record p { spent = λ k. p.spent k + one_at at k }
+  given_up p at = record p { old_tables = λ k. p.old_tables k + one_at at k }
 
-  pub abandoned : (p : Pending) (at : ℕ) (image : Qcow2 S F) (list more : List ClustersToFreeEntry) → ImageInvariant view backing (with_fresh p (one_at at)) image out → (is : list ≡ image.file.free_list ++ more)
-      → UnseenStep view backing (with_fresh p (one_at at)) (given_up p at) image (record image { file = record image.file { free_list = list } }) out
+  pub abandoned : (p : Pending) (at : ℕ) (image : Qcow2 S F) (list more : List ClustersToFreeEntry) → ImageInvariant view backing (with_new_tables p (one_at at)) image out → (is : list ≡ image.file.free_list ++ more)
+      → UnseenStep view backing (with_new_tables p (one_at at)) (given_up p at) image (record image { file = record image.file { free_list = list } }) out
   abandoned p at image list more sound is =
-      let q = with_fresh p (one_at at) in
+      let q = with_new_tables p (one_at at) in
       let s = state_in view image.file q in
       let own = one_here at in
       let first = pending_is_changed.abandoned s (one_at at) sound.file.caches.kept.kept.guarded (one_few at) (λ k some. omega (arith, some)) in
       keeps_listed q (given_up p at) image list more sound is
-      (subst (λ (r : Pending). SafeStep s (state_in view image.file r) nothing_given []) (pending_same (fresh_to_spent q (one_at at)) (given_up p at) (λ k. refl) (λ k. omega arith) (λ k. refl) (λ k. refl) (λ k. refl)) first)
+      (subst (λ (r : Pending). SafeStep s (state_in view image.file r) nothing_given []) (pending_same (new_tables_to_old_tables q (one_at at)) (given_up p at) (λ k. refl) (λ k. omega arith) (λ k. refl) (λ k. refl) (λ k. refl)) first)
 
   -- a table's cluster comes to the list of those to be freed, behind what was listed since
   pub freed_table : (p : Pending) (at : ℕ) (old mid new : Qcow2 S F) (e : ClustersToFreeEntry) → ListGrows old mid → e.first_cluster ≡ at → e.count ≡ 1 → e.kind ≡ Kind.Metadata → new.file.free_list ≡ mid.file.free_list ++ e ∷ []
@@ -160,7 +160,7 @@ module _ {S F : Type 0} (view : S → StorageView) (backing : F → BackingView)
       (λ k. refl)
 
   -- ---- a cluster is taken for the table, or isn't
-  module _ (p : Pending) (old : Qcow2 S F) (sound : ImageInvariant view backing p old out) (file : ImageFile S) (a : Allocator) (marks : KeepsMarks old.file.caches file.caches) (lists : ListsTables old.file.free_list file.free_list) where
+  module _ (p : Pending) (old : Qcow2 S F) (sound : ImageInvariant view backing p old out) (file : ImageFile S) (a : Allocator) (marks : KeepsPinsAndNotes old.file.caches file.caches) (lists : ListsTables old.file.free_list file.free_list) where
     abbrev taken : Qcow2 S F
     taken = record old { file = file; allocator = Some a }
 
@@ -175,21 +175,21 @@ module _ {S F : Type 0} (view : S → StorageView) (backing : F → BackingView)
     ]
 
     module _ (first n : ℕ) (one : n ≡ 1) (becomes : UnseenAllocatorGrowth view p old.file a file (taken_as false since (run_at first n))) (hint : NoFreeBelowHint view a file) where
-      pub keeps_taken : UnseenStep view backing p (with_fresh since (one_at first)) old taken out
+      pub keeps_taken : UnseenStep view backing p (with_new_tables since (one_at first)) old taken out
       keeps_taken = subst (λ (q : Pending). UnseenStep view backing p q old taken out) (ap (λ m. taken_as false since (run_at first m)) one ∙ one_taken since first)
           (file_moved_on view backing old out p (taken_as false since (run_at first n)) sound file (Some a) becomes.moves (record { reftable = becomes.reftable; hint = hint }) marks.pins (lists_grow old taken lists))
 
       may_taken : (index : ℕ) → MayName view old index → MayName view taken index
-      may_taken = may_still p (with_fresh since (one_at first)) old taken sound keeps_taken.sound refl
+      may_taken = may_still p (with_new_tables since (one_at first)) old taken sound keeps_taken.sound refl
 
       module _ (new : Qcow2 S F) (index : ℕ) (t : L2TableView) (may : MayName view old index) (says : SaysKnown old.file.header.fields (known_in view old.file) index t) (listed : new.file.free_list ≡ file.free_list) (r : Result (Unit {0}) ImageError)
-          (writes : ImageInvariant view backing (with_fresh since (one_at first)) taken out → MayName view taken index → SaysKnown file.header.fields (known_in view file) index t → WritesNew view backing since taken new out index first r) where
+          (writes : ImageInvariant view backing (with_new_tables since (one_at first)) taken out → MayName view taken index → SaysKnown file.header.fields (known_in view file) index t → WritesNew view backing since taken new out index first r) where
         abbrev written : WritesNew view backing since taken new out index first r
-        written = writes keeps_taken.sound (may_taken index may) (says_still p (with_fresh since (one_at first)) old taken index t keeps_taken says)
+        written = writes keeps_taken.sound (may_taken index may) (says_still p (with_new_tables since (one_at first)) old taken index t keeps_taken says)
 
         pub table_entered : (x : Unit {0}) → r ≡ Ok x → EntersTable view backing p old new out index (Ok first)
         table_entered x is =
-            let q = with_fresh since (one_at first) in
+            let q = with_new_tables since (one_at first) in
             let named : WritesNew view backing since taken new out index first (Ok x) = subst (WritesNew view backing since taken new out index first) is written in (
               subst (λ (s : Pending). UnseenStep view backing p s old new out)
                   (replacing_same p q old taken sound keeps_taken.sound refl since index keeps_taken.unseen.header ∙ ap (λ s. replacing view s old index) (following_on view backing out p old taken new listed))
@@ -200,7 +200,7 @@ module _ {S F : Type 0} (view : S → StorageView) (backing : F → BackingView)
         pub table_refused : (e : ImageError) (run : ClustersToFreeEntry) (more : List ClustersToFreeEntry) → r ≡ Err e → run.first_cluster ≡ first → run.count ≡ 1 → run.kind ≡ Kind.Metadata → more ≡ new.file.free_list ++ run ∷ []
             → RefusedStep view backing p old (record new { file = record new.file { free_list = more } }) out e
         table_refused e run more is at single kind longer =
-            let q = with_fresh since (one_at first) in
+            let q = with_new_tables since (one_at first) in
             let refused : WritesNew view backing since taken new out index first (Err e) = subst (WritesNew view backing since taken new out index first) is written in
             elim refused [
               | inl keeps ↦ inl (

@@ -19,7 +19,7 @@ use Rattle.qcow2_image.specs.declared.image.Qcow2.{Qcow2}
 use Rattle.qcow2_image.specs.declared.prepared.Prepared.{Prepared}
 use Rattle.qcow2_image.specs.declared.prepared.Share.{Share}
 use Rattle.qcow2_image.specs.declared.prepared.Share.TheVariants.{InPlace, Kept, New}
-use Rattle.qcow2_image.specs.ImageInvariant.{held_in, held_by, pins_by, over_all, abstract_of, meaning, is_private, cluster_of, is_entered, IsReady, IsReadyWith, IsShareAt, IsPending}
+use Rattle.qcow2_image.specs.ImageInvariant.{new_data_in, new_data_by, pins_by, over_all, abstract_of, meaning, is_private, cluster_of, is_entered, IsReady, IsReadyWith, IsShareAt, IsPending}
 use Rattle.qcow2_image.specs.Ranges.{IsExtended, MayGoOn, StandsBehind}
 use Rattle.qcow2_image.proofs.Call.Answered.{same_guest}
 use Rattle.qcow2_image.proofs.Call.Slots.{get_set, over_all_set, slot_set}
@@ -38,17 +38,17 @@ pub length_behind : {X : Type 0} (xs : List X) (x : X) → length (xs ++ x ∷ [
 length_behind [] x = refl
 length_behind (y ∷ xs) x = let rest = length_behind xs x in omega arith
 
-held_behind : (shares : List Share) (share : Share) (c : ℕ) → held_in (shares ++ share ∷ []) c ≡ held_in shares c + held_in (share ∷ []) c
-held_behind [] share c = omega arith
-held_behind (InPlace ∷ shares) share c = held_behind shares share c
-held_behind (Kept ∷ shares) share c = held_behind shares share c
-held_behind (New taken dropped ∷ shares) share c = let rest = held_behind shares share c in omega arith
+new_data_behind : (shares : List Share) (share : Share) (c : ℕ) → new_data_in (shares ++ share ∷ []) c ≡ new_data_in shares c + new_data_in (share ∷ []) c
+new_data_behind [] share c = omega arith
+new_data_behind (InPlace ∷ shares) share c = new_data_behind shares share c
+new_data_behind (Kept ∷ shares) share c = new_data_behind shares share c
+new_data_behind (New taken old_data ∷ shares) share c = let rest = new_data_behind shares share c in omega arith
 
 -- a share stands as well for a longer mapping
 share_as : (h : HeaderFields) (known on_storage : Bytes) (p : Prepared) (l : ℕ) (like : Prepared) (i : ℕ) (share : Share) → IsShareAt h known on_storage p i share → IsShareAt h known on_storage (record p { length = l; shares = like.shares }) i share
 share_as h known on_storage p l like i InPlace is = is
 share_as h known on_storage p l like i Kept is = record { first = is.first; place = is.place; nameable = is.nameable; entry = is.entry }
-share_as h known on_storage p l like i (New taken dropped) is = record { first = is.first; is = is.is; place = is.place; nameable = is.nameable; entry = is.entry; reach = is.reach; drops = is.drops }
+share_as h known on_storage p l like i (New taken old_data) is = record { first = is.first; is = is.is; place = is.place; nameable = is.nameable; entry = is.entry; reach = is.reach; drops = is.drops }
 
 -- ---- what is announced
 
@@ -158,10 +158,10 @@ module _ {S F : Type 0} (view : S → StorageView) (backing : F → BackingView)
   same_pins : (c : ℕ) → over_all pins_by now c ≡ over_all pins_by out c
   same_pins c = let both : over_all pins_by now c + pins_by p c ≡ over_all pins_by out c + pins_by p c = over_all_set pins_by out k p q at c in omega arith
 
-  held_now : (c : ℕ) → over_all held_by now c ≡ over_all held_by out c + held_in (share ∷ []) c
-  held_now c =
-      let both : over_all held_by now c + held_in p.shares.items c ≡ over_all held_by out c + held_in like.shares.items c = over_all_set held_by out k p q at c in
-      let more : held_in like.shares.items c ≡ held_in p.shares.items c + held_in (share ∷ []) c = ap (λ (l : List Share). held_in l c) items ∙ held_behind p.shares.items share c in
+  new_data_now : (c : ℕ) → over_all new_data_by now c ≡ over_all new_data_by out c + new_data_in (share ∷ []) c
+  new_data_now c =
+      let both : over_all new_data_by now c + new_data_in p.shares.items c ≡ over_all new_data_by out c + new_data_in like.shares.items c = over_all_set new_data_by out k p q at c in
+      let more : new_data_in like.shares.items c ≡ new_data_in p.shares.items c + new_data_in (share ∷ []) c = ap (λ (l : List Share). new_data_in l c) items ∙ new_data_behind p.shares.items share c in
       omega arith
 
   steps : Steps view backing old mid out now nothing_given behind.pending
@@ -176,7 +176,7 @@ module _ {S F : Type 0} (view : S → StorageView) (backing : F → BackingView)
       pinned = λ c. behind.goes.sound.pinned c ∙ sym (same_pins c);
       once = λ c. subst (λ m. m ≤ 1) (sym (same_pins c)) (behind.goes.sound.once c);
     };
-    only = record { held = λ c. behind.held c ∙ sym (held_now c); fresh = behind.fresh; spent = behind.spent; dropped = behind.dropped };
+    only = record { new_data = λ c. behind.new_data c ∙ sym (new_data_now c); new_tables = behind.new_tables; old_tables = behind.old_tables; old_data = behind.old_data };
     leads = behind.goes.leads;
     since = behind.goes.since;
     header = behind.goes.header;

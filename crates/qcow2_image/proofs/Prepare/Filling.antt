@@ -7,7 +7,7 @@ use Rattle.std.proofs.lemmas.List.{append_assoc, append-nil}
 use mathlib.Core.Path.{fun_ext}
 use Rattle.image_access.specs.Backing.{BackingView}
 use Rattle.image_access.specs.Contents.{overwritten}
-use Rattle.image_access.specs.Moments.{StorageView, Passing}
+use Rattle.image_access.specs.Moments.{StorageView, EachMomentSince}
 use Rattle.image_access.proofs.Bytes.{byte_at-overwritten}
 use Rattle.qcow2_metadata.specs.Bytes.{byte_at}
 use Rattle.qcow2_metadata.specs.declared.header.HeaderFields.{HeaderFields}
@@ -25,7 +25,7 @@ use Rattle.qcow2_laws.proofs.Mixes.{tied}
 use Rattle.qcow2_laws.proofs.Places.{in_one}
 use Rattle.qcow2_laws.proofs.PutRuns.{private_written}
 use Rattle.qcow2_laws.proofs.Shown.{Writes}
-use Rattle.qcow2_laws.proofs.Writes.{held_is_unnamed}
+use Rattle.qcow2_laws.proofs.Writes.{new_data_is_unnamed}
 use Rattle.qcow2_alloc.specs.declared.error.ImageError.{ImageError}
 use Rattle.qcow2_alloc.specs.declared.error.ImageError.TheVariants as I
 use Rattle.qcow2_alloc.specs.declared.image_storage.ImageStorage.{ImageStorage}
@@ -42,7 +42,7 @@ use Rattle.qcow2_metadata.specs.declared.l2_mapping.L2Mapping.{L2Mapping}
 use Rattle.qcow2_metadata.specs.declared.l2_mapping.L2Mapping.TheVariants.{Data, Zero, Compressed, Uncovered}
 use Rattle.qcow2_disk.specs.Alike.{IsAlike, IsAlikeRun}
 use Rattle.qcow2_laws.proofs.Unseen.{unseen_disk}
-use Rattle.qcow2_image.specs.ImageInvariant.{held_by, place_of, backing_bytes, disk_of, ImageInvariant}
+use Rattle.qcow2_image.specs.ImageInvariant.{new_data_by, place_of, backing_bytes, disk_of, ImageInvariant}
 use Rattle.qcow2_image.proofs.Shares.{Standing, in_new, in_kept, kept_used, over_all_at, private_stands}
 use Rattle.qcow2_image.proofs.Call.Answered.{same_guest, same_slot, tidies_kept, still_seen}
 use Rattle.qcow2_image.proofs.Call.Called.{copied_then}
@@ -115,16 +115,16 @@ module _ {S F : Type 0} (view : S → StorageView) (backing : F → BackingView)
   }
 
   -- clusters that are held have the same bytes where no guest sees a change
-  pub same_held : (a b : Qcow2 S F) (p : Pending) → ImageInvariant view backing p a out → UnseenStep view backing p p a b out → SameHeld view backing p a b
-  same_held a b p sound keeps o some =
-      let before : contents_in view a.file o ≡ known_in view a.file o = sound.file.caches.kept.kept.guarded.unlaid o (omega (arith, some)) in
-      let here : 0 < p.held (o / cluster_size b.file.header.fields) = subst (λ n. 0 < p.held (o / n)) (sym (size_format a.file.header.fields b.file.header.fields keeps.unseen.header)) some in
-      let after : contents_in view b.file o ≡ known_in view b.file o = keeps.sound.file.caches.kept.kept.guarded.unlaid o (omega (arith, here)) in
+  pub same_new_data : (a b : Qcow2 S F) (p : Pending) → ImageInvariant view backing p a out → UnseenStep view backing p p a b out → SameHeld view backing p a b
+  same_new_data a b p sound keeps o some =
+      let before : contents_in view a.file o ≡ known_in view a.file o = sound.file.caches.kept.kept.guarded.not_overlaid o (omega (arith, some)) in
+      let here : 0 < p.new_data (o / cluster_size b.file.header.fields) = subst (λ n. 0 < p.new_data (o / n)) (sym (size_format a.file.header.fields b.file.header.fields keeps.unseen.header)) some in
+      let after : contents_in view b.file o ≡ known_in view b.file o = keeps.sound.file.caches.kept.kept.guarded.not_overlaid o (omega (arith, here)) in
       after ∙ keeps.unseen.bytes o (omega (arith, some)) ∙ sym before
 
   -- bytes are written to a cluster that is held, and that no mapping has yet
   module _ (old : Qcow2 S F) (p : Pending) (sound : ImageInvariant view backing p old out) (cluster at : ℕ) (bytes : List ℕ) (own : IsInHeldCluster view backing p old out cluster at (length bytes))
-      (storage : ImageStorage S) (honest : (view (storage_of storage)).is_honest) (time : Passing (view_in view old.file) (view (storage_of storage)) (λ c. c ≡ (view (storage_of storage)).contents))
+      (storage : ImageStorage S) (honest : (view (storage_of storage)).is_honest) (time : EachMomentSince (view_in view old.file) (view (storage_of storage)) (λ c. c ≡ (view (storage_of storage)).contents))
       (is : (view (storage_of storage)).contents ≡ overwritten (view_in view old.file).contents at bytes) where
     abbrev h : HeaderFields
     h = old.file.header.fields
@@ -133,7 +133,7 @@ module _ {S F : Type 0} (view : S → StorageView) (backing : F → BackingView)
     new = written view backing old out sound storage at bytes is
 
     unnamed : IsUnnamed h (contents_in view old.file) (known_in view old.file) cluster
-    unnamed = held_is_unnamed h (order_of old.file.caches) p (contents_in view old.file) (known_in view old.file) sound.file.caches.kept.kept.guarded cluster own.held
+    unnamed = new_data_is_unnamed h (order_of old.file.caches) p (contents_in view old.file) (known_in view old.file) sound.file.caches.kept.kept.guarded cluster own.new_data
 
     no_table : (i : ℕ) → i < length bytes → named_for_tables h (contents_in view old.file) ((at + i) / cluster_size h) ≡ 0
     no_table i lt = ap (named_for_tables h (contents_in view old.file)) (own.inside i lt) ∙ unnamed.no_table
@@ -151,15 +151,15 @@ module _ {S F : Type 0} (view : S → StorageView) (backing : F → BackingView)
     alone = writes view backing old out sound storage at bytes is no_table
 
     apart : Writes cluster (state_in view old.file p) (state_in view new.file p) (λ _. []) (λ below. disk (known_in view old.file) below)
-    apart = private_written (state_in view old.file p) (contents_in view new.file) (known_in view new.file) sound.file.caches.kept.kept.guarded cluster own.held
+    apart = private_written (state_in view old.file p) (contents_in view new.file) (known_in view new.file) sound.file.caches.kept.kept.guarded cluster own.new_data
         (λ o other. alone.others o (outside o other)) (λ o other. alone.known_others o (outside o other)) alone.agree
 
     -- no private byte of a mapping stands there
     elsewhere : (j : ℕ) (q : Prepared) → slice_get out j ≡ Some (Some q) → (o : ℕ) → Standing h (known_in view old.file) q o → place_of h q o / cluster_size h ≢ cluster
-    elsewhere j q at_j o (in_new held) here =
+    elsewhere j q at_j o (in_new new_data) here =
         let none = own.unused in
-        let all = over_all_at held_by out j q at_j cluster in
-        let mine : 0 < held_by q cluster = subst (λ c. 0 < held_by q c) here held in
+        let all = over_all_at new_data_by out j q at_j cluster in
+        let mine : 0 < new_data_by q cluster = subst (λ c. 0 < new_data_by q c) here new_data in
         absurd (omega arith)
     elsewhere j q at_j o (in_kept host kept place) here =
         let state = state_in view old.file p in
@@ -200,7 +200,7 @@ module _ {S F : Type 0} (view : S → StorageView) (backing : F → BackingView)
 pub own_of : {S F : Type 0} (view : S → StorageView) (backing : F → BackingView) (p : Pending) (old new : Qcow2 S F) (out : List (Option Prepared)) (cluster at n m : ℕ) → m ≡ n → new.file.header ≡ old.file.header
     → IsInHeldCluster view backing p old out cluster at n → IsInHeldCluster view backing p new out cluster at m
 own_of view backing p old new out cluster at n m same file own = record {
-  held = own.held;
+  new_data = own.new_data;
   unused = own.unused;
   inside = λ i lt. ap (λ x. (at + i) / cluster_size x.fields) file ∙ own.inside i (omega (arith, same));
 }

@@ -5,7 +5,7 @@ use Rattle.image_access.specs.Backing.{BackingView}
 use Rattle.image_access.specs.Moments.{StorageView}
 use Rattle.qcow2_metadata.specs.declared.header.HeaderFields.{HeaderFields}
 use Rattle.qcow2_metadata.specs.Header.{cluster_size}
-use Rattle.qcow2_laws.specs.Changes.{with_held, held_to_dropped}
+use Rattle.qcow2_laws.specs.Changes.{with_new_data, new_data_to_old_data}
 use Rattle.qcow2_laws.specs.CrashInvariant.{Pending}
 use Rattle.qcow2_laws.specs.SafeSteps.{SafeStep}
 use Rattle.qcow2_disk.specs.Disk.{Disk}
@@ -14,7 +14,7 @@ use Rattle.qcow2_laws.specs.Unseen.{KeepsFormat}
 use Rattle.qcow2_laws.proofs.SafeSteps.{pending_endures}
 use Rattle.qcow2_laws.proofs.Steps.{pending_is_changed}
 use Rattle.qcow2_alloc.specs.Allocation.{run_at, Allocates, AllocatesAt, RefusedGrowth}
-use Rattle.qcow2_alloc.specs.CacheMarks.{KeepsMarks}
+use Rattle.qcow2_alloc.specs.CachePins.{KeepsPinsAndNotes}
 use Rattle.qcow2_alloc.specs.declared.allocation.Allocator.{Allocator}
 use Rattle.qcow2_alloc.specs.declared.clusters_to_free.ClusterKind.TheVariants as Kind
 use Rattle.qcow2_alloc.specs.declared.clusters_to_free.ClustersToFreeEntry.{ClustersToFreeEntry}
@@ -33,7 +33,7 @@ use Rattle.qcow2_alloc.specs.LowestRuns.{IsUsed, NoFreeBelowHint, KeepsNoFreeBel
 use Rattle.qcow2_metadata.specs.L2Mapping.{IsHostCluster}
 use Rattle.qcow2_image.specs.Ranges.{TakesDataAt}
 use Rattle.qcow2_image.specs.UnseenSteps.{pending_with_listed, is_announced, IsFilled, UnseenFillingStep, RefusedFillingStep, HoldsAll, ListGrows, TakesData}
-use Rattle.qcow2_image.specs.ImageInvariant.{run_of, of_data, of_tables, to_free, held_by, over_all, disk_of, ImageInvariant}
+use Rattle.qcow2_image.specs.ImageInvariant.{run_of, of_data, of_tables, to_free, new_data_by, over_all, disk_of, ImageInvariant}
 use Rattle.qcow2_image.proofs.Formats.{lists_grow}
 use Rattle.qcow2_image.proofs.Prepare.Filling.{goes_kept, goes_then}
 use Rattle.qcow2_image.proofs.Commit.LetGo.{run_few, sound_while}
@@ -51,7 +51,7 @@ module _ {S F : Type 0} (view : S → StorageView) (backing : F → BackingView)
   following_on p old mid new list = ap (λ l. since_listed p old.file.free_list l) (sym list)
 
   -- ---- by the allocator
-  module _ (old : Qcow2 S F) (p : Pending) (sound : ImageInvariant view backing p old out) (holds : HoldsAll view backing p out) (file : ImageFile S) (a : Allocator) (marks : KeepsMarks old.file.caches file.caches) (lists : ListsTables old.file.free_list file.free_list) (header : KeepsHeader old.file.header file.header) where
+  module _ (old : Qcow2 S F) (p : Pending) (sound : ImageInvariant view backing p old out) (holds : HoldsAll view backing p out) (file : ImageFile S) (a : Allocator) (marks : KeepsPinsAndNotes old.file.caches file.caches) (lists : ListsTables old.file.free_list file.free_list) (header : KeepsHeader old.file.header file.header) where
     abbrev taken : Qcow2 S F
     taken = record old { file = file; allocator = Some a }
 
@@ -76,8 +76,8 @@ module _ {S F : Type 0} (view : S → StorageView) (backing : F → BackingView)
         let becomes = is.2 in (
           count,
           is.1,
-          subst (λ f. UnseenFillingStep view backing p (with_held since f) old taken out) run
-              (goes_moved (with_held since (run_at n.first_cluster 1)) (λ k. let h = holds k in omega arith)
+          subst (λ f. UnseenFillingStep view backing p (with_new_data since f) old taken out) run
+              (goes_moved (with_new_data since (run_at n.first_cluster 1)) (λ k. let h = holds k in omega arith)
               becomes.moves (record { reftable = becomes.reftable; hint = hint })),
         )
     takes_data (Err e) is hint = goes_back e is hint
@@ -90,34 +90,34 @@ module _ {S F : Type 0} (view : S → StorageView) (backing : F → BackingView)
           is.0,
           is.1,
           is.2,
-          subst (λ f. UnseenFillingStep view backing p (with_held since f) old taken out) run
-              (goes_moved (with_held since (run_at cluster 1)) (λ k. let h = holds k in omega arith)
+          subst (λ f. UnseenFillingStep view backing p (with_new_data since f) old taken out) run
+              (goes_moved (with_new_data since (run_at cluster 1)) (λ k. let h = holds k in omega arith)
               is.3.moves (record { reftable = is.3.reftable; hint = hint })),
         )
     takes_data_at cluster (Ok None) is none hint = (goes_moved since holds is.moves (record { reftable = is.reftable; hint = hint }), none refl)
     takes_data_at cluster (Err e) is none hint = goes_back e is hint
 
   -- ---- what was taken is handed back
-  module _ (old : Qcow2 S F) (p : Pending) (n : ClustersToFreeEntry) (one : n.count ≡ 1) (kind : n.kind ≡ Kind.Data) (sound : ImageInvariant view backing (with_held p (run_of n)) old out) where
+  module _ (old : Qcow2 S F) (p : Pending) (n : ClustersToFreeEntry) (one : n.count ≡ 1) (kind : n.kind ≡ Kind.Data) (sound : ImageInvariant view backing (with_new_data p (run_of n)) old out) where
     abbrev pub left : Qcow2 S F
     left = record old { file = record old.file { free_list = old.file.free_list ++ n ∷ [] } }
 
-    abbrev held : Pending
-    held = with_held p (run_of n)
+    abbrev new_data : Pending
+    new_data = with_new_data p (run_of n)
 
     abbrev after : Pending
-    after = held_to_dropped (with_held p (run_of n)) (run_of n)
+    after = new_data_to_old_data (with_new_data p (run_of n)) (run_of n)
 
-    leads : SafeStep (state_in view old.file held) (state_in view left.file after) nothing_given []
-    leads = pending_is_changed.dropped (state_in view old.file held) (run_of n) sound.file.caches.kept.kept.guarded (λ c. run_few n.first_cluster n.count c) (λ c some. omega arith)
+    leads : SafeStep (state_in view old.file new_data) (state_in view left.file after) nothing_given []
+    leads = pending_is_changed.old_data (state_in view old.file new_data) (run_of n) sound.file.caches.kept.kept.guarded (λ c. run_few n.first_cluster n.count c) (λ c some. omega arith)
 
-    pub goes_handed_back : UnseenFillingStep view backing held after old left out
+    pub goes_handed_back : UnseenFillingStep view backing new_data after old left out
     goes_handed_back = record {
       sound = record {
         works = sound.works;
         file = record {
           honest = sound.file.honest;
-          caches = sound_while old.file.header.fields held after old.file.caches (contents_in view old.file) leads.sound sound.file.caches;
+          caches = sound_while old.file.header.fields new_data after old.file.caches (contents_in view old.file) leads.sound sound.file.caches;
           settled = sound.file.settled;
           room = sound.file.room;
         };
@@ -129,7 +129,7 @@ module _ {S F : Type 0} (view : S → StorageView) (backing : F → BackingView)
         once = sound.once;
       };
       leads = leads;
-      since = pending_endures (view_in view old.file) (state_in view old.file held) (state_in view left.file after) refl leads;
+      since = pending_endures (view_in view old.file) (state_in view old.file new_data) (state_in view left.file after) refl leads;
       header = refl;
       covers = λ g. refl;
       copied = λ i copied. refl;
@@ -139,7 +139,7 @@ module _ {S F : Type 0} (view : S → StorageView) (backing : F → BackingView)
     }
 
   -- what is pending then is what was before, with that
-  after_is : (start old : Qcow2 S F) (p : Pending) (n : ClustersToFreeEntry) (one : n.count ≡ 1) (kind : n.kind ≡ Kind.Data) (sound : ImageInvariant view backing (with_held (pending_with_listed p start old) (run_of n)) old out) → ListGrows start old
+  after_is : (start old : Qcow2 S F) (p : Pending) (n : ClustersToFreeEntry) (one : n.count ≡ 1) (kind : n.kind ≡ Kind.Data) (sound : ImageInvariant view backing (with_new_data (pending_with_listed p start old) (run_of n)) old out) → ListGrows start old
       → after old (pending_with_listed p start old) n one kind sound ≡ pending_with_listed p start (left old (pending_with_listed p start old) n one kind sound)
   after_is start old p n one kind sound grows =
       let final = left old (pending_with_listed p start old) n one kind sound in
@@ -159,29 +159,29 @@ module _ {S F : Type 0} (view : S → StorageView) (backing : F → BackingView)
       (λ k. refl)
 
   -- all of it
-  pub goes_left : (start old : Qcow2 S F) (p : Pending) (n : ClustersToFreeEntry) (one : n.count ≡ 1) (kind : n.kind ≡ Kind.Data) → (goes : UnseenFillingStep view backing p (with_held (pending_with_listed p start old) (run_of n)) start old out)
+  pub goes_left : (start old : Qcow2 S F) (p : Pending) (n : ClustersToFreeEntry) (one : n.count ≡ 1) (kind : n.kind ≡ Kind.Data) → (goes : UnseenFillingStep view backing p (with_new_data (pending_with_listed p start old) (run_of n)) start old out)
       → let end = left old (pending_with_listed p start old) n one kind goes.sound in UnseenFillingStep view backing p (pending_with_listed p start end) start end out
   goes_left start old p n one kind goes =
       let q = pending_with_listed p start old in
       let end = left old q n one kind goes.sound in
       subst (λ r. UnseenFillingStep view backing p r start end out) (after_is start old p n one kind goes.sound goes.list)
-      (goes_then view backing out start old end p (with_held q (run_of n)) (after old q n one kind goes.sound) goes (goes_handed_back old q n one kind goes.sound))
+      (goes_then view backing out start old end p (with_new_data q (run_of n)) (after old q n one kind goes.sound) goes (goes_handed_back old q n one kind goes.sound))
 
   -- ---- a cluster that was taken is new
-  module _ (old mid : Qcow2 S F) (p : Pending) (n : ClustersToFreeEntry) (one : n.count ≡ 1) (holds : HoldsAll view backing p out) (goes : UnseenFillingStep view backing p (with_held (pending_with_listed p old mid) (run_of n)) old mid out) where
-    pub taken_held : 0 < (with_held (pending_with_listed p old mid) (run_of n)).held n.first_cluster
-    taken_held = let once = run_in n.first_cluster n.count n.first_cluster (omega arith) (omega (arith, one)) in omega arith
+  module _ (old mid : Qcow2 S F) (p : Pending) (n : ClustersToFreeEntry) (one : n.count ≡ 1) (holds : HoldsAll view backing p out) (goes : UnseenFillingStep view backing p (with_new_data (pending_with_listed p old mid) (run_of n)) old mid out) where
+    pub taken_new_data : 0 < (with_new_data (pending_with_listed p old mid) (run_of n)).new_data n.first_cluster
+    taken_new_data = let once = run_in n.first_cluster n.count n.first_cluster (omega arith) (omega (arith, one)) in omega arith
 
-    pub taken_unused : over_all held_by out n.first_cluster ≡ 0
+    pub taken_unused : over_all new_data_by out n.first_cluster ≡ 0
     taken_unused =
         let once = run_in n.first_cluster n.count n.first_cluster (omega arith) (omega (arith, one)) in
-        let always = goes.sound.file.caches.kept.kept.guarded.always n.first_cluster in
-        let tally = always.tally in
-        let few = always.pending (omega arith) in
+        let each_cluster = goes.sound.file.caches.kept.kept.guarded.each_cluster n.first_cluster in
+        let tally = each_cluster.tally in
+        let few = each_cluster.pending (omega arith) in
         let all = holds n.first_cluster in
         omega arith
 
-    pub still_holds : HoldsAll view backing (with_held (pending_with_listed p old mid) (run_of n)) out
+    pub still_holds : HoldsAll view backing (with_new_data (pending_with_listed p old mid) (run_of n)) out
     still_holds k = let h = holds k in omega arith
 
 -- what was filled in an image of the same format that shows the same disk

@@ -7,7 +7,7 @@ use Rattle.std.proofs.lemmas.Nat.{div-add-mod', div-mul-add, mod-mul-add, mod_be
 use mathlib.Core.Path.{fun_ext}
 use Rattle.image_access.specs.Backing.{BackingView}
 use Rattle.image_access.specs.Contents.{overwritten}
-use Rattle.image_access.specs.Moments.{StorageView, Passing}
+use Rattle.image_access.specs.Moments.{StorageView, EachMomentSince}
 use Rattle.qcow2_metadata.specs.Bytes.{Bytes, byte_at}
 use Rattle.qcow2_metadata.specs.declared.header.HeaderFields.{HeaderFields}
 use Rattle.qcow2_metadata.specs.Header.{cluster_size, entries_per_cluster}
@@ -19,7 +19,7 @@ use Rattle.qcow2_laws.specs.CrashInvariant.{Pending}
 use Rattle.qcow2_laws.specs.GuestLaws.{IsHostedAt, WritesRun}
 use Rattle.qcow2_laws.specs.GuestLaws.{Kept as HostedKept}
 use Rattle.qcow2_laws.specs.Guests.{names, table_at}
-use Rattle.qcow2_disk.specs.Mappings.{gift_of}
+use Rattle.qcow2_disk.specs.Mappings.{given_of}
 use Rattle.qcow2_laws.specs.SafeSteps.{DriverState, StateInvariant, SafeStep}
 use Rattle.qcow2_laws.specs.Tops.{WritesAt}
 use Rattle.qcow2_laws.proofs.Consistency.{in_own}
@@ -38,7 +38,7 @@ use Rattle.qcow2_image.specs.declared.prepared.Share.{Share}
 use Rattle.qcow2_image.specs.CallParts.{WritesBytes}
 use Rattle.qcow2_image.specs.CopyRange.{HasByte}
 use Rattle.qcow2_image.specs.Found.{l1_index_of}
-use Rattle.qcow2_image.specs.ImageInvariant.{backing_bytes, cluster_of, held_by, is_private, place_of, share_of, ImageInvariant}
+use Rattle.qcow2_image.specs.ImageInvariant.{backing_bytes, cluster_of, new_data_by, is_private, place_of, share_of, ImageInvariant}
 use Rattle.qcow2_image.specs.UnseenSteps.{HoldsAll, IsFilled, IsKeptAlone, UnseenFillingStep, is_announced}
 use Rattle.qcow2_image.proofs.Apart.{same_row}
 use Rattle.qcow2_image.proofs.Call.Answered.{same_guest, same_slot}
@@ -78,7 +78,7 @@ module _ {S F : Type 0} (view : S → StorageView) (backing : F → BackingView)
   no_table : (i : ℕ) → i < length bytes → named_for_tables h (contents_in view old.file) ((host + at + i) / size) ≡ 0
   no_table i lt = beside_tables s HostedKept (guest * size + at + i) (host + at + i) guarded (hosts i lt)
 
-  module _ (storage : ImageStorage S) (honest : (view (storage_of storage)).is_honest) (time : Passing (view_in view old.file) (view (storage_of storage)) (λ c. c ≡ (view (storage_of storage)).contents))
+  module _ (storage : ImageStorage S) (honest : (view (storage_of storage)).is_honest) (time : EachMomentSince (view_in view old.file) (view (storage_of storage)) (λ c. c ≡ (view (storage_of storage)).contents))
       (is : (view (storage_of storage)).contents ≡ overwritten (view_in view old.file).contents (host + at) bytes) where
     abbrev new : Qcow2 S F
     new = written view backing old out sound storage (host + at) bytes is
@@ -86,7 +86,7 @@ module _ {S F : Type 0} (view : S → StorageView) (backing : F → BackingView)
     beside : WritesAt (host + at) (length bytes) (contents_in view old.file) (known_in view old.file) (contents_in view new.file) (known_in view new.file)
     beside = writes view backing old out sound storage (host + at) bytes is no_table
 
-    run : WritesRun (λ _. HostedKept) (guest * size + at) (host + at) bytes (gift_of (guest * size + at) bytes ∷ []) s (state_in view new.file p)
+    run : WritesRun (λ _. HostedKept) (guest * size + at) (host + at) bytes (given_of (guest * size + at) bytes ∷ []) s (state_in view new.file p)
     run = kept_written s (contents_in view new.file) (known_in view new.file) guarded guest host at bytes is_kept.kept fits beside (there view backing old out sound storage (host + at) bytes is)
 
     leads : SafeStep s (state_in view new.file p) nothing_given []
@@ -103,11 +103,11 @@ module _ {S F : Type 0} (view : S → StorageView) (backing : F → BackingView)
           let none : share_of h r (cluster_of h r + shared.index) ≡ None = ap (share_of h r) (sym shared.here ∙ same) ∙ is_kept.alone j r there_is in
           absurd (let e : Some shared.share ≡ None = sym shared.is ∙ sym (share_here h r shared.index) ∙ none in cc)
 
-      stays_held : 0 < held_by r (place / size) → contents_in view new.file place ≡ contents_in view old.file place
-      stays_held some =
-          let all = over_all_at held_by out j r there_is (place / size) in
-          let held = holds (place / size) in
-          sym ((run.held (place / size) (omega arith) (λ i lt never. absurd never)).0 place refl)
+      stays_new_data : 0 < new_data_by r (place / size) → contents_in view new.file place ≡ contents_in view old.file place
+      stays_new_data some =
+          let all = over_all_at new_data_by out j r there_is (place / size) in
+          let new_data = holds (place / size) in
+          sym ((run.new_data (place / size) (omega arith) (λ i lt never. absurd never)).0 place refl)
 
       stays_kept : (first : ℕ) → cover h s.known (o / size) ≡ Zero (Some (first, true)) → place ≡ first + o % size → contents_in view new.file place ≡ contents_in view old.file place
       stays_kept first kept place_is =
@@ -120,7 +120,7 @@ module _ {S F : Type 0} (view : S → StorageView) (backing : F → BackingView)
           ∙ ap s.known place_is ∙ sym (kept_unlaid s guarded (o / size) first kept (o % size) rest) ∙ ap (contents_in view old.file) (sym place_is)
 
       by_standing : Standing h s.known r o → contents_in view new.file place ≡ contents_in view old.file place
-      by_standing (in_new held) = stays_held held
+      by_standing (in_new new_data) = stays_new_data new_data
       by_standing (in_kept first kept place_is) = stays_kept first kept place_is
 
       stays : contents_in view new.file place ≡ contents_in view old.file place

@@ -18,7 +18,7 @@ use Rattle.qcow2_laws.specs.Guests.{table_at}
 use Rattle.qcow2_laws.proofs.Formats.{cover_format, size_format}
 use Rattle.qcow2_alloc.specs.declared.clusters_to_free.ClustersToFreeEntry.{ClustersToFreeEntry}
 use Rattle.qcow2_alloc.specs.declared.cache.MetadataCaches.{MetadataCaches}
-use Rattle.qcow2_alloc.specs.CacheMarks.{l2_pins}
+use Rattle.qcow2_alloc.specs.CachePins.{l2_pins}
 use Rattle.qcow2_alloc.specs.MetadataCaches.{l2_at}
 use Rattle.qcow2_alloc.specs.ImageFile.{contents_in, known_in}
 use Rattle.qcow2_image.specs.declared.image.Qcow2.{Qcow2}
@@ -27,7 +27,7 @@ use Rattle.qcow2_image.specs.declared.prepared.Share.{Share}
 use Rattle.qcow2_image.specs.declared.prepared.Share.TheVariants.{Kept}
 use Rattle.qcow2_image.specs.Image.{number_of}
 use Rattle.qcow2_image.specs.CallParts.{IsReadied}
-use Rattle.qcow2_image.specs.ImageInvariant.{abstract_of, cluster_of, held_in, host_begin_of, is_private, meaning, of_data, of_tables, pending_in, pins_by, place_of, share_of, to_free, IsKeptAt, IsPending, IsReadyWith, ImageInvariant}
+use Rattle.qcow2_image.specs.ImageInvariant.{abstract_of, cluster_of, new_data_in, host_begin_of, is_private, meaning, of_data, of_tables, pending_in, pins_by, place_of, share_of, to_free, IsKeptAt, IsPending, IsReadyWith, ImageInvariant}
 use Rattle.qcow2_image.specs.Ranges.{BeginsInKept, MayGoOn, StandsBehind}
 use Rattle.qcow2_image.specs.UnseenSteps.{HoldsTable, IsFilled, IsKeptAlone, Pins, UnseenFillingStep}
 use Rattle.qcow2_image.proofs.Apart.{pins_own}
@@ -85,7 +85,7 @@ module _ {S F : Type 0} (view : S → StorageView) (backing : F → BackingView)
     size = size_format old.file.header.fields hm goes.header
 
     found : IsSome (l2_at mid.file.caches table)
-    found = subst (λ (c : MetadataCaches S). IsSome (l2_at c table)) (sym caches) holds.held
+    found = subst (λ (c : MetadataCaches S). IsSome (l2_at c table)) (sym caches) holds.new_data
 
     holds_now : HoldsTable view backing mid offset table
     holds_now = holds_still view backing out old mid before before offset table sound goes holds found
@@ -119,10 +119,10 @@ module _ {S F : Type 0} (view : S → StorageView) (backing : F → BackingView)
 
     now : IsNowPending mid out ready before before.surplus
     now = record {
-      held = λ c. let none : held_in like.shares.items c ≡ 0 = ap (λ (l : List Share). held_in l c) one in omega arith;
-      fresh = λ c. refl;
-      spent = λ c. ap (λ (l : List ClustersToFreeEntry). to_free of_tables l c) (sym list);
-      dropped = λ c. ap (λ (l : List ClustersToFreeEntry). to_free of_data l c) (sym list);
+      new_data = λ c. let none : new_data_in like.shares.items c ≡ 0 = ap (λ (l : List Share). new_data_in l c) one in omega arith;
+      new_tables = λ c. refl;
+      old_tables = λ c. ap (λ (l : List ClustersToFreeEntry). to_free of_tables l c) (sym list);
+      old_data = λ c. ap (λ (l : List ClustersToFreeEntry). to_free of_data l c) (sym list);
       surplus = refl;
     }
 
@@ -213,10 +213,10 @@ module _ {S F : Type 0} (view : S → StorageView) (backing : F → BackingView)
       behind_kept = record {
         pending = behind;
         goes = goes;
-        held = λ c. omega arith;
-        fresh = λ c. refl;
-        spent = λ c. ap (λ (l : List ClustersToFreeEntry). to_free of_tables l c) (sym list);
-        dropped = λ c. ap (λ (l : List ClustersToFreeEntry). to_free of_data l c) (sym list);
+        new_data = λ c. omega arith;
+        new_tables = λ c. refl;
+        old_tables = λ c. ap (λ (l : List ClustersToFreeEntry). to_free of_tables l c) (sym list);
+        old_data = λ c. ap (λ (l : List ClustersToFreeEntry). to_free of_data l c) (sym list);
         surplus = refl;
         stands = record {
           first = host / cluster_size h;

@@ -18,7 +18,7 @@ use Rattle.qcow2_laws.specs.Guests.{table_at}
 use Rattle.qcow2_laws.specs.Unseen.{KeepsFormat}
 use Rattle.qcow2_laws.proofs.Places.{has_table}
 use Rattle.qcow2_alloc.specs.AsyncLruCache.{is_pinned, pinned}
-use Rattle.qcow2_alloc.specs.CacheMarks.{AreAllPinned, IsInUseOrFault}
+use Rattle.qcow2_alloc.specs.CachePins.{AreAllPinned, IsInUseOrFault}
 use Rattle.qcow2_alloc.specs.declared.async_lru_cache.slot.Slot.{Slot}
 use Rattle.qcow2_alloc.specs.declared.error.ImageError.{ImageError}
 use Rattle.qcow2_alloc.specs.ImageError.{IsFault}

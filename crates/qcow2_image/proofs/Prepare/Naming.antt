@@ -7,7 +7,7 @@ use Rattle.std.specs.Prelude.{IfSome}
 use Rattle.std.specs.Int.{w64, to_be_bytes}
 use Rattle.image_access.specs.Backing.{BackingView}
 use Rattle.image_access.specs.Contents.{overwritten}
-use Rattle.image_access.specs.Moments.{StorageView, Passing, Changes, Calls}
+use Rattle.image_access.specs.Moments.{StorageView, EachMomentSince, Changes, Calls}
 use Rattle.image_access.specs.declared.error.StorageError.{StorageError}
 use Rattle.qcow2_metadata.specs.Bytes.{Bytes, byte_at}
 use Rattle.qcow2_metadata.specs.declared.header.HeaderFields.{HeaderFields}
@@ -23,7 +23,7 @@ use Rattle.qcow2_metadata.proofs.EntryTables.{on_sector}
 use Rattle.qcow2_metadata.proofs.TablesAt.{entry_stands}
 use Rattle.qcow2_metadata.proofs.WrittenTables.{IsL1TableOf-written_entry}
 use Rattle.qcow2_disk.specs.Stops.{SafeThroughout}
-use Rattle.qcow2_laws.specs.Changes.{one_at, with_fresh, renamed}
+use Rattle.qcow2_laws.specs.Changes.{one_at, with_new_tables, renamed}
 use Rattle.qcow2_laws.specs.CrashInvariant.{Pending, SameIn}
 use Rattle.qcow2_laws.specs.Guests.{table_at}
 use Rattle.qcow2_laws.specs.Caches.{AreClean, IsFreeAt, IsFreeOf, HasL2, HasOwnL2, HasBlock}
@@ -83,7 +83,7 @@ table_alone h at c real =
     ]
 
 module _ {S F : Type 0} (view : S → StorageView) (backing : F → BackingView) (old : Qcow2 S F) (out : List (Option Prepared)) (p : Pending) (index at : ℕ) (t' : EntryTableView) (table : L2TableView)
-    (sound : ImageInvariant view backing (with_fresh p (one_at at)) old out) (may : MayName view old index) (says : SaysKnown old.file.header.fields (known_in view old.file) index table) (whole : length table.bytes ≡ 2 ^ table.cluster_bits)
+    (sound : ImageInvariant view backing (with_new_tables p (one_at at)) old out) (may : MayName view old index) (says : SaysKnown old.file.header.fields (known_in view old.file) index table) (whole : length table.bytes ≡ 2 ^ table.cluster_bits)
     (ready : StandsReady view old at table.bytes) (within : index < entry_count old.l1_table) (nameable : IsHostCluster old.l1_table.cluster_bits at) (same : t' ≡ record old.l1_table { bytes = t'.bytes })
     (enters : ChangesEntry old.l1_table.bytes t'.bytes index (copied_entry (at * 2 ^ old.l1_table.cluster_bits))) (offset : host_offset (entry_at t'.bytes index) ≡ at * 2 ^ old.l1_table.cluster_bits)
     (copied : is_copied (entry_at t'.bytes index) ≡ true) (fits : entry_at t'.bytes index < 2 ^ 64) where
@@ -91,7 +91,7 @@ module _ {S F : Type 0} (view : S → StorageView) (backing : F → BackingView)
   h = old.file.header.fields
 
   abbrev q : Pending
-  q = with_fresh p (one_at at)
+  q = with_new_tables p (one_at at)
 
   abbrev on_storage : Bytes
   on_storage = contents_in view old.file
@@ -105,7 +105,7 @@ module _ {S F : Type 0} (view : S → StorageView) (backing : F → BackingView)
   sizes : Sizes h
   sizes = file_sizes view q old.file sound.file
 
-  some : 0 < q.fresh at
+  some : 0 < q.new_tables at
   some = let own = one_here at in omega (arith, own)
 
   free : IsFree view q old.file at
@@ -168,7 +168,7 @@ module _ {S F : Type 0} (view : S → StorageView) (backing : F → BackingView)
     reads = reads;
     real = λ none. real (sym place ∙ none);
     aligned = ap (λ n. n % cluster_size h) place ∙ cluster_aligned at h.cluster_bits;
-    fresh = subst (λ n. 0 < q.fresh n) (sym in_at) some;
+    new_tables = subst (λ n. 0 < q.new_tables n) (sym in_at) some;
     counted = clean_counts h (order_of old.file.caches) q (l2_tables old.file.caches) (refblocks old.file.caches) on_storage sound.file.caches.kept.kept ready.stored.counts (host_offset entry / cluster_size h);
     written = covers_written view q old.file sound.file ready.stored.first;
     covers = covers;
@@ -250,15 +250,15 @@ module _ {S F : Type 0} (view : S → StorageView) (backing : F → BackingView)
 
     current : AreCurrentIn (cluster_size h) at (l2_tables old.file.caches) on_storage'
     current =
-        let held = ready.held in
+        let new_data = ready.new_data in
         let bits = old.file.caches.l2.backend.header.fields.cluster_bits in
         let same_bits = sound.file.caches.l2_format.bits in
-        let there : (i : ℕ) → i < cluster_size h → byte_at held.0.bytes i ≡ on_storage' (at * cluster_size h + i) = λ i lt.
-        ap (λ l. byte_at l i) held.2 ∙ ready.stands i (subst (λ n. i < n) (sym long) lt)
+        let there : (i : ℕ) → i < cluster_size h → byte_at new_data.0.bytes i ≡ on_storage' (at * cluster_size h + i) = λ i lt.
+        ap (λ l. byte_at l i) new_data.2 ∙ ready.stands i (subst (λ n. i < n) (sym long) lt)
         ∙ outside (at * cluster_size h + i) (λ e. free_apart (sym (in_own h.cluster_bits at i lt) ∙ e)) in
         subst (λ n. AreCurrentIn (2 ^ n) at (l2_tables old.file.caches) on_storage') same_bits
-        (current_entry bits (λ (t : L2TableView). t.bytes) (λ t. t.is_modified) (HasL2 h on_storage) on_storage on_storage' at old.file.caches.l2.entries held.0 held.1
-        (subst (λ n. (i : ℕ) → i < 2 ^ n → byte_at held.0.bytes i ≡ on_storage' (at * 2 ^ n + i)) (sym same_bits) there)
+        (current_entry bits (λ (t : L2TableView). t.bytes) (λ t. t.is_modified) (HasL2 h on_storage) on_storage on_storage' at old.file.caches.l2.entries new_data.0 new_data.1
+        (subst (λ n. (i : ℕ) → i < 2 ^ n → byte_at new_data.0.bytes i ≡ on_storage' (at * 2 ^ n + i)) (sym same_bits) there)
         (subst (λ n. AreLoaded (2 ^ n) (HasL2 h on_storage) (l2_tables old.file.caches) on_storage) (sym same_bits) sound.file.caches.kept.l2_loaded))
 
     -- a table whose entry is marked copied is named still
@@ -331,7 +331,7 @@ module _ {S F : Type 0} (view : S → StorageView) (backing : F → BackingView)
     ready_named j r is_ready =
         still_ready h known on_storage (known_in view named.file) on_storage' r sound.file.caches.kept.kept.guarded.same_top.l1 leads.sound.same_top.l1 own_stays (λ i. unseen.covers (cluster_of h r + i)) r.table is_ready
 
-    pub keeps_named : (view (storage_of storage)).is_honest → Passing (view_in view old.file) (view (storage_of storage)) (λ c. c ≡ (view (storage_of storage)).contents) → UnseenStep view backing q (replacing view p old index) old named out
+    pub keeps_named : (view (storage_of storage)).is_honest → EachMomentSince (view_in view old.file) (view (storage_of storage)) (λ c. c ≡ (view (storage_of storage)).contents) → UnseenStep view backing q (replacing view p old index) old named out
     keeps_named honest time = record {
       sound = record {
         works = sound.works;

@@ -10,7 +10,7 @@ use Rattle.image_access.specs.Moments.{StorageView}
 use Rattle.qcow2_metadata.specs.declared.header.HeaderFields.{HeaderFields}
 use Rattle.qcow2_metadata.specs.Header.{cluster_size, entries_per_cluster}
 use Rattle.qcow2_disk.specs.AbstractImages.{Guest, guest_of, meaning_at}
-use Rattle.qcow2_disk.specs.Calls.{Works, with_slot}
+use Rattle.qcow2_disk.specs.Calls.{EffectOnSound, with_slot}
 use Rattle.qcow2_disk.specs.Disk.{Disk}
 use Rattle.qcow2_disk.specs.Found.{rest_of_table}
 use Rattle.qcow2_disk.specs.Mappings.{PreparedMapping, IsPrepared}
@@ -68,7 +68,7 @@ module _ {S F : Type 0} (view : S → StorageView) (backing : F → BackingView)
       (subst (λ (x : Disk). IsPrepared (cluster_size start.file.header.fields) x p.guest n overwrite (meaning view backing mid p)) (sym disk) first.prepared) in
       record {
         works = works_then (abstract_of view backing start out) (abstract_of view backing mid out1) (abstract_of view backing new (slice_set out k (Some q))) [] [] first.sound first.works
-            (subst (λ l. Works (abstract_of view backing mid out1) (abstract_of view backing new l) [] []) end is.works);
+            (subst (λ l. EffectOnSound (abstract_of view backing mid out1) (abstract_of view backing new l) [] []) end is.works);
         sound = subst (λ l. ImageInvariant view backing (pending_in view backing new l) new l) end is.sound;
         header = moves_then start.file.header.fields mid.file.header.fields new.file.header.fields first.header (format_moves mid.file.header.fields new.file.header.fields is.header);
         covers = stay_then start.file.header.fields mid.file.header.fields new.file.header.fields (known_in view start.file) (known_in view mid.file) (known_in view new.file) first.covers
@@ -111,7 +111,7 @@ module _ {S F : Type 0} (view : S → StorageView) (backing : F → BackingView)
         record {
           works = works_then (abstract_of view backing start out) (abstract_of view backing mid out1) (abstract_of view backing end out) [] [] first.sound first.works
               (works_then (abstract_of view backing mid out1) (abstract_of view backing new out1) (abstract_of view backing end out) [] [] still.sound still.works
-              (subst (λ l. Works (abstract_of view backing new out1) (abstract_of view backing end l) [] []) same_out (done.acts.works still.sound)));
+              (subst (λ l. EffectOnSound (abstract_of view backing new out1) (abstract_of view backing end l) [] []) same_out (done.acts.works still.sound)));
           sound = subst (λ l. ImageInvariant view backing (pending_in view backing end l) end l) same_out answer.0;
           same = ap (λ l. guest_of (abstract_of view backing end l)) (sym same_out) ∙ answer.1 ∙ ap (λ (x : Guest). with_slot x k None) (still.same ∙ first.is) ∙ slot_twice a k (Some (meaning view backing mid p)) None
               ∙ slot_back a k None (ap (meaning_at (meaning view backing start)) free);
@@ -121,8 +121,8 @@ module _ {S F : Type 0} (view : S → StorageView) (backing : F → BackingView)
         }
 
     -- a failed image is as it was, but for its caches
-    let_go_failed : Works (abstract_of view backing mid out1) (abstract_of view backing (record new { is_failed = true }) out1) [] [] → Works (abstract_of view backing mid out1) (abstract_of view backing (record end { is_failed = true }) out) [] []
-    let_go_failed works = subst (λ (m : Qcow2 S F). Works (abstract_of view backing mid out1) (abstract_of view backing (record m { is_failed = true }) out) [] []) (sym lets.rest)
+    let_go_failed : EffectOnSound (abstract_of view backing mid out1) (abstract_of view backing (record new { is_failed = true }) out1) [] [] → EffectOnSound (abstract_of view backing mid out1) (abstract_of view backing (record end { is_failed = true }) out) [] []
+    let_go_failed works = subst (λ (m : Qcow2 S F). EffectOnSound (abstract_of view backing mid out1) (abstract_of view backing (record m { is_failed = true }) out) [] []) (sym lets.rest)
         (record {
           setting = works.setting;
           surplus = λ now. absurd (let f : true ≡ false = now.works in cc);
@@ -311,7 +311,7 @@ module _ {S F : Type 0} (view : S → StorageView) (backing : F → BackingView)
 
 -- what was refused while there was a free place was refused without it
 module _ {S F : Type 0} (view : S → StorageView) (backing : F → BackingView) (out : List (Option Prepared)) (old new : Qcow2 S F) where
-  works_free : (image : Qcow2 S F) → Works (abstract_of view backing old (None ∷ out)) (abstract_of view backing image (None ∷ out)) [] [] → Works (abstract_of view backing old out) (abstract_of view backing image out) [] []
+  works_free : (image : Qcow2 S F) → EffectOnSound (abstract_of view backing old (None ∷ out)) (abstract_of view backing image (None ∷ out)) [] [] → EffectOnSound (abstract_of view backing old out) (abstract_of view backing image out) [] []
   works_free image w =
       let free = free_places view backing in
       record {

@@ -24,7 +24,7 @@ use Rattle.qcow2_alloc.specs.declared.clusters_to_free.ClustersToFreeEntry.{Clus
 use Rattle.qcow2_alloc.specs.ClustersToFree.{metadata_entry}
 use Rattle.qcow2_alloc.specs.declared.error.ImageError.{ImageError}
 use Rattle.qcow2_alloc.specs.declared.image_storage.ImageStorage.{ImageStorage}
-use Rattle.qcow2_alloc.specs.CacheMarks.{l2_pins, CachesHaveRoom}
+use Rattle.qcow2_alloc.specs.CachePins.{l2_pins, CachesHaveRoom}
 use Rattle.qcow2_alloc.specs.ImageFile.{view_in, contents_in, known_in, state_in}
 use Rattle.qcow2_alloc.specs.ImageStorage.{storage_of}
 use Rattle.qcow2_alloc.specs.MetadataCaches.{l2_at, IsEntryAt, ShowsKnown, UnseenCacheStep}
@@ -110,8 +110,8 @@ module _ {S F : Type 0} (view : S → StorageView) (backing : F → BackingView)
     shown_at i lt = record { real = λ none. shared.real (sym known_table ∙ none); place = known_table ∙ shared.place; within = lt }
 
     -- a copy of the held one says what is known
-    pub says_copy : (held t : L2TableView) → ShowsKnown old.file.caches former held → t ≡ record held { cluster = None; is_modified = true } → SaysKnown h known index t
-    says_copy held t shows is =
+    pub says_copy : (new_data t : L2TableView) → ShowsKnown old.file.caches former new_data → t ≡ record new_data { cluster = None; is_modified = true } → SaysKnown h known index t
+    says_copy new_data t shows is =
         let on_storage = contents_in view old.file in
         let format = (shows h p on_storage index 0 sound.file.caches (shown_at 0 sizes.entries)).format in
         subst (SaysKnown h known index) (sym is) (record {
@@ -161,7 +161,7 @@ module _ {S F : Type 0} (view : S → StorageView) (backing : F → BackingView)
   keeps_loaded = keeps_then view backing out old mid loaded p q q (λ k some. some) owned loads
 
   pub holds_table : NamesCopied view mid (l1_index_of old.file.header.fields offset) cluster → IsSome (l2_at caches cluster) → HoldsTable view backing loaded offset cluster
-  holds_table named held =
+  holds_table named new_data =
       let g = mid.file.header.fields in
       let i = l1_index_of mid.file.header.fields offset in
       let here : NamesCopied view mid i cluster = subst (λ (x : HeaderFields). NamesCopied view mid (l1_index_of x offset) cluster) (sym owned.unseen.header) named in
@@ -173,5 +173,5 @@ module _ {S F : Type 0} (view : S → StorageView) (backing : F → BackingView)
           within = mod_below (offset / cluster_size g) (entries_per_cluster g) (sizes view backing out q mid owned.sound i).entries;
         };
         copied = ap is_copied (same_l1 view backing out q q mid loaded owned.sound loads.sound refl i) ∙ here.own.1;
-        held = held;
+        new_data = new_data;
       }

@@ -19,7 +19,7 @@ use Rattle.qcow2_alloc.specs.ImageFile.{view_in, contents_in, state_in}
 use Rattle.qcow2_alloc.specs.ImageStorage.{storage_of}
 use Rattle.qcow2_alloc.specs.MetadataCaches.{order_of, l2_tables, refblocks, l2_at, HoldsKnown, UnseenCacheStep}
 use Rattle.qcow2_alloc.specs.Allocation.{StandAt}
-use Rattle.qcow2_alloc.specs.CacheMarks.{l2_pins, CachesHaveRoom}
+use Rattle.qcow2_alloc.specs.CachePins.{l2_pins, CachesHaveRoom}
 use Rattle.qcow2_alloc.specs.declared.cache.MetadataCaches.{MetadataCaches}
 use Rattle.qcow2_laws.specs.Caches.{AreClean, BlocksMayGo}
 use Rattle.qcow2_alloc.proofs.PlacedBlocks.{IsFree, covers_written, in_own, known_there, moves_rewritten, reftable_rewritten}
@@ -34,7 +34,7 @@ use Rattle.qcow2_image.proofs.Map.Loading.{caches_moved, with_caches}
 use Rattle.qcow2_image.proofs.Moving.{file_moved}
 
 module _ {S F : Type 0} (view : S → StorageView) (backing : F → BackingView) (old : Qcow2 S F) (out : List (Option Prepared)) (p : Pending) (sound : ImageInvariant view backing p old out)
-    (stored : IsStored view old) (at : ℕ) (some : 0 < p.fresh at) where
+    (stored : IsStored view old) (at : ℕ) (some : 0 < p.new_tables at) where
   abbrev h : HeaderFields
   h = old.file.header.fields
 
@@ -42,10 +42,10 @@ module _ {S F : Type 0} (view : S → StorageView) (backing : F → BackingView)
   pub free_here : IsFree view p old.file at
   free_here =
       let guarded = sound.file.caches.kept.kept.guarded in
-      let tally = (guarded.always at).tally in
-      let few = (guarded.always at).pending (omega (arith, some)) in
+      let tally = (guarded.each_cluster at).tally in
+      let few = (guarded.each_cluster at).pending (omega (arith, some)) in
       record {
-        unnamed = data_is_written.fresh (state_in view old.file p) at guarded some (covers_written view p old.file sound.file stored.first);
+        unnamed = data_is_written.new_tables (state_in view old.file p) at guarded some (covers_written view p old.file sound.file stored.first);
         unheld = omega (arith, tally, few, some);
       }
 
@@ -90,7 +90,7 @@ module _ {S F : Type 0} (view : S → StorageView) (backing : F → BackingView)
 
 -- ---- the table is put into its cache
 module _ {S F : Type 0} (view : S → StorageView) (backing : F → BackingView) (old : Qcow2 S F) (out : List (Option Prepared)) (p : Pending) (sound : ImageInvariant view backing p old out)
-    (stored : IsStored view old) (at : ℕ) (some : 0 < p.fresh at) (bytes : List ℕ) (long : length bytes ≡ cluster_size old.file.header.fields)
+    (stored : IsStored view old) (at : ℕ) (some : 0 < p.new_tables at) (bytes : List ℕ) (long : length bytes ≡ cluster_size old.file.header.fields)
     (stands : StandAt (contents_in view old.file) (at * cluster_size old.file.header.fields) bytes) where
   pub holds : HoldsKnown old.file.header.fields old.file.caches (contents_in view old.file) bytes at
   holds i lt =
@@ -121,7 +121,7 @@ module _ {S F : Type 0} (view : S → StorageView) (backing : F → BackingView)
         holds i inside ∙ ap (λ (b : Bytes). b (at * cluster_size h + i)) (sym stays.known) ∙ there (at * cluster_size h + i) (in_own h.cluster_bits at i inside)
 
     pub stands_ready : (t : L2TableView) → l2_at caches at ≡ Some t → t.bytes ≡ bytes → StandsReady view put at bytes
-    stands_ready t held is = record { stored = stored_put; held = (t, held, is); stands = stands_put }
+    stands_ready t new_data is = record { stored = stored_put; new_data = (t, new_data, is); stands = stands_put }
 
 -- it is placed, or it isn't
 pub places_when : {S F : Type 0} (view : S → StorageView) (backing : F → BackingView) (old new : Qcow2 S F) (out : List (Option Prepared)) (p : Pending) (at : ℕ) (bytes : List ℕ) (r : Result (Unit {0}) ImageError)

@@ -3,7 +3,7 @@ use Rattle.std.proofs.Common.{◌≡◌, ℕ, Bool, false, List, [], Option, Som
 use Rattle.std.specs.Prelude.{Result, Ok, Err, IfErr, IsTrue, slice_set}
 use Rattle.image_access.specs.Backing.{BackingView}
 use Rattle.image_access.specs.Moments.{StorageView}
-use Rattle.qcow2_disk.specs.Calls.{Does, with_slot}
+use Rattle.qcow2_disk.specs.Calls.{AnsweredEffect, with_slot}
 use Rattle.qcow2_disk.specs.Mappings.{IsPrepared}
 use Rattle.qcow2_disk.specs.AbstractImages.{guest_of}
 use Rattle.qcow2_alloc.specs.declared.error.ImageError.{ImageError}
@@ -35,6 +35,6 @@ module _ {S F : Type 0} (view : S → StorageView) (backing : F → BackingView)
     prepares_settled offset n overwrite (Ok p) marks memory readies = λ out k free.
         let ready : ImageInvariant view backing (pending_in view backing old out) old out → IsReadied view backing old new out k offset n overwrite p = λ sound. readies out sound k free in
         subst (λ (f : Bool). let v = abstract_of view backing old out in let w = abstract_of view backing (record new { is_failed = f }) (slice_set out k (Some p)) in
-        Does v w [] [] (IsPrepared v.setting.cluster_size (guest_of v).disk offset n overwrite (meaning view backing (record new { is_failed = f }) p) × (guest_of w ≡ with_slot (guest_of v) k (Some (meaning view backing (record new { is_failed = f }) p))))) (sym marks)
+        AnsweredEffect v w [] [] (IsPrepared v.setting.cluster_size (guest_of v).disk offset n overwrite (meaning view backing (record new { is_failed = f }) p) × (guest_of w ≡ with_slot (guest_of v) k (Some (meaning view backing (record new { is_failed = f }) p))))) (sym marks)
         (settled_does view backing old new out (slice_set out k (Some p)) [] (λ sound. (ready sound).works) (λ sound. (ready sound).sound) number usable (λ sound. ((ready sound).prepared, (ready sound).is)))
     prepares_settled offset n overwrite (Err e) marks memory readies = λ out. refuses_left view backing out old usable new marked number e marks memory (readies out)

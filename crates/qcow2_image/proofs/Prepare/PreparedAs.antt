@@ -29,9 +29,9 @@ use Rattle.qcow2_image.specs.Prepared.{offset_of}
 use Rattle.qcow2_image.specs.MovedTables.{MovesTables, CoversStay}
 use Rattle.qcow2_image.specs.Preparing.{IsAnswered, IsHeldAlone, IsKeptBy, IsTaken, IsWritableAt}
 use Rattle.qcow2_image.specs.Ranges.{BeginsInKept, Reaches}
-use Rattle.qcow2_image.specs.ImageInvariant.{of_data, to_free, held_by, cluster_of, host_begin_of, is_entered, is_private, meaning, pending_in, IsPending, IsReadyWith, IsShareAt, ImageInvariant}
+use Rattle.qcow2_image.specs.ImageInvariant.{of_data, to_free, new_data_by, cluster_of, host_begin_of, is_entered, is_private, meaning, pending_in, IsPending, IsReadyWith, IsShareAt, ImageInvariant}
 use Rattle.qcow2_image.proofs.Call.Slots.{get_set_same}
-use Rattle.qcow2_image.proofs.Shares.{byte_cluster, byte_place, byte_share, held_at, held_once, host_cluster, never_private, over_all_at, private_is as private_share}
+use Rattle.qcow2_image.proofs.Shares.{byte_cluster, byte_place, byte_share, new_data_at, new_data_once, host_cluster, never_private, over_all_at, private_is as private_share}
 
 -- ---- what stands for guest clusters stays, though tables may have moved
 module _ (h k : HeaderFields) (b c : Bytes) (same : CoversStay h c (with_tables_of h k) b) (offset : ℕ) where
@@ -135,13 +135,13 @@ module _ {S F : Type 0} (view : S → StorageView) (old mid : Qcow2 S F) (offset
   writable_as_before place is = writable_still old.file.header.fields mid.file.header.fields (known_in view mid.file) (known_in view old.file) same offset n place (subst (λ (x : HeaderFields). IsWritableAt x (known_in view mid.file) offset n place) header is)
 
 -- what is held is counted once, and nothing names it
-pub held_alone : (s : DriverState) → StateInvariant s → (k : ℕ) → 0 < s.pending.held k → IsHeldAlone s.header s.known k
-held_alone s sound k some =
+pub new_data_alone : (s : DriverState) → StateInvariant s → (k : ℕ) → 0 < s.pending.new_data k → IsHeldAlone s.header s.known k
+new_data_alone s sound k some =
     let sizes = Sizes-from s.header s.known (IsTop-top s.header s.on_storage s.known sound.same_top sound.top).header_reads in
     let named = named-is s.header s.known k sizes in
-    let fixed = for_tables-top s.header s.on_storage s.known k sound.same_top in
-    let tally = (sound.always k).tally in
-    let few = (sound.always k).pending (omega arith) in
+    let table_refs = for_tables-top s.header s.on_storage s.known k sound.same_top in
+    let tally = (sound.each_cluster k).tally in
+    let few = (sound.each_cluster k).pending (omega arith) in
     (omega arith, omega arith)
 
 -- ---- how far an L2 table reaches
@@ -179,12 +179,12 @@ get_there (x ∷ xs) (suc i) lt = get_there xs i (omega (arith, lt))
 entered_as : (h : HeaderFields) (known on_storage : Bytes) (p : Prepared) (i : ℕ) (share : Share) → IsShareAt h known on_storage p i share → is_entered share ≡ not (is_copied_data (cover h known (cluster_of h p + i)))
 entered_as h known on_storage p i InPlace at = ap (λ v. not (is_copied_data v)) (sym at)
 entered_as h known on_storage p i Kept at = ap (λ v. not (is_copied_data v)) (sym at.entry)
-entered_as h known on_storage p i (New taken dropped) at = ap not (sym at.entry)
+entered_as h known on_storage p i (New taken old_data) at = ap not (sym at.entry)
 
 in_place_as : (h : HeaderFields) (known on_storage : Bytes) (p : Prepared) (i : ℕ) (share : Share) → is_entered share ≡ false → IsShareAt h known on_storage p i share → cover h known (cluster_of h p + i) ≡ Data (host_begin_of h p i) true
 in_place_as h known on_storage p i InPlace isnt at = at
 in_place_as h known on_storage p i Kept isnt at = absurd (let e : true ≡ false = isnt in cc)
-in_place_as h known on_storage p i (New taken dropped) isnt at = absurd (let e : true ≡ false = isnt in cc)
+in_place_as h known on_storage p i (New taken old_data) isnt at = absurd (let e : true ≡ false = isnt in cc)
 
 module _ {S F : Type 0} (view : S → StorageView) (backing : F → BackingView) (image : Qcow2 S F) (out : List (Option Prepared)) (k : ℕ) (p : Prepared) (at : slice_get out k ≡ Some (Some p)) (sound : ImageInvariant view backing (pending_in view backing image out) image out) (offset n : ℕ) (reaches : Reaches view image offset n p) where
   abbrev h : HeaderFields
@@ -239,12 +239,12 @@ module _ {S F : Type 0} (view : S → StorageView) (backing : F → BackingView)
       rest_is it.first it.place,
       inr (ap (cover h now) here ∙ it.entry ∙ ap (λ b. Zero (Some (b, true))) (sym it.place ∙ ap (λ c. c * cluster_size h) (sym (cluster_is it.first it.place)))),
     )
-    own_as (New taken dropped) entered is it =
-        let one : to_free of_data taken it.first ≡ 1 = ap (λ l. to_free of_data l it.first) it.is ∙ held_once it.first in
-        let more = held_at p.shares.items index taken dropped is it.first in
-        let all = over_all_at held_by out k p at it.first in (
+    own_as (New taken old_data) entered is it =
+        let one : to_free of_data taken it.first ≡ 1 = ap (λ l. to_free of_data l it.first) it.is ∙ new_data_once it.first in
+        let more = new_data_at p.shares.items index taken old_data is it.first in
+        let all = over_all_at new_data_by out k p at it.first in (
           rest_is it.first it.place,
-          inl (subst (IsHeldAlone h now) (sym (cluster_is it.first it.place)) (held_alone (state_in view image.file (pending_in view backing image out)) sound.file.caches.kept.kept.guarded it.first (omega (arith, one, more, all)))),
+          inl (subst (IsHeldAlone h now) (sym (cluster_is it.first it.place)) (new_data_alone (state_in view image.file (pending_in view backing image out)) sound.file.caches.kept.kept.guarded it.first (omega (arith, one, more, all)))),
         )
 
   -- how far its L2 table reaches

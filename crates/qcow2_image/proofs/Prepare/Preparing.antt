@@ -13,7 +13,7 @@ use Rattle.qcow2_image.specs.declared.prepared.Prepared.{Prepared}
 use Rattle.qcow2_image.specs.declared.prepared.Share.{Share}
 use Rattle.qcow2_image.specs.Image.{number_of}
 use Rattle.qcow2_image.specs.CallParts.{IsExisting, IsReadied}
-use Rattle.qcow2_image.specs.ImageInvariant.{held_in, held_by, pins_by, pins_of, over_all, pending_in, abstract_of, meaning, is_private, IsReady, IsReadyWith, ImageInvariant}
+use Rattle.qcow2_image.specs.ImageInvariant.{new_data_in, new_data_by, pins_by, pins_of, over_all, pending_in, abstract_of, meaning, is_private, IsReady, IsReadyWith, ImageInvariant}
 use Rattle.qcow2_image.proofs.Shares.{never_private as no_private}
 use Rattle.qcow2_image.proofs.Call.Answered.{same_guest}
 use Rattle.qcow2_image.proofs.Call.Slots.{get_set, over_all_put, slot_set}
@@ -22,14 +22,14 @@ use Rattle.qcow2_image.proofs.Call.Stepped.{Steps, stepped_sound, stepped_works}
 module _ {S F : Type 0} (view : S → StorageView) (backing : F → BackingView) (out : List (Option Prepared)) where
   -- ---- a mapping of which nothing is kept
   module _ (image : Qcow2 S F) (sound : ImageInvariant view backing (pending_in view backing image out) image out) (p : Prepared) (offset n : ℕ) (existing : IsExisting p (number_of image) offset n) (k : ℕ) (free : slice_get out k ≡ Some None) where
-    nothing_held : (c : ℕ) → held_by p c ≡ 0
-    nothing_held c = ap (λ (l : List Share). held_in l c) existing.shares
+    nothing_new_data : (c : ℕ) → new_data_by p c ≡ 0
+    nothing_new_data c = ap (λ (l : List Share). new_data_in l c) existing.shares
 
     nothing_pinned : (c : ℕ) → pins_by p c ≡ 0
     nothing_pinned c = ap (λ x. pins_of x c) existing.table
 
-    same_held : (c : ℕ) → over_all held_by (slice_set out k (Some p)) c ≡ over_all held_by out c
-    same_held c = let more = over_all_put held_by out k p free c in let none = nothing_held c in omega arith
+    same_new_data : (c : ℕ) → over_all new_data_by (slice_set out k (Some p)) c ≡ over_all new_data_by out c
+    same_new_data c = let more = over_all_put new_data_by out k p free c in let none = nothing_new_data c in omega arith
 
     same_pins : (c : ℕ) → over_all pins_by (slice_set out k (Some p)) c ≡ over_all pins_by out c
     same_pins c = let more = over_all_put pins_by out k p free c in let none = nothing_pinned c in omega arith
@@ -52,7 +52,7 @@ module _ {S F : Type 0} (view : S → StorageView) (backing : F → BackingView)
         pinned = λ c. sound.pinned c ∙ sym (same_pins c);
         once = λ c. let same = same_pins c in let once = sound.once c in omega arith;
       };
-      only = record { held = λ c. sym (same_held c); fresh = λ c. refl; spent = λ c. refl; dropped = λ c. refl };
+      only = record { new_data = λ c. sym (same_new_data c); new_tables = λ c. refl; old_tables = λ c. refl; old_data = λ c. refl };
       leads = leads_none (state_in view image.file (pending_in view backing image out)) sound.file.caches.kept.kept.guarded;
       since = endures_none (view_in view image.file) (known_in view image.file);
       header = refl;

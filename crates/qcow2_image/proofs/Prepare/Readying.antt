@@ -10,14 +10,14 @@ use Rattle.qcow2_metadata.specs.Bytes.{Bytes, is_within}
 use Rattle.qcow2_metadata.specs.declared.header.HeaderFields.{HeaderFields}
 use Rattle.qcow2_metadata.specs.Header.{cluster_size, rounded_up}
 use Rattle.qcow2_metadata.specs.Tables.{CachedTable}
-use Rattle.qcow2_laws.specs.Caches.{AreSettled}
+use Rattle.qcow2_laws.specs.Caches.{AreNamedBlocks}
 use Rattle.qcow2_disk.specs.Calls.{with_slot}
 use Rattle.qcow2_disk.specs.Disk.{disk}
 use Rattle.qcow2_laws.specs.CrashInvariant.{Pending, SameCovers}
 use Rattle.qcow2_laws.specs.SafeSteps.{SafeStep}
 use Rattle.qcow2_disk.specs.Mappings.{IsPrepared}
 use Rattle.qcow2_disk.specs.AbstractImages.{Guest, guest_of}
-use Rattle.qcow2_alloc.specs.CacheMarks.{l2_pins, SameTables}
+use Rattle.qcow2_alloc.specs.CachePins.{l2_pins, SameTables}
 use Rattle.qcow2_alloc.specs.declared.cache.MetadataCaches.{MetadataCaches}
 use Rattle.qcow2_alloc.specs.ImageFile.{state_in, contents_in, known_in, nothing_given}
 use Rattle.qcow2_metadata.specs.Entries.{count}
@@ -28,7 +28,7 @@ use Rattle.qcow2_image.specs.declared.prepared.Share.{Share}
 use Rattle.qcow2_image.specs.Image.{number_of}
 use Rattle.qcow2_image.specs.CallParts.{IsReadied}
 use Rattle.qcow2_image.specs.UnseenSteps.{UnseenFillingStep, HoldsTable}
-use Rattle.qcow2_image.specs.ImageInvariant.{to_free, of_data, of_tables, held_by, pins_by, pins_of, over_all, pending_in, abstract_of, meaning, is_private, backing_bytes, IsShareAt, IsPending, IsReadyWith, ImageInvariant}
+use Rattle.qcow2_image.specs.ImageInvariant.{to_free, of_data, of_tables, new_data_by, pins_by, pins_of, over_all, pending_in, abstract_of, meaning, is_private, backing_bytes, IsShareAt, IsPending, IsReadyWith, ImageInvariant}
 use Rattle.qcow2_image.proofs.Call.Answered.{same_guest}
 use Rattle.qcow2_image.proofs.Moved.{format_moves, format_stay}
 use Rattle.qcow2_image.proofs.Shares.{private_shared}
@@ -62,10 +62,10 @@ rounds_up size guest length some any within =
 
 -- what is pending once it is out
 pub record IsNowPending {S F : Type 0} (old : Qcow2 S F) (out : List (Option Prepared)) (p : Prepared) (q : Pending) (more : ℕ → ℕ) : Type 0 where
-  pub held : (c : ℕ) → q.held c ≡ over_all held_by out c + held_by p c
-  pub fresh : (c : ℕ) → q.fresh c ≡ 0
-  pub spent : (c : ℕ) → q.spent c ≡ to_free of_tables old.file.free_list c
-  pub dropped : (c : ℕ) → q.dropped c ≡ to_free of_data old.file.free_list c
+  pub new_data : (c : ℕ) → q.new_data c ≡ over_all new_data_by out c + new_data_by p c
+  pub new_tables : (c : ℕ) → q.new_tables c ≡ 0
+  pub old_tables : (c : ℕ) → q.old_tables c ≡ to_free of_tables old.file.free_list c
+  pub old_data : (c : ℕ) → q.old_data c ≡ to_free of_data old.file.free_list c
   pub surplus : q.surplus ≡ more
 
 module _ {S F : Type 0} (view : S → StorageView) (backing : F → BackingView) (old mid : Qcow2 S F) (out : List (Option Prepared)) (k : ℕ) (free : slice_get out k ≡ Some None) (q : Pending)
@@ -145,7 +145,7 @@ module _ {S F : Type 0} (view : S → StorageView) (backing : F → BackingView)
     file = record {
       honest = goes.sound.file.honest;
       caches = tables.sound h q (contents_in view mid.file) goes.sound.file.caches;
-      settled = subst (λ (ts : List CachedTable). AreSettled h ts (contents_in view mid.file)) (sym tables.refblocks) goes.sound.file.settled;
+      settled = subst (λ (ts : List CachedTable). AreNamedBlocks h ts (contents_in view mid.file)) (sym tables.refblocks) goes.sound.file.settled;
       room = tables.room goes.sound.file.room;
     };
     l1_table = record { cluster = goes.sound.l1_table.cluster; bits = goes.sound.l1_table.bits; count = goes.sound.l1_table.count; entries = goes.sound.l1_table.entries };
@@ -160,10 +160,10 @@ module _ {S F : Type 0} (view : S → StorageView) (backing : F → BackingView)
   steps = record {
     sound = sound_now;
     only = record {
-      held = λ c. is.held c ∙ sym (over_all_put held_by out k p free c);
-      fresh = is.fresh;
-      spent = is.spent;
-      dropped = is.dropped;
+      new_data = λ c. is.new_data c ∙ sym (over_all_put new_data_by out k p free c);
+      new_tables = is.new_tables;
+      old_tables = is.old_tables;
+      old_data = is.old_data;
     };
     leads = subst (λ s. SafeStep (state_in view old.file (pending_in view backing old out)) s nothing_given []) (sym same_stand) goes.leads;
     since = goes.since;

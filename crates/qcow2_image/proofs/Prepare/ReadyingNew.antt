@@ -17,12 +17,12 @@ use Rattle.qcow2_metadata.specs.Cover.{cover}
 use Rattle.qcow2_metadata.specs.Guest.{known_byte}
 use Rattle.qcow2_metadata.specs.L2Mapping.{IsHostCluster}
 use Rattle.qcow2_metadata.specs.declared.l2_mapping.L2Mapping.TheVariants.{Data}
-use Rattle.qcow2_laws.specs.Changes.{with_held}
+use Rattle.qcow2_laws.specs.Changes.{with_new_data}
 use Rattle.qcow2_laws.specs.CrashInvariant.{Pending}
 use Rattle.qcow2_laws.specs.Guests.{table_at}
 use Rattle.qcow2_disk.specs.AbstractImages.{guest_of}
 use Rattle.qcow2_laws.proofs.Formats.{cover_format, l1_format, size_format}
-use Rattle.qcow2_alloc.specs.CacheMarks.{l2_pins}
+use Rattle.qcow2_alloc.specs.CachePins.{l2_pins}
 use Rattle.qcow2_alloc.specs.MetadataCaches.{IsEntryAt, l2_at}
 use Rattle.qcow2_alloc.specs.ImageFile.{contents_in, known_in}
 use Rattle.qcow2_image.specs.declared.image.Qcow2.{Qcow2}
@@ -34,10 +34,10 @@ use Rattle.qcow2_image.specs.Found.{l1_index_of, l2_index_of}
 use Rattle.qcow2_image.specs.Image.{number_of}
 use Rattle.qcow2_image.specs.CallParts.{IsReadied}
 use Rattle.qcow2_image.specs.UnseenSteps.{is_announced, IsFilled, UnseenFillingStep, RefusedFillingStep, HoldsAll, HoldsTable, IsGained, UnseenStep, Pins, SameHeld, pending_with_listed}
-use Rattle.qcow2_image.specs.ImageInvariant.{run_of, to_free, of_data, of_tables, held_in, listed_run, disk_of, pending_in, abstract_of, meaning, is_entered, is_private, cluster_of, host_begin_of, place_of, IsNewAt, IsShareAt, ImageInvariant}
+use Rattle.qcow2_image.specs.ImageInvariant.{run_of, to_free, of_data, of_tables, new_data_in, listed_run, disk_of, pending_in, abstract_of, meaning, is_entered, is_private, cluster_of, host_begin_of, place_of, IsNewAt, IsShareAt, ImageInvariant}
 use Rattle.qcow2_image.proofs.Shares.{place_in, private_shared}
 use Rattle.qcow2_image.proofs.Formats.{entry_at_format, l1_shared}
-use Rattle.qcow2_image.proofs.Prepare.Gaining.{following_same, still_holds, taken_held}
+use Rattle.qcow2_image.proofs.Prepare.Gaining.{following_same, still_holds, taken_new_data}
 use Rattle.qcow2_image.proofs.Prepare.Filling.{goes_kept, goes_none, goes_then}
 use Rattle.qcow2_image.proofs.Sound.{free_more}
 use Rattle.qcow2_image.proofs.Prepare.Readying.{mapping_at, one_share, IsNowPending, readied, prepared_by, private_inside}
@@ -105,7 +105,7 @@ first_stands view backing old p offset table guest bits cluster first found here
 module _ {S F : Type 0} (view : S → StorageView) (backing : F → BackingView) (out : List (Option Prepared)) where
   -- a table that is held and marked copied is named as before
   pub holds_still : (old new : Qcow2 S F) (p q : Pending) (offset table : ℕ) → ImageInvariant view backing p old out → UnseenFillingStep view backing p q old new out → HoldsTable view backing old offset table → IsSome (l2_at new.file.caches table) → HoldsTable view backing new offset table
-  holds_still old new p q offset table sound goes holds held =
+  holds_still old new p q offset table sound goes holds new_data =
       let h = old.file.header.fields in
       let i = l1_index_of h offset in
       let on_storage = contents_in view new.file in
@@ -121,7 +121,7 @@ module _ {S F : Type 0} (view : S → StorageView) (backing : F → BackingView)
             (entry_at_format h new.file.header.fields goes.header known on_storage (l1_index_of h offset) table (l2_index_of h offset)
             (record { real = λ none. holds.entry.real (sym there ∙ none); place = there ∙ holds.entry.place; within = holds.entry.within }));
         copied = subst (λ (x : HeaderFields). is_copied (l1_entry new.file.header.fields on_storage (l1_index_of x offset)) ≡ true) (sym goes.header) (ap is_copied (l1_format h new.file.header.fields goes.header on_storage (l1_index_of h offset) ∙ moved) ∙ holds.copied);
-        held = held;
+        new_data = new_data;
       }
 
   -- a refusal that changed nothing
@@ -148,32 +148,32 @@ module _ {S F : Type 0} (view : S → StorageView) (backing : F → BackingView)
       let stands : IsShareAt old.file.header.fields (known_in view old.file) (contents_in view old.file) (mapping_at old.file.header.fields (number_of old) table offset host like) 0 InPlace =
       ap (cover old.file.header.fields (known_in view old.file)) first ∙ is ∙ ap (λ b. Data b true) (sym begin) in
       let now : IsNowPending old out (mapping_at old.file.header.fields (number_of old) table offset host like) q q.surplus =
-      record { held = λ c. (let none : held_in like.shares.items c ≡ 0 = ap (λ (l : List Share). held_in l c) one in omega arith); fresh = λ c. refl; spent = λ c. refl; dropped = λ c. refl; surplus = refl } in
+      record { new_data = λ c. (let none : new_data_in like.shares.items c ≡ 0 = ap (λ (l : List Share). new_data_in l c) one in omega arith); new_tables = λ c. refl; old_tables = λ c. refl; old_data = λ c. refl; surplus = refl } in
       let caches = new.file.caches in
-      let more = pins.pins holds.held unpinned in
+      let more = pins.pins holds.new_data unpinned in
       subst (λ (image : Qcow2 S F). IsReadied view backing old image out k offset n overwrite (mapping_at old.file.header.fields (number_of old) table offset host like)) (sym pins.rest)
       (readied view backing old old out k free q goes offset table host InPlace like one holds unpinned stands new.file.caches pins.tables more now n overwrite
       (prepared_by view backing old old out k free q goes offset table host InPlace like one holds unpinned stands new.file.caches pins.tables more now n overwrite (λ o private. absurd (never_private old p one o private))))
 
   -- ---- in a new cluster
-  module _ (old filled mid : Qcow2 S F) (n : ClustersToFreeEntry) (mapping : L2Mapping) (reach : IsInReach mapping) (other : is_copied_data mapping ≡ false) (taken dropped : List ClustersToFreeEntry) (taken_is : taken ≡ n ∷ []) (dropped_is : dropped ≡ listed_run (named_run old.file.header.fields.cluster_bits mapping)) (like : Prepared) (one : like.shares.items ≡ New taken dropped ∷ []) (k offset length table host : ℕ) (overwrite : Bool) (free : slice_get out k ≡ Some None) (sound : ImageInvariant view backing (pending_in view backing old out) old out)
+  module _ (old filled mid : Qcow2 S F) (n : ClustersToFreeEntry) (mapping : L2Mapping) (reach : IsInReach mapping) (other : is_copied_data mapping ≡ false) (taken old_data : List ClustersToFreeEntry) (taken_is : taken ≡ n ∷ []) (old_data_is : old_data ≡ listed_run (named_run old.file.header.fields.cluster_bits mapping)) (like : Prepared) (one : like.shares.items ≡ New taken old_data ∷ []) (k offset length table host : ℕ) (overwrite : Bool) (free : slice_get out k ≡ Some None) (sound : ImageInvariant view backing (pending_in view backing old out) old out)
       (holds : HoldsTable view backing old offset table) (unpinned : l2_pins old.file.caches table ≡ 0) (covered : cover old.file.header.fields (known_in view old.file) (offset / cluster_size old.file.header.fields) ≡ mapping)
       (gained : IsGained view backing (pending_in view backing old out) old filled out offset length overwrite mapping n) (nameable : IsHostCluster old.file.header.fields.cluster_bits n.first_cluster)
-      (keeps : UnseenStep view backing (with_held (pending_with_listed (pending_in view backing old out) old filled) (run_of n)) (with_held (pending_with_listed (pending_in view backing old out) old filled) (run_of n)) filled mid out)
+      (keeps : UnseenStep view backing (with_new_data (pending_with_listed (pending_in view backing old out) old filled) (run_of n)) (with_new_data (pending_with_listed (pending_in view backing old out) old filled) (run_of n)) filled mid out)
       (list : mid.file.free_list ≡ filled.file.free_list) (found : IsSome (l2_at mid.file.caches table)) (host_is : host ≡ n.first_cluster * cluster_size mid.file.header.fields)
-      (same : SameHeld view backing (with_held (pending_with_listed (pending_in view backing old out) old filled) (run_of n)) filled mid) where
+      (same : SameHeld view backing (with_new_data (pending_with_listed (pending_in view backing old out) old filled) (run_of n)) filled mid) where
     abbrev before : Pending
     before = pending_in view backing old out
 
     abbrev q : Pending
-    q = with_held (pending_with_listed before old filled) (run_of n)
+    q = with_new_data (pending_with_listed before old filled) (run_of n)
 
-    all_held : HoldsAll view backing before out
-    all_held c = omega arith
+    all_new_data : HoldsAll view backing before out
+    all_new_data c = omega arith
 
     pub goes_on : UnseenFillingStep view backing before q old mid out
     goes_on = goes_then view backing out old filled mid before q q gained.goes
-        (goes_kept view backing out filled mid q q gained.goes.sound (still_holds view backing out old filled before n gained.one all_held gained.goes) (still_holds view backing out old filled before n gained.one all_held gained.goes) keeps)
+        (goes_kept view backing out filled mid q q gained.goes.sound (still_holds view backing out old filled before n gained.one all_new_data gained.goes) (still_holds view backing out old filled before n gained.one all_new_data gained.goes) keeps)
 
     abbrev hm : HeaderFields
     hm = mid.file.header.fields
@@ -194,7 +194,7 @@ module _ {S F : Type 0} (view : S → StorageView) (backing : F → BackingView)
     stays_covered = ap (cover hm (known_in view mid.file)) first_cluster ∙ ap (λ size. cover hm (known_in view mid.file) (offset / size)) (size_format old.file.header.fields hm goes_on.header)
         ∙ cover_format old.file.header.fields hm goes_on.header (known_in view mid.file) (offset / cluster_size old.file.header.fields) ∙ sym (goes_on.covers (offset / cluster_size old.file.header.fields)) ∙ covered
 
-    stands : IsNewAt hm (known_in view mid.file) (contents_in view mid.file) p 0 taken dropped
+    stands : IsNewAt hm (known_in view mid.file) (contents_in view mid.file) p 0 taken old_data
     stands = record {
       first = n.first_cluster;
       is = taken_is ∙ ap (λ (e : ClustersToFreeEntry). e ∷ []) (ap (λ c. record n { count = c }) gained.one ∙ ap (λ x. record n { count = 1; kind = x }) gained.kind);
@@ -202,18 +202,18 @@ module _ {S F : Type 0} (view : S → StorageView) (backing : F → BackingView)
       nameable = subst (λ (x : HeaderFields). IsHostCluster x.cluster_bits n.first_cluster) (sym goes_on.header) nameable;
       entry = ap is_copied_data stays_covered ∙ other;
       reach = subst IsInReach (sym stays_covered) reach;
-      drops = dropped_is ∙ ap (λ (x : HeaderFields). listed_run (named_run x.cluster_bits mapping)) (sym goes_on.header) ∙ ap (λ v. listed_run (named_run hm.cluster_bits v)) (sym stays_covered);
+      drops = old_data_is ∙ ap (λ (x : HeaderFields). listed_run (named_run x.cluster_bits mapping)) (sym goes_on.header) ∙ ap (λ v. listed_run (named_run hm.cluster_bits v)) (sym stays_covered);
     }
 
     now : IsNowPending mid out p q before.surplus
     now = record {
-      held = λ c.
-          let mine : held_in like.shares.items c ≡ to_free of_data taken c = ap (λ (l : List Share). held_in l c) one ∙ omega arith in
+      new_data = λ c.
+          let mine : new_data_in like.shares.items c ≡ to_free of_data taken c = ap (λ (l : List Share). new_data_in l c) one ∙ omega arith in
           let as_data : to_free of_data taken c ≡ run_of n c = ap (λ l. to_free of_data l c) taken_is ∙ ap (λ x. of_data x (run_of n c) + 0) gained.kind ∙ omega arith in
           omega arith;
-      fresh = λ c. refl;
-      spent = λ c. let same = ap (λ l. to_free of_tables l c) list in let more = ap (λ l. to_free of_tables l c) gained.goes.list.is ∙ free_more of_tables old.file.free_list gained.goes.list.more c in omega arith;
-      dropped = λ c. let same = ap (λ l. to_free of_data l c) list in let more = ap (λ l. to_free of_data l c) gained.goes.list.is ∙ free_more of_data old.file.free_list gained.goes.list.more c in omega arith;
+      new_tables = λ c. refl;
+      old_tables = λ c. let same = ap (λ l. to_free of_tables l c) list in let more = ap (λ l. to_free of_tables l c) gained.goes.list.is ∙ free_more of_tables old.file.free_list gained.goes.list.more c in omega arith;
+      old_data = λ c. let same = ap (λ l. to_free of_data l c) list in let more = ap (λ l. to_free of_data l c) gained.goes.list.is ∙ free_more of_data old.file.free_list gained.goes.list.more c in omega arith;
       surplus = refl;
     }
 
@@ -222,24 +222,24 @@ module _ {S F : Type 0} (view : S → StorageView) (backing : F → BackingView)
       abbrev pinned : Qcow2 S F
       pinned = record mid { file = record mid.file { caches = new.file.caches } }
 
-      held_place : (o : ℕ) → 0 < q.held ((n.first_cluster * cluster_size hm + o % cluster_size hm) / cluster_size filled.file.header.fields)
-      held_place o =
+      new_data_place : (o : ℕ) → 0 < q.new_data ((n.first_cluster * cluster_size hm + o % cluster_size hm) / cluster_size filled.file.header.fields)
+      new_data_place o =
           let size : cluster_size filled.file.header.fields ≡ cluster_size hm = size_format old.file.header.fields filled.file.header.fields gained.goes.header ∙ sym (size_format old.file.header.fields hm goes_on.header) in
           let there = div-mul-add n.first_cluster (cluster_size hm) (o % cluster_size hm) (mod_below o (cluster_size hm) (pow_pos hm.cluster_bits)) in
-          subst (λ c. 0 < q.held c) (sym (ap (λ x. (n.first_cluster * cluster_size hm + o % cluster_size hm) / x) size ∙ there)) (taken_held view backing out old filled before n gained.one all_held gained.goes)
+          subst (λ c. 0 < q.new_data c) (sym (ap (λ x. (n.first_cluster * cluster_size hm + o % cluster_size hm) / x) size ∙ there)) (taken_new_data view backing out old filled before n gained.one all_new_data gained.goes)
 
       old_values : (o : ℕ) → IsTrue (is_private view backing pinned p o) → (overwrite && is_within offset (min length (cluster_size hm - offset % cluster_size hm)) o ≡ false) → (meaning view backing pinned p).shown o ≡ (guest_of (abstract_of view backing old out)).disk.value o
       old_values o private opened =
           let more = pins.pins found unpinned_now in
-          let here = private_inside view backing old mid out k free q goes_on offset table host (New taken dropped) like one holds_now unpinned_now stands new.file.caches pins.tables more now o private in
+          let here = private_inside view backing old mid out k free q goes_on offset table host (New taken old_data) like one holds_now unpinned_now stands new.file.caches pins.tables more now o private in
           let place = place_in hm p o 0 (here ∙ sym first_cluster) in
           let begin : place_of hm p o ≡ n.first_cluster * cluster_size hm + o % cluster_size hm = omega (arith, host_is, place) in
-          ap known_byte (cond-true _ _ _ private ∙ ap (contents_in view mid.file) begin ∙ same (n.first_cluster * cluster_size hm + o % cluster_size hm) (held_place o))
+          ap known_byte (cond-true _ _ _ private ∙ ap (contents_in view mid.file) begin ∙ same (n.first_cluster * cluster_size hm + o % cluster_size hm) (new_data_place o))
           ∙ filled_byte view backing old filled n.first_cluster offset length overwrite (gained.filled covered) (cluster_size hm) (ap (λ (x : HeaderFields). cluster_size x) goes_on.header) o here opened
 
       pub readied_new : IsReadied view backing old new out k offset length overwrite p
       readied_new =
           let more = pins.pins found unpinned_now in
           subst (λ (image : Qcow2 S F). IsReadied view backing old image out k offset length overwrite p) (sym pins.rest)
-          (readied view backing old mid out k free q goes_on offset table host (New taken dropped) like one holds_now unpinned_now stands new.file.caches pins.tables more now length overwrite
-          (prepared_by view backing old mid out k free q goes_on offset table host (New taken dropped) like one holds_now unpinned_now stands new.file.caches pins.tables more now length overwrite old_values))
+          (readied view backing old mid out k free q goes_on offset table host (New taken old_data) like one holds_now unpinned_now stands new.file.caches pins.tables more now length overwrite
+          (prepared_by view backing old mid out k free q goes_on offset table host (New taken old_data) like one holds_now unpinned_now stands new.file.caches pins.tables more now length overwrite old_values))

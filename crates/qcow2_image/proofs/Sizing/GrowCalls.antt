@@ -16,7 +16,7 @@ use Rattle.qcow2_image.specs.Clearing.{setting_of}
 use Rattle.qcow2_image.specs.declared.image.Qcow2.{Qcow2}
 use Rattle.qcow2_image.specs.Image.{is_external, is_failed, is_writable, size_of}
 use Rattle.qcow2_image.specs.ImageInvariant.{abstract_of, disk_of}
-use Rattle.qcow2_image.specs.Resizing.{GrowsTo, gifts_of_grow, refuses_to_resize}
+use Rattle.qcow2_image.specs.Resizing.{GrowsTo, all_given_by_grow, refuses_to_resize}
 use Rattle.qcow2_image.proofs.Call.Called.{refuses_early, works_none}
 use Rattle.qcow2_image.proofs.Sizes.{disk_size}
 use Rattle.qcow2_image.proofs.Sizing.ShrinkCalls.{none_fails}
@@ -27,7 +27,7 @@ module _ {S F : Type 0} (view : S → StorageView) (backing : F → BackingView)
   refused_unasked e none out =
       let v = abstract_of view backing old out in
       let r = refuses_early v (refusal_of e) none in
-      let gs = gifts_of_grow view backing old size mode in
+      let gs = all_given_by_grow view backing old size mode in
       record {
         acts = record { number = r.acts.number; works = λ sound. works_asking v v gs (size ∷ []) (works_less v v [] gs [] (λ o x never. absurd never) (r.acts.works sound)); rests = r.acts.rests };
         answer = λ sound. elim (r.answer sound) [ inl still ↦ inl (still.0, ((guest_of v).disk, record { same_size = refl; values = λ o. inl refl }, still.1)) | inr failed ↦ inr failed ];
@@ -44,7 +44,7 @@ module _ {S F : Type 0} (view : S → StorageView) (backing : F → BackingView)
   pub grows_nothing : is_failed old ≡ false → size ≤ size_of old → GrowsTo view backing old old size mode (Ok tt)
   grows_nothing usable le out =
       let v = abstract_of view backing old out in
-      let gs = gifts_of_grow view backing old size mode in
+      let gs = all_given_by_grow view backing old size mode in
       let d = disk_of view backing old in
       record {
         acts = record {

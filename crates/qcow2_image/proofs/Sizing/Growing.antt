@@ -3,15 +3,15 @@ use Rattle.std.proofs.Common.{◌≡◌, ◌⊎◌, inl, inr, ℕ, ◌-◌, ◌<
 use Rattle.std.specs.Prelude.{IfErr, IsTrue, Option, Result, Ok, Err}
 use Rattle.std.proofs.lemmas.Bool.{cond-false, lt-leb}
 use Rattle.image_access.specs.Backing.{BackingView}
-use Rattle.image_access.specs.Moments.{StorageView, Passing}
+use Rattle.image_access.specs.Moments.{StorageView, EachMomentSince}
 use Rattle.image_access.specs.declared.storage.PreallocateMode.{PreallocateMode}
-use Rattle.image_access.proofs.Passing.{passes_if, passes_on}
+use Rattle.image_access.proofs.EachMomentSince.{passes_if, passes_on}
 use Rattle.qcow2_metadata.specs.Bytes.{byte_at}
 use Rattle.qcow2_metadata.specs.declared.header.HeaderFields.{HeaderFields}
 use Rattle.qcow2_metadata.specs.EntryTable.{entry_count}
 use Rattle.qcow2_metadata.specs.Header.{cluster_size, header, with_size}
 use Rattle.qcow2_disk.specs.AbstractImages.{Guest, Setting, guest_of}
-use Rattle.qcow2_disk.specs.Calls.{IsRefusalByFault, IsSame, MayGrow, Refuses, Works, gift_of_grow, with_disk}
+use Rattle.qcow2_disk.specs.Calls.{IsRefusalByFault, IsSame, MayGrow, RefusedEffect, EffectOnSound, given_by_grow, with_disk}
 use Rattle.qcow2_disk.specs.Disk.{Disk}
 use Rattle.qcow2_disk.specs.Stops.{GivenBytes}
 use Rattle.qcow2_disk.proofs.Compose.{works_less, works_then, stops_as}
@@ -30,9 +30,9 @@ use Rattle.qcow2_image.specs.Found.{l1_index_of}
 use Rattle.qcow2_image.specs.Growing.{ReachesSize}
 use Rattle.qcow2_image.specs.Image.{is_failed, number_of, size_of}
 use Rattle.qcow2_image.specs.ImageInvariant.{ImageInvariant, abstract_of, disk_of, pending_in}
-use Rattle.qcow2_image.specs.Preallocation.{FillsGrown, RefusedGrown, filled_to, gifts_of_growing}
+use Rattle.qcow2_image.specs.Preallocation.{FillsGrown, RefusedGrown, filled_to, all_given_by_growing}
 use Rattle.qcow2_image.proofs.Call.Marked.{MayMark, MayMarkBy}
-use Rattle.qcow2_image.specs.Resizing.{GrowsTo, RefusesUnchanged, SetsSize, WritesSize, WritesSizeLast, gifts_of_grow}
+use Rattle.qcow2_image.specs.Resizing.{GrowsTo, RefusesUnchanged, SetsSize, WritesSize, WritesSizeLast, all_given_by_grow}
 use Rattle.qcow2_image.proofs.Call.Refused.{refused_then, refuses_left}
 use Rattle.qcow2_image.proofs.Call.Settled.{is_fault, outcome}
 use Rattle.qcow2_image.proofs.Grow.Grown.{reaches_so}
@@ -41,8 +41,8 @@ use Rattle.qcow2_image.proofs.Sizing.Shrinking.{of_fault}
 use Rattle.qcow2_image.proofs.Sizing.Tails.{works_asking}
 
 module _ {S F : Type 0} (view : S → StorageView) (backing : F → BackingView) (old : Qcow2 S F) (size : ℕ) (mode : PreallocateMode) (usable : is_failed old ≡ false) (larger : size_of old < size) where
-  abbrev gifts : List GivenBytes
-  gifts = gifts_of_grow view backing old size mode
+  abbrev given_bytes : List GivenBytes
+  given_bytes = all_given_by_grow view backing old size mode
 
   -- what a refused call shows
   abbrev May : Qcow2 S F → List (Option Prepared) → Type 0
@@ -50,12 +50,12 @@ module _ {S F : Type 0} (view : S → StorageView) (backing : F → BackingView)
 
   -- what gives nothing and leaves the guest what it saw
   pub grows_same : (new : Qcow2 S F) (e : ImageError) (out : List (Option Prepared)) → let v = abstract_of view backing old out in let w = abstract_of view backing new out in
-      Refuses v w [] [] (refusal_of e) (IsSame v w) → Refuses v w gifts (size ∷ []) (refusal_of e) (May new out)
+      RefusedEffect v w [] [] (refusal_of e) (IsSame v w) → RefusedEffect v w given_bytes (size ∷ []) (refusal_of e) (May new out)
   grows_same new e out r =
       let v = abstract_of view backing old out in
       let w = abstract_of view backing new out in
       record {
-        acts = record { number = r.acts.number; works = λ sound. works_asking v w gifts (size ∷ []) (works_less v w [] gifts [] (λ o x never. absurd never) (r.acts.works sound)); rests = r.acts.rests };
+        acts = record { number = r.acts.number; works = λ sound. works_asking v w given_bytes (size ∷ []) (works_less v w [] given_bytes [] (λ o x never. absurd never) (r.acts.works sound)); rests = r.acts.rests };
         answer = λ sound. elim (r.answer sound) [
           | inl still ↦ inl (still.0, ((guest_of v).disk, record { same_size = refl; values = λ o. inl refl }, still.1))
           | inr failed ↦ inr failed
@@ -93,14 +93,14 @@ module _ {S F : Type 0} (view : S → StorageView) (backing : F → BackingView)
       disk_is : disk_of view backing mid ≡ disk_of view backing old
       disk_is = ap (λ (g : Guest). g.disk) call.same
 
-      gifts_are : gifts_of_growing view backing mid size mode ≡ gifts
-      gifts_are = ap (λ s. gift_of_grow s (disk_of view backing mid) size mode) setting_is ∙ ap (λ d. gift_of_grow (setting_of view backing old) d size mode) disk_is
+      given_bytes_are : all_given_by_growing view backing mid size mode ≡ given_bytes
+      given_bytes_are = ap (λ s. given_by_grow s (disk_of view backing mid) size mode) setting_is ∙ ap (λ d. given_by_grow (setting_of view backing old) d size mode) disk_is
 
-      behind : (new : Qcow2 S F) → Works (abstract_of view backing mid out) (abstract_of view backing new out) (gifts_of_growing view backing mid size mode) [] → Works (abstract_of view backing old out) (abstract_of view backing new out) gifts []
+      behind : (new : Qcow2 S F) → EffectOnSound (abstract_of view backing mid out) (abstract_of view backing new out) (all_given_by_growing view backing mid size mode) [] → EffectOnSound (abstract_of view backing old out) (abstract_of view backing new out) given_bytes []
       behind new works =
           let v = abstract_of view backing old out in
           let m = abstract_of view backing mid out in
-          works_then v m (abstract_of view backing new out) gifts [] call.sound (works_less v m [] gifts [] (λ o x never. absurd never) call.works) (subst (λ gs. Works m (abstract_of view backing new out) gs []) gifts_are works)
+          works_then v m (abstract_of view backing new out) given_bytes [] call.sound (works_less v m [] given_bytes [] (λ o x never. absurd never) call.works) (subst (λ gs. EffectOnSound m (abstract_of view backing new out) gs []) given_bytes_are works)
 
       may_be : (d : Disk) → MayGrow (setting_of view backing mid) (disk_of view backing mid) size mode d → MayGrow (setting_of view backing old) (disk_of view backing old) size mode d
       may_be d may = subst (λ e. MayGrow (setting_of view backing old) e size mode d) disk_is (subst (λ s. MayGrow s (disk_of view backing mid) size mode d) setting_is may)
@@ -118,20 +118,20 @@ module _ {S F : Type 0} (view : S → StorageView) (backing : F → BackingView)
       abbrev final : Qcow2 S F
       final = record filled { is_failed = marked }
 
-      flagged : (out : List (Option Prepared)) → ImageInvariant view backing (pending_in view backing filled out) filled out → Works (abstract_of view backing old out) (abstract_of view backing filled out) gifts []
-          → Works (abstract_of view backing old out) (abstract_of view backing final out) gifts []
+      flagged : (out : List (Option Prepared)) → ImageInvariant view backing (pending_in view backing filled out) filled out → EffectOnSound (abstract_of view backing old out) (abstract_of view backing filled out) given_bytes []
+          → EffectOnSound (abstract_of view backing old out) (abstract_of view backing final out) given_bytes []
       flagged out sound works = record {
         setting = works.setting;
         surplus = λ now. works.surplus sound;
-        stops = λ m starts. stops_as (abstract_of view backing old out) (abstract_of view backing filled out) (abstract_of view backing old out) (abstract_of view backing final out) gifts [] refl refl refl (λ now. (sound, refl)) m (works.stops m starts);
+        stops = λ m starts. stops_as (abstract_of view backing old out) (abstract_of view backing filled out) (abstract_of view backing old out) (abstract_of view backing final out) given_bytes [] refl refl refl (λ now. (sound, refl)) m (works.stops m starts);
       }
 
-      part_works : (out : List (Option Prepared)) → ImageInvariant view backing (pending_in view backing old out) old out → Works (abstract_of view backing old out) (abstract_of view backing final out) gifts []
+      part_works : (out : List (Option Prepared)) → ImageInvariant view backing (pending_in view backing old out) old out → EffectOnSound (abstract_of view backing old out) (abstract_of view backing final out) given_bytes []
       part_works out sound =
           let call = longer out sound in
           elim (left out call.sound).left [
             | inl part ↦ flagged out part.sound (behind out call filled part.works)
-            | inr broke ↦ subst (λ (f : Bool). Works (abstract_of view backing old out) (abstract_of view backing (record filled { is_failed = f }) out) gifts []) (sym (fault broke.fault)) (behind out call (record filled { is_failed = true }) broke.works)
+            | inr broke ↦ subst (λ (f : Bool). EffectOnSound (abstract_of view backing old out) (abstract_of view backing (record filled { is_failed = f }) out) given_bytes []) (sym (fault broke.fault)) (behind out call (record filled { is_failed = true }) broke.works)
           ]
 
       part_answer : (out : List (Option Prepared)) → ImageInvariant view backing (pending_in view backing old out) old out → ((abstract_of view backing final out).is_sound × May final out) ⊎ (IsRefusalByFault (refusal_of e) × IsTrue marked)
@@ -157,7 +157,7 @@ module _ {S F : Type 0} (view : S → StorageView) (backing : F → BackingView)
       grows_in_part number out = record {
         acts = record {
           number = number;
-          works = λ sound. works_asking (abstract_of view backing old out) (abstract_of view backing final out) gifts (size ∷ []) (part_works out sound);
+          works = λ sound. works_asking (abstract_of view backing old out) (abstract_of view backing final out) given_bytes (size ∷ []) (part_works out sound);
           rests = λ failed. absurd (let no : true ≡ false = sym failed ∙ usable in cc);
         };
         answer = part_answer out;
@@ -167,11 +167,11 @@ module _ {S F : Type 0} (view : S → StorageView) (backing : F → BackingView)
       pub last_in_part : (out : List (Option Prepared)) → ImageInvariant view backing (pending_in view backing old out) old out → WritesSizeLast view backing old final
       last_in_part out sound =
           passes_if (λ c. ((header (byte_at c)).size ≡ size_of old) ⊎ (c ≡ (view_in view filled.file).contents)) (λ c is. inl is)
-          (size_stays_in_calls (state_in view old.file (pending_in view backing old out)) (abstract_of view backing old out) (abstract_of view backing final out) gifts sound.file.caches.kept.kept.guarded refl refl (part_works out sound))
+          (size_stays_in_calls (state_in view old.file (pending_in view backing old out)) (abstract_of view backing old out) (abstract_of view backing final out) given_bytes sound.file.caches.kept.kept.guarded refl refl (part_works out sound))
 
     -- it was done, and the size was written or refused
     module _ (filled : Qcow2 S F) (fills : (out : List (Option Prepared)) → ImageInvariant view backing (pending_in view backing mid out) mid out → FillsGrown view backing size mode mid filled out) where
-      fills_works : (out : List (Option Prepared)) → ImageInvariant view backing (pending_in view backing old out) old out → Works (abstract_of view backing old out) (abstract_of view backing filled out) gifts []
+      fills_works : (out : List (Option Prepared)) → ImageInvariant view backing (pending_in view backing old out) old out → EffectOnSound (abstract_of view backing old out) (abstract_of view backing filled out) given_bytes []
       fills_works out sound = let call = longer out sound in behind out call filled (fills out call.sound).works
 
       fills_sound : (out : List (Option Prepared)) → ImageInvariant view backing (pending_in view backing old out) old out → ImageInvariant view backing (pending_in view backing filled out) filled out
@@ -187,7 +187,7 @@ module _ {S F : Type 0} (view : S → StorageView) (backing : F → BackingView)
             record {
               acts = record {
                 number = number;
-                works = λ sound. works_then v l w gifts (size ∷ []) (fills_sound out sound) (works_asking v l gifts (size ∷ []) (fills_works out sound)) (works_less l w [] gifts (size ∷ []) (λ o x never. absurd never) (sets out (fills_sound out sound)).works);
+                works = λ sound. works_then v l w given_bytes (size ∷ []) (fills_sound out sound) (works_asking v l given_bytes (size ∷ []) (fills_works out sound)) (works_less l w [] given_bytes (size ∷ []) (λ o x never. absurd never) (sets out (fills_sound out sound)).works);
                 rests = λ failed. absurd (let no : true ≡ false = sym failed ∙ usable in cc);
               };
               answer = λ sound.
@@ -210,23 +210,23 @@ module _ {S F : Type 0} (view : S → StorageView) (backing : F → BackingView)
           fault = λ is. so;
         }
           where
-            left : ImageInvariant view backing (pending_in view backing old out) old out → Works (abstract_of view backing old out) (abstract_of view backing (record new { is_failed = marked }) out) gifts (size ∷ [])
+            left : ImageInvariant view backing (pending_in view backing old out) old out → EffectOnSound (abstract_of view backing old out) (abstract_of view backing (record new { is_failed = marked }) out) given_bytes (size ∷ [])
             left sound =
                 let v = abstract_of view backing old out in
                 let l = abstract_of view backing filled out in
                 let w = abstract_of view backing new out in
-                let first = works_asking v l gifts (size ∷ []) (fills_works out sound) in
+                let first = works_asking v l given_bytes (size ∷ []) (fills_works out sound) in
                 elim (writes out (fills_sound out sound)) [
                   | inl stays ↦
-                      let works = works_then v l w gifts (size ∷ []) (fills_sound out sound) first (works_asking l w gifts (size ∷ []) (works_less l w [] gifts [] (λ o x never. absurd never) stays.works)) in
+                      let works = works_then v l w given_bytes (size ∷ []) (fills_sound out sound) first (works_asking l w given_bytes (size ∷ []) (works_less l w [] given_bytes [] (λ o x never. absurd never) stays.works)) in
                       record {
                         setting = works.setting;
                         surplus = λ now. works.surplus stays.sound;
-                        stops = λ k starts. stops_as v w v (abstract_of view backing (record new { is_failed = marked }) out) gifts (size ∷ []) refl refl refl (λ now. (stays.sound, refl)) k (works.stops k starts);
+                        stops = λ k starts. stops_as v w v (abstract_of view backing (record new { is_failed = marked }) out) given_bytes (size ∷ []) refl refl refl (λ now. (stays.sound, refl)) k (works.stops k starts);
                       }
                   | inr stands ↦
-                      subst (λ (b : Bool). Works v (abstract_of view backing (record new { is_failed = b }) out) gifts (size ∷ [])) (sym so)
-                      (works_then v l (abstract_of view backing (record new { is_failed = true }) out) gifts (size ∷ []) (fills_sound out sound) first (works_less l (abstract_of view backing (record new { is_failed = true }) out) [] gifts (size ∷ []) (λ o x never. absurd never) stands.works))
+                      subst (λ (b : Bool). EffectOnSound v (abstract_of view backing (record new { is_failed = b }) out) given_bytes (size ∷ [])) (sym so)
+                      (works_then v l (abstract_of view backing (record new { is_failed = true }) out) given_bytes (size ∷ []) (fills_sound out sound) first (works_less l (abstract_of view backing (record new { is_failed = true }) out) [] given_bytes (size ∷ []) (λ o x never. absurd never) stands.works))
                 ]
 
         pub grows_sized : (r : Result (Unit {0}) ImageError) (marked : Bool) → MayMarkBy r (is_failed new) marked → IfErr r IsFaultOfTables → IfErr r (λ e. IsFaultOfTables e → IsTrue marked)
@@ -234,12 +234,12 @@ module _ {S F : Type 0} (view : S → StorageView) (backing : F → BackingView)
         grows_sized (Ok x) marked marks cause fault writes = done marked marks writes
         grows_sized (Err e) marked marks cause fault writes = undone e marked cause (fault cause) writes
 
-        pub last_sized : (marked : Bool) → Passing (view_in view filled.file) (view_in view new.file) (λ c. c ≡ (view_in view new.file).contents) → (out : List (Option Prepared)) → ImageInvariant view backing (pending_in view backing old out) old out
+        pub last_sized : (marked : Bool) → EachMomentSince (view_in view filled.file) (view_in view new.file) (λ c. c ≡ (view_in view new.file).contents) → (out : List (Option Prepared)) → ImageInvariant view backing (pending_in view backing old out) old out
             → WritesSizeLast view backing old (record new { is_failed = marked })
         last_sized marked time out sound =
             passes_on (λ c. ((header (byte_at c)).size ≡ size_of old) ⊎ (c ≡ (view_in view new.file).contents))
             (passes_if (λ c. ((header (byte_at c)).size ≡ size_of old) ⊎ (c ≡ (view_in view new.file).contents)) (λ c is. inl is)
-            (size_stays_in_calls (state_in view old.file (pending_in view backing old out)) (abstract_of view backing old out) (abstract_of view backing filled out) gifts sound.file.caches.kept.kept.guarded refl refl (fills_works out sound)))
+            (size_stays_in_calls (state_in view old.file (pending_in view backing old out)) (abstract_of view backing old out) (abstract_of view backing filled out) given_bytes sound.file.caches.kept.kept.guarded refl refl (fills_works out sound)))
             time (λ c is. inr is)
 
 -- the L1 table has an entry for the last byte

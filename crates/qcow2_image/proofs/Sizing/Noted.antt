@@ -5,7 +5,7 @@ use Rattle.image_access.specs.Backing.{BackingView}
 use Rattle.image_access.specs.Moments.{StorageView}
 use Rattle.image_access.specs.declared.storage.PreallocateMode.{PreallocateMode}
 use Rattle.qcow2_disk.specs.AbstractImages.{AbstractImage}
-use Rattle.qcow2_disk.specs.Calls.{Acts, Does, Refusal, Refuses, Works}
+use Rattle.qcow2_disk.specs.Calls.{CallEffect, AnsweredEffect, Refusal, RefusedEffect, EffectOnSound}
 use Rattle.qcow2_disk.specs.Stops.{GivenBytes}
 use Rattle.qcow2_alloc.specs.declared.allocation.Allocator.{Allocator}
 use Rattle.qcow2_alloc.specs.declared.error.ImageError.{ImageError}
@@ -44,24 +44,24 @@ module _ {S F : Type 0} (view : S → StorageView) (backing : F → BackingView)
     back : ImageInvariant view backing (pending_in view backing (with_marks image noted (is_failed image)) out) (with_marks image noted (is_failed image)) out → ImageInvariant view backing (pending_in view backing image out) image out
     back sound = sound_noted (with_marks image noted (is_failed image)) image.file.storage.is_changed out sound
 
-    works_noted : Works v (abstract_of view backing image out) given asked → Works v (abstract_of view backing (with_marks image noted (is_failed image)) out) given asked
+    works_noted : EffectOnSound v (abstract_of view backing image out) given asked → EffectOnSound v (abstract_of view backing (with_marks image noted (is_failed image)) out) given asked
     works_noted works = record {
       setting = works.setting;
       surplus = λ sound. works.surplus (back sound);
       stops = λ m starts. let t = works.stops m starts in record { moments = t.moments; contents = t.contents; known = λ sound. t.known (back sound) };
     }
 
-    acts_noted : Acts v (abstract_of view backing image out) given asked → Acts v (abstract_of view backing (with_marks image noted (is_failed image)) out) given asked
+    acts_noted : CallEffect v (abstract_of view backing image out) given asked → CallEffect v (abstract_of view backing (with_marks image noted (is_failed image)) out) given asked
     acts_noted acts = record {
       number = acts.number;
       works = λ sound. works_noted (acts.works sound);
       rests = λ failed. let r = acts.rests failed in record { setting = r.setting; failed = r.failed; contents = r.contents; moments = r.moments };
     }
 
-    pub does_noted : {done : Type 0} → Does v (abstract_of view backing image out) given asked done → Does v (abstract_of view backing (with_marks image noted (is_failed image)) out) given asked done
+    pub does_noted : {done : Type 0} → AnsweredEffect v (abstract_of view backing image out) given asked done → AnsweredEffect v (abstract_of view backing (with_marks image noted (is_failed image)) out) given asked done
     does_noted does = record { acts = acts_noted does.acts; answer = λ sound. let is = does.answer sound in (sound_noted image noted out is.0, is.1) }
 
-    pub refuses_noted : {still : Type 0} (e : Refusal) → Refuses v (abstract_of view backing image out) given asked e still → Refuses v (abstract_of view backing (with_marks image noted (is_failed image)) out) given asked e still
+    pub refuses_noted : {still : Type 0} (e : Refusal) → RefusedEffect v (abstract_of view backing image out) given asked e still → RefusedEffect v (abstract_of view backing (with_marks image noted (is_failed image)) out) given asked e still
     refuses_noted e refuses = record {
       acts = acts_noted refuses.acts;
       answer = λ sound. elim (refuses.answer sound) [ inl still ↦ inl (sound_noted image noted out still.0, still.1) | inr failed ↦ inr failed ];

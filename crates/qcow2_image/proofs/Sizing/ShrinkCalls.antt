@@ -14,7 +14,7 @@ use Rattle.qcow2_image.specs.declared.image.Qcow2.{Qcow2}
 use Rattle.qcow2_image.specs.Image.{is_external, is_failed, is_writable, size_of}
 use Rattle.qcow2_image.specs.ImageInvariant.{abstract_of, disk_of}
 use Rattle.qcow2_image.specs.Refusals.{refuse_if}
-use Rattle.qcow2_image.specs.Resizing.{IsMetShrinking, Shrinks, gifts_of_shrink, gifts_of_shrunk, refuses_to_resize}
+use Rattle.qcow2_image.specs.Resizing.{IsMetShrinking, Shrinks, all_given_by_shrink, all_given_by_shrunk, refuses_to_resize}
 use Rattle.qcow2_image.proofs.Backings.{some_prepared}
 use Rattle.qcow2_image.proofs.Call.Called.{refuses_early, works_none}
 use Rattle.qcow2_image.proofs.Clear.ClearCalls.{works_if}
@@ -37,7 +37,7 @@ module _ {S F : Type 0} (view : S → StorageView) (backing : F → BackingView)
   refused_unasked e none out =
       let v = abstract_of view backing old out in
       let r = refuses_early v (refusal_of e) none in
-      let gs = gifts_of_shrink view backing old size in
+      let gs = all_given_by_shrink view backing old size in
       record {
         acts = record { number = r.acts.number; works = λ sound. works_asking v v gs (size ∷ []) (works_less v v [] gs [] (λ o x never. absurd never) (r.acts.works sound)); rests = r.acts.rests };
         answer = r.answer;
@@ -54,7 +54,7 @@ module _ {S F : Type 0} (view : S → StorageView) (backing : F → BackingView)
   pub shrinks_nothing : is_failed old ≡ false → size_of old ≤ size → Shrinks view backing old old size (Ok (size_of old))
   shrinks_nothing usable le out =
       let v = abstract_of view backing old out in
-      let gs = gifts_of_shrunk view backing old size (size_of old) in
+      let gs = all_given_by_shrunk view backing old size (size_of old) in
       record {
         acts = record {
           number = refl;

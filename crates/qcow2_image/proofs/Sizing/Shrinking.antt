@@ -5,13 +5,13 @@ use Rattle.std.specs.Option.{option_or}
 use Rattle.std.proofs.lemmas.Bool.{cases_lt, cond-true, cond-false, eq-eqb, ne_eqb, lt-ltb}
 use Rattle.std.proofs.lemmas.Nat.{pow_pos}
 use Rattle.image_access.specs.Backing.{BackingView}
-use Rattle.image_access.specs.Moments.{StorageView, Passing}
-use Rattle.image_access.proofs.Passing.{passes_if, passes_on}
+use Rattle.image_access.specs.Moments.{StorageView, EachMomentSince}
+use Rattle.image_access.proofs.EachMomentSince.{passes_if, passes_on}
 use Rattle.qcow2_metadata.specs.Bytes.{byte_at}
 use Rattle.qcow2_metadata.specs.Guest.{Value, known_byte}
 use Rattle.qcow2_metadata.specs.Header.{HeaderView, header, cluster_size, rounded_up, with_fields, with_size}
 use Rattle.qcow2_disk.specs.AbstractImages.{AbstractImage, Guest, Setting, guest_of}
-use Rattle.qcow2_disk.specs.Calls.{IsRefusalByFault, IsSame, IsShrinkEnd, IsShrunk, Works, with_disk}
+use Rattle.qcow2_disk.specs.Calls.{IsRefusalByFault, IsSame, IsShrinkEnd, IsShrunk, EffectOnSound, with_disk}
 use Rattle.qcow2_disk.specs.Disk.{Disk, shrunk}
 use Rattle.qcow2_disk.specs.Stops.{GivenBytes, IsGiven}
 use Rattle.qcow2_disk.proofs.Compose.{works_less, works_then, stops_as}
@@ -32,7 +32,7 @@ use Rattle.qcow2_image.specs.ImageInvariant.{ImageInvariant, abstract_of, disk_o
 use Rattle.qcow2_image.specs.NewTables.{MayName}
 use Rattle.qcow2_image.specs.Refusals.{refuse_if}
 use Rattle.qcow2_image.proofs.Call.Marked.{MayMark}
-use Rattle.qcow2_image.specs.Resizing.{CantUncover, IsFaultOrCantUncover, IsTurnEnd, SetsSize, ShowsBelow, Shrinks, UncoversNext, UncoversPart, UncoversTail, WritesSize, WritesSizeLast, boundary_in, gifts_of_shrink, gifts_of_shrunk, refuses_to_resize}
+use Rattle.qcow2_image.specs.Resizing.{CantUncover, IsFaultOrCantUncover, IsTurnEnd, SetsSize, ShowsBelow, Shrinks, UncoversNext, UncoversPart, UncoversTail, WritesSize, WritesSizeLast, boundary_in, all_given_by_shrink, all_given_by_shrunk, refuses_to_resize}
 use Rattle.qcow2_image.proofs.Call.Called.{Quietly, listed}
 use Rattle.qcow2_image.proofs.Call.Refused.{stays_kept}
 use Rattle.qcow2_image.proofs.Call.Settled.{is_fault, outcome}
@@ -171,7 +171,7 @@ module _ {S F : Type 0} (view : S → StorageView) (backing : F → BackingView)
           given_as (setting_of view backing old) (disk_of view backing old) start (boundary_in old (size_of old) - start) o y (let a = g.0 in let b = up in omega (arith, a, here, b))
           (let lt = g.1 in let a = up in let b = up_end in omega (arith, lt, here, there, a, b)) (g.2 ∙ ap (λ (s : Setting). known_byte (s.backing o)) part.works.setting)
 
-      fault_works : Works v w all []
+      fault_works : EffectOnSound v w all []
       fault_works = works_then v m w all [] part.sound (works_less v m (given_below (setting_of view backing old) (disk_of view backing old) start (boundary_in old at - start)) all [] (λ o y is. inr (part_less o y is)) part.works)
           (works_less m w (given_below (setting_of view backing now) (disk_of view backing now) (boundary_in now at) (boundary_in now (size_of now) - boundary_in now at)) all [] (λ o y is. inr (turn_less o y is)) ((turn.0 out).acts.works part.sound))
 
@@ -242,27 +242,27 @@ module _ {S F : Type 0} (view : S → StorageView) (backing : F → BackingView)
       at_least (inr (inr between)) = let lt = between.1 in let up = rounded_from cs size large in omega (arith, lt, up)
 
       -- all that it may give
-      all_is : given_below x d first (boundary_in old (size_of old) - first) ≡ gifts_of_shrink view backing old size
+      all_is : given_below x d first (boundary_in old (size_of old) - first) ≡ all_given_by_shrink view backing old size
       all_is = ap (λ n. given_below x d first (rounded_up cs n - first)) shown
 
-      part_all : Ends → (m : AbstractImage) (asked : List ℕ) → Works before m (given_below x d first (boundary_in old at - first)) [] → Works before m (gifts_of_shrink view backing old size) asked
+      part_all : Ends → (m : AbstractImage) (asked : List ℕ) → EffectOnSound before m (given_below x d first (boundary_in old at - first)) [] → EffectOnSound before m (all_given_by_shrink view backing old size) asked
       part_all ends m asked works =
           let most = mono_up cs large at (size_of old) (at_most ends) in
           let least = mono_up cs large size at (at_least ends) in
-          works_asking before m (gifts_of_shrink view backing old size) asked
-          (subst (λ gs. Works before m gs []) all_is
+          works_asking before m (all_given_by_shrink view backing old size) asked
+          (subst (λ gs. EffectOnSound before m gs []) all_is
           (works_less before m (given_below x d first (boundary_in old at - first)) (given_below x d first (boundary_in old (size_of old) - first)) []
           (λ o y is. let g = given_is x d first (boundary_in old at - first) o y is in inr (given_as x d first (boundary_in old (size_of old) - first) o y g.0 (let lt = g.1 in omega (arith, lt, most, least)) g.2)) works))
 
       -- it was done
       module _ (new : Qcow2 S F) (part : UncoversPart view backing size at old mid out) (ends : Ends) (sets : SetsSize view backing size mid new out) where
-        done_works : Works before (abstract_of view backing new out) (gifts_of_shrunk view backing old size at) (size ∷ [])
+        done_works : EffectOnSound before (abstract_of view backing new out) (all_given_by_shrunk view backing old size at) (size ∷ [])
         done_works =
             let m = abstract_of view backing mid out in
             let w = abstract_of view backing new out in
-            let gs = gifts_of_shrunk view backing old size at in
+            let gs = all_given_by_shrunk view backing old size at in
             works_then before m w gs (size ∷ []) part.sound
-            (works_asking before m gs (size ∷ []) (subst (λ n. Works before m (given_below x d first n) []) (sym (told ends)) part.works))
+            (works_asking before m gs (size ∷ []) (subst (λ n. EffectOnSound before m (given_below x d first n) []) (sym (told ends)) part.works))
             (works_less m w [] gs (size ∷ []) (λ o y never. absurd never) sets.works)
 
         now_shown : guest_of (abstract_of view backing new out) ≡ with_disk (guest_of before) (shrunk cs d x.backing size at)
@@ -294,17 +294,17 @@ module _ {S F : Type 0} (view : S → StorageView) (backing : F → BackingView)
       -- what it left: the tail uncovered so far; or the image failed
       abbrev pub Left : List (Option Prepared) → Type 0
       Left out =
-          (Works (abstract_of view backing old out) (abstract_of view backing new out) (gifts_of_shrink view backing old size) (size ∷ [])
+          (EffectOnSound (abstract_of view backing old out) (abstract_of view backing new out) (all_given_by_shrink view backing old size) (size ∷ [])
           × (ImageInvariant view backing (pending_in view backing new out) new out × ShowsBelow view backing size at old new out × Ends))
-          ⊎ (IsTrue marked × Works (abstract_of view backing old out) (abstract_of view backing (record new { is_failed = true }) out) (gifts_of_shrink view backing old size) (size ∷ []))
+          ⊎ (IsTrue marked × EffectOnSound (abstract_of view backing old out) (abstract_of view backing (record new { is_failed = true }) out) (all_given_by_shrink view backing old size) (size ∷ []))
 
-      left_works : (out : List (Option Prepared)) → Left out → Works (abstract_of view backing old out) (abstract_of view backing final out) (gifts_of_shrink view backing old size) (size ∷ [])
+      left_works : (out : List (Option Prepared)) → Left out → EffectOnSound (abstract_of view backing old out) (abstract_of view backing final out) (all_given_by_shrink view backing old size) (size ∷ [])
       left_works out (inl (works, still)) = record {
         setting = works.setting;
         surplus = λ now. works.surplus still.0;
-        stops = λ m starts. stops_as (abstract_of view backing old out) (abstract_of view backing new out) (abstract_of view backing old out) (abstract_of view backing final out) (gifts_of_shrink view backing old size) (size ∷ []) refl refl refl (λ now. (still.0, refl)) m (works.stops m starts);
+        stops = λ m starts. stops_as (abstract_of view backing old out) (abstract_of view backing new out) (abstract_of view backing old out) (abstract_of view backing final out) (all_given_by_shrink view backing old size) (size ∷ []) refl refl refl (λ now. (still.0, refl)) m (works.stops m starts);
       }
-      left_works out (inr (so, works)) = subst (λ (f : Bool). Works (abstract_of view backing old out) (abstract_of view backing (record new { is_failed = f }) out) (gifts_of_shrink view backing old size) (size ∷ [])) (sym so) works
+      left_works out (inr (so, works)) = subst (λ (f : Bool). EffectOnSound (abstract_of view backing old out) (abstract_of view backing (record new { is_failed = f }) out) (all_given_by_shrink view backing old size) (size ∷ [])) (sym so) works
 
       -- where nothing was uncovered, all is as it was
       unmarked : (out : List (Option Prepared)) → cluster_size new.file.header.fields ≡ cluster_size old.file.header.fields → ImageInvariant view backing (pending_in view backing new out) new out × ShowsBelow view backing size at old new out × Ends → (f : Bool) → marked ≡ f
@@ -344,12 +344,12 @@ module _ {S F : Type 0} (view : S → StorageView) (backing : F → BackingView)
       tail_left out sound =
           let t = tail out sound in
           let v = abstract_of view backing old out in
-          let works = works_asking v (abstract_of view backing mid out) (gifts_of_shrink view backing old size) (size ∷ []) (subst (λ gs. Works v (abstract_of view backing mid out) gs []) (all_is out sound) t.0) in
+          let works = works_asking v (abstract_of view backing mid out) (all_given_by_shrink view backing old size) (size ∷ []) (subst (λ gs. EffectOnSound v (abstract_of view backing mid out) gs []) (all_is out sound) t.0) in
           elim t.1 [
             | inl still ↦ inl (works, still)
             | inr failed ↦ inr (
               still_marked mid e marked number fault marks changed failed,
-              subst (λ (f : Bool). Works v (abstract_of view backing (record mid { is_failed = f }) out) (gifts_of_shrink view backing old size) (size ∷ [])) failed works,
+              subst (λ (f : Bool). EffectOnSound v (abstract_of view backing (record mid { is_failed = f }) out) (all_given_by_shrink view backing old size) (size ∷ [])) failed works,
             )
           ]
 
@@ -371,8 +371,8 @@ module _ {S F : Type 0} (view : S → StorageView) (backing : F → BackingView)
                 inl (part_all out sound t.1 (abstract_of view backing new out) (size ∷ []) part.works, (part.sound, part.shows, t.1))
             | inr stands ↦ inr (
               is_fault e (is_failed new) marked (outcome e (is_failed new) marked marks) (ap refusal_of stands.fault),
-              works_then v m (abstract_of view backing (record new { is_failed = true }) out) (gifts_of_shrink view backing old size) (size ∷ []) t.0.sound (part_all out sound t.1 m (size ∷ []) t.0.works)
-                  (works_less m (abstract_of view backing (record new { is_failed = true }) out) [] (gifts_of_shrink view backing old size) (size ∷ []) (λ o y never. absurd never) stands.works),
+              works_then v m (abstract_of view backing (record new { is_failed = true }) out) (all_given_by_shrink view backing old size) (size ∷ []) t.0.sound (part_all out sound t.1 m (size ∷ []) t.0.works)
+                  (works_less m (abstract_of view backing (record new { is_failed = true }) out) [] (all_given_by_shrink view backing old size) (size ∷ []) (λ o y never. absurd never) stands.works),
             )
           ]
 
@@ -380,12 +380,12 @@ module _ {S F : Type 0} (view : S → StorageView) (backing : F → BackingView)
       shrinks_unwritten = shrinks_refused new e marked number fault marks changed size_left
 
   -- ---- the moments
-  tail_works : (old mid : Qcow2 S F) (size at : ℕ) (r : Option ImageError) (out : List (Option Prepared)) → UncoversTail view backing old mid size at r out → (gs : List GivenBytes) × Works (abstract_of view backing old out) (abstract_of view backing mid out) gs []
+  tail_works : (old mid : Qcow2 S F) (size at : ℕ) (r : Option ImageError) (out : List (Option Prepared)) → UncoversTail view backing old mid size at r out → (gs : List GivenBytes) × EffectOnSound (abstract_of view backing old out) (abstract_of view backing mid out) gs []
   tail_works old mid size at None out tail = (_, tail.0.works)
   tail_works old mid size at (Some e) out tail = (_, tail.0)
 
   pub size_is_last : (old mid new : Qcow2 S F) (size at : ℕ) (r : Option ImageError) → ((out : List (Option Prepared)) → ImageInvariant view backing (pending_in view backing old out) old out → UncoversTail view backing old mid size at r out)
-      → Passing (view_in view mid.file) (view_in view new.file) (λ c. c ≡ (view_in view new.file).contents) → (out : List (Option Prepared)) → ImageInvariant view backing (pending_in view backing old out) old out → WritesSizeLast view backing old new
+      → EachMomentSince (view_in view mid.file) (view_in view new.file) (λ c. c ≡ (view_in view new.file).contents) → (out : List (Option Prepared)) → ImageInvariant view backing (pending_in view backing old out) old out → WritesSizeLast view backing old new
   size_is_last old mid new size at r tail time out sound =
       let works = tail_works old mid size at r out (tail out sound) in
       let v = abstract_of view backing old out in

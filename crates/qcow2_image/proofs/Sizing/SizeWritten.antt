@@ -4,7 +4,7 @@ use Rattle.std.specs.Prelude.{IfSome, IsTrue, slice_get}
 use Rattle.std.proofs.lemmas.Bool.{cond-true, cond-false}
 use mathlib.Core.Path.{fun_ext}
 use Rattle.image_access.specs.Backing.{BackingView}
-use Rattle.image_access.specs.Moments.{StorageView, Calls, Changes, Passing}
+use Rattle.image_access.specs.Moments.{StorageView, Calls, Changes, EachMomentSince}
 use Rattle.image_access.specs.declared.error.StorageError.{StorageError}
 use Rattle.image_access.specs.declared.error.StorageError.TheVariants as SE
 use Rattle.qcow2_metadata.specs.Bytes.{Bytes, byte_at}
@@ -66,7 +66,7 @@ module _ (h : HeaderFields) (size : ℕ) where
     unfolding cover cover_under l1_entry
     share_sized q i InPlace is = is
     share_sized q i Kept is = record { first = is.first; place = is.place; nameable = is.nameable; entry = is.entry }
-    share_sized q i (New taken dropped) is = record { first = is.first; is = is.is; place = is.place; nameable = is.nameable; entry = is.entry; reach = is.reach; drops = is.drops }
+    share_sized q i (New taken old_data) is = record { first = is.first; is = is.is; place = is.place; nameable = is.nameable; entry = is.entry; reach = is.reach; drops = is.drops }
 
     ready_sized : (q : Prepared) (t : Option ℕ) → IsReadyWith h known on_storage q t → IsReadyWith (with_size h size) known on_storage q t
     unfolding l1_entry
@@ -236,7 +236,7 @@ module _ {S F : Type 0} (view : S → StorageView) (backing : F → BackingView)
     now = sized view backing out q old sound size fits storage is honest
 
     pending_now : q ≡ pending_in view backing now out
-    pending_now = pending_is view backing now out q (leads_now view backing out q old sound size fits storage is honest).sound (record { held = λ k. refl; fresh = λ k. refl; spent = λ k. refl; dropped = λ k. refl })
+    pending_now = pending_is view backing now out q (leads_now view backing out q old sound size fits storage is honest).sound (record { new_data = λ k. refl; new_tables = λ k. refl; old_tables = λ k. refl; old_data = λ k. refl })
 
     pub sets_size : SetsSize view backing size old now out
     sets_size =
@@ -266,7 +266,7 @@ module _ {S F : Type 0} (view : S → StorageView) (backing : F → BackingView)
       };
     }
 
-    unsized_stays : Passing (view_in view old.file) (view (storage_of storage)) (λ c. c ≡ (view (storage_of storage)).contents) → (view (storage_of storage)).contents ≡ (view_in view old.file).contents → UnseenCall view backing old unsized out
+    unsized_stays : EachMomentSince (view_in view old.file) (view (storage_of storage)) (λ c. c ≡ (view (storage_of storage)).contents) → (view (storage_of storage)).contents ≡ (view_in view old.file).contents → UnseenCall view backing old unsized out
     unsized_stays time same =
         stays_kept view backing out old unsized sound (listed view backing out old unsized (λ s. record { keeps = still_moved view backing old out q s storage honest time same; list = refl }) sound)
 

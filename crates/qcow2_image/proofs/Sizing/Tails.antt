@@ -11,7 +11,7 @@ use Rattle.qcow2_metadata.specs.Guest.{Value, known_byte}
 use Rattle.qcow2_metadata.specs.declared.header.HeaderFields.{HeaderFields}
 use Rattle.qcow2_metadata.specs.Header.{cluster_size, entries_per_cluster, rounded_up, rounded_down}
 use Rattle.qcow2_disk.specs.AbstractImages.{AbstractImage, Guest, Setting, guest_of}
-use Rattle.qcow2_disk.specs.Calls.{IsShrinkEnd, Works, with_disk}
+use Rattle.qcow2_disk.specs.Calls.{IsShrinkEnd, EffectOnSound, with_disk}
 use Rattle.qcow2_disk.specs.Disk.{Disk, with_values}
 use Rattle.qcow2_disk.specs.Rules.{answered, touched_to}
 use Rattle.qcow2_disk.specs.Stops.{Checkpoint, GivenBytes, IsGiven, StopOkEverywhere, checkpoint_with}
@@ -220,7 +220,7 @@ both_below x d from n more = ap (λ g. record d { value = g }) (fun_ext value)
     ]
 
 -- a call that asks for no size asks for this one too
-pub works_asking : (old new : AbstractImage) (gs : List GivenBytes) (asked : List ℕ) → Works old new gs [] → Works old new gs asked
+pub works_asking : (old new : AbstractImage) (gs : List GivenBytes) (asked : List ℕ) → EffectOnSound old new gs [] → EffectOnSound old new gs asked
 works_asking old new gs asked w = record {
   setting = w.setting;
   surplus = w.surplus;
@@ -244,7 +244,7 @@ module _ {S F : Type 0} (view : S → StorageView) (backing : F → BackingView)
       }
 
   -- a part that no guest sees comes behind it
-  pub uncovers_still : (size at : ℕ) (old mid new : Qcow2 S F) → UncoversPart view backing size at old mid out → Works (abstract_of view backing mid out) (abstract_of view backing new out) [] [] → ImageInvariant view backing (pending_in view backing new out) new out
+  pub uncovers_still : (size at : ℕ) (old mid new : Qcow2 S F) → UncoversPart view backing size at old mid out → EffectOnSound (abstract_of view backing mid out) (abstract_of view backing new out) [] [] → ImageInvariant view backing (pending_in view backing new out) new out
       → guest_of (abstract_of view backing new out) ≡ guest_of (abstract_of view backing mid out) → UncoversPart view backing size at old new out
   uncovers_still size at old mid new part works sound same =
       let v = abstract_of view backing old out in

@@ -10,7 +10,7 @@ use Rattle.qcow2_metadata.specs.Guest.{Value}
 use Rattle.qcow2_metadata.specs.declared.header.HeaderFields.{HeaderFields}
 use Rattle.qcow2_metadata.specs.Header.{cluster_size, entries_per_cluster, rounded_up}
 use Rattle.qcow2_disk.specs.AbstractImages.{AbstractImage, Setting, guest_of}
-use Rattle.qcow2_disk.specs.Calls.{Refusal, Refuses, Works, with_disk}
+use Rattle.qcow2_disk.specs.Calls.{Refusal, RefusedEffect, EffectOnSound, with_disk}
 use Rattle.qcow2_disk.specs.Disk.{Disk}
 use Rattle.qcow2_disk.specs.Rules.{answered, touched_to}
 use Rattle.qcow2_disk.specs.Stops.{GivenBytes, IsGiven}
@@ -34,7 +34,7 @@ use Rattle.qcow2_image.proofs.Sizes.{disk_size}
 use Rattle.qcow2_image.proofs.Sizing.Tails.{given_as, given_below, given_is, mono_up, shown_below, to_at_most, turn_numbers}
 
 -- a call that gives fewer bytes gives these too
-pub refuses_giving : (v w : AbstractImage) (gs more : List GivenBytes) (e : Refusal) (still : Type 0) → (v.is_sound → (o : ℕ) (x : Value) → IsGiven gs o x → IsGiven more o x) → Refuses v w gs [] e still → Refuses v w more [] e still
+pub refuses_giving : (v w : AbstractImage) (gs more : List GivenBytes) (e : Refusal) (still : Type 0) → (v.is_sound → (o : ℕ) (x : Value) → IsGiven gs o x → IsGiven more o x) → RefusedEffect v w gs [] e still → RefusedEffect v w more [] e still
 refuses_giving v w gs more e still within r = record {
   acts = record { number = r.acts.number; works = λ sound. works_less v w gs more [] (λ o x is. inr (within sound o x is)) (r.acts.works sound); rests = r.acts.rests };
   answer = r.answer;
@@ -92,7 +92,7 @@ module _ {S F : Type 0} (view : S → StorageView) (backing : F → BackingView)
       let numbers = turn_numbers h (some out sound) (rows out sound) end at (omega (arith, lt, is)) range range_is near next branch in
       let count : touched_to (cluster_size h) d.size at (end - at) - rounded_up (cluster_size h) at ≡ boundary_in old next - boundary_in old at = ap (λ n. touched_to (cluster_size h) n at (end - at) - rounded_up (cluster_size h) at) size ∙ numbers.1 in (
         record {
-          works = subst (λ n. Works v (abstract_of view backing new out) (given_below x d (rounded_up (cluster_size h) at) n) []) count (does.acts.works sound);
+          works = subst (λ n. EffectOnSound v (abstract_of view backing new out) (given_below x d (rounded_up (cluster_size h) at) n) []) count (does.acts.works sound);
           sound = answer.0;
           shows = answer.1.1 ∙ ap (λ n. with_disk (guest_of v) (shown_below x d (rounded_up (cluster_size h) at) n)) count;
         },

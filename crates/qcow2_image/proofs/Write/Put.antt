@@ -8,7 +8,7 @@ use Rattle.std.proofs.lemmas.Option.{slice_get-get_or, slice_get_within}
 use mathlib.Core.Path.{fun_ext}
 use Rattle.image_access.specs.Backing.{BackingView}
 use Rattle.image_access.specs.Contents.{overwritten}
-use Rattle.image_access.specs.Moments.{StorageView, Passing}
+use Rattle.image_access.specs.Moments.{StorageView, EachMomentSince}
 use Rattle.qcow2_metadata.specs.Bytes.{byte_at, is_within, laid_over}
 use Rattle.qcow2_metadata.specs.declared.header.HeaderFields.{HeaderFields}
 use Rattle.qcow2_metadata.specs.Header.{cluster_size}
@@ -17,13 +17,13 @@ use Rattle.qcow2_metadata.specs.Guest.{known_byte}
 use Rattle.qcow2_metadata.specs.Named.{in_cluster, named_by_cover, named_for_tables}
 use Rattle.qcow2_metadata.specs.declared.l2_mapping.L2Mapping.TheVariants.{Data, Zero}
 use Rattle.qcow2_disk.specs.Alike.{AreDataAt}
-use Rattle.qcow2_disk.specs.Calls.{Works}
+use Rattle.qcow2_disk.specs.Calls.{EffectOnSound}
 use Rattle.qcow2_disk.specs.Disk.{Disk, disk, with_bytes}
 use Rattle.qcow2_laws.specs.CrashInvariant.{Pending}
 use Rattle.qcow2_laws.specs.Guests.{names}
 use Rattle.qcow2_laws.specs.GuestLaws.{Hosting, IsHostedAt, IsHeld, IsGivenAt, WritesRun}
 use Rattle.qcow2_laws.specs.GuestLaws.{InPlace as HostedInPlace, Kept as HostedKept, Held as HostedHeld, is_private_hosting as is_hosted_privately}
-use Rattle.qcow2_disk.specs.Mappings.{PreparedMapping, gift_of_put, put_mapping, put_disk}
+use Rattle.qcow2_disk.specs.Mappings.{PreparedMapping, given_by_put, put_mapping, put_disk}
 use Rattle.qcow2_disk.specs.AbstractImages.{guest_of, meaning_at}
 use Rattle.qcow2_laws.specs.SafeSteps.{DriverState}
 use Rattle.qcow2_disk.specs.Stops.{GivenBytes, IsGiven}
@@ -41,12 +41,12 @@ use Rattle.qcow2_image.specs.declared.prepared.Prepared.{Prepared}
 use Rattle.qcow2_image.specs.declared.prepared.Share.{Share}
 use Rattle.qcow2_image.specs.declared.prepared.Share.TheVariants.{InPlace, Kept, New}
 use Rattle.qcow2_image.specs.CallParts.{put_guest}
-use Rattle.qcow2_image.specs.ImageInvariant.{to_free, of_data, held_by, pending_in, abstract_of, meaning, is_entered, is_new, is_private, cluster_of, place_of, share_of, host_begin_of, backing_bytes, IsNewAt, IsShareAt, IsPending, IsReadyWith, ImageInvariant}
+use Rattle.qcow2_image.specs.ImageInvariant.{to_free, of_data, new_data_by, pending_in, abstract_of, meaning, is_entered, is_new, is_private, cluster_of, place_of, share_of, host_begin_of, backing_bytes, IsNewAt, IsShareAt, IsPending, IsReadyWith, ImageInvariant}
 use Rattle.qcow2_image.proofs.Apart.{apart_guests}
 use Rattle.qcow2_image.proofs.Call.Answered.{same_guest, same_mapping, same_meaning}
 use Rattle.qcow2_image.proofs.Call.Slots.{over_all_two}
 use Rattle.qcow2_image.proofs.Call.Stepped.{Steps, stepped_works, stepped_sound}
-use Rattle.qcow2_image.proofs.Shares.{Standing, in_new, in_kept, byte_cluster, byte_place, byte_share, held_at, held_once, host_cluster, no_share, over_all_at, private_shared, private_stands, ready_table, share_here}
+use Rattle.qcow2_image.proofs.Shares.{Standing, in_new, in_kept, byte_cluster, byte_place, byte_share, new_data_at, new_data_once, host_cluster, no_share, over_all_at, private_shared, private_stands, ready_table, share_here}
 use Rattle.qcow2_image.proofs.Write.Written.{written, writes, but, there, steps_written}
 
 -- what lies over counts alone where it lies
@@ -59,16 +59,16 @@ abbrev pub hosted_as : Option Share → Hosting
 hosted_as None = HostedInPlace
 hosted_as (Some InPlace) = HostedInPlace
 hosted_as (Some Kept) = HostedKept
-hosted_as (Some (New taken dropped)) = HostedHeld
+hosted_as (Some (New taken old_data)) = HostedHeld
 
 hosted_private : (m : Option Share) → is_hosted_privately (hosted_as m) ≡ option_map_or is_entered m false
 hosted_private None = refl
 hosted_private (Some InPlace) = refl
 hosted_private (Some Kept) = refl
-hosted_private (Some (New taken dropped)) = refl
+hosted_private (Some (New taken old_data)) = refl
 
 -- what isn't hidden is given
-put_has : (d : Disk) (m : PreparedMapping) (at : ℕ) (bytes : List ℕ) (i : ℕ) → i < length bytes → m.is_hidden (m.from + at + i) ≡ false → IsGiven (gift_of_put d m at bytes ∷ []) (m.from + at + i) (known_byte (byte_at bytes i))
+put_has : (d : Disk) (m : PreparedMapping) (at : ℕ) (bytes : List ℕ) (i : ℕ) → i < length bytes → m.is_hidden (m.from + at + i) ≡ false → IsGiven (given_by_put d m at bytes ∷ []) (m.from + at + i) (known_byte (byte_at bytes i))
 put_has d m at bytes i lt shown =
     let from = m.from + at in
     let there : from + i - from ≡ i = omega arith in
@@ -79,15 +79,15 @@ put_has d m at bytes i lt shown =
 
 -- so it is by each share
 given_as : (d : Disk) (m : PreparedMapping) (at : ℕ) (bytes : List ℕ) (i : ℕ) → i < length bytes → (x : Option Share) → m.is_hidden (m.from + at + i) ≡ option_map_or is_new x false
-    → IsGivenAt (gift_of_put d m at bytes ∷ []) (hosted_as x) (m.from + at + i) (byte_at bytes i)
+    → IsGivenAt (given_by_put d m at bytes ∷ []) (hosted_as x) (m.from + at + i) (byte_at bytes i)
 given_as d m at bytes i lt None is = put_has d m at bytes i lt is
 given_as d m at bytes i lt (Some InPlace) is = put_has d m at bytes i lt is
 given_as d m at bytes i lt (Some Kept) is = put_has d m at bytes i lt is
-given_as d m at bytes i lt (Some (New taken dropped)) is = tt
+given_as d m at bytes i lt (Some (New taken old_data)) is = tt
 
 module _ {S F : Type 0} (view : S → StorageView) (backing : F → BackingView) (old : Qcow2 S F) (out : List (Option Prepared)) (sound : ImageInvariant view backing (pending_in view backing old out) old out)
     (storage : ImageStorage S) (bytes : List ℕ) (k : ℕ) (q : Prepared) (at : ℕ) (is : (view (storage_of storage)).contents ≡ overwritten (view_in view old.file).contents (q.offset + at) bytes)
-    (honest : (view (storage_of storage)).is_honest) (time : Passing (view_in view old.file) (view (storage_of storage)) (λ c. c ≡ (view (storage_of storage)).contents))
+    (honest : (view (storage_of storage)).is_honest) (time : EachMomentSince (view_in view old.file) (view (storage_of storage)) (λ c. c ≡ (view (storage_of storage)).contents))
     (placed : slice_get out k ≡ Some (Some q)) (fits : at + length bytes ≤ q.length) (in_place : q.table ≡ None → AreDataAt old.file.header.fields (known_in view old.file) true (q.guest + at) (q.offset + at) (length bytes)) where
   abbrev new : Qcow2 S F
   new = written view backing old out sound storage (q.offset + at) bytes is
@@ -107,45 +107,45 @@ module _ {S F : Type 0} (view : S → StorageView) (backing : F → BackingView)
   abbrev m : PreparedMapping
   m = meaning view backing old q
 
-  abbrev gifts : List GivenBytes
-  gifts = gift_of_put (guest_of (abstract_of view backing old out)).disk m at bytes ∷ []
+  abbrev given_bytes : List GivenBytes
+  given_bytes = given_by_put (guest_of (abstract_of view backing old out)).disk m at bytes ∷ []
 
   abbrev hosting : ℕ → Hosting
   hosting o = hosted_as (share_of h q (o / size))
 
   -- ---- each byte has its place to itself
   -- a new cluster of it is held
-  held_mine : (j : ℕ) (taken dropped : List ClustersToFreeEntry) → slice_get q.shares.items j ≡ Some (New taken dropped) → (stands : IsNewAt h s.known s.on_storage q j taken dropped) → 0 < held_by q stands.first
-  held_mine j taken dropped is_share stands =
-      let one : to_free of_data taken stands.first ≡ 1 = ap (λ l. to_free of_data l stands.first) stands.is ∙ held_once stands.first in
-      let mine = held_at q.shares.items j taken dropped is_share stands.first in
+  new_data_mine : (j : ℕ) (taken old_data : List ClustersToFreeEntry) → slice_get q.shares.items j ≡ Some (New taken old_data) → (stands : IsNewAt h s.known s.on_storage q j taken old_data) → 0 < new_data_by q stands.first
+  new_data_mine j taken old_data is_share stands =
+      let one : to_free of_data taken stands.first ≡ 1 = ap (λ l. to_free of_data l stands.first) stands.is ∙ new_data_once stands.first in
+      let mine = new_data_at q.shares.items j taken old_data is_share stands.first in
       omega (arith, one, mine)
 
   hosted_share : (i j : ℕ) (share : Share) → (q.guest + at + i) / size ≡ cluster_of h q + j → q.offset + at + i ≡ host_begin_of h q j + (q.guest + at + i) % size → slice_get q.shares.items j ≡ Some share → IsShareAt h s.known s.on_storage q j share
-      → IsHostedAt s (hosted_as (Some share)) (q.guest + at + i) (q.offset + at + i) × (IsHeld (hosted_as (Some share)) → 0 < held_by q ((q.offset + at + i) / size))
+      → IsHostedAt s (hosted_as (Some share)) (q.guest + at + i) (q.offset + at + i) × (IsHeld (hosted_as (Some share)) → 0 < new_data_by q ((q.offset + at + i) / size))
   hosted_share i j InPlace here place is_share stands = ((host_begin_of h q j, ap (cover h s.known) here ∙ stands, sym place), λ never. absurd never)
   hosted_share i j Kept here place is_share stands = ((host_begin_of h q j, ap (cover h s.known) here ∙ stands.entry, sym place), λ never. absurd never)
-  hosted_share i j (New taken dropped) here place is_share stands =
+  hosted_share i j (New taken old_data) here place is_share stands =
       let there : (q.offset + at + i) / size ≡ stands.first = ap (λ n. n / size) place ∙ host_cluster h q j stands.first stands.place (q.guest + at + i) in
-      let mine = held_mine j taken dropped is_share stands in
-      let all = over_all_at held_by out k q placed stands.first in
-      (subst (λ c. 0 < before.held c) (sym there) (omega (arith, mine, all)), λ _. subst (λ c. 0 < held_by q c) (sym there) mine)
+      let mine = new_data_mine j taken old_data is_share stands in
+      let all = over_all_at new_data_by out k q placed stands.first in
+      (subst (λ c. 0 < before.new_data c) (sym there) (omega (arith, mine, all)), λ _. subst (λ c. 0 < new_data_by q c) (sym there) mine)
 
   hosts_pending : (t : ℕ) → IsPending h s.known s.on_storage q t → (i : ℕ) → i < length bytes
-      → IsHostedAt s (hosting (q.guest + at + i)) (q.guest + at + i) (q.offset + at + i) × (IsHeld (hosting (q.guest + at + i)) → 0 < held_by q ((q.offset + at + i) / size))
+      → IsHostedAt s (hosting (q.guest + at + i)) (q.guest + at + i) (q.offset + at + i) × (IsHeld (hosting (q.guest + at + i)) → 0 < new_data_by q ((q.offset + at + i) / size))
   hosts_pending t pending i lt =
       let j = (q.guest % size + at + i) / size in
       let here = byte_cluster h q s.known s.on_storage t pending at i (length bytes) fits lt in
       let place = byte_place h q s.known s.on_storage t pending at i (length bytes) fits lt in
       let found = slice_get-get_or q.shares.items ((q.guest % size + at + i) / size) InPlace (byte_share h q s.known s.on_storage t pending at i (length bytes) fits lt) in
       let share = get_or q.shares.items ((q.guest % size + at + i) / size) InPlace in
-      subst (λ (x : Option Share). IsHostedAt s (hosted_as x) (q.guest + at + i) (q.offset + at + i) × (IsHeld (hosted_as x) → 0 < held_by q ((q.offset + at + i) / size)))
+      subst (λ (x : Option Share). IsHostedAt s (hosted_as x) (q.guest + at + i) (q.offset + at + i) × (IsHeld (hosted_as x) → 0 < new_data_by q ((q.offset + at + i) / size)))
       (sym (ap (share_of h q) here ∙ share_here h q ((q.guest % size + at + i) / size) ∙ found)) (hosted_share i j share here place found (pending.each j share found))
 
   hosts_with : (t : Option ℕ) → q.table ≡ t → IsReadyWith h s.known s.on_storage q t → (i : ℕ) → i < length bytes
-      → IsHostedAt s (hosting (q.guest + at + i)) (q.guest + at + i) (q.offset + at + i) × (IsHeld (hosting (q.guest + at + i)) → 0 < held_by q ((q.offset + at + i) / size))
+      → IsHostedAt s (hosting (q.guest + at + i)) (q.guest + at + i) (q.offset + at + i) × (IsHeld (hosting (q.guest + at + i)) → 0 < new_data_by q ((q.offset + at + i) / size))
   hosts_with None none ready i lt =
-      subst (λ (x : Option Share). IsHostedAt s (hosted_as x) (q.guest + at + i) (q.offset + at + i) × (IsHeld (hosted_as x) → 0 < held_by q ((q.offset + at + i) / size)))
+      subst (λ (x : Option Share). IsHostedAt s (hosted_as x) (q.guest + at + i) (q.offset + at + i) × (IsHeld (hosted_as x) → 0 < new_data_by q ((q.offset + at + i) / size)))
       (sym (no_share h q ready ((q.guest + at + i) / size))) (in_place none i lt, λ never. absurd never)
   hosts_with (Some t) some pending i lt = hosts_pending t pending i lt
 
@@ -156,23 +156,23 @@ module _ {S F : Type 0} (view : S → StorageView) (backing : F → BackingView)
   no_table i lt = beside_tables s (hosting (q.guest + at + i)) (q.guest + at + i) (q.offset + at + i) sound.file.caches.kept.kept.guarded (hosts i lt)
 
   -- ---- so one write goes over them
-  run : WritesRun hosting (q.guest + at) (q.offset + at) bytes gifts s (state_in view new.file before)
-  run = run_written s (contents_in view new.file) (known_in view new.file) hosting (q.guest + at) (q.offset + at) bytes gifts sound.file.caches.kept.kept.guarded hosts
+  run : WritesRun hosting (q.guest + at) (q.offset + at) bytes given_bytes s (state_in view new.file before)
+  run = run_written s (contents_in view new.file) (known_in view new.file) hosting (q.guest + at) (q.offset + at) bytes given_bytes sound.file.caches.kept.kept.guarded hosts
       (λ i lt. given_as (guest_of (abstract_of view backing old out)).disk m at bytes i lt (share_of h q ((q.guest + at + i) / size)) refl)
       (writes view backing old out sound storage (q.offset + at) bytes is no_table) (there view backing old out sound storage (q.offset + at) bytes is)
 
-  steps : Steps view backing old new out out (λ _. gifts) before
-  steps = steps_written view backing old out sound storage (q.offset + at) bytes is no_table (λ _. gifts) honest time run.leads run.covers
+  steps : Steps view backing old new out out (λ _. given_bytes) before
+  steps = steps_written view backing old out sound storage (q.offset + at) bytes is no_table (λ _. given_bytes) honest time run.leads run.covers
 
   -- what stands for each guest cluster stays
   pub put_covers : (g : ℕ) → cover h (known_in view old.file) g ≡ cover h (known_in view new.file) g
   put_covers g = run.covers g
 
-  pub put_works : Works (abstract_of view backing old out) (abstract_of view backing new out) gifts []
-  put_works = stepped_works view backing old new out out (λ _. gifts) before steps
+  pub put_works : EffectOnSound (abstract_of view backing old out) (abstract_of view backing new out) given_bytes []
+  put_works = stepped_works view backing old new out out (λ _. given_bytes) before steps
 
   pub put_sound : ImageInvariant view backing (pending_in view backing new out) new out
-  put_sound = stepped_sound view backing old new out out (λ _. gifts) before steps
+  put_sound = stepped_sound view backing old new out out (λ _. given_bytes) before steps
 
   -- ---- what the disk shows
   put_shows : (d : Disk) (o : ℕ) → cond (is_hosted_privately (hosting o)) (d.value o) ((with_bytes d (q.guest + at) bytes).value o) ≡ (put_disk d m at bytes).value o
@@ -233,17 +233,17 @@ module _ {S F : Type 0} (view : S → StorageView) (backing : F → BackingView)
     place = place_of h r o
 
     -- in a cluster that it holds
-    kept_held : 0 < held_by r (place / size) → contents_in view new.file place ≡ contents_in view old.file place
-    kept_held some =
-        let all = over_all_at held_by out j r there_is (place / size) in
-        let never : (i : ℕ) → i < length bytes → IsHeld (hosting (q.guest + at + i)) → (q.offset + at + i) / size ≢ place / size = λ i lt held same. absurd (
-        let mine : 0 < held_by q (place / size) = subst (λ c. 0 < held_by q c) same ((hosts_with q.table refl (sound.ready k q placed).mapped i lt).1 held) in
-        let both = over_all_two held_by out k q j r placed apart there_is (place / size) in
-        let always = sound.file.caches.kept.kept.guarded.always (place / size) in
-        let tally = always.tally in
-        let few = always.pending (omega arith) in
+    kept_new_data : 0 < new_data_by r (place / size) → contents_in view new.file place ≡ contents_in view old.file place
+    kept_new_data some =
+        let all = over_all_at new_data_by out j r there_is (place / size) in
+        let never : (i : ℕ) → i < length bytes → IsHeld (hosting (q.guest + at + i)) → (q.offset + at + i) / size ≢ place / size = λ i lt new_data same. absurd (
+        let mine : 0 < new_data_by q (place / size) = subst (λ c. 0 < new_data_by q c) same ((hosts_with q.table refl (sound.ready k q placed).mapped i lt).1 new_data) in
+        let both = over_all_two new_data_by out k q j r placed apart there_is (place / size) in
+        let each_cluster = sound.file.caches.kept.kept.guarded.each_cluster (place / size) in
+        let tally = each_cluster.tally in
+        let few = each_cluster.pending (omega arith) in
         omega arith) in
-        sym ((run.held (place / size) (omega arith) never).0 place refl)
+        sym ((run.new_data (place / size) (omega arith) never).0 place refl)
 
     -- in one that a zero entry keeps
     module _ (host : ℕ) (kept : cover h s.known (o / size) ≡ Zero (Some (host, true))) (here : place ≡ host + o % size) where
@@ -268,7 +268,7 @@ module _ {S F : Type 0} (view : S → StorageView) (backing : F → BackingView)
           ∙ ap s.known here ∙ sym (kept_unlaid s sound.file.caches.kept.kept.guarded (o / size) host kept (o % size) rest) ∙ ap (contents_in view old.file) (sym here)
 
     by_standing : Standing h s.known r o → contents_in view new.file place ≡ contents_in view old.file place
-    by_standing (in_new held) = kept_held held
+    by_standing (in_new new_data) = kept_new_data new_data
     by_standing (in_kept host kept here) = kept_kept host kept here
 
     pub others_stay : contents_in view new.file place ≡ contents_in view old.file place

@@ -3,7 +3,7 @@ use Rattle.std.proofs.Common.{◌≡◌, ⊎_elim, inl, inr, ℕ, ◌+◌, ◌/�
 use Rattle.std.specs.Prelude.{Option, Some, None, Result, Ok, Err, slice_get}
 use Rattle.image_access.specs.Backing.{BackingView}
 use Rattle.image_access.specs.Contents.{overwritten}
-use Rattle.image_access.specs.Moments.{StorageView, Passing}
+use Rattle.image_access.specs.Moments.{StorageView, EachMomentSince}
 use Rattle.qcow2_metadata.specs.Bytes.{Bytes}
 use Rattle.qcow2_metadata.specs.declared.header.HeaderFields.{HeaderFields}
 use Rattle.qcow2_metadata.specs.Header.{cluster_size}
@@ -11,8 +11,8 @@ use Rattle.qcow2_metadata.specs.Cover.{cover}
 use Rattle.qcow2_metadata.specs.declared.l2_mapping.L2Mapping.{L2Mapping}
 use Rattle.qcow2_metadata.specs.declared.l2_mapping.L2Mapping.TheVariants.{Data, Zero, Compressed, Uncovered}
 use Rattle.qcow2_disk.specs.Alike.{AreDataAt}
-use Rattle.qcow2_disk.specs.Calls.{Works, Does, storage}
-use Rattle.qcow2_disk.specs.Mappings.{gift_of_put}
+use Rattle.qcow2_disk.specs.Calls.{EffectOnSound, AnsweredEffect, storage}
+use Rattle.qcow2_disk.specs.Mappings.{given_by_put}
 use Rattle.qcow2_disk.specs.Stops.{GivenBytes}
 use Rattle.qcow2_disk.specs.AbstractImages.{Guest, guest_of, meaning_at}
 use Rattle.qcow2_laws.proofs.Alike.{run_data}
@@ -35,7 +35,7 @@ use Rattle.qcow2_image.proofs.Call.Called.{works_none}
 use Rattle.qcow2_image.proofs.Call.Settled.{settled_does, settled_refuses}
 use Rattle.qcow2_image.proofs.Call.Answered.{same_guest}
 use Rattle.qcow2_disk.proofs.RunSteps.{acts_none}
-use Rattle.qcow2_image.specs.Calls.{Puts, gifts_of_put, refusal_of}
+use Rattle.qcow2_image.specs.Calls.{Puts, all_given_by_put, refusal_of}
 use Rattle.qcow2_image.specs.Image.{number_of, is_failed}
 use Rattle.qcow2_image.proofs.Call.Marked.{MayMarkBy}
 use Rattle.qcow2_image.proofs.Map.Loading.{still_moved}
@@ -61,17 +61,17 @@ mapped_data h known offset n host true Uncovered is kind given = absurd cc
 mapped_data h known offset n host false Uncovered is kind given = absurd cc
 
 module _ {S F : Type 0} (view : S → StorageView) (backing : F → BackingView) (out : List (Option Prepared)) (k : ℕ) (p : Prepared) (at : ℕ) (bytes : List ℕ) (placed : slice_get out k ≡ Some (Some p)) where
-  abbrev gifts : Qcow2 S F → List GivenBytes
-  gifts image = gifts_of_put view backing image image (abstract_of view backing image out) p at bytes
+  abbrev given_bytes : Qcow2 S F → List GivenBytes
+  given_bytes image = all_given_by_put view backing image image (abstract_of view backing image out) p at bytes
 
   -- nothing was done
   pub puts_nothing : (old : Qcow2 S F) (e : ImageError) → ImageInvariant view backing (pending_in view backing old out) old out → PutsPart view backing old old out k p at bytes (Err e)
-  puts_nothing old e sound = record { works = (acts_none (abstract_of view backing old out) (gifts old) []).works sound; sound = sound; is = inl refl }
+  puts_nothing old e sound = record { works = (acts_none (abstract_of view backing old out) (given_bytes old) []).works sound; sound = sound; is = inl refl }
 
   -- a part that no guest sees, and is refused then
   pub puts_refused : (old new : Qcow2 S F) (e : ImageError) → Quietly view backing out old new → ImageInvariant view backing (pending_in view backing old out) old out → PutsPart view backing old new out k p at bytes (Err e)
   puts_refused old new e quiet sound = record {
-    works = works_less (abstract_of view backing old out) (abstract_of view backing new out) [] (gifts old) [] (λ o v none. absurd none) (quiet_works view backing out old new (λ _. quiet) sound);
+    works = works_less (abstract_of view backing old out) (abstract_of view backing new out) [] (given_bytes old) [] (λ o v none. absurd none) (quiet_works view backing out old new (λ _. quiet) sound);
     sound = quiet_sound view backing out old new (λ _. quiet) sound;
     is = inl (quiet_same view backing out old new (λ _. quiet) sound);
   }
@@ -89,11 +89,11 @@ module _ {S F : Type 0} (view : S → StorageView) (backing : F → BackingView)
       let at_place : (image : Qcow2 S F) → (guest_of (abstract_of view backing image out)).slots k ≡ Some (meaning view backing image p) = λ image. ap (meaning_at (meaning view backing image)) placed in
       let means : Some (meaning view backing b p) ≡ Some (meaning view backing a p) = sym (at_place b) ∙ ap (λ (g : Guest). g.slots k) same ∙ at_place a in
       let mean : meaning view backing b p ≡ meaning view backing a p = cc in
-      let gives : gifts b ≡ gifts a = ap (λ (g : Guest). gift_of_put g.disk (meaning view backing b p) at bytes ∷ []) same ∙ ap (λ (m : PreparedMapping). gift_of_put (guest_of (abstract_of view backing a out)).disk m at bytes ∷ []) mean in
+      let gives : given_bytes b ≡ given_bytes a = ap (λ (g : Guest). given_by_put g.disk (meaning view backing b p) at bytes ∷ []) same ∙ ap (λ (m : PreparedMapping). given_by_put (guest_of (abstract_of view backing a out)).disk m at bytes ∷ []) mean in
       record {
-        works = works_then (abstract_of view backing a out) (abstract_of view backing b out) (abstract_of view backing c out) (gifts a) [] mid
-            (works_less (abstract_of view backing a out) (abstract_of view backing b out) [] (gifts a) [] (λ o v none. absurd none) (quiet_works view backing out a b (λ _. quiet) sound))
-            (subst (λ (given : List GivenBytes). Works (abstract_of view backing b out) (abstract_of view backing c out) given []) gives part.works);
+        works = works_then (abstract_of view backing a out) (abstract_of view backing b out) (abstract_of view backing c out) (given_bytes a) [] mid
+            (works_less (abstract_of view backing a out) (abstract_of view backing b out) [] (given_bytes a) [] (λ o v none. absurd none) (quiet_works view backing out a b (λ _. quiet) sound))
+            (subst (λ (given : List GivenBytes). EffectOnSound (abstract_of view backing b out) (abstract_of view backing c out) given []) gives part.works);
         sound = part.sound;
         is = is_put_of (guest_of (abstract_of view backing a out)) (guest_of (abstract_of view backing b out)) (put_guest (guest_of (abstract_of view backing a out)) k (meaning view backing a p) at bytes)
             (put_guest (guest_of (abstract_of view backing b out)) k (meaning view backing b p) at bytes) (guest_of (abstract_of view backing c out)) r same
@@ -113,13 +113,13 @@ module _ {S F : Type 0} (view : S → StorageView) (backing : F → BackingView)
   -- the write itself
   module _ (old : Qcow2 S F) (sound : ImageInvariant view backing (pending_in view backing old out) old out) (fits : at + length bytes ≤ p.length)
       (in_place : p.table ≡ None → AreDataAt old.file.header.fields (known_in view old.file) true (p.guest + at) (p.offset + at) (length bytes)) where
-    module _ (storage : ImageStorage S) (honest : (view (storage_of storage)).is_honest) (time : Passing (view_in view old.file) (view (storage_of storage)) (λ c. c ≡ (view (storage_of storage)).contents)) where
+    module _ (storage : ImageStorage S) (honest : (view (storage_of storage)).is_honest) (time : EachMomentSince (view_in view old.file) (view (storage_of storage)) (λ c. c ≡ (view (storage_of storage)).contents)) where
       abbrev new : Qcow2 S F
       new = record old { file = record old.file { storage = storage } }
 
       -- it is there
       puts_changed : (view (storage_of storage)).contents ≡ overwritten (view_in view old.file).contents (p.offset + at) bytes
-          → Works (abstract_of view backing old out) (abstract_of view backing new out) (gifts old) [] × ImageInvariant view backing (pending_in view backing new out) new out
+          → EffectOnSound (abstract_of view backing old out) (abstract_of view backing new out) (given_bytes old) [] × ImageInvariant view backing (pending_in view backing new out) new out
           × (guest_of (abstract_of view backing new out) ≡ put_guest (guest_of (abstract_of view backing old out)) k (meaning view backing old p) at bytes)
       puts_changed is = (
         put_works view backing old out sound storage bytes k p at is honest time placed fits in_place,
@@ -188,15 +188,15 @@ module _ {S F : Type 0} (view : S → StorageView) (backing : F → BackingView)
   pub puts_none : bytes ≡ [] → (done : Unit {0}) → Puts view backing old old p at bytes (Ok done)
   puts_none none done = λ out k placed.
       let v = abstract_of view backing old out in
-      settled_does view backing old old out out (gifts_of_put view backing old old v p at bytes)
-      (λ sound. works_less v v [] (gifts_of_put view backing old old v p at bytes) [] (λ o w never. absurd never) (works_none v sound)) (λ sound. sound) refl usable
+      settled_does view backing old old out out (all_given_by_put view backing old old v p at bytes)
+      (λ sound. works_less v v [] (all_given_by_put view backing old old v p at bytes) [] (λ o w never. absurd never) (works_none v sound)) (λ sound. sound) refl usable
       (λ sound. sym (ap (λ b. put_guest (guest_of v) k (meaning view backing old p) at b) none ∙ put_none (guest_of v) k (meaning view backing old p) at (ap (meaning_at (meaning view backing old)) placed)))
 
   -- refused before any work
   pub puts_early : (e : ImageError) → (refusal_of e ≡ storage → ⊥) → Puts view backing old old p at bytes (Err e)
   puts_early e other = λ out k placed.
       let v = abstract_of view backing old out in
-      record { acts = acts_none v (gifts_of_put view backing old old v p at bytes) []; answer = λ sound. inl (sound, refl); fault = λ is. absurd (other is) }
+      record { acts = acts_none v (all_given_by_put view backing old old v p at bytes) []; answer = λ sound. inl (sound, refl); fault = λ is. absurd (other is) }
 
   module _ (new : Qcow2 S F) (marked : Bool) (number : number_of new ≡ number_of old) where
     pub puts_settled : (r : Result (Unit {0}) ImageError) → MayMarkBy r (is_failed new) marked
@@ -204,8 +204,8 @@ module _ {S F : Type 0} (view : S → StorageView) (backing : F → BackingView)
         → Puts view backing old (record new { is_failed = marked }) p at bytes r
     puts_settled (Ok done) marks part = λ out k placed.
         subst (λ (f : Bool). let v = abstract_of view backing old out in let w = abstract_of view backing (record new { is_failed = f }) out in
-        Does v w (gifts_of_put view backing old new v p at bytes) [] (guest_of w ≡ put_guest (guest_of v) k (meaning view backing old p) at bytes)) (sym marks)
-        (settled_does view backing old new out out (gifts_of_put view backing old new (abstract_of view backing old out) p at bytes) (λ sound. (part out k placed sound).works) (λ sound. (part out k placed sound).sound) number usable (λ sound. (part out k placed sound).is))
+        AnsweredEffect v w (all_given_by_put view backing old new v p at bytes) [] (guest_of w ≡ put_guest (guest_of v) k (meaning view backing old p) at bytes)) (sym marks)
+        (settled_does view backing old new out out (all_given_by_put view backing old new (abstract_of view backing old out) p at bytes) (λ sound. (part out k placed sound).works) (λ sound. (part out k placed sound).sound) number usable (λ sound. (part out k placed sound).is))
     puts_settled (Err e) marks part = λ out k placed.
-        settled_refuses view backing old new out out (gifts_of_put view backing old new (abstract_of view backing old out) p at bytes) (λ sound. (part out k placed sound).works) (λ sound. (part out k placed sound).sound) number usable marked e marks
+        settled_refuses view backing old new out out (all_given_by_put view backing old new (abstract_of view backing old out) p at bytes) (λ sound. (part out k placed sound).works) (λ sound. (part out k placed sound).sound) number usable marked e marks
         (λ sound. (part out k placed sound).is)

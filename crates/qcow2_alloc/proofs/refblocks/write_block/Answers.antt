@@ -14,7 +14,7 @@ use Rattle.qcow2_alloc.specs.Allocation.{placing, HasPlaceFor, StandAt, UnseenAl
 use Rattle.qcow2_alloc.specs.ImageError.{of_storage, IsFault}
 use Rattle.qcow2_alloc.specs.declared.cache.MetadataCaches.{MetadataCaches}
 use Rattle.qcow2_alloc.specs.declared.image_storage.ImageStorage.{ImageStorage}
-use Rattle.qcow2_alloc.specs.CacheMarks.{KeepsMarks}
+use Rattle.qcow2_alloc.specs.CachePins.{KeepsPinsAndNotes}
 use Rattle.qcow2_alloc.specs.declared.allocation.Allocator.{Allocator}
 use Rattle.qcow2_alloc.specs.declared.error.ImageError.{ImageError}
 use Rattle.qcow2_alloc.specs.declared.image_file.ImageFile.{ImageFile}
@@ -29,7 +29,7 @@ use Rattle.qcow2_alloc.proofs.refblocks.write_block.Goals as goal
 
 -- all counts are written, and then the block's bytes, or they are not
 module _ {S : Type 0} (view : S → StorageView) (d : Bool) (p : Pending) (range at : ℕ) (old : ImageFile S) (t : Allocator) (storage : ImageStorage S) (caches : MetadataCaches S) (sound : AllocatorInvariant view t (placing d p at) old)
-    (keeps : KeepSound view old.storage old.caches storage caches) (marks : KeepsMarks old.caches caches) where
+    (keeps : KeepSound view old.storage old.caches storage caches) (marks : KeepsPinsAndNotes old.caches caches) where
   abbrev q : Pending
   q = placing d p at
 
@@ -79,8 +79,8 @@ module _ {S : Type 0} (view : S → StorageView) (d : Bool) (p : Pending) (range
 finish : {S : Type 0} (view : S → StorageView) (q : Pending) (old new : ImageFile S) (t : Allocator) (block : RefBlockView) (at : ℕ) (result : Result (Unit {0}) ImageError) → UnseenAllocatorStep view q old t new q → IfErr result IsFault
     → OnOk result (BlocksMayGo (order_of new.caches) (l2_tables new.caches)) → OnOk result (rb_at new.caches at ≡ Some (cleared_rb block))
     → (BlocksMayGo (order_of new.caches) (l2_tables new.caches) → StandAt (contents_in view new) (at * cluster_size new.header.fields) block.bytes) → WritesBlock view q old t new block at result
-finish view q old new t block at (Ok _) becomes faults first held stands = (becomes, record { held = held; stands = stands first })
-finish view q old new t block at (Err e) becomes faults first held stands = (faults, inl (becomes.moves, becomes.reftable))
+finish view q old new t block at (Ok _) becomes faults first new_data stands = (becomes, record { new_data = new_data; stands = stands first })
+finish view q old new t block at (Err e) becomes faults first new_data stands = (faults, inl (becomes.moves, becomes.reftable))
 
 pub returns-in_err-flush_rb-clause-sound : goal.returns-in_err-flush_rb-clause-sound
 returns-in_err-flush_rb-clause-sound g c = λ p d t range at sound place fits is.
@@ -119,5 +119,5 @@ returns-clause-sound g c = λ p d t range at sound place fits is.
     (faults h (placing d p at) two.moves.sound.honest two.moves.sound.caches two.moves.sound.settled cleared refl (rw is known))
     (c.rb_insert.ensures.first c.in_ok-flush_rb.ensures.first)
     (subst (λ (o : Option ℕ). OnOk c.rb_insert.result (IfSome o (λ k. rb_at c.rb_insert.new.self k ≡ Some (cleared_rb c.args.block)))) is
-    (subst (λ (b : RefBlockView). OnOk c.rb_insert.result (IfSome b.cluster (λ k. rb_at c.rb_insert.new.self k ≡ Some b))) c.clear_modified.ensures c.rb_insert.ensures.held))
+    (subst (λ (b : RefBlockView). OnOk c.rb_insert.result (IfSome b.cluster (λ k. rb_at c.rb_insert.new.self k ≡ Some b))) c.clear_modified.ensures c.rb_insert.ensures.cached))
     (λ first. still_stands g.S.Storage.view d p range at f2 t.reftable two.moves.sound two.reftable c.in_ok-flush_rb.ensures.first room c.args.block fits long stands c.rb_insert.new.storage c.rb_insert.new.self stays c.rb_insert.ensures.marks first)

@@ -1,6 +1,6 @@
 use Rattle.std.proofs.Common.{◌≡◌, ◌-◌, ◌≤◌, [], List}
 use Rattle.std.specs.Prelude.{Option}
-use Rattle.qcow2_disk.specs.Calls.{Does}
+use Rattle.qcow2_disk.specs.Calls.{AnsweredEffect}
 use Rattle.qcow2_disk.specs.AbstractImages.{guest_of}
 use Rattle.qcow2_image.specs.Image.{number_of}
 use Rattle.qcow2_image.specs.ImageInvariant.{abstract_of}
@@ -14,7 +14,7 @@ invariant-loop-at g l = record {
   number : number_of l.image ≡ number_of l.fn.image;
   honest : (g.R.Storage.view l.fn.raw).is_honest → (g.R.Storage.view l.raw).is_honest;
   same : (out : List (Option Prepared)) → let v = abstract_of g.S.Storage.view g.F.BackingDisk.backing l.fn.image out in let w = abstract_of g.S.Storage.view g.F.BackingDisk.backing l.image out in
-      Does v w [] [] (guest_of w ≡ guest_of v);
+      AnsweredEffect v w [] [] (guest_of w ≡ guest_of v);
   filled : (g.R.Storage.view l.fn.raw).is_honest → Fills g.S.Storage.view g.F.BackingDisk.backing l.fn.image 0 l.at (g.R.Storage.view l.fn.raw).contents (g.R.Storage.view l.raw).contents;
 }
 

@@ -1,8 +1,8 @@
 use Rattle.std.proofs.Common.{◌≡◌, ◌-◌, ◌%◌, ◌<◌, ◌≤◌, length, [], ◌∷◌, take, List}
 use Rattle.std.specs.Prelude.{Option}
-use Rattle.qcow2_disk.specs.Calls.{Does, with_disk}
+use Rattle.qcow2_disk.specs.Calls.{AnsweredEffect, with_disk}
 use Rattle.qcow2_disk.specs.Disk.{with_bytes}
-use Rattle.qcow2_disk.specs.Mappings.{gift_of}
+use Rattle.qcow2_disk.specs.Mappings.{given_of}
 use Rattle.qcow2_disk.specs.AbstractImages.{guest_of}
 use Rattle.qcow2_image.specs.Image.{number_of}
 use Rattle.qcow2_image.specs.ImageInvariant.{abstract_of}
@@ -18,7 +18,7 @@ invariant-loop-at g l = record {
   raw : IsLeft (g.R.Storage.view l.fn.raw) (g.R.Storage.view l.raw);
   written : (g.R.Storage.view l.fn.raw).is_honest → l.size ≡ length (g.R.Storage.view l.fn.raw).contents → (out : List (Option Prepared))
       → let v = abstract_of g.S.Storage.view g.F.BackingDisk.backing l.fn.image out in let w = abstract_of g.S.Storage.view g.F.BackingDisk.backing l.image out in
-      Does v w (gift_of 0 (g.R.Storage.view l.fn.raw).contents ∷ []) [] (guest_of w ≡ with_disk (guest_of v) (with_bytes (guest_of v).disk 0 (take l.at (g.R.Storage.view l.fn.raw).contents)));
+      AnsweredEffect v w (given_of 0 (g.R.Storage.view l.fn.raw).contents ∷ []) [] (guest_of w ≡ with_disk (guest_of v) (with_bytes (guest_of v).disk 0 (take l.at (g.R.Storage.view l.fn.raw).contents)));
 }
 
 abbrev pub decreases-loop-at : goal.decreases-loop-at

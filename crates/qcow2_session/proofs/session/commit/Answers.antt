@@ -5,7 +5,7 @@ use Rattle.qcow2_disk.proofs.RunSteps.{done_as, refused_as, none_as}
 use Rattle.qcow2_image.specs.ImageInvariant.{image_abstraction}
 use Rattle.qcow2_session.proofs.Places.{set_found, set_twice, get_set_same}
 use Rattle.qcow2_session.proofs.Meanings.{found_at, none_at, does_commit, refuses_commit}
-use Rattle.qcow2_session.proofs.Answering.{not_both, not_spent, kept_is}
+use Rattle.qcow2_session.proofs.Answering.{not_both, not_old_tables, kept_is}
 use Rattle.qcow2_disk.specs.Runs.{commit, done, misuse, refused}
 use Rattle.qcow2_disk.specs.AbstractImages.{abstract_image}
 use Rattle.qcow2_image.specs.Calls.{refusal_of, Commits}
@@ -46,7 +46,7 @@ returns-in-Err-Spent-clause-goes g c = λ x s stands founds.
     let spec = image_abstraction g.S.Storage.view g.F.BackingDisk.backing in
     let out = c.args.slots.now.prepared.items in
     subst (λ (o : List (Option _)). RefinesCommand x (abstract_image spec c.args.image.now out) (abstract_image spec c.commit_data_mapping.new.self o) s (commit c.args.slot) (refused (refusal_of c.in-Err-Spent.refusal))) (sym c.put.ensures.is)
-    (refused_as x _ _ s _ _ _ _ refl stands (record { sized = λ _. tt; failed = λ f. absurd (not_spent c.in-Err-Spent.field-0-is (c.in-Err-Spent.ensures.failed (c.in-Some.ensures.own ∙ c.put.ensures.image ∙ c.requires) f)); may = λ _. tt })
+    (refused_as x _ _ s _ _ _ _ refl stands (record { sized = λ _. tt; failed = λ f. absurd (not_old_tables c.in-Err-Spent.field-0-is (c.in-Err-Spent.ensures.failed (c.in-Some.ensures.own ∙ c.put.ensures.image ∙ c.requires) f)); may = λ _. tt })
     (refuses_commit s.found c.args.slot _ (found_at spec c.args.image.now out c.args.slot c.in-Some.prepared c.in-Some.ensures.was)
     (subst (λ r. Commits g.S.Storage.view g.F.BackingDisk.backing c.args.image.now c.commit_data_mapping.new.self c.in-Some.prepared (Err r)) c.in-Err-Spent.field-0-is c.in-Err-Spent.ensures.sees out c.args.slot c.in-Some.ensures.was).1) (λ f. f) (λ _ _. refl) tt)
 
@@ -90,7 +90,7 @@ pub returns-in-Err-Spent-clause-causes : goal.returns-in-Err-Spent-clause-causes
 returns-in-Err-Spent-clause-causes g c =
     let own = c.in-Some.ensures.own ∙ c.put.ensures.image ∙ c.requires in
     is_refused g.S.Storage.view g.F.BackingDisk.backing c.args.image.now c.commit_data_mapping.new.self c.args.slots.now.prepared.items (C.CommitDataMapping c.args.slot) c.in-Err-Spent.refusal (R.Refused c.in-Err-Spent.refusal) (λ is. absurd cc) (λ is. absurd cc, λ free. absurd (not_free c.args.slots.now.prepared.items c.args.slot c.in-Some.ensures.was free)) refl
-    (where_failed _ (is_failed c.args.image.now) (λ f. absurd (not_spent c.in-Err-Spent.field-0-is (c.in-Err-Spent.ensures.failed own f))))
+    (where_failed _ (is_failed c.args.image.now) (λ f. absurd (not_old_tables c.in-Err-Spent.field-0-is (c.in-Err-Spent.ensures.failed own f))))
     (λ none. subst (λ r. IsMet (reason_of r)) c.in-Err-Spent.field-0-is (c.in-Err-Spent.ensures.late own (not_failed (is_failed c.args.image.now) none)))
     (λ none idle. let no = (c.in-Err-Spent.ensures.existing own (not_failed (is_failed c.args.image.now) none) (subst (λ p. IsNone (table_of p)) (same_mapping c.args.slots.now.prepared.items c.args.slot c.in-Some.ensures.was idle.1) idle.2)).0 in absurd cc) (λ _ _. tt)
 

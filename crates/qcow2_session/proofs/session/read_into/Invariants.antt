@@ -1,5 +1,5 @@
 use Rattle.std.proofs.Common.{◌≡◌, ◌-◌, ◌≤◌, length, ◌+◌, ◌^◌, ◌<◌, [], take, List}
-use Rattle.qcow2_disk.specs.Calls.{Does, Shows}
+use Rattle.qcow2_disk.specs.Calls.{AnsweredEffect, Shows}
 use Rattle.qcow2_disk.specs.AbstractImages.{guest_of}
 use Rattle.std.specs.Prelude.{Option}
 use Rattle.qcow2_image.specs.Image.{IsSameImage, is_failed}
@@ -18,7 +18,7 @@ invariant-loop-done g l = record {
   works : is_failed l.image ≡ is_failed l.fn.image;
   unwritten : StaysUnwritten g.S.Storage.view g.F.BackingDisk.backing l.fn.image l.image;
   shown : (out : List (Option Prepared)) → let v = abstract_of g.S.Storage.view g.F.BackingDisk.backing l.fn.image out in let w = abstract_of g.S.Storage.view g.F.BackingDisk.backing l.image out in
-      Does v w [] [] (Shows (guest_of v).disk l.fn.offset (take l.done l.bytes) × (guest_of w ≡ guest_of v));
+      AnsweredEffect v w [] [] (Shows (guest_of v).disk l.fn.offset (take l.done l.bytes) × (guest_of w ≡ guest_of v));
 }
 
 abbrev pub decreases-loop-done : goal.decreases-loop-done

@@ -1,6 +1,6 @@
 use Rattle.std.proofs.Common.{◌≡◌, sym, subst, ap, ◌∙◌, Err, [], ◌∷◌, Some, None, min, length, refl, arith}
 use Rattle.std.specs.Prelude.{IfSome, Option, Result}
-use Rattle.qcow2_disk.specs.Mappings.{gift_of}
+use Rattle.qcow2_disk.specs.Mappings.{given_of}
 use Rattle.qcow2_disk.specs.AbstractImages.{Setting, guest_of}
 use Rattle.qcow2_image.specs.Calls.{refusal_of, Commits}
 use Rattle.qcow2_image.specs.Image.{is_failed, is_writable, number_of}
@@ -9,7 +9,7 @@ use Rattle.qcow2_image.specs.Refusals.{refuses_mapping, refuses_to_prepare}
 use Rattle.qcow2_image.specs.declared.prepared.CommitRefused.TheVariants.{Kept}
 use Rattle.qcow2_image.specs.ImageInvariant.{abstract_of, image_abstraction}
 use Rattle.qcow2_session.specs.Sessions.{cluster_size_of, WritesFirst}
-use Rattle.qcow2_session.proofs.Chunks.{may_write_none, put_refused, written, commit_spent, commit_kept}
+use Rattle.qcow2_session.proofs.Chunks.{may_write_none, put_refused, written, commit_old_tables, commit_kept}
 use Rattle.qcow2_session.proofs.Writing.{chunk_ends}
 use Rattle.qcow2_image.proofs.Free.{free_places}
 use Rattle.qcow2_session.proofs.Turns.{refused_is, none_within, refuses_if, refuses_less, nothing_refused}
@@ -45,7 +45,7 @@ returns-in_err-prepared-clause-sees g c =
     let e = c.in_err-prepared.field-0.0 in
     subst (λ r. WritesFirst view below old new c.args.offset c.args.bytes.now r) (sym (refused_is _ e c.from_residual.ensures))
     (λ out. refuses_if (may_write_none (refusal_of e) (guest_of (abstract_of view below old out)) (guest_of (abstract_of view below new out)) c.args.offset c.args.bytes.now)
-    (refuses_less (none_within (abstract_of view below old out) (gift_of c.args.offset c.args.bytes.now ∷ [])) (c.in_err-prepared.ensures.sees out)))
+    (refuses_less (none_within (abstract_of view below old out) (given_of c.args.offset c.args.bytes.now ∷ [])) (c.in_err-prepared.ensures.sees out)))
 
 pub returns-in-Err-clause-sees : goal.returns-in-Err-clause-sees
 returns-in-Err-clause-sees g c = λ out.
@@ -71,7 +71,7 @@ returns-in-Err-Spent-clause-sees g c = λ out.
     let below = g.F.BackingDisk.backing in
     let p = c.in_ok-prepared.prepared in
     let refused = subst (λ r. Commits view below c.write_mapped.new.self c.commit_data_mapping.new.self p (Err r)) c.in-Err-Spent.field-0-is c.in-Err-Spent.ensures.sees (Some p ∷ out) 0 refl in
-    commit_spent (image_abstraction view below) (free_places view below) (λ _. refl) c.args.image.now c.prepare_data_mapping.new.self p out c.args.offset c.min-count.result c.args.bytes.now
+    commit_old_tables (image_abstraction view below) (free_places view below) (λ _. refl) c.args.image.now c.prepare_data_mapping.new.self p out c.args.offset c.min-count.result c.args.bytes.now
     (c.min-count.ensures ∙ ap (λ k. min (length c.args.bytes.now) k) c.length.ensures) (c.in_ok-prepared.ensures.sees (None ∷ out) 0 refl)
     c.write_mapped.new.self (c.in_default.ensures.sees (Some p ∷ out) 0 refl) c.commit_data_mapping.new.self (refusal_of c.in-Err-Spent.refusal) refused.0 refused.1
 

@@ -13,7 +13,7 @@ use Rattle.qcow2_alloc.specs.declared.error.ImageError.{ImageError}
 use Rattle.qcow2_alloc.specs.declared.clusters_to_free.ClustersToFreeEntry.{ClustersToFreeEntry}
 use Rattle.qcow2_alloc.specs.Limits.{IsFaultOr, HasNoPlace}
 use Rattle.qcow2_alloc.proofs.FormerReftables.{former_none}
-use Rattle.qcow2_alloc.proofs.CacheMarks.{marks_then}
+use Rattle.qcow2_alloc.proofs.CachePins.{marks_then}
 use Rattle.qcow2_alloc.proofs.Faults.{told_on, told_since}
 use Rattle.qcow2_alloc.proofs.Outcomes.{on_no_ok, if_no_ok, handed_cause, on_ok}
 use Rattle.qcow2_alloc.proofs.allocation.Allocator.allocate_data.Goals as goal

@@ -15,7 +15,7 @@ use Rattle.qcow2_alloc.specs.declared.error.ImageError.{ImageError}
 use Rattle.qcow2_alloc.specs.Limits.{IsFaultOr, CantCount}
 use Rattle.qcow2_metadata.specs.L2Mapping.{IsHostCluster}
 use Rattle.qcow2_alloc.proofs.FormerReftables.{former_none}
-use Rattle.qcow2_alloc.proofs.CacheMarks.{marks_then}
+use Rattle.qcow2_alloc.proofs.CachePins.{marks_then}
 use Rattle.qcow2_alloc.proofs.Faults.{told_on, told_ok, told_since}
 use Rattle.qcow2_alloc.proofs.Outcomes.{told_memory, told_err, on_no_ok, if_no_ok, handed_cause}
 use Rattle.std.proofs.Math.Nat.{le_trans}

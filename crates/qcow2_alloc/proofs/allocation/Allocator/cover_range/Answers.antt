@@ -8,7 +8,7 @@ use Rattle.qcow2_alloc.specs.ImageError.{IsFault}
 use Rattle.std.proofs.lemmas.Nat.{pow_pos}
 use Rattle.qcow2_alloc.specs.declared.error.ImageError.{ImageError}
 use Rattle.qcow2_alloc.proofs.Limits.{placed_fault, host_below, is_able}
-use Rattle.qcow2_alloc.proofs.CacheMarks.{marks_then}
+use Rattle.qcow2_alloc.proofs.CachePins.{marks_then}
 use Rattle.qcow2_alloc.proofs.Faults.{told_on, told_ok, told_since}
 use Rattle.qcow2_alloc.proofs.Outcomes.{told_limit, on_no_ok, handed_cause, entries_none}
 use Rattle.qcow2_metadata.specs.L2Mapping.{IsHostCluster}

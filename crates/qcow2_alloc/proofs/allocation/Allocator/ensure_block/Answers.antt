@@ -14,7 +14,7 @@ use Rattle.std.proofs.lemmas.Nat.{pow_pos}
 use Rattle.qcow2_alloc.specs.declared.error.ImageError.{ImageError}
 use Rattle.qcow2_alloc.proofs.Limits.{host_below, is_able, placed_fault, range_near}
 use Rattle.qcow2_alloc.proofs.FormerReftables.{place_none, place_as, place_then}
-use Rattle.qcow2_alloc.proofs.CacheMarks.{marks_then}
+use Rattle.qcow2_alloc.proofs.CachePins.{marks_then}
 use Rattle.qcow2_alloc.proofs.Faults.{told_on, told_ok, told_since}
 use Rattle.qcow2_alloc.proofs.Outcomes.{ok_no_err, not_both, told_limit, told_err, told_third, on_no_ok, handed_cause, handed_unaligned}
 use Rattle.qcow2_metadata.specs.EntryTable.{EntryTableView}

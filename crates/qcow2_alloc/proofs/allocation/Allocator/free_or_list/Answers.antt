@@ -3,7 +3,7 @@ use Rattle.qcow2_alloc.specs.declared.clusters_to_free.ClusterKind.{ClusterKind}
 use Rattle.qcow2_alloc.specs.Allocation.{MayFree}
 use Rattle.qcow2_alloc.specs.FreeList.{but}
 use Rattle.qcow2_alloc.proofs.Freeing.{but_same}
-use Rattle.qcow2_alloc.proofs.CacheMarks.{marks_none}
+use Rattle.qcow2_alloc.proofs.CachePins.{marks_none}
 use Rattle.qcow2_alloc.proofs.Faults.{told_ok}
 use Rattle.std.proofs.Math.Nat.{le_refl}
 use Rattle.qcow2_alloc.proofs.allocation.Allocator.free_or_list.Goals as goal

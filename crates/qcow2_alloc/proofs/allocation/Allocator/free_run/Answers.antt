@@ -4,8 +4,8 @@ use Rattle.qcow2_alloc.specs.Allocation.{Listed, listed_as, Frees}
 use Rattle.qcow2_alloc.specs.FreeList.{run_of}
 use Rattle.qcow2_alloc.specs.LowestRuns.{KeepsNoFreeBelowHint}
 use Rattle.qcow2_alloc.proofs.AllocationSteps.{handed_on, may_lower_still, is_sound_now}
-use Rattle.qcow2_alloc.proofs.CacheMarks.{marks_then}
-use Rattle.qcow2_alloc.proofs.Freeing.{listed_held, behind_first, first_owed, run_refused, run_freed}
+use Rattle.qcow2_alloc.proofs.CachePins.{marks_then}
+use Rattle.qcow2_alloc.proofs.Freeing.{listed_new_data, behind_first, first_owed, run_refused, run_freed}
 use Rattle.qcow2_alloc.proofs.Faults.{told_ok}
 use Rattle.qcow2_alloc.proofs.Outcomes.{told_after, on_no_ok, handed_cause}
 use Rattle.std.proofs.Math.Nat.{le_trans}
@@ -20,7 +20,7 @@ returns-in_err-lower-clause-sound g c = λ p sound may.
     let at = c.value-in-freeing.ensures ∙ c.cluster.ensures in
     let some : 0 < c.freeing.run.count = omega (arith, c.freeing-test.true, c.value.ensures, c.count.ensures) in
     handed_on (Frees g.S.Storage.view q c.args.file.now c.lower.new.self c.lower.new.file now) c.from_residual.result c.in_err-lower.field-0.0 c.from_residual.ensures
-    (run_refused g.S.Storage.view kind p c.freeing.run some c.value-in-freeing.result at q (listed_held kind p (run_of c.args.run.now) (run_of c.freeing.run)) c.args.file.now c.freeing.file c.lower.new.file c.freeing.self c.lower.new.self before c.in_err-lower.field-0.0
+    (run_refused g.S.Storage.view kind p c.freeing.run some c.value-in-freeing.result at q (listed_new_data kind p (run_of c.args.run.now) (run_of c.freeing.run)) c.args.file.now c.freeing.file c.lower.new.file c.freeing.self c.lower.new.self before c.in_err-lower.field-0.0
     (c.in_err-lower.ensures.sound (behind_first c.freeing.run kind p) (Listed kind)
     (first_owed g.S.Storage.view kind p c.freeing.run some c.value-in-freeing.result at c.freeing.file c.freeing.self (is_sound_now g.S.Storage.view q now c.args.file.now c.freeing.file c.freeing.self before))
     (may_lower_still (Listed kind) c.args.file.now c.freeing.file c.freeing.invariant.order may)))
@@ -40,7 +40,7 @@ freeing-preserved g c = record {
       let before = c.freeing.invariant.sound p sound may in
       let at = c.value-in-freeing.ensures ∙ c.cluster.ensures in
       let some : 0 < c.freeing.run.count = omega (arith, c.freeing-test.true, c.value.ensures, c.count.ensures) in
-      run_freed g.S.Storage.view kind p c.freeing.run some c.value-in-freeing.result at q (listed_held kind p (run_of c.args.run.now) (run_of c.freeing.run)) c.args.file.now c.freeing.file c.lower.new.file c.freeing.self c.lower.new.self before
+      run_freed g.S.Storage.view kind p c.freeing.run some c.value-in-freeing.result at q (listed_new_data kind p (run_of c.args.run.now) (run_of c.freeing.run)) c.args.file.now c.freeing.file c.lower.new.file c.freeing.self c.lower.new.self before
       c.drop_first.new.self c.drop_first.ensures.first c.drop_first.ensures.count
       (c.in_ok-lower.ensures.sound (behind_first c.freeing.run kind p) (Listed kind)
       (first_owed g.S.Storage.view kind p c.freeing.run some c.value-in-freeing.result at c.freeing.file c.freeing.self (is_sound_now g.S.Storage.view q now c.args.file.now c.freeing.file c.freeing.self before))

@@ -4,18 +4,18 @@ use Rattle.qcow2_laws.specs.CrashInvariant.{Pending}
 use Rattle.qcow2_alloc.specs.Allocation.{run_at, taken_as, Taken, UnseenAllocatorGrowth, GivesBackAs}
 use Rattle.qcow2_alloc.specs.ImageFile.{AllocatorInvariant, UnseenFileGrowth}
 use Rattle.qcow2_alloc.specs.LowestRuns.{KeepsNoFreeBelowHint, KeepsUsedBut}
-use Rattle.qcow2_alloc.proofs.CacheMarks.{marks_none, marks_then}
+use Rattle.qcow2_alloc.proofs.CachePins.{marks_none, marks_then}
 use Rattle.qcow2_alloc.proofs.FileSteps.{moves_on, on_then, on_breaks_after}
 use Rattle.qcow2_alloc.proofs.AllocationSteps.{handed_on, is_sound_now}
 use Rattle.qcow2_alloc.proofs.Hints.{kept_refused, not_in_run, taken_pending, used_stays}
-use Rattle.qcow2_alloc.proofs.Runs.{taken_first, taken_none, held_more}
+use Rattle.qcow2_alloc.proofs.Runs.{taken_first, taken_none, new_data_more}
 use Rattle.qcow2_alloc.proofs.Faults.{told_ok}
 use Rattle.qcow2_alloc.proofs.Outcomes.{told_after, handed_cause}
 use Rattle.std.proofs.Math.Nat.{le_trans, le_refl}
 use Rattle.qcow2_alloc.proofs.allocation.Allocator.give_back.Goals as goal
 
 pub returns-then-n-eq0-clause-sound : goal.returns-then-n-eq0-clause-sound
-returns-then-n-eq0-clause-sound g c = λ p p' d start held b noted. subst (λ (r : Pending). UnseenAllocatorGrowth g.S.Storage.view p start c.args.self.now c.args.file.now r) (taken_none d p' c.args.first c.args.n c.if-n-eq0.true) b
+returns-then-n-eq0-clause-sound g c = λ p p' d start new_data b noted. subst (λ (r : Pending). UnseenAllocatorGrowth g.S.Storage.view p start c.args.self.now c.args.file.now r) (taken_none d p' c.args.first c.args.n c.if-n-eq0.true) b
 
 pub lowering-init : goal.lowering-init
 lowering-init g c = record {
@@ -25,7 +25,7 @@ lowering-init g c = record {
   faults = omega arith;
   order = refl;
   reftable = refl;
-  sound = λ p p' d start held b.
+  sound = λ p p' d start new_data b.
       let whole : c.args.n ≡ c.args.first + c.args.n - c.args.first = omega arith in
       let moves = subst (λ m. UnseenFileGrowth g.S.Storage.view p (taken_as d p' (run_at c.args.first m)) start c.args.file.now) whole b.moves in
       record { moves = moves; reftable = b.reftable };
@@ -36,8 +36,8 @@ lowering-init g c = record {
 }
 
 pub returns-in_err-lower-clause-sound : goal.returns-in_err-lower-clause-sound
-returns-in_err-lower-clause-sound g c = λ p p' d start held b noted.
-    let one = c.lowering.invariant.sound p p' d start held b in
+returns-in_err-lower-clause-sound g c = λ p p' d start new_data b noted.
+    let one = c.lowering.invariant.sound p p' d start new_data b in
     let q : Pending = (taken_as d p' (run_at (c.lowering.cluster + 1) ((c.args.first + c.args.n) - (c.lowering.cluster + 1)))) in
     let same = taken_first d p' c.lowering.cluster (c.args.first + c.args.n) c.lowering-test.true in
     let moved = subst (λ (r : Pending). UnseenFileGrowth g.S.Storage.view p r start c.lowering.file) (sym same) one.moves in
@@ -56,15 +56,15 @@ lowering-preserved g c = record {
   faults = le_trans c.lowering.invariant.faults c.lower.ensures.storage_faults.no_fewer;
   order = c.lower.ensures.order ∙ c.lowering.invariant.order;
   reftable = c.lower.ensures.reftable ∙ c.lowering.invariant.reftable;
-  sound = λ p p' d start held b.
-      let one = c.lowering.invariant.sound p p' d start held b in
+  sound = λ p p' d start new_data b.
+      let one = c.lowering.invariant.sound p p' d start new_data b in
       let q : Pending = (taken_as d p' (run_at (c.lowering.cluster + 1) ((c.args.first + c.args.n) - (c.lowering.cluster + 1)))) in
       let same = taken_first d p' c.lowering.cluster (c.args.first + c.args.n) c.lowering-test.true in
       let moved = subst (λ (r : Pending). UnseenFileGrowth g.S.Storage.view p r start c.lowering.file) (sym same) one.moves in
       let low = c.in_ok-lower.ensures.sound q (Taken d) (record { sound = moved.sound; reftable = one.reftable }) tt in
       record {
         moves = on_then g.S.Storage.view p (taken_as d q (one_at c.lowering.cluster)) q start c.lowering.file c.lower.new.file
-            (λ k some. subst (λ (r : Pending). 0 < r.held k) (sym same) (held_more d p' (run_at c.lowering.cluster ((c.args.first + c.args.n) - c.lowering.cluster)) k (held k some))) moved (moves_on g.S.Storage.view (taken_as d q (one_at c.lowering.cluster)) q c.lowering.file c.lower.new.file low.moves);
+            (λ k some. subst (λ (r : Pending). 0 < r.new_data k) (sym same) (new_data_more d p' (run_at c.lowering.cluster ((c.args.first + c.args.n) - c.lowering.cluster)) k (new_data k some))) moved (moves_on g.S.Storage.view (taken_as d q (one_at c.lowering.cluster)) q c.lowering.file c.lower.new.file low.moves);
         reftable = low.reftable;
       };
   hint = λ p d sound hint.
@@ -86,9 +86,9 @@ lowering-preserved g c = record {
 }
 
 pub returns-clause-sound : goal.returns-clause-sound
-returns-clause-sound g c = λ p p' d start held b noted.
+returns-clause-sound g c = λ p p' d start new_data b noted.
     subst (λ (r : Pending). UnseenAllocatorGrowth g.S.Storage.view p start c.lowering.self c.lowering.file r)
-    (taken_none d p' c.lowering.cluster ((c.args.first + c.args.n) - c.lowering.cluster) (let past = c.lowering-test.false in omega arith)) (c.lowering.invariant.sound p p' d start held b)
+    (taken_none d p' c.lowering.cluster ((c.args.first + c.args.n) - c.lowering.cluster) (let past = c.lowering-test.false in omega arith)) (c.lowering.invariant.sound p p' d start new_data b)
 
 pub returns-in_err-lower-clause-hint : goal.returns-in_err-lower-clause-hint
 returns-in_err-lower-clause-hint g c = λ p d sound hint.

@@ -1,7 +1,7 @@
 use Rattle.std.proofs.Common.{◌≤◌, ◌≡◌, ℕ, ◌+◌, ◌-◌, ◌<◌, Bool}
 use Rattle.qcow2_laws.specs.CrashInvariant.{Pending}
 use Rattle.qcow2_alloc.specs.Allocation.{run_at, taken_as, UnseenAllocatorGrowth}
-use Rattle.qcow2_alloc.specs.CacheMarks.{KeepsMarks}
+use Rattle.qcow2_alloc.specs.CachePins.{KeepsPinsAndNotes}
 use Rattle.qcow2_alloc.specs.Faults.{faults_of}
 use Rattle.qcow2_alloc.specs.declared.image_file.ImageFile.{ImageFile}
 use Rattle.qcow2_alloc.specs.ImageFile.{AllocatorInvariant}
@@ -14,11 +14,11 @@ abbrev pub invariant-lowering : goal.invariant-lowering
 invariant-lowering g l = record {
   header : l.file.header ≡ l.fn.file.header;
   list : l.file.free_list ≡ l.fn.file.free_list;
-  marks : KeepsMarks l.fn.file.caches l.file.caches;
+  marks : KeepsPinsAndNotes l.fn.file.caches l.file.caches;
   faults : faults_of g.S.Storage.view l.fn.file.storage ≤ faults_of g.S.Storage.view l.file.storage;
   order : order_of l.file.caches ≡ order_of l.fn.file.caches;
   reftable : l.self.reftable ≡ l.fn.self.reftable;
-  sound : (p p' : Pending) (d : Bool) (start : ImageFile g.row.S.Denot) → ((k : ℕ) → 0 < p.held k → 0 < p'.held k) → UnseenAllocatorGrowth g.S.Storage.view p start l.fn.self l.fn.file (taken_as d p' (run_at l.fn.first l.fn.n))
+  sound : (p p' : Pending) (d : Bool) (start : ImageFile g.row.S.Denot) → ((k : ℕ) → 0 < p.new_data k → 0 < p'.new_data k) → UnseenAllocatorGrowth g.S.Storage.view p start l.fn.self l.fn.file (taken_as d p' (run_at l.fn.first l.fn.n))
       → UnseenAllocatorGrowth g.S.Storage.view p start l.self l.file (taken_as d p' (run_at l.cluster (l.fn.first + l.fn.n - l.cluster)));
   hint : (p : Pending) (d : Bool) → AllocatorInvariant g.S.Storage.view l.fn.self (taken_as d p (run_at l.fn.first l.fn.n)) l.fn.file → NoFreeBelowHint g.S.Storage.view l.fn.self l.fn.file → NoFreeBelowHint g.S.Storage.view l.self l.file;
   kept : (p : Pending) (d : Bool) → AllocatorInvariant g.S.Storage.view l.fn.self (taken_as d p (run_at l.fn.first l.fn.n)) l.fn.file

@@ -3,12 +3,12 @@ use Rattle.qcow2_metadata.specs.Header.{counts_per_block}
 use Rattle.qcow2_laws.specs.Changes.{one_at}
 use Rattle.qcow2_laws.specs.CrashInvariant.{Pending}
 use Rattle.qcow2_alloc.specs.Allocation.{Taken, taken_as, UnseenAllocatorStep, GivesBack}
-use Rattle.qcow2_alloc.specs.CacheMarks.{KeepsMarks}
+use Rattle.qcow2_alloc.specs.CachePins.{KeepsPinsAndNotes}
 use Rattle.qcow2_alloc.specs.LowestRuns.{IsUsed}
 use Rattle.qcow2_alloc.specs.MetadataCaches.{order_of}
 use Rattle.qcow2_alloc.specs.GrownTables.{with_run}
 use Rattle.qcow2_alloc.specs.Rooms.{lacks}
-use Rattle.qcow2_alloc.proofs.CacheMarks.{marks_none, marks_then}
+use Rattle.qcow2_alloc.proofs.CachePins.{marks_none, marks_then}
 use Rattle.qcow2_alloc.proofs.AllocationSteps.{handed_on, of_equal}
 use Rattle.qcow2_alloc.proofs.Hints.{not_in_run, taken_pending, used_stays}
 use Rattle.qcow2_alloc.proofs.Rooms.{run_past, left_none, left_one, left_fault, owed_now}
@@ -60,7 +60,7 @@ leaving-preserved g c =
       | then-not-lacks_block+in_ok-lower w ↦ record {
         header = ap (λ f. f.header) w.file-is ∙ w.lower.ensures.header ∙ c.leaving.invariant.header;
         list = ap (λ f. f.free_list) w.file-is ∙ w.lower.ensures.list ∙ c.leaving.invariant.list;
-        marks = subst (λ f. KeepsMarks c.args.file.now.caches f.caches) (sym w.file-is) (marks_then c.args.file.now.caches c.leaving.file.caches w.lower.new.file.caches c.leaving.invariant.marks w.lower.ensures.marks);
+        marks = subst (λ f. KeepsPinsAndNotes c.args.file.now.caches f.caches) (sym w.file-is) (marks_then c.args.file.now.caches c.leaving.file.caches w.lower.new.file.caches c.leaving.invariant.marks w.lower.ensures.marks);
         faults = subst (λ f. faults_of g.S.Storage.view c.args.file.now.storage ≤ faults_of g.S.Storage.view f.storage) (sym w.file-is) (le_trans c.leaving.invariant.faults w.lower.ensures.storage_faults.no_fewer);
         order = ap (λ f. order_of f.caches) w.file-is ∙ w.lower.ensures.order ∙ c.leaving.invariant.order;
         reftable = ap (λ a. a.reftable) w.self-is ∙ w.lower.ensures.reftable ∙ c.leaving.invariant.reftable;
@@ -90,7 +90,7 @@ leaving-preserved g c =
       | else-not-lacks_block w ↦ record {
         header = ap (λ f. f.header) w.file-is ∙ c.leaving.invariant.header;
         list = ap (λ f. f.free_list) w.file-is ∙ c.leaving.invariant.list;
-        marks = subst (λ f. KeepsMarks c.args.file.now.caches f.caches) (sym w.file-is) c.leaving.invariant.marks;
+        marks = subst (λ f. KeepsPinsAndNotes c.args.file.now.caches f.caches) (sym w.file-is) c.leaving.invariant.marks;
         faults = subst (λ f. faults_of g.S.Storage.view c.args.file.now.storage ≤ faults_of g.S.Storage.view f.storage) (sym w.file-is) c.leaving.invariant.faults;
         order = ap (λ f. order_of f.caches) w.file-is ∙ c.leaving.invariant.order;
         reftable = ap (λ a. a.reftable) w.self-is ∙ c.leaving.invariant.reftable;

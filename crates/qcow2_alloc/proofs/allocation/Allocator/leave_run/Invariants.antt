@@ -2,7 +2,7 @@ use Rattle.std.proofs.Common.{◌≤◌, ◌≡◌, ℕ, ◌+◌, ◌-◌, ◌^�
 use Rattle.qcow2_metadata.specs.Header.{counts_per_block}
 use Rattle.qcow2_laws.specs.CrashInvariant.{Pending}
 use Rattle.qcow2_alloc.specs.Allocation.{run_at, UnseenAllocatorStep}
-use Rattle.qcow2_alloc.specs.CacheMarks.{KeepsMarks}
+use Rattle.qcow2_alloc.specs.CachePins.{KeepsPinsAndNotes}
 use Rattle.qcow2_alloc.specs.Faults.{faults_of}
 use Rattle.qcow2_alloc.specs.GrownTables.{with_run}
 use Rattle.qcow2_alloc.specs.declared.image_file.ImageFile.{ImageFile}
@@ -15,7 +15,7 @@ abbrev pub invariant-leaving : goal.invariant-leaving
 invariant-leaving g l = record {
   header : l.file.header ≡ l.fn.file.header;
   list : l.file.free_list ≡ l.fn.file.free_list;
-  marks : KeepsMarks l.fn.file.caches l.file.caches;
+  marks : KeepsPinsAndNotes l.fn.file.caches l.file.caches;
   faults : faults_of g.S.Storage.view l.fn.file.storage ≤ faults_of g.S.Storage.view l.file.storage;
   order : order_of l.file.caches ≡ order_of l.fn.file.caches;
   reftable : l.self.reftable ≡ l.fn.self.reftable;

@@ -20,5 +20,5 @@ returns-clause-sound g c = λ p sound.
     let reftable = reftable_cached g.S.Storage.view p c.args.file.now c.rb_get_or_insert.new.storage c.rb_get_or_insert.new.self sound.sound (c.rb_get_or_insert.ensures.keeps c.args.file.now.header.fields p sound.sound.honest sound.sound.caches) c.args.self.now.reftable sound.reftable in (
       record { moves = moves; reftable = reftable },
       stands g.S.Storage.view p (record c.args.file.now { storage = c.rb_get_or_insert.new.storage; caches = c.rb_get_or_insert.new.self }) c.args.self.now.reftable moves.sound reftable c.args.range c.in-Some.offset c.in-Some-checked_cluster.cluster c.cluster_bits.result
-          c.in-Some.ensures.offset c.in-Some.ensures.some c.in-Some-checked_cluster.ensures.cluster c.cluster_bits.ensures.value c.in_ok-rb_get_or_insert.ensures.held,
+          c.in-Some.ensures.offset c.in-Some.ensures.some c.in-Some-checked_cluster.ensures.cluster c.cluster_bits.ensures.value c.in_ok-rb_get_or_insert.ensures.cached,
     )

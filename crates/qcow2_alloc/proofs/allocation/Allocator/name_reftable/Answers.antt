@@ -4,7 +4,7 @@ use Rattle.qcow2_alloc.specs.ImageError.{of_storage, of_metadata}
 use Rattle.qcow2_alloc.specs.ImageStorage.{storage_of}
 use Rattle.qcow2_alloc.proofs.AllocationSteps.{handed_on, fault_of_storage}
 use Rattle.qcow2_alloc.proofs.NamedReftables.{within_limit, breaks_named, becomes_named, keeps_used}
-use Rattle.qcow2_alloc.proofs.CacheMarks.{marks_none}
+use Rattle.qcow2_alloc.proofs.CachePins.{marks_none}
 use Rattle.qcow2_alloc.proofs.Following.{header_same}
 use Rattle.qcow2_alloc.proofs.Outcomes.{told_limit, on_no_ok, handed_cause, on_err}
 use Rattle.std.proofs.Math.Nat.{le_refl}

@@ -17,7 +17,7 @@ use Rattle.qcow2_alloc.specs.declared.allocation.Allocator.{Allocator}
 use Rattle.qcow2_alloc.specs.declared.cache.MetadataCaches.{MetadataCaches}
 use Rattle.qcow2_alloc.specs.declared.error.ImageError.{ImageError}
 use Rattle.qcow2_alloc.specs.declared.image_storage.ImageStorage.{ImageStorage}
-use Rattle.qcow2_alloc.specs.CacheMarks.{KeepsMarks, SameTables}
+use Rattle.qcow2_alloc.specs.CachePins.{KeepsPinsAndNotes, SameTables}
 use Rattle.qcow2_alloc.specs.declared.image_file.ImageFile.{ImageFile}
 use Rattle.qcow2_alloc.specs.Allocation.{placing, first_counts, HasPlaceFor, RefblockAt, UnseenAllocatorStep, HoldsBlock, PlacesBlock}
 use Rattle.qcow2_alloc.specs.ImageError.{of_storage, IsFault}
@@ -28,7 +28,7 @@ use Rattle.qcow2_alloc.specs.TableCaches.{cleared_rb, IsBlockOf}
 use Rattle.qcow2_alloc.proofs.FileSteps.{moves_then, breaks_then}
 use Rattle.qcow2_alloc.proofs.AllocationSteps.{handed_on, fault_of_storage, becomes_then, becomes_marked, is_sound_now, stands}
 use Rattle.qcow2_alloc.proofs.NamedBlocks.{entry_write_as, real, endures_named, named_so}
-use Rattle.qcow2_alloc.proofs.CacheMarks.{marks_then}
+use Rattle.qcow2_alloc.proofs.CachePins.{marks_then}
 use Rattle.qcow2_alloc.proofs.Faults.{told_on}
 use Rattle.qcow2_alloc.proofs.Outcomes.{on_no_ok, handed_cause, entries_none}
 use Rattle.qcow2_alloc.proofs.TableErrors.{storage_of_tables}
@@ -43,7 +43,7 @@ returns-in_err-write_block-clause-sound g c = λ p sound place.
 -- the last step: the entry is written, or is not
 module _ {S : Type 0} (view : S → StorageView) (d : Bool) (p : Pending) (range at : ℕ) (old file : ImageFile S) (t : Allocator) (t' : EntryTableView) (caches : MetadataCaches S) (storage : ImageStorage S) (asked : S) (block : RefBlockView)
     (result : Result (Unit {0}) StorageError) (before : UnseenAllocatorStep view (placing d p at) old t file (placing d p at) × HoldsBlock view (placing d p at) old t file block at) (counted : AreClean (refblocks file.caches)) (first : BlocksMayGo (order_of file.caches) (l2_tables file.caches))
-    (noted : caches ≡ record file.caches { is_changed = true }) (tables : SameTables file.caches caches) (marks : KeepsMarks file.caches caches) (place : HasPlaceFor d file.header.fields t.reftable range at) (within : range < entry_count t.reftable)
+    (noted : caches ≡ record file.caches { is_changed = true }) (tables : SameTables file.caches caches) (marks : KeepsPinsAndNotes file.caches caches) (place : HasPlaceFor d file.header.fields t.reftable range at) (within : range < entry_count t.reftable)
     (rest : t' ≡ record t.reftable { bytes = t'.bytes }) (enters : ChangesEntry t.reftable.bytes t'.bytes range (at * 2 ^ t.reftable.cluster_bits)) (offset : block_offset (entry_at t'.bytes range) ≡ at * 2 ^ t.reftable.cluster_bits)
     (fits : entry_at t'.bytes range < 2 ^ 64) (whole : IsRefBlock block) (format : IsBlockOf file.header.fields block) (counts : (i : ℕ) → count_at block i ≡ first_counts d i) (same : asked ≡ storage_of file.storage)
     (written : IfSome t'.cluster (λ k. Changes (view asked) (view (storage_of storage)) result (overwritten (view asked).contents (k * 2 ^ t'.cluster_bits + 8 * range) (to_be_bytes w64 (entry_at t'.bytes range)))))
@@ -77,8 +77,8 @@ module _ {S : Type 0} (view : S → StorageView) (d : Bool) (p : Pending) (range
   calls_now : Calls (view_in view marked) (view (storage_of storage)) result
   calls_now = subst (λ s. Calls (view s) (view (storage_of storage)) result) same calls
 
-  held : (v : RefBlockView) × (rb_at caches at ≡ Some v) × (v.bytes ≡ block.bytes)
-  held = (cleared_rb block, ap (λ (c : MetadataCaches S). rb_at c at) noted ∙ before.1.held, refl)
+  new_data : (v : RefBlockView) × (rb_at caches at ≡ Some v) × (v.bytes ≡ block.bytes)
+  new_data = (cleared_rb block, ap (λ (c : MetadataCaches S). rb_at c at) noted ∙ before.1.new_data, refl)
 
   clean : AreClean (refblocks caches)
   clean = subst AreClean (sym tables.refblocks) counted
@@ -101,16 +101,16 @@ module _ {S : Type 0} (view : S → StorageView) (d : Bool) (p : Pending) (range
     inr (breaks_then view q q old marked named e four.moves (record {
       fault = fault;
       noted = λ _. changed;
-      since = endures_named view d p range at marked t.reftable t' block now.moves.sound now.reftable clean may there within rest entered at_place fits whole format counts held before.1.stands storage result calls_now changes;
+      since = endures_named view d p range at marked t.reftable t' block now.moves.sound now.reftable clean may there within rest entered at_place fits whole format counts new_data before.1.stands storage result calls_now changes;
     })),
   )
 
   is_placed : (x : Unit {0}) → result ≡ Ok x → UnseenAllocatorStep view q old (record t { reftable = t' }) named p × RefblockAt view named range (Some at)
   is_placed x done =
-      let so = named_so view d p range at marked t.reftable t' block now.moves.sound now.reftable clean may there within rest entered at_place fits whole format counts held before.1.stands storage result calls_now changes x done in
-      let some : 0 < at * cluster_size h = real view d p range at marked t.reftable t' block now.moves.sound now.reftable clean may there within rest entered at_place fits whole format counts held before.1.stands in (
+      let so = named_so view d p range at marked t.reftable t' block now.moves.sound now.reftable clean may there within rest entered at_place fits whole format counts new_data before.1.stands storage result calls_now changes x done in
+      let some : 0 < at * cluster_size h = real view d p range at marked t.reftable t' block now.moves.sound now.reftable clean may there within rest entered at_place fits whole format counts new_data before.1.stands in (
         record { moves = moves_then view q q p old marked named (λ k some. some) four.moves so.0; reftable = so.1 },
-        stands view p named t' so.0.sound so.1 range (at * cluster_size h) at h.cluster_bits (sym at_place) some refl refl (rw held.1 refl),
+        stands view p named t' so.0.sound so.1 range (at * cluster_size h) at h.cluster_bits (sym at_place) some refl refl (rw new_data.1 refl),
       )
 
 pub returns-in_err-write_reftable_entry-clause-sound : goal.returns-in_err-write_reftable_entry-clause-sound

@@ -10,13 +10,13 @@ use Rattle.qcow2_laws.specs.Tops.{IsSameOutside}
 use Rattle.qcow2_metadata.specs.Bytes.{one_if}
 use Rattle.qcow2_metadata.specs.TableBytes.{ChangesEntry}
 use Rattle.qcow2_alloc.specs.Allocation.{run_at, StandAt, UnseenAllocatorStep}
-use Rattle.qcow2_alloc.specs.CacheMarks.{KeepsMarks}
+use Rattle.qcow2_alloc.specs.CachePins.{KeepsPinsAndNotes}
 use Rattle.qcow2_alloc.specs.GrownTables.{with_run}
 use Rattle.qcow2_alloc.specs.ImageFile.{contents_in}
 use Rattle.qcow2_alloc.specs.MetadataCaches.{order_of, l2_tables, refblocks, rb_at}
 use Rattle.qcow2_alloc.specs.Rooms.{opens, opened, room_length, PlacesBlocks}
 use Rattle.qcow2_alloc.specs.TableCaches.{IsBlockOf}
-use Rattle.qcow2_alloc.proofs.CacheMarks.{marks_none, marks_then}
+use Rattle.qcow2_alloc.proofs.CachePins.{marks_none, marks_then}
 use Rattle.qcow2_alloc.proofs.AllocationSteps.{handed_on, becomes_none, becomes_then, is_sound_now}
 use Rattle.qcow2_alloc.proofs.FileSteps.{leaves_then}
 use Rattle.qcow2_alloc.proofs.Rooms.{opened_none, empty_run}
@@ -102,7 +102,7 @@ placing-preserved g c =
       | then-opens_range+in_ok-block+in_ok-write_new_block w ↦ record {
         header = ap (λ f. f.header) w.file-is ∙ w.write_new_block.ensures.header ∙ inv.header;
         list = ap (λ f. f.free_list) w.file-is ∙ w.write_new_block.ensures.list ∙ inv.list;
-        marks = subst (λ f. KeepsMarks old.caches f.caches) (sym w.file-is) (marks_then old.caches c.placing.file.caches w.write_new_block.new.file.caches inv.marks w.write_new_block.ensures.marks);
+        marks = subst (λ f. KeepsPinsAndNotes old.caches f.caches) (sym w.file-is) (marks_then old.caches c.placing.file.caches w.write_new_block.new.file.caches inv.marks w.write_new_block.ensures.marks);
         faults = subst (λ f. faults_of g.S.Storage.view old.storage ≤ faults_of g.S.Storage.view f.storage) (sym w.file-is) (omega (arith, inv.faults, w.write_new_block.ensures.storage_faults.no_fewer));
         order = ap (λ f. order_of f.caches) w.file-is ∙ w.write_new_block.ensures.order ∙ inv.order;
         tables = ap (λ f. l2_tables f.caches) w.file-is ∙ w.write_new_block.ensures.tables ∙ inv.tables;
@@ -157,7 +157,7 @@ placing-preserved g c =
       | else-opens_range w ↦ record {
         header = ap (λ f. f.header) w.file-is ∙ inv.header;
         list = ap (λ f. f.free_list) w.file-is ∙ inv.list;
-        marks = subst (λ f. KeepsMarks old.caches f.caches) (sym w.file-is) inv.marks;
+        marks = subst (λ f. KeepsPinsAndNotes old.caches f.caches) (sym w.file-is) inv.marks;
         faults = subst (λ f. faults_of g.S.Storage.view old.storage ≤ faults_of g.S.Storage.view f.storage) (sym w.file-is) inv.faults;
         order = ap (λ f. order_of f.caches) w.file-is ∙ inv.order;
         tables = ap (λ f. l2_tables f.caches) w.file-is ∙ inv.tables;

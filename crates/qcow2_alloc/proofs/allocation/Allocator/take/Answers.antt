@@ -13,7 +13,7 @@ use Rattle.std.specs.Prelude.{IfErr}
 use Rattle.qcow2_alloc.specs.declared.error.ImageError.{ImageError}
 use Rattle.qcow2_alloc.specs.Limits.{CantCount, IsFaultOr}
 use Rattle.qcow2_alloc.proofs.FormerReftables.{former_still}
-use Rattle.qcow2_alloc.proofs.CacheMarks.{marks_then}
+use Rattle.qcow2_alloc.proofs.CachePins.{marks_then}
 use Rattle.qcow2_alloc.proofs.Faults.{told_on, told_ok}
 use Rattle.qcow2_alloc.proofs.Outcomes.{ok_no_err, told_after, if_no_ok, handed_cause, handed_unaligned}
 use Rattle.std.proofs.Math.Nat.{le_trans}

@@ -8,7 +8,7 @@ use Rattle.qcow2_alloc.specs.Allocation.{UnseenAllocatorStep}
 use Rattle.qcow2_alloc.specs.Rooms.{lacks}
 use Rattle.qcow2_alloc.proofs.AllocationSteps.{becomes_none, still_sound}
 use Rattle.qcow2_alloc.proofs.Rooms.{one_none, free_taken}
-use Rattle.qcow2_alloc.proofs.CacheMarks.{marks_none}
+use Rattle.qcow2_alloc.proofs.CachePins.{marks_none}
 use Rattle.qcow2_alloc.proofs.Faults.{told_ok}
 use Rattle.std.proofs.Math.Nat.{le_refl}
 use Rattle.qcow2_alloc.proofs.Outcomes.{not_both}

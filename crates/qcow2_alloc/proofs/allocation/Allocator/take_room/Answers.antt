@@ -9,7 +9,7 @@ use Rattle.qcow2_alloc.specs.declared.error.ImageError.{ImageError}
 use Rattle.qcow2_alloc.specs.declared.free_room.Room.{Room}
 use Rattle.qcow2_alloc.specs.Limits.{IsFaultOr, HasNoRoomBelow}
 use Rattle.qcow2_alloc.specs.Rooms.{opened, TakesRoom}
-use Rattle.qcow2_alloc.proofs.CacheMarks.{marks_none, marks_then}
+use Rattle.qcow2_alloc.proofs.CachePins.{marks_none, marks_then}
 use Rattle.qcow2_alloc.proofs.FileSteps.{leaves_then}
 use Rattle.qcow2_alloc.proofs.AllocationSteps.{handed_on, becomes_none, becomes_then, is_sound_now}
 use Rattle.qcow2_alloc.proofs.Runs.{run_after}

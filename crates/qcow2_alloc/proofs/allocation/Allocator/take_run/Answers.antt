@@ -8,7 +8,7 @@ use Rattle.qcow2_alloc.specs.declared.image_file.ImageFile.{ImageFile}
 use Rattle.qcow2_alloc.specs.Allocation.{run_at, taken_as, UnseenAllocatorGrowth, RefusedGrowth, TakesRun}
 use Rattle.qcow2_alloc.specs.FreeList.{pending_then, ListsTables}
 use Rattle.qcow2_alloc.specs.ImageFile.{IsFault, KeepsHeader}
-use Rattle.qcow2_alloc.proofs.CacheMarks.{marks_none, marks_then}
+use Rattle.qcow2_alloc.proofs.CachePins.{marks_none, marks_then}
 use Rattle.qcow2_alloc.proofs.AllocationSteps.{handed_on, of_equal, may_still, on_none, is_sound_on, still_as}
 use Rattle.qcow2_alloc.proofs.Following.{header_same, header_then, lists_none, lists_then, following_same, still_taken, more_taken, ends_taken, then_leaves, header_bits}
 use Rattle.qcow2_alloc.specs.LowestRuns.{NoFreeBelowHint, IsUsed, KeepsNoFreeBelowHint, KeepsUsed, BrokeOff}
@@ -23,7 +23,7 @@ use Rattle.qcow2_alloc.proofs.FormerReftables.{former_none, former_then, former_
 use Rattle.qcow2_alloc.proofs.Faults.{told_ok, told_since}
 use Rattle.qcow2_alloc.proofs.Outcomes.{told_after, if_no_ok, handed_cause, told_err, told_still, not_both}
 use Rattle.std.proofs.Math.Nat.{le_trans}
-use Rattle.qcow2_alloc.specs.CacheMarks.{KeepsMarks}
+use Rattle.qcow2_alloc.specs.CachePins.{KeepsPinsAndNotes}
 use Rattle.qcow2_alloc.specs.MetadataCaches.{order_of}
 use Rattle.qcow2_alloc.specs.Faults.{FaultsTold, faults_of}
 use Rattle.qcow2_alloc.proofs.allocation.Allocator.take_run.Goals as goal
@@ -462,8 +462,8 @@ returns-in-Err-clause-cause g c = c.in-Err.ensures.cause
 
 pub returns-in-Err-clause-marks : goal.returns-in-Err-clause-marks
 returns-in-Err-clause-marks g c = elim c.if-not-is_fault.branch [
-  | then-not-is_fault+in_ok-give_back-in-Err w ↦ subst (λ (f : ImageFile g.row.S.Denot). KeepsMarks c.args.file.now.caches f.caches) (sym w.file-is) (marks_then _ _ _ (marks_then _ _ _ c.taking.invariant.marks c.take.ensures.marks) w.give_back-then-not-is_fault.ensures.marks)
-  | else-not-is_fault w ↦ subst (λ (f : ImageFile g.row.S.Denot). KeepsMarks c.args.file.now.caches f.caches) (sym w.file-is) (marks_then _ _ _ c.taking.invariant.marks c.take.ensures.marks)
+  | then-not-is_fault+in_ok-give_back-in-Err w ↦ subst (λ (f : ImageFile g.row.S.Denot). KeepsPinsAndNotes c.args.file.now.caches f.caches) (sym w.file-is) (marks_then _ _ _ (marks_then _ _ _ c.taking.invariant.marks c.take.ensures.marks) w.give_back-then-not-is_fault.ensures.marks)
+  | else-not-is_fault w ↦ subst (λ (f : ImageFile g.row.S.Denot). KeepsPinsAndNotes c.args.file.now.caches f.caches) (sym w.file-is) (marks_then _ _ _ c.taking.invariant.marks c.take.ensures.marks)
 ]
 
 pub returns-in-Err-clause-header : goal.returns-in-Err-clause-header

@@ -1,7 +1,7 @@
 use Rattle.std.proofs.Common.{◌≤◌, ◌≡◌, ℕ, ◌<◌, Bool, IsTrue}
 use Rattle.qcow2_laws.specs.CrashInvariant.{Pending}
 use Rattle.qcow2_alloc.specs.Allocation.{run_at, taken_as, MayTake, UnseenAllocatorGrowth}
-use Rattle.qcow2_alloc.specs.CacheMarks.{KeepsMarks}
+use Rattle.qcow2_alloc.specs.CachePins.{KeepsPinsAndNotes}
 use Rattle.qcow2_alloc.specs.Faults.{faults_of}
 use Rattle.qcow2_alloc.specs.ImageFile.{AllocatorInvariant, KeepsHeader}
 use Rattle.qcow2_alloc.specs.FreeList.{pending_then, ListsTables, ListsReftables}
@@ -15,7 +15,7 @@ invariant-taking g l = record {
   header : KeepsHeader l.fn.file.header l.file.header;
   list : ListsTables l.fn.file.free_list l.file.free_list;
   former : ListsReftables l.fn.self.reftable l.self.reftable l.fn.file.free_list l.file.free_list;
-  marks : KeepsMarks l.fn.file.caches l.file.caches;
+  marks : KeepsPinsAndNotes l.fn.file.caches l.file.caches;
   faults : faults_of g.S.Storage.view l.fn.file.storage ≤ faults_of g.S.Storage.view l.file.storage;
   order : order_of l.file.caches ≡ order_of l.fn.file.caches;
   noted : 0 < l.taken → IsTrue l.file.caches.is_changed;

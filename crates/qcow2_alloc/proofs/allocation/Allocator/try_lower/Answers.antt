@@ -49,10 +49,10 @@ returns-clause-hint g c = λ p owed sound may hint.
     let lowered = c.rb_decrement-lowered.ensures.made c.load_block.new.file.header.fields (owed_as owed p (one_at c.args.cluster)) (contents_in g.S.Storage.view c.load_block.new.file) c.args.cluster l.0.moves.sound.caches at l.1.2 some in
     let file = record c.load_block.new.file { caches = c.rb_decrement-lowered.new.self } in
     let now = lowered_so g.S.Storage.view (owed_as owed p (one_at c.args.cluster)) p c.args.file.now file c.note_lowered.new.self c.rb_decrement-lowered.result lowered (returns-clause-sound g c p owed sound may) in
-    let stands = stands_still g.S.Storage.view (owed_as owed p (one_at c.args.cluster)) p c.load_block.new.file c.rb_decrement-lowered.new.self (c.args.cluster / 2 ^ c.rb_bits-bits.result) c.in-Some.block l.0.moves.sound now.moves.sound (c.rb_decrement-lowered.ensures.held lowered) l.1 in
+    let stands = stands_still g.S.Storage.view (owed_as owed p (one_at c.args.cluster)) p c.load_block.new.file c.rb_decrement-lowered.new.self (c.args.cluster / 2 ^ c.rb_bits-bits.result) c.in-Some.block l.0.moves.sound now.moves.sound (c.rb_decrement-lowered.ensures.cached lowered) l.1 in
     let at_now = counted_at g.S.Storage.view file c.args.file.now.header.fields (ap (λ x. x.fields) c.load_block.ensures.header) c.args.cluster _ c.in-Some.block c.rb_index-index.result c.rb_bits-bits.result stands c.rb_bits-bits.ensures.counts refl (c.rb_index-index.ensures.value ∙ ap (λ n. n % 2 ^ c.rb_bits-bits.result) c.new.ensures) in
     hint_lowered g.S.Storage.view owed p c.args.cluster c.args.file.now file c.args.self.now c.note_lowered.new.self now c.note_lowered.ensures.first
-    (λ zero. c.note_lowered.ensures.free (c.rb_is_zero.ensures file.header.fields p (contents_in g.S.Storage.view file) c.args.cluster now.moves.sound.caches at_now (c.rb_decrement-lowered.ensures.held lowered) ∙ is_zero (count file.header.fields (known_in g.S.Storage.view file) c.args.cluster) zero)) hint
+    (λ zero. c.note_lowered.ensures.free (c.rb_is_zero.ensures file.header.fields p (contents_in g.S.Storage.view file) c.args.cluster now.moves.sound.caches at_now (c.rb_decrement-lowered.ensures.cached lowered) ∙ is_zero (count file.header.fields (known_in g.S.Storage.view file) c.args.cluster) zero)) hint
 
 pub returns-clause-tries : goal.returns-clause-tries
 returns-clause-tries g c =

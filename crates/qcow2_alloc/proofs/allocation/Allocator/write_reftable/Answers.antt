@@ -17,12 +17,12 @@ use Rattle.qcow2_alloc.proofs.PlacedRooms.{Counting}
 use Rattle.qcow2_alloc.proofs.RoomSteps.{may_go}
 use Rattle.qcow2_alloc.proofs.RoomTables.{counting_beside, table_err, table_ok, stands_ready, names_then, uses_after}
 use Rattle.qcow2_alloc.proofs.Hints.{ok_as}
-use Rattle.qcow2_alloc.proofs.CacheMarks.{marks_then}
+use Rattle.qcow2_alloc.proofs.CachePins.{marks_then}
 use Rattle.qcow2_alloc.proofs.Following.{header_then, header_same}
 use Rattle.qcow2_alloc.proofs.Faults.{told_on, told_since}
 use Rattle.qcow2_alloc.proofs.Outcomes.{told_after, on_no_ok, handed_cause, on_err}
 use Rattle.std.proofs.Math.Nat.{le_trans}
-use Rattle.qcow2_alloc.specs.CacheMarks.{KeepsMarks}
+use Rattle.qcow2_alloc.specs.CachePins.{KeepsPinsAndNotes}
 use Rattle.qcow2_alloc.proofs.allocation.Allocator.write_reftable.Goals as goal
 
 pub returns-in_err-flush_rb-clause-sound : goal.returns-in_err-flush_rb-clause-sound
@@ -290,7 +290,7 @@ pub returns-in_err-place_blocks-clause-kept : goal.returns-in_err-place_blocks-c
 returns-in_err-place_blocks-clause-kept g c = on_err _ c.from_residual-in_err-place_blocks.result refl
 
 pub returns-in_err-place_table-clause-marks : goal.returns-in_err-place_table-clause-marks
-returns-in_err-place_table-clause-marks g c = subst (λ (x : MetadataCaches g.row.S.Denot). KeepsMarks c.args.file.now.caches x) (sym c.place_table.ensures.caches) (marks_then _ _ _ c.flush_rb.ensures.marks c.place_blocks.ensures.marks)
+returns-in_err-place_table-clause-marks g c = subst (λ (x : MetadataCaches g.row.S.Denot). KeepsPinsAndNotes c.args.file.now.caches x) (sym c.place_table.ensures.caches) (marks_then _ _ _ c.flush_rb.ensures.marks c.place_blocks.ensures.marks)
 
 pub returns-in_err-place_table-clause-order : goal.returns-in_err-place_table-clause-order
 returns-in_err-place_table-clause-order g c = ap (λ (x : MetadataCaches g.row.S.Denot). order_of x) c.place_table.ensures.caches ∙ c.place_blocks.ensures.order ∙ c.flush_rb.ensures.order
@@ -320,7 +320,7 @@ pub returns-in_err-place_table-clause-place : goal.returns-in_err-place_table-cl
 returns-in_err-place_table-clause-place g c = on_no_ok _ c.from_residual-in_err-place_table.result c.in_err-place_table.field-0.0 c.from_residual-in_err-place_table.ensures
 
 pub returns-clause-marks : goal.returns-clause-marks
-returns-clause-marks g c = marks_then _ _ _ (subst (λ (x : MetadataCaches g.row.S.Denot). KeepsMarks c.args.file.now.caches x) (sym c.place_table.ensures.caches) (marks_then _ _ _ c.flush_rb.ensures.marks c.place_blocks.ensures.marks)) c.name_reftable.ensures.marks
+returns-clause-marks g c = marks_then _ _ _ (subst (λ (x : MetadataCaches g.row.S.Denot). KeepsPinsAndNotes c.args.file.now.caches x) (sym c.place_table.ensures.caches) (marks_then _ _ _ c.flush_rb.ensures.marks c.place_blocks.ensures.marks)) c.name_reftable.ensures.marks
 
 pub returns-clause-order : goal.returns-clause-order
 returns-clause-order g c = c.name_reftable.ensures.order ∙ ap (λ (x : MetadataCaches g.row.S.Denot). order_of x) c.place_table.ensures.caches ∙ c.place_blocks.ensures.order ∙ c.flush_rb.ensures.order

@@ -1,5 +1,5 @@
 use Rattle.std.proofs.Common.{inr, rules, ap, ◌∙◌}
-use Rattle.qcow2_alloc.proofs.CacheMarks.{marks_then}
+use Rattle.qcow2_alloc.proofs.CachePins.{marks_then}
 use Rattle.qcow2_alloc.proofs.KeptTables.Turning.{tables_free, blocks_free, tables_clean, blocks_either, both_written, keep_then}
 use Rattle.qcow2_alloc.specs.ImageError.{IsFault}
 use Rattle.qcow2_alloc.proofs.KeptTables.Causes.{given_err}

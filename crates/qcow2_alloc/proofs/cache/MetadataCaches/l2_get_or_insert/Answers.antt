@@ -1,12 +1,12 @@
 use Rattle.std.proofs.Common.{arith, refl, true, false, inr, Ok, ap, ◌∙◌}
 use Rattle.qcow2_alloc.proofs.KeptTables.Fetching.{table_got}
 use Rattle.qcow2_alloc.proofs.KeptTables.Turning.{keep_then}
-use Rattle.qcow2_alloc.proofs.CacheMarks.{marks_tables, marks_then}
+use Rattle.qcow2_alloc.proofs.CachePins.{marks_tables, marks_then}
 use Rattle.qcow2_alloc.specs.ImageError.{of_cache}
 use Rattle.qcow2_alloc.proofs.KeptTables.Causes.{given_err, in_use_as, not_fetched, table_load_refused}
 use Rattle.qcow2_metadata.specs.Bytes.{byte_at}
 use Rattle.qcow2_alloc.specs.ImageStorage.{storage_of}
-use Rattle.qcow2_alloc.specs.CacheMarks.{IsInUseOrFault}
+use Rattle.qcow2_alloc.specs.CachePins.{IsInUseOrFault}
 use Rattle.qcow2_alloc.specs.AsyncLruCache.{with_entries}
 use Rattle.qcow2_alloc.specs.TableCaches.{l2_steps}
 use Rattle.qcow2_alloc.proofs.KeptTables.InOrder.{order_then, table_got_in_order}

@@ -2,12 +2,12 @@ use Rattle.std.proofs.Common.{arith, ◌≡◌, Bool, true, false, inr, Some, Re
 use Rattle.qcow2_alloc.proofs.KeptTables.Inserting.{table_put, l2_taken, taken_at_last, if_some}
 use Rattle.qcow2_metadata.specs.Header.{cluster_size}
 use Rattle.qcow2_alloc.proofs.KeptTables.Turning.{stay_then, keep_then}
-use Rattle.qcow2_alloc.proofs.CacheMarks.{marks_tables, marks_then}
+use Rattle.qcow2_alloc.proofs.CachePins.{marks_tables, marks_then}
 use Rattle.qcow2_alloc.specs.ImageError.{of_cache}
 use Rattle.qcow2_alloc.proofs.KeptTables.Causes.{given_err, in_use_as, not_put, table_put_refused}
 use Rattle.qcow2_metadata.specs.Bytes.{Bytes, byte_at}
 use Rattle.qcow2_alloc.specs.ImageStorage.{storage_of}
-use Rattle.qcow2_alloc.specs.CacheMarks.{IsInUseOrFault}
+use Rattle.qcow2_alloc.specs.CachePins.{IsInUseOrFault}
 use Rattle.qcow2_alloc.specs.AsyncLruCache.{with_entries}
 use Rattle.qcow2_alloc.specs.TableCaches.{l2_steps}
 use Rattle.qcow2_laws.specs.Caches.{BlocksMayGo}
@@ -28,9 +28,9 @@ pub returns-in_err-insert-clause-keeps : goal.returns-in_err-insert-clause-keeps
 returns-in_err-insert-clause-keeps g c = λ h p honest sound fits clean holds.
     table_put g.S.Storage.view c.args.storage.now c.insert.new.store c.args.self.now false c.in-Some.cluster c.insert.new.self c.insert.ensures.others c.args.table (Some c.args.table) c.insert.new.value refl c.insert.result c.insert.ensures.there c.insert.ensures.missing (λ flush. never flush) h p honest sound fits clean (rw (sym c.get_cluster.ensures.value ∙ c.in-Some.is) at holds)
 
-pub returns-then-branch-clause-held : goal.returns-then-branch-clause-held
-returns-then-branch-clause-held g c =
-    if_some _ c.args.table.cluster c.in-Some.cluster (sym c.get_cluster.ensures.value ∙ c.in-Some.is) ((l2_taken g.S.Storage.view c.args.storage.now c.insert.new.store c.args.self.now false c.in-Some.cluster c.insert.new.self c.insert.ensures.others c.args.table (Some c.args.table) c.insert.new.value refl c.insert.result c.insert.ensures.there c.insert.ensures.missing).held (c.in_ok-insert.was ∙ ap Ok c.if-branch.true))
+pub returns-then-branch-clause-cached : goal.returns-then-branch-clause-cached
+returns-then-branch-clause-cached g c =
+    if_some _ c.args.table.cluster c.in-Some.cluster (sym c.get_cluster.ensures.value ∙ c.in-Some.is) ((l2_taken g.S.Storage.view c.args.storage.now c.insert.new.store c.args.self.now false c.in-Some.cluster c.insert.new.self c.insert.ensures.others c.args.table (Some c.args.table) c.insert.new.value refl c.insert.result c.insert.ensures.there c.insert.ensures.missing).new_data (c.in_ok-insert.was ∙ ap Ok c.if-branch.true))
 
 pub returns-then-branch-clause-keeps : goal.returns-then-branch-clause-keeps
 returns-then-branch-clause-keeps g c = λ h p honest sound fits clean holds.
@@ -58,8 +58,8 @@ returns-clause-keeps g c = λ h p honest sound fits clean holds.
     (table_put g.S.Storage.view c.before_l2.new.storage c.insert-2.new.store c.before_l2.new.self true c.in-Some.cluster c.insert-2.new.self c.insert-2.ensures.others c.args.table c.insert.new.value c.insert-2.new.value ((l2_taken g.S.Storage.view c.args.storage.now c.insert.new.store c.args.self.now false c.in-Some.cluster c.insert.new.self c.insert.ensures.others c.args.table (Some c.args.table) c.insert.new.value refl c.insert.result c.insert.ensures.there c.insert.ensures.missing).kept (c.in_ok-insert.was ∙ ap Ok c.if-branch.false)) c.insert-2.result c.insert-2.ensures.there c.insert-2.ensures.missing (λ _. c.in_ok-before_l2.ensures.first) h p two.honest two.sound fits clean
     (λ i lt. (rw (sym c.get_cluster.ensures.value ∙ c.in-Some.is) at holds) i lt ∙ ap (λ (m : Bytes). m (c.in-Some.cluster * cluster_size h + i)) (sym two.known)))
 
-pub returns-clause-held : goal.returns-clause-held
-returns-clause-held g c =
+pub returns-clause-cached : goal.returns-clause-cached
+returns-clause-cached g c =
     if_some _ c.args.table.cluster c.in-Some.cluster (sym c.get_cluster.ensures.value ∙ c.in-Some.is) (taken_at_last c.in-Some.cluster c.args.table c.insert-2.new.self.entries c.insert-2.result c.insert-2.new.value c.in_ok-insert-2.field-0 c.in_ok-insert-2.was
     (l2_taken g.S.Storage.view c.before_l2.new.storage c.insert-2.new.store c.before_l2.new.self true c.in-Some.cluster c.insert-2.new.self c.insert-2.ensures.others c.args.table c.insert.new.value c.insert-2.new.value ((l2_taken g.S.Storage.view c.args.storage.now c.insert.new.store c.args.self.now false c.in-Some.cluster c.insert.new.self c.insert.ensures.others c.args.table (Some c.args.table) c.insert.new.value refl c.insert.result c.insert.ensures.there c.insert.ensures.missing).kept (c.in_ok-insert.was ∙ ap Ok c.if-branch.false)) c.insert-2.result c.insert-2.ensures.there c.insert-2.ensures.missing))
 

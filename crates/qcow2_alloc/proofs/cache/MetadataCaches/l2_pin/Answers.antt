@@ -1,4 +1,4 @@
-use Rattle.qcow2_alloc.proofs.CacheMarks.{pin_tables, pin_sets}
+use Rattle.qcow2_alloc.proofs.CachePins.{pin_tables, pin_sets}
 use Rattle.qcow2_alloc.proofs.cache.MetadataCaches.l2_pin.Goals as goal
 
 pub returns-clause-tables : goal.returns-clause-tables

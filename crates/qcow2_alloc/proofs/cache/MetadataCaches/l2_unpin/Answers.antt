@@ -1,4 +1,4 @@
-use Rattle.qcow2_alloc.proofs.CacheMarks.{unpin_tables, unpin_sets}
+use Rattle.qcow2_alloc.proofs.CachePins.{unpin_tables, unpin_sets}
 use Rattle.qcow2_alloc.proofs.cache.MetadataCaches.l2_unpin.Goals as goal
 
 pub returns-clause-tables : goal.returns-clause-tables

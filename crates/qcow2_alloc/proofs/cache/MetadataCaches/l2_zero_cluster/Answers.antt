@@ -4,11 +4,11 @@ use Rattle.qcow2_metadata.specs.declared.l2_mapping.L2Mapping.{L2Mapping}
 use Rattle.qcow2_metadata.specs.L2Table.{L2TableView, zero_entry, copied_host}
 use Rattle.qcow2_metadata.specs.TableBytes.{ChangesEntry}
 use Rattle.qcow2_alloc.proofs.KeptTables.Mapping.{index_fits, covers_known, entry_made}
-use Rattle.qcow2_alloc.proofs.CacheMarks.{marks_tables, marks_noted, set_keeps_pins}
+use Rattle.qcow2_alloc.proofs.CachePins.{marks_tables, marks_noted, set_keeps_pins}
 use Rattle.qcow2_alloc.specs.AsyncLruCache.{with_entries, set_at}
 use Rattle.std.proofs.Common.{◌≡◌, ℕ, ◌≤◌, List, Option}
 use Rattle.std.specs.Option.{IfSome}
-use Rattle.qcow2_metadata.specs.L2Mapping.{dropped_run}
+use Rattle.qcow2_metadata.specs.L2Mapping.{old_data_run}
 use Rattle.qcow2_metadata.specs.L2Table.{cover_at, entries_of}
 use Rattle.qcow2_metadata.specs.TableBytes.{ChangesEntry}
 use Rattle.qcow2_alloc.specs.declared.async_lru_cache.slot.Slot.{Slot}
@@ -48,7 +48,7 @@ returns-clause-zeroed g c = λ h p on_storage i sound at own there.
     entry_made h p on_storage c.args.self.now sound c.args.cluster c.args.index c.in_ok-table.table.now found i at own c.zero_cluster.new.self
     (ap (λ (t : L2TableView). t.is_modified) same) (ap (λ (t : L2TableView). t.cluster_bits) same) (ap (λ (t : L2TableView). t.has_zero_bit) same) (ap (λ (t : L2TableView). t.data_is_external) same)
     _ refl refl refl _ c.zero_cluster.result
-    (subst (λ (m : L2Mapping). ChangesEntry c.in_ok-table.table.now.bytes c.zero_cluster.new.self.bytes c.args.index (zero_entry (if c.args.keep then copied_host m else None))) covers c.zero_cluster.ensures.changed) c.zero_cluster.ensures.dropped
+    (subst (λ (m : L2Mapping). ChangesEntry c.in_ok-table.table.now.bytes c.zero_cluster.new.self.bytes c.args.index (zero_entry (if c.args.keep then copied_host m else None))) covers c.zero_cluster.ensures.changed) c.zero_cluster.ensures.old_data
 
 pub returns-clause-entry : goal.returns-clause-entry
 returns-clause-entry g c =
@@ -57,9 +57,9 @@ returns-clause-entry g c =
     if_some _ (value_at (eqb c.args.cluster) c.args.self.now.l2.entries) c.in_ok-table.table.now found (λ inside. record {
       change = one_changed c.args.cluster c.args.self.now.l2.entries c.zero_cluster.new.self c.in_ok-table.table.now found (changed_table c.in_ok-table.table.now)
           (λ bytes. ChangesEntry c.in_ok-table.table.now.bytes bytes c.args.index _
-          × (c.zero_cluster.result ≡ dropped_run c.in_ok-table.table.now.cluster_bits (cover_at c.in_ok-table.table.now c.args.index) (cover_at (changed_table c.in_ok-table.table.now bytes) c.args.index)))
+          × (c.zero_cluster.result ≡ old_data_run c.in_ok-table.table.now.cluster_bits (cover_at c.in_ok-table.table.now c.args.index) (cover_at (changed_table c.in_ok-table.table.now bytes) c.args.index)))
           c.zero_cluster.new.self.bytes same
-          (c.zero_cluster.ensures.changed, c.zero_cluster.ensures.dropped ∙ ap (λ (t : L2TableView). dropped_run c.in_ok-table.table.now.cluster_bits (cover_at c.in_ok-table.table.now c.args.index) (cover_at t c.args.index)) same);
+          (c.zero_cluster.ensures.changed, c.zero_cluster.ensures.old_data ∙ ap (λ (t : L2TableView). old_data_run c.in_ok-table.table.now.cluster_bits (cover_at c.in_ok-table.table.now c.args.index) (cover_at t c.args.index)) same);
       blocks = refl;
       noted = refl;
     })

@@ -3,9 +3,9 @@ use Rattle.std.specs.Option.{option_copied_mut}
 use Rattle.qcow2_metadata.specs.RefBlock.{RefBlockView}
 use Rattle.qcow2_alloc.specs.declared.async_lru_cache.slot.Slot.{Slot}
 use Rattle.qcow2_alloc.specs.AsyncLruCache.{with_entries, set_at}
-use Rattle.qcow2_alloc.proofs.KeptTables.Changing.{set_same, still_held}
+use Rattle.qcow2_alloc.proofs.KeptTables.Changing.{set_same, still_new_data}
 use Rattle.qcow2_alloc.proofs.KeptTables.Counting.{index_fits, count_is, lowered}
-use Rattle.qcow2_alloc.proofs.CacheMarks.{marks_blocks, marks_noted, set_keeps_pins}
+use Rattle.qcow2_alloc.proofs.CachePins.{marks_blocks, marks_noted, set_keeps_pins}
 use Rattle.qcow2_metadata.specs.RefBlock.{ChangesCount}
 use Rattle.qcow2_alloc.specs.AsyncLruCache.{value_at}
 use Rattle.qcow2_alloc.specs.TableChanges.{changed_block}
@@ -55,8 +55,8 @@ returns-clause-marks g c =
     marks_noted c.args.self.now (record c.args.self.now { rb = with_entries c.args.self.now.rb (set_at (eqb c.args.cluster) c.args.self.now.rb.entries c.decrement.new.self) })
     (marks_blocks c.args.self.now (with_entries c.args.self.now.rb (set_at (eqb c.args.cluster) c.args.self.now.rb.entries c.decrement.new.self)) refl (set_keeps_pins c.args.cluster c.args.self.now.rb.entries c.decrement.new.self))
 
-pub returns-clause-held : goal.returns-clause-held
-returns-clause-held g c = λ _. still_held c.args.cluster c.args.self.now.rb.entries c.in-Some.block.now c.decrement.new.self (sym c.peek_mut.ensures.value ∙ ap option_copied_mut c.in-Some.is)
+pub returns-clause-cached : goal.returns-clause-cached
+returns-clause-cached g c = λ _. still_new_data c.args.cluster c.args.self.now.rb.entries c.in-Some.block.now c.decrement.new.self (sym c.peek_mut.ensures.value ∙ ap option_copied_mut c.in-Some.is)
 
 pub returns-clause-counts : goal.returns-clause-counts
 returns-clause-counts g c =

@@ -1,7 +1,7 @@
 use Rattle.std.proofs.Common.{arith, refl, true, false, Ok, ap, ◌∙◌}
 use Rattle.qcow2_alloc.proofs.KeptTables.Fetching.{block_got}
 use Rattle.qcow2_alloc.proofs.KeptTables.Turning.{keep_then}
-use Rattle.qcow2_alloc.proofs.CacheMarks.{marks_blocks, marks_then}
+use Rattle.qcow2_alloc.proofs.CachePins.{marks_blocks, marks_then}
 use Rattle.qcow2_alloc.specs.ImageError.{of_cache, IsFault}
 use Rattle.qcow2_alloc.proofs.KeptTables.Causes.{given_err, block_load_refused}
 use Rattle.qcow2_metadata.specs.Bytes.{byte_at}

@@ -6,7 +6,7 @@ use Rattle.qcow2_alloc.specs.declared.async_lru_cache.slot.Slot.{Slot}
 use Rattle.qcow2_alloc.specs.AsyncLruCache.{with_entries, set_at}
 use Rattle.qcow2_alloc.proofs.KeptTables.Changing.{set_same}
 use Rattle.qcow2_alloc.proofs.KeptTables.Counting.{index_fits, count_is, raised}
-use Rattle.qcow2_alloc.proofs.CacheMarks.{marks_blocks, marks_noted, set_keeps_pins}
+use Rattle.qcow2_alloc.proofs.CachePins.{marks_blocks, marks_noted, set_keeps_pins}
 use Rattle.qcow2_metadata.specs.RefBlock.{ChangesCount}
 use Rattle.qcow2_alloc.specs.AsyncLruCache.{value_at}
 use Rattle.qcow2_alloc.specs.TableChanges.{changed_block}

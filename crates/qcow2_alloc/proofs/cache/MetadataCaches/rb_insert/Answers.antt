@@ -2,7 +2,7 @@ use Rattle.std.proofs.Common.{arith, ◌≡◌, ℕ, Bool, true, false, Some, Re
 use Rattle.qcow2_alloc.proofs.KeptTables.Inserting.{block_put, rb_taken, taken_at_last, if_some}
 use Rattle.qcow2_metadata.specs.Header.{cluster_size}
 use Rattle.qcow2_alloc.proofs.KeptTables.Turning.{stay_then, keep_then}
-use Rattle.qcow2_alloc.proofs.CacheMarks.{marks_blocks, marks_then}
+use Rattle.qcow2_alloc.proofs.CachePins.{marks_blocks, marks_then}
 use Rattle.qcow2_alloc.specs.ImageError.{of_cache, IsFault}
 use Rattle.qcow2_alloc.proofs.KeptTables.Causes.{given_err, block_put_refused}
 use Rattle.qcow2_metadata.specs.Bytes.{Bytes, byte_at}
@@ -30,9 +30,9 @@ pub returns-in_err-insert-clause-keeps : goal.returns-in_err-insert-clause-keeps
 returns-in_err-insert-clause-keeps g c = λ h p honest sound fits clean holds.
     block_put g.S.Storage.view c.args.storage.now c.insert.new.store c.args.self.now false c.in-Some.cluster c.insert.new.self c.insert.ensures.others c.args.block (Some c.args.block) c.insert.new.value refl c.insert.result c.insert.ensures.there c.insert.ensures.missing (λ flush. never flush) h p honest sound fits clean (rw (sym c.get_cluster.ensures.value ∙ c.in-Some.is) at holds)
 
-pub returns-then-branch-clause-held : goal.returns-then-branch-clause-held
-returns-then-branch-clause-held g c =
-    if_some _ c.args.block.cluster c.in-Some.cluster (sym c.get_cluster.ensures.value ∙ c.in-Some.is) ((rb_taken g.S.Storage.view c.args.storage.now c.insert.new.store c.args.self.now false c.in-Some.cluster c.insert.new.self c.insert.ensures.others c.args.block (Some c.args.block) c.insert.new.value refl c.insert.result c.insert.ensures.there c.insert.ensures.missing).held (c.in_ok-insert.was ∙ ap Ok c.if-branch.true))
+pub returns-then-branch-clause-cached : goal.returns-then-branch-clause-cached
+returns-then-branch-clause-cached g c =
+    if_some _ c.args.block.cluster c.in-Some.cluster (sym c.get_cluster.ensures.value ∙ c.in-Some.is) ((rb_taken g.S.Storage.view c.args.storage.now c.insert.new.store c.args.self.now false c.in-Some.cluster c.insert.new.self c.insert.ensures.others c.args.block (Some c.args.block) c.insert.new.value refl c.insert.result c.insert.ensures.there c.insert.ensures.missing).new_data (c.in_ok-insert.was ∙ ap Ok c.if-branch.true))
 
 pub returns-then-branch-clause-keeps : goal.returns-then-branch-clause-keeps
 returns-then-branch-clause-keeps g c = λ h p honest sound fits clean holds.
@@ -60,8 +60,8 @@ returns-clause-keeps g c = λ h p honest sound fits clean holds.
     (block_put g.S.Storage.view c.before_rb.new.storage c.insert-2.new.store c.before_rb.new.self true c.in-Some.cluster c.insert-2.new.self c.insert-2.ensures.others c.args.block c.insert.new.value c.insert-2.new.value ((rb_taken g.S.Storage.view c.args.storage.now c.insert.new.store c.args.self.now false c.in-Some.cluster c.insert.new.self c.insert.ensures.others c.args.block (Some c.args.block) c.insert.new.value refl c.insert.result c.insert.ensures.there c.insert.ensures.missing).kept (c.in_ok-insert.was ∙ ap Ok c.if-branch.false)) c.insert-2.result c.insert-2.ensures.there c.insert-2.ensures.missing (λ _. c.in_ok-before_rb.ensures.first) h p two.honest two.sound fits clean
     (λ i lt. (rw (sym c.get_cluster.ensures.value ∙ c.in-Some.is) at holds) i lt ∙ ap (λ (m : Bytes). m (c.in-Some.cluster * cluster_size h + i)) (sym two.known)))
 
-pub returns-clause-held : goal.returns-clause-held
-returns-clause-held g c =
+pub returns-clause-cached : goal.returns-clause-cached
+returns-clause-cached g c =
     if_some _ c.args.block.cluster c.in-Some.cluster (sym c.get_cluster.ensures.value ∙ c.in-Some.is) (taken_at_last c.in-Some.cluster c.args.block c.insert-2.new.self.entries c.insert-2.result c.insert-2.new.value c.in_ok-insert-2.field-0 c.in_ok-insert-2.was
     (rb_taken g.S.Storage.view c.before_rb.new.storage c.insert-2.new.store c.before_rb.new.self true c.in-Some.cluster c.insert-2.new.self c.insert-2.ensures.others c.args.block c.insert.new.value c.insert-2.new.value ((rb_taken g.S.Storage.view c.args.storage.now c.insert.new.store c.args.self.now false c.in-Some.cluster c.insert.new.self c.insert.ensures.others c.args.block (Some c.args.block) c.insert.new.value refl c.insert.result c.insert.ensures.there c.insert.ensures.missing).kept (c.in_ok-insert.was ∙ ap Ok c.if-branch.false)) c.insert-2.result c.insert-2.ensures.there c.insert-2.ensures.missing))
 

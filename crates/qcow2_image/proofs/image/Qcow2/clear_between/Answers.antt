@@ -1,7 +1,7 @@
 use Rattle.std.proofs.Common.{◌≡◌, inl, ◌-◌, ◌/◌, ◌%◌, ◌^◌, ◌++◌, ap, ◌∙◌, subst, arith, ◌+◌, ◌≤◌, sym}
 use Rattle.qcow2_alloc.proofs.AllocationSteps.{handed_on}
 use Rattle.qcow2_metadata.specs.Header.{cluster_size, entries_per_cluster}
-use Rattle.qcow2_alloc.specs.CacheMarks.{l2_pins}
+use Rattle.qcow2_alloc.specs.CachePins.{l2_pins}
 use Rattle.qcow2_image.specs.declared.image.Qcow2.{Qcow2}
 use Rattle.qcow2_image.specs.Clearing.{ClearsOrRefuses, ClearsTable, ReadsAll}
 use Rattle.qcow2_image.specs.Found.{l2_index_of, l1_index_of}
@@ -27,9 +27,9 @@ returns-then-l2_is_pinned-clause-taken g c = λ out sound is.
     let found = c.in_ok-table.ensures.finds out sound in
     pinned_under g.S.Storage.view g.F.BackingDisk.backing out c.args.self.now c.table_for.new.self c.args.from c.in_ok-table.table found.0 found.1 (c.l2_is_pinned.ensures.0 c.if-l2_is_pinned.true)
 
-pub returns-in_err-dropped-clause-clears : goal.returns-in_err-dropped-clause-clears
-returns-in_err-dropped-clause-clears g c = λ out sound whole.
-    handed_on (λ r. ClearsOrRefuses g.S.Storage.view g.F.BackingDisk.backing c.args.how c.args.from c.args.to c.args.self.now c.table_for.new.self out r) c.from_residual-in_err-dropped.result c.in_err-dropped.field-0.0 c.from_residual-in_err-dropped.ensures
+pub returns-in_err-old_data-clause-clears : goal.returns-in_err-old_data-clause-clears
+returns-in_err-old_data-clause-clears g c = λ out sound whole.
+    handed_on (λ r. ClearsOrRefuses g.S.Storage.view g.F.BackingDisk.backing c.args.how c.args.from c.args.to c.args.self.now c.table_for.new.self out r) c.from_residual-in_err-old_data.result c.in_err-old_data.field-0.0 c.from_residual-in_err-old_data.ensures
     (inl (c.in_ok-table.ensures.finds out sound).0)
 
 pub returns-clause-clears : goal.returns-clause-clears
@@ -43,14 +43,14 @@ returns-clause-clears g c = λ out sound whole.
     let from = c.args.from in
     let to = c.args.to in
     let table = c.in_ok-table.table in
-    let list = c.in_ok-dropped.dropped in
+    let list = c.in_ok-old_data.old_data in
     let h = mid.file.header.fields in
     let found = c.in_ok-table.ensures.finds out sound in
     let bits = c.cluster_bits-bits.ensures.value in
     let first : c.cluster-first.result ≡ c.args.from / cluster_size c.table_for.new.self.file.header.fields = c.cluster-first.ensures ∙ ap (λ o. o / 2 ^ c.cluster_bits-bits.result) c.new.ensures ∙ ap (λ n. from / 2 ^ n) bits in
     let column : c.l2_index.result ≡ l2_index_of c.table_for.new.self.file.header.fields c.args.from = c.l2_index.ensures.value ∙ ap (λ x. x % (2 ^ c.cluster_bits-bits.result / 8)) first ∙ ap (λ n. from / cluster_size h % (2 ^ n / 8)) bits in
     let count : (c.args.to - c.args.from) / 2 ^ c.cluster_bits-bits.result ≡ (c.args.to - c.args.from) / cluster_size c.table_for.new.self.file.header.fields = ap (λ n. (to - from) / 2 ^ n) bits in
-    let reads = subst (λ n. ReadsAll view below how table (from / cluster_size h) n mid list) count (subst (λ n. ReadsAll view below how table n ((to - from) / 2 ^ c.cluster_bits-bits.result) mid list) first c.in_ok-dropped.ensures.reads) in
+    let reads = subst (λ n. ReadsAll view below how table (from / cluster_size h) n mid list) count (subst (λ n. ReadsAll view below how table n ((to - from) / 2 ^ c.cluster_bits-bits.result) mid list) first c.in_ok-old_data.ensures.reads) in
     let clears = subst (λ n. ClearsTable view below how table (l2_index_of h from) n mid b) count (subst (λ n. ClearsTable view below how table n ((to - from) / 2 ^ c.cluster_bits-bits.result) mid b) column c.clear_entries.ensures.clears) in
     clears_between view below out old mid b (record b { file = record b.file { free_list = c.hand_back.new.list } }) how from to table found.0 found.1 whole c.requires.some
     (no_pins c.l2_is_pinned.result (l2_pins mid.file.caches table) c.l2_is_pinned.ensures c.if-l2_is_pinned.false) list reads clears
@@ -72,8 +72,8 @@ returns-then-l2_is_pinned-clause-lacks g c = λ out sound whole none.
     let found = c.in_ok-table.ensures.finds out sound in
     absurd (none (some_prepared g.S.Storage.view g.F.BackingDisk.backing c.table_for.new.self out found.0.sound c.in_ok-table.table (c.l2_is_pinned.ensures.0 c.if-l2_is_pinned.true)))
 
-pub returns-in_err-dropped-clause-lacks : goal.returns-in_err-dropped-clause-lacks
-returns-in_err-dropped-clause-lacks g c = λ out sound whole none.
+pub returns-in_err-old_data-clause-lacks : goal.returns-in_err-old_data-clause-lacks
+returns-in_err-old_data-clause-lacks g c = λ out sound whole none.
     let view = g.S.Storage.view in
     let below = g.F.BackingDisk.backing in
     let old = c.args.self.now in
@@ -88,8 +88,8 @@ returns-in_err-dropped-clause-lacks g c = λ out sound whole none.
     let fits = subst (λ n. n % entries_per_cluster h + (to - from) / 2 ^ c.cluster_bits-bits.result ≤ entries_per_cluster h) (sym first)
     (subst (λ n. from / cluster_size h % entries_per_cluster h + n ≤ entries_per_cluster h) (sym count) (fits_table view below out old mid c.args.how from to found.0 whole c.requires.some)) in
     let at = subst (λ n. IsEntryAt h (known_in view mid.file) (l1_index_of h from) c.in_ok-table.table (n % entries_per_cluster h)) (sym first) found.1.entry in
-    handed_on (λ r. IfErr r (IsFaultOrLacksTable view mid from)) c.from_residual-in_err-dropped.result c.in_err-dropped.field-0.0 c.from_residual-in_err-dropped.ensures
-    (inl (c.in_err-dropped.ensures.only_faults (pending_in view below mid out) (l1_index_of h from) found.0.sound.file at (ap (λ n. n / entries_per_cluster h) first) fits found.1.held))
+    handed_on (λ r. IfErr r (IsFaultOrLacksTable view mid from)) c.from_residual-in_err-old_data.result c.in_err-old_data.field-0.0 c.from_residual-in_err-old_data.ensures
+    (inl (c.in_err-old_data.ensures.only_faults (pending_in view below mid out) (l1_index_of h from) found.0.sound.file at (ap (λ n. n / entries_per_cluster h) first) fits found.1.new_data))
 
 pub returns-clause-reaches : goal.returns-clause-reaches
 returns-clause-reaches g c = λ out sound. ap (λ (i : Qcow2 _ _). i.file.header.fields.l1_entries) c.clear_entries.ensures.clears.rest ∙ c.in_ok-table.ensures.reaches out sound

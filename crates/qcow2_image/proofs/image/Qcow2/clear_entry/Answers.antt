@@ -2,29 +2,29 @@ use Rattle.std.proofs.Common.{refl, sym, subst}
 use Rattle.qcow2_metadata.specs.L2Table.{L2TableView, copied_host, cover_at, zero_entry}
 use Rattle.std.specs.Prelude.{None}
 use Rattle.qcow2_image.specs.Clearing.{ClearsEntry}
-use Rattle.qcow2_image.proofs.Clear.Held.{still_held}
+use Rattle.qcow2_image.proofs.Clear.Held.{still_new_data}
 use Rattle.qcow2_image.proofs.image.Qcow2.clear_entry.Goals as goal
 
 pub returns-in-Uncovered : goal.returns-in-Uncovered
 returns-in-Uncovered g c =
     let old = c.args.self.now in
-    let call = c.l2_discard_cluster-dropped in
-    let caches = c.l2_discard_cluster-dropped.new.self in
+    let call = c.l2_discard_cluster-old_data in
+    let caches = c.l2_discard_cluster-old_data.new.self in
     subst (λ how. ClearsEntry how c.args.table c.args.index old (record old { file = record old.file { caches = caches } })) (sym c.in-Uncovered.is)
-    (record { rest = refl; order = call.ensures.order; marks = call.ensures.marks; held = still_held old.file.caches caches c.args.table c.args.index (λ t. 0) call.result call.ensures.entry call.ensures.refused; answer = call.result; cleared = call.ensures.discarded; noted = call.ensures.noted })
+    (record { rest = refl; order = call.ensures.order; marks = call.ensures.marks; new_data = still_new_data old.file.caches caches c.args.table c.args.index (λ t. 0) call.result call.ensures.entry call.ensures.refused; answer = call.result; cleared = call.ensures.discarded; noted = call.ensures.noted })
 
 pub returns-in-Zeros : goal.returns-in-Zeros
 returns-in-Zeros g c =
     let old = c.args.self.now in
-    let call = c.l2_zero_cluster-dropped in
-    let caches = c.l2_zero_cluster-dropped.new.self in
+    let call = c.l2_zero_cluster-old_data in
+    let caches = c.l2_zero_cluster-old_data.new.self in
     subst (λ how. ClearsEntry how c.args.table c.args.index old (record old { file = record old.file { caches = caches } })) (sym c.in-Zeros.is)
-    (record { rest = refl; order = call.ensures.order; marks = call.ensures.marks; held = still_held old.file.caches caches c.args.table c.args.index (λ t. zero_entry None) call.result call.ensures.entry call.ensures.refused; answer = call.result; cleared = call.ensures.zeroed; noted = call.ensures.noted })
+    (record { rest = refl; order = call.ensures.order; marks = call.ensures.marks; new_data = still_new_data old.file.caches caches c.args.table c.args.index (λ t. zero_entry None) call.result call.ensures.entry call.ensures.refused; answer = call.result; cleared = call.ensures.zeroed; noted = call.ensures.noted })
 
 pub returns-in-KeptZeros : goal.returns-in-KeptZeros
 returns-in-KeptZeros g c =
     let old = c.args.self.now in
-    let call = c.l2_zero_cluster-dropped-in-KeptZeros in
-    let caches = c.l2_zero_cluster-dropped-in-KeptZeros.new.self in
+    let call = c.l2_zero_cluster-old_data-in-KeptZeros in
+    let caches = c.l2_zero_cluster-old_data-in-KeptZeros.new.self in
     subst (λ how. ClearsEntry how c.args.table c.args.index old (record old { file = record old.file { caches = caches } })) (sym c.in-KeptZeros.is)
-    (record { rest = refl; order = call.ensures.order; marks = call.ensures.marks; held = still_held old.file.caches caches c.args.table c.args.index (λ (t : L2TableView). zero_entry (copied_host (cover_at t c.args.index))) call.result call.ensures.entry call.ensures.refused; answer = call.result; cleared = call.ensures.zeroed; noted = call.ensures.noted })
+    (record { rest = refl; order = call.ensures.order; marks = call.ensures.marks; new_data = still_new_data old.file.caches caches c.args.table c.args.index (λ (t : L2TableView). zero_entry (copied_host (cover_at t c.args.index))) call.result call.ensures.entry call.ensures.refused; answer = call.result; cleared = call.ensures.zeroed; noted = call.ensures.noted })

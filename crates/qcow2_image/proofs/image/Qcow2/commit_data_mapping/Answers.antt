@@ -56,12 +56,12 @@ returns-after-entered-clause-sees g c =
     is_fault x (is_failed entered) (is_failed freed) (outcome x (is_failed entered) (is_failed freed) (may_mark_refused entered freed x c.in-Err.ensures.marks)) in
     elim c.if-entered.branch [
       | then-entered w ↦
-          subst (λ (r : CommitRefused). Commits view below old freed p (Err r)) (sym (c.refused_commit.ensures.spent (w.refused_commit-is ∙ w.if-entered.true)))
+          subst (λ (r : CommitRefused). Commits view below old freed p (Err r)) (sym (c.refused_commit.ensures.failed (w.refused_commit-is ∙ w.if-entered.true)))
           (λ out k placed. commit_broke_off view below old p begun entered freed q c.enter_shares-entered.result c.if-self.false some c.end_freeing.result
           (λ out sound. record { keeps = c.begin.ensures.keeps (pending_in view below old out) out sound; list = c.begin.ensures.list }) c.enter_shares-entered.ensures.enters c.end_freeing.ensures.frees out k placed number x c.in-Err.is marked w.if-entered.true)
       | else-entered w ↦ elim (true_or_false (is_failed freed)) [
         | inl failed ↦
-            subst (λ (r : CommitRefused). Commits view below old freed p (Err r)) (sym (c.refused_commit.ensures.spent (w.refused_commit-is ∙ failed)))
+            subst (λ (r : CommitRefused). Commits view below old freed p (Err r)) (sym (c.refused_commit.ensures.failed (w.refused_commit-is ∙ failed)))
             (λ out k placed. commit_broke view below old p begun entered freed q c.enter_shares-entered.result c.if-self.false some c.end_freeing.result
             (λ out sound. record { keeps = c.begin.ensures.keeps (pending_in view below old out) out sound; list = c.begin.ensures.list }) c.enter_shares-entered.ensures.enters c.end_freeing.ensures.frees out k placed number x c.in-Err.is marked (λ _. failed))
         | inr works ↦

@@ -34,7 +34,7 @@ returns-clause-ready g c = λ p out sound.
     let stay = c.l2_get_or_insert.ensures.keeps mid.file.header.fields (pending_with_listed p old mid) owned.0.sound.file.honest owned.0.sound.file.caches in (
       keeps_loaded g.S.Storage.view g.F.BackingDisk.backing out p old mid c.args.offset c.in_ok-cluster.cluster owned.0 c.l2_get_or_insert.new.storage c.l2_get_or_insert.new.self stay c.l2_get_or_insert.ensures.marks.room c.l2_get_or_insert.ensures.marks.pins,
       holds_table g.S.Storage.view g.F.BackingDisk.backing out p old mid c.args.offset c.in_ok-cluster.cluster owned.0 c.l2_get_or_insert.new.storage c.l2_get_or_insert.new.self stay c.l2_get_or_insert.ensures.marks.room c.l2_get_or_insert.ensures.marks.pins owned.1
-          c.in_ok-l2_get_or_insert.ensures.held,
+          c.in_ok-l2_get_or_insert.ensures.cached,
     )
 
 pub returns-in_err-cluster-clause-lacks : goal.returns-in_err-cluster-clause-lacks

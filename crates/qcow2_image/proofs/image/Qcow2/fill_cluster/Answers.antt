@@ -22,7 +22,7 @@ returns-clause-goes g c = λ p out sound holds some none.
     let at : c.value.result ≡ c.args.cluster * size = c.value.ensures ∙ c.offset.ensures ∙ ap (λ b. c.args.cluster * 2 ^ b) c.cluster_bits-bits.ensures.value in
     let within = c.in-Some.ensures.within in
     c.copy_old.ensures.goes p out c.args.cluster sound holds (record {
-      held = some;
+      new_data = some;
       unused = none;
       inside = λ i lt.
           let e : c.value.result + c.in-Some.range.start + i ≡ c.args.cluster * size + (c.in-Some.range.start + i) = omega (arith, at) in

@@ -1,5 +1,5 @@
 use Rattle.std.proofs.Common.{◌≡◌, [], sym, ap, ◌∙◌, subst, IfOk, is_some}
-use Rattle.qcow2_disk.specs.Calls.{Does, Refuses, IsSame}
+use Rattle.qcow2_disk.specs.Calls.{AnsweredEffect, RefusedEffect, IsSame}
 use Rattle.qcow2_disk.specs.AbstractImages.{guest_of}
 use Rattle.qcow2_image.specs.declared.image.Qcow2.{Qcow2}
 use Rattle.qcow2_disk.specs.Found.{IsFoundIn, IsFound as IsFoundOf}
@@ -26,7 +26,7 @@ returns-in_err-kind-clause-sees g c =
     answers_err view below old c.mark_failure.new.self [] (λ found was is. is ≡ was) c.from_residual-in_err-kind.result e c.from_residual-in_err-kind.ensures
     (λ out.
     let quiet = quietly_then view below out old c.begin.new.self new c.begin.ensures.keeps c.begin.ensures.list c.look_up-found.ensures.keeps c.look_up-found.ensures.list in
-    subst (λ (image : Qcow2 _ _). Refuses (abstract_of view below old out) (abstract_of view below image out) [] [] (refusal_of e) (IsSame (abstract_of view below old out) (abstract_of view below image out))) (sym c.mark_failure.ensures.rest)
+    subst (λ (image : Qcow2 _ _). RefusedEffect (abstract_of view below old out) (abstract_of view below image out) [] [] (refusal_of e) (IsSame (abstract_of view below old out) (abstract_of view below image out))) (sym c.mark_failure.ensures.rest)
     (quiet_refuses view below out old new quiet (is_failed c.mark_failure.new.self) e marks (c.look_up-found.ensures.stays.image.number ∙ c.begin.ensures.stays.image.number)
     (usable_works old c.check_usable.result c.in_ok-check_usable.was c.check_usable.ensures)))
 
@@ -39,7 +39,7 @@ returns-clause-sees g c = λ out.
     let quiet = quietly_then view below out old c.begin.new.self new c.begin.ensures.keeps c.begin.ensures.list c.look_up-found.ensures.keeps c.look_up-found.ensures.list in
     let marks = subst (λ r. MayMarkBy r (is_failed new) (is_failed c.mark_failure.new.self)) (sym c.mark_failure.ensures.answer ∙ c.in_ok-kind.was) (may_mark c.look_up-found.new.self c.mark_failure.new.self c.look_up-found.result c.mark_failure.ensures.marks) in
     let same : c.mark_failure.new.self ≡ new = c.mark_failure.ensures.rest ∙ ap (λ f. record new { is_failed = f }) marks in
-    subst (λ (image : Qcow2 _ _). Does (abstract_of view below old out) (abstract_of view below image out) [] [] (guest_of (abstract_of view below image out) ≡ guest_of (abstract_of view below old out))) (sym same)
+    subst (λ (image : Qcow2 _ _). AnsweredEffect (abstract_of view below old out) (abstract_of view below image out) [] [] (guest_of (abstract_of view below image out) ≡ guest_of (abstract_of view below old out))) (sym same)
     (quiet_does view below out old new quiet (c.look_up-found.ensures.stays.image.number ∙ c.begin.ensures.stays.image.number) (usable_works old c.check_usable.result c.in_ok-check_usable.was c.check_usable.ensures))
 
 pub returns-clause-run : goal.returns-clause-run

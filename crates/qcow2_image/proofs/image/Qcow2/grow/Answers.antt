@@ -1,7 +1,7 @@
 use Rattle.std.proofs.Common.{◌≡◌, [], ◌<◌, ◌∙◌, Result, sym, subst, arith}
 use Rattle.std.specs.Prelude.{IfErr}
 use Rattle.qcow2_image.specs.Image.{is_failed, size_of}
-use Rattle.qcow2_image.specs.Refusals.{IsMet, Marks}
+use Rattle.qcow2_image.specs.Refusals.{IsMet, MarksFailed}
 use Rattle.qcow2_image.proofs.Call.FaultCounts.{counted_marked}
 use Rattle.qcow2_image.specs.ImageInvariant.{pending_in}
 use Rattle.qcow2_image.proofs.Call.Marked.{may_mark, marks_since}
@@ -24,7 +24,7 @@ returns-clause-faults g c =
 pub returns-clause-marks : goal.returns-clause-marks
 returns-clause-marks g c =
     let same : is_failed c.grow_to-done.new.self ≡ is_failed c.args.self.now = c.grow_to-done.ensures.failed ∙ c.begin.ensures.stays.failed in
-    subst (λ (r : Result _ _). Marks c.args.self.now c.mark_failure.new.self r) (sym c.mark_failure.ensures.answer)
+    subst (λ (r : Result _ _). MarksFailed c.args.self.now c.mark_failure.new.self r) (sym c.mark_failure.ensures.answer)
     (marks_since c.args.self.now c.grow_to-done.new.self c.mark_failure.new.self same c.grow_to-done.result c.mark_failure.ensures.marks)
 
 pub returns-clause-cause : goal.returns-clause-cause

@@ -1,5 +1,5 @@
 use Rattle.std.proofs.Common.{◌≡◌, ℕ, ◌-◌, refl, sym, ap, ◌∙◌, subst}
-use Rattle.qcow2_alloc.specs.CacheMarks.{SameTables, l2_pins}
+use Rattle.qcow2_alloc.specs.CachePins.{SameTables, l2_pins}
 use Rattle.qcow2_image.specs.declared.image.Qcow2.{Qcow2}
 use Rattle.qcow2_alloc.specs.ImageFile.{contents_in}
 use Rattle.qcow2_image.specs.Ranges.{LetsGo}

@@ -6,12 +6,12 @@ use Rattle.qcow2_alloc.specs.ImageFile.{contents_in}
 use Rattle.qcow2_alloc.specs.LoadedTables.{IsReasonAgainstReftable, ReftableReads}
 use Rattle.qcow2_alloc.proofs.AllocationSteps.{handed_on}
 use Rattle.qcow2_image.proofs.Open.Reading.{against_storage}
-use Rattle.qcow2_image.proofs.Open.Opening.{fresh_read, fresh_then, kept_read, stays_then, told_fresh, kept_then}
+use Rattle.qcow2_image.proofs.Open.Opening.{new_tables_read, new_tables_then, kept_read, stays_then, told_new_tables, kept_then}
 use Rattle.qcow2_image.proofs.Open.Clearing.{stays_after, kept_after}
 use Rattle.qcow2_image.proofs.image.Qcow2.load_allocator.Goals as goal
 
 pub returns-clause-loaded : goal.returns-clause-loaded
-returns-clause-loaded g c = λ p fresh.
+returns-clause-loaded g c = λ p new_tables.
     let view = g.S.Storage.view in
     let below = g.F.BackingDisk.backing in
     let old = c.args.file.now in
@@ -19,37 +19,37 @@ returns-clause-loaded g c = λ p fresh.
     let told = record file { storage = c.will_write.new.self } in
     let new = record file { storage = c.clear_autoclear.new.storage; header = c.clear_autoclear.new.self } in
     let cleared = c.in_ok-clear_autoclear.ensures in
-    let read = fresh_then view below p old file fresh c.new.ensures.rest c.new.ensures.honest c.new.ensures.same in
+    let read = new_tables_then view below p old file new_tables c.new.ensures.rest c.new.ensures.honest c.new.ensures.same in
     let same = c.will_write.ensures.storage in
-    let first = fresh_read view below p file c.will_write.new.self read.fresh (subst (λ s. (view s).is_honest) (sym same) read.fresh.sound.honest) (ap (λ s. (view s).contents) same) in
+    let first = new_tables_read view below p file c.will_write.new.self read.new_tables (subst (λ s. (view s).is_honest) (sym same) read.new_tables.sound.honest) (ap (λ s. (view s).contents) same) in
     let then = stays_then view below p file told new first
-    (stays_after view below p told first.fresh c.clear_autoclear.new.storage c.clear_autoclear.new.self cleared.ok cleared.calls.honest cleared.written (λ none. (cleared.untouched none).1) cleared.fields cleared.reads) in (
+    (stays_after view below p told first.new_tables c.clear_autoclear.new.storage c.clear_autoclear.new.self cleared.ok cleared.calls.honest cleared.written (λ none. (cleared.untouched none).1) cleared.fields cleared.reads) in (
       stays_then view below p old file new read then,
       record {
-        reftable = then.reftable c.in_ok-allocator.allocator.reftable (c.in_ok-allocator.ensures.reftable fresh.sound.honest);
+        reftable = then.reftable c.in_ok-allocator.allocator.reftable (c.in_ok-allocator.ensures.reftable new_tables.sound.honest);
         hint = λ k low. let first = c.in_ok-allocator.ensures.first in absurd (omega (arith, first, low));
       },
     )
 
 pub returns-clause-since : goal.returns-clause-since
-returns-clause-since g c = λ p fresh.
+returns-clause-since g c = λ p new_tables.
     let view = g.S.Storage.view in
     let below = g.F.BackingDisk.backing in
     let old = c.args.file.now in
     let file = c.new.new.file in
     let cleared = c.clear_autoclear.ensures in
-    let told = told_fresh view below p old file c.will_write.new.self fresh c.new.ensures.rest c.new.ensures.honest c.new.ensures.same c.new.ensures.time c.will_write.ensures.storage in
+    let told = told_new_tables view below p old file c.will_write.new.self new_tables c.new.ensures.rest c.new.ensures.honest c.new.ensures.same c.new.ensures.time c.will_write.ensures.storage in
     kept_then (view old.storage.storage) (view c.will_write.new.self.storage) (view c.clear_autoclear.new.storage.storage) told.1
     (kept_after view below p (record file { storage = c.will_write.new.self }) told.0 c.clear_autoclear.result c.clear_autoclear.new.storage cleared.written (λ none. (cleared.untouched none).1) cleared.calls cleared.fields cleared.reads)
 
 pub returns-in_err-clear_autoclear-clause-since : goal.returns-in_err-clear_autoclear-clause-since
-returns-in_err-clear_autoclear-clause-since g c = λ p fresh.
+returns-in_err-clear_autoclear-clause-since g c = λ p new_tables.
     let view = g.S.Storage.view in
     let below = g.F.BackingDisk.backing in
     let old = c.args.file.now in
     let file = c.new.new.file in
     let cleared = c.clear_autoclear.ensures in
-    let told = told_fresh view below p old file c.will_write.new.self fresh c.new.ensures.rest c.new.ensures.honest c.new.ensures.same c.new.ensures.time c.will_write.ensures.storage in
+    let told = told_new_tables view below p old file c.will_write.new.self new_tables c.new.ensures.rest c.new.ensures.honest c.new.ensures.same c.new.ensures.time c.will_write.ensures.storage in
     kept_then (view old.storage.storage) (view c.will_write.new.self.storage) (view c.clear_autoclear.new.storage.storage) told.1
     (kept_after view below p (record file { storage = c.will_write.new.self }) told.0 c.clear_autoclear.result c.clear_autoclear.new.storage cleared.written (λ none. (cleared.untouched none).1) cleared.calls cleared.fields cleared.reads)
 
@@ -61,6 +61,6 @@ returns-in_err-clear_autoclear-clause-why g c = λ honest.
     (against_storage h b c.in_err-clear_autoclear.field-0.0)
 
 pub returns-in_err-allocator-clause-since : goal.returns-in_err-allocator-clause-since
-returns-in_err-allocator-clause-since g c = λ p fresh.
+returns-in_err-allocator-clause-since g c = λ p new_tables.
     let view = g.S.Storage.view in
-    kept_read (view c.args.file.now.storage.storage) (view c.new.new.file.storage.storage) c.new.ensures.time (c.new.ensures.same fresh.sound.honest)
+    kept_read (view c.args.file.now.storage.storage) (view c.new.new.file.storage.storage) c.new.ensures.time (c.new.ensures.same new_tables.sound.honest)

@@ -1,4 +1,4 @@
-use Rattle.qcow2_image.proofs.Prepare.Filling.{same_held}
+use Rattle.qcow2_image.proofs.Prepare.Filling.{same_new_data}
 use Rattle.qcow2_image.proofs.Map.Loading.{caches_moved}
 use Rattle.qcow2_image.proofs.image.Qcow2.load_l2.Goals as goal
 
@@ -9,6 +9,6 @@ returns-clause-keeps g c = λ p out sound.
 
 pub returns-clause-contents : goal.returns-clause-contents
 returns-clause-contents g c = λ p out sound.
-    same_held g.S.Storage.view g.F.BackingDisk.backing out c.args.self.now _ p sound
+    same_new_data g.S.Storage.view g.F.BackingDisk.backing out c.args.self.now _ p sound
     (caches_moved g.S.Storage.view g.F.BackingDisk.backing c.args.self.now out p sound c.l2_get_or_insert.new.storage c.l2_get_or_insert.new.self
     (c.l2_get_or_insert.ensures.keeps c.args.self.now.file.header.fields p sound.file.honest sound.file.caches) c.l2_get_or_insert.ensures.marks.room c.l2_get_or_insert.ensures.marks.pins)

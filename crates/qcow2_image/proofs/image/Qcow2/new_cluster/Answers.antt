@@ -2,13 +2,13 @@ use Rattle.std.proofs.Common.{◌≡◌, ◌/◌, ◌<◌, inl, sym, ap, ◌∙�
 use Rattle.qcow2_metadata.specs.Cover.{cover}
 use Rattle.qcow2_metadata.specs.Header.{cluster_size}
 use Rattle.qcow2_disk.specs.AbstractImages.{Guest}
-use Rattle.qcow2_laws.specs.Changes.{with_held}
+use Rattle.qcow2_laws.specs.Changes.{with_new_data}
 use Rattle.qcow2_laws.proofs.Formats.{cover_format, size_format}
 use Rattle.qcow2_alloc.specs.ImageFile.{known_in}
 use Rattle.qcow2_image.specs.declared.image.Qcow2.{Qcow2}
 use Rattle.qcow2_image.specs.UnseenSteps.{UnseenFillingStep, RefusedFillingStep, pending_with_listed}
-use Rattle.qcow2_image.specs.ImageInvariant.{run_of, held_by, over_all}
-use Rattle.qcow2_image.proofs.Prepare.Gaining.{following_on, goes_left, taken_held, taken_unused, still_holds, filled_as}
+use Rattle.qcow2_image.specs.ImageInvariant.{run_of, new_data_by, over_all}
+use Rattle.qcow2_image.proofs.Prepare.Gaining.{following_on, goes_left, taken_new_data, taken_unused, still_holds, filled_as}
 use Rattle.qcow2_image.proofs.Prepare.Filling.{goes_then}
 use Rattle.qcow2_image.proofs.image.Qcow2.new_cluster.Goals as goal
 
@@ -22,22 +22,22 @@ returns-in-Ok-clause-gains g c = λ p out sound holds.
     let n = c.in_ok-pending.pending in
     let took = c.in_ok-pending.ensures.takes p out sound holds in
     let unused = taken_unused view below out old mid p n took.0 holds took.2 in
-    let held = with_held (pending_with_listed p old mid) (run_of n) in
-    let some : 0 < held.held c.cluster.result = subst (λ k. 0 < held.held k) (sym c.cluster.ensures) (taken_held view below out old mid p n took.0 holds took.2) in
-    let free : over_all held_by out c.cluster.result ≡ 0 = ap (over_all held_by out) c.cluster.ensures ∙ unused in
+    let new_data = with_new_data (pending_with_listed p old mid) (run_of n) in
+    let some : 0 < new_data.new_data c.cluster.result = subst (λ k. 0 < new_data.new_data k) (sym c.cluster.ensures) (taken_new_data view below out old mid p n took.0 holds took.2) in
+    let free : over_all new_data_by out c.cluster.result ≡ 0 = ap (over_all new_data_by out) c.cluster.ensures ∙ unused in
     record {
       one = took.0;
       kind = took.1;
       unused = unused;
-      goes = subst (λ q. UnseenFillingStep view below p (with_held q (run_of n)) old new out) (following_on view below out p old mid new c.fill_cluster.ensures.list)
-          (goes_then view below out old mid new p held held took.2 (c.fill_cluster.ensures.goes held out took.2.sound (still_holds view below out old mid p n took.0 holds took.2) some free));
+      goes = subst (λ q. UnseenFillingStep view below p (with_new_data q (run_of n)) old new out) (following_on view below out p old mid new c.fill_cluster.ensures.list)
+          (goes_then view below out old mid new p new_data new_data took.2 (c.fill_cluster.ensures.goes new_data out took.2.sound (still_holds view below out old mid p n took.0 holds took.2) some free));
       filled = λ covered.
           let h = old.file.header.fields in
           let hm = mid.file.header.fields in
           let still : cover hm (known_in view mid.file) (c.args.offset / cluster_size hm) ≡ c.args.old.now =
           ap (λ size. cover hm (known_in view mid.file) (c.args.offset / size)) (size_format h hm took.2.header) ∙ cover_format h hm took.2.header (known_in view mid.file) (c.args.offset / cluster_size h) ∙ sym (took.2.covers (c.args.offset / cluster_size h)) ∙ covered in
           filled_as view below mid old new c.cluster.result n.first_cluster c.args.offset c.args.length c.args.overwrite took.2.header (ap (λ (x : Guest). x.disk) took.2.seen) c.cluster.ensures
-          (c.in-Ok.ensures.fills held out took.2.sound (still_holds view below out old mid p n took.0 holds took.2) some free still);
+          (c.in-Ok.ensures.fills new_data out took.2.sound (still_holds view below out old mid p n took.0 holds took.2) some free still);
     }
 
 pub returns-in-Err-clause-gains : goal.returns-in-Err-clause-gains
@@ -49,10 +49,10 @@ returns-in-Err-clause-gains g c = λ p out sound holds.
     let new = c.fill_cluster.new.self in
     let n = c.in_ok-pending.pending in
     let took = c.in_ok-pending.ensures.takes p out sound holds in
-    let held = with_held (pending_with_listed p old mid) (run_of n) in
-    let some : 0 < held.held c.cluster.result = subst (λ k. 0 < held.held k) (sym c.cluster.ensures) (taken_held view below out old mid p n took.0 holds took.2) in
-    let free : over_all held_by out c.cluster.result ≡ 0 = ap (over_all held_by out) c.cluster.ensures ∙ taken_unused view below out old mid p n took.0 holds took.2 in
-    let filled = goes_then view below out old mid new p held held took.2 (c.fill_cluster.ensures.goes held out took.2.sound (still_holds view below out old mid p n took.0 holds took.2) some free) in
-    let gone = subst (λ q. UnseenFillingStep view below p (with_held q (run_of n)) old new out) (following_on view below out p old mid new c.fill_cluster.ensures.list) filled in
+    let new_data = with_new_data (pending_with_listed p old mid) (run_of n) in
+    let some : 0 < new_data.new_data c.cluster.result = subst (λ k. 0 < new_data.new_data k) (sym c.cluster.ensures) (taken_new_data view below out old mid p n took.0 holds took.2) in
+    let free : over_all new_data_by out c.cluster.result ≡ 0 = ap (over_all new_data_by out) c.cluster.ensures ∙ taken_unused view below out old mid p n took.0 holds took.2 in
+    let filled = goes_then view below out old mid new p new_data new_data took.2 (c.fill_cluster.ensures.goes new_data out took.2.sound (still_holds view below out old mid p n took.0 holds took.2) some free) in
+    let gone = subst (λ q. UnseenFillingStep view below p (with_new_data q (run_of n)) old new out) (following_on view below out p old mid new c.fill_cluster.ensures.list) filled in
     subst (λ (image : Qcow2 _ _). RefusedFillingStep view below p old image out c.in-Err.refusal) (sym c.hand_back.ensures)
     (inl (goes_left view below out old new p n took.0 took.1 gone))

@@ -3,14 +3,14 @@ use Rattle.std.specs.Prelude.{Ok}
 use Rattle.qcow2_metadata.specs.Cover.{cover}
 use Rattle.qcow2_metadata.specs.Header.{cluster_size}
 use Rattle.qcow2_disk.specs.AbstractImages.{Guest}
-use Rattle.qcow2_laws.specs.Changes.{with_held}
+use Rattle.qcow2_laws.specs.Changes.{with_new_data}
 use Rattle.qcow2_laws.proofs.Formats.{cover_format, size_format}
 use Rattle.qcow2_alloc.specs.ImageFile.{known_in}
 use Rattle.qcow2_image.specs.declared.image.Qcow2.{Qcow2}
 use Rattle.qcow2_image.specs.Ranges.{TakesDataAt}
 use Rattle.qcow2_image.specs.UnseenSteps.{UnseenFillingStep, RefusedFillingStep, IsGained, pending_with_listed}
-use Rattle.qcow2_image.specs.ImageInvariant.{run_of, held_by, over_all}
-use Rattle.qcow2_image.proofs.Prepare.Gaining.{following_on, goes_left, taken_held, taken_unused, still_holds, filled_as}
+use Rattle.qcow2_image.specs.ImageInvariant.{run_of, new_data_by, over_all}
+use Rattle.qcow2_image.proofs.Prepare.Gaining.{following_on, goes_left, taken_new_data, taken_unused, still_holds, filled_as}
 use Rattle.qcow2_image.proofs.Prepare.Filling.{goes_then}
 use Rattle.qcow2_image.proofs.image.Qcow2.new_cluster_at.Goals as goal
 
@@ -28,22 +28,22 @@ returns-in-Ok-clause-gains g c = λ p out sound holds.
     let n = c.in-Some.pending in
     let took = subst (λ v. TakesDataAt view below p old mid out c.args.cluster (Ok v)) c.in-Some.is (c.in_ok-pending.ensures.takes p out sound holds) in
     let unused = taken_unused view below out old mid p n took.1 holds took.3 in
-    let held = with_held (pending_with_listed p old mid) (run_of n) in
-    let some : 0 < held.held c.args.cluster = subst (λ k. 0 < held.held k) took.0 (taken_held view below out old mid p n took.1 holds took.3) in
-    let free : over_all held_by out c.args.cluster ≡ 0 = ap (over_all held_by out) (sym took.0) ∙ unused in
+    let new_data = with_new_data (pending_with_listed p old mid) (run_of n) in
+    let some : 0 < new_data.new_data c.args.cluster = subst (λ k. 0 < new_data.new_data k) took.0 (taken_new_data view below out old mid p n took.1 holds took.3) in
+    let free : over_all new_data_by out c.args.cluster ≡ 0 = ap (over_all new_data_by out) (sym took.0) ∙ unused in
     let gained : IsGained view below p old new out c.args.offset c.args.length c.args.overwrite c.args.old.now n = record {
       one = took.1;
       kind = took.2;
       unused = unused;
-      goes = subst (λ q. UnseenFillingStep view below p (with_held q (run_of n)) old new out) (following_on view below out p old mid new c.fill_cluster.ensures.list)
-          (goes_then view below out old mid new p held held took.3 (c.fill_cluster.ensures.goes held out took.3.sound (still_holds view below out old mid p n took.1 holds took.3) some free));
+      goes = subst (λ q. UnseenFillingStep view below p (with_new_data q (run_of n)) old new out) (following_on view below out p old mid new c.fill_cluster.ensures.list)
+          (goes_then view below out old mid new p new_data new_data took.3 (c.fill_cluster.ensures.goes new_data out took.3.sound (still_holds view below out old mid p n took.1 holds took.3) some free));
       filled = λ covered.
           let h = old.file.header.fields in
           let hm = mid.file.header.fields in
           let still : cover hm (known_in view mid.file) (c.args.offset / cluster_size hm) ≡ c.args.old.now =
           ap (λ size. cover hm (known_in view mid.file) (c.args.offset / size)) (size_format h hm took.3.header) ∙ cover_format h hm took.3.header (known_in view mid.file) (c.args.offset / cluster_size h) ∙ sym (took.3.covers (c.args.offset / cluster_size h)) ∙ covered in
           filled_as view below mid old new c.args.cluster n.first_cluster c.args.offset c.args.length c.args.overwrite took.3.header (ap (λ (x : Guest). x.disk) took.3.seen) (sym took.0)
-          (c.in-Ok.ensures.fills held out took.3.sound (still_holds view below out old mid p n took.1 holds took.3) some free still);
+          (c.in-Ok.ensures.fills new_data out took.3.sound (still_holds view below out old mid p n took.1 holds took.3) some free still);
     } in (took.0, gained)
 
 pub returns-in-Err-clause-gains : goal.returns-in-Err-clause-gains
@@ -55,10 +55,10 @@ returns-in-Err-clause-gains g c = λ p out sound holds.
     let new = c.fill_cluster.new.self in
     let n = c.in-Some.pending in
     let took = subst (λ v. TakesDataAt view below p old mid out c.args.cluster (Ok v)) c.in-Some.is (c.in_ok-pending.ensures.takes p out sound holds) in
-    let held = with_held (pending_with_listed p old mid) (run_of n) in
-    let some : 0 < held.held c.args.cluster = subst (λ k. 0 < held.held k) took.0 (taken_held view below out old mid p n took.1 holds took.3) in
-    let free : over_all held_by out c.args.cluster ≡ 0 = ap (over_all held_by out) (sym took.0) ∙ taken_unused view below out old mid p n took.1 holds took.3 in
-    let filled = goes_then view below out old mid new p held held took.3 (c.fill_cluster.ensures.goes held out took.3.sound (still_holds view below out old mid p n took.1 holds took.3) some free) in
-    let gone = subst (λ q. UnseenFillingStep view below p (with_held q (run_of n)) old new out) (following_on view below out p old mid new c.fill_cluster.ensures.list) filled in
+    let new_data = with_new_data (pending_with_listed p old mid) (run_of n) in
+    let some : 0 < new_data.new_data c.args.cluster = subst (λ k. 0 < new_data.new_data k) took.0 (taken_new_data view below out old mid p n took.1 holds took.3) in
+    let free : over_all new_data_by out c.args.cluster ≡ 0 = ap (over_all new_data_by out) (sym took.0) ∙ taken_unused view below out old mid p n took.1 holds took.3 in
+    let filled = goes_then view below out old mid new p new_data new_data took.3 (c.fill_cluster.ensures.goes new_data out took.3.sound (still_holds view below out old mid p n took.1 holds took.3) some free) in
+    let gone = subst (λ q. UnseenFillingStep view below p (with_new_data q (run_of n)) old new out) (following_on view below out p old mid new c.fill_cluster.ensures.list) filled in
     subst (λ (image : Qcow2 _ _). RefusedFillingStep view below p old image out c.in-Err.refusal) (sym c.hand_back.ensures)
     (inl (goes_left view below out old new p n took.1 took.2 gone))

@@ -5,7 +5,7 @@ use Rattle.qcow2_laws.specs.Opened.{nothing_pending, surplus_of}
 use Rattle.qcow2_alloc.specs.declared.image_file.ImageFile.{ImageFile}
 use Rattle.qcow2_image.specs.declared.image.Qcow2.{Qcow2}
 use Rattle.qcow2_image.specs.Opened.{Opens, IsKeptSince, HasNamesIn}
-use Rattle.qcow2_image.proofs.Open.Opening.{fresh_new, opened, kept_loaded, kept_opened, named_still}
+use Rattle.qcow2_image.proofs.Open.Opening.{new_tables_new, opened, kept_loaded, kept_opened, named_still}
 use Rattle.qcow2_metadata.specs.HeaderLoad.{IsHeaderIn, IsReasonToRefuse}
 use Rattle.qcow2_metadata.specs.Header.{HeaderReads, header}
 use Rattle.qcow2_alloc.specs.declared.error.ImageError.{ImageError}
@@ -31,7 +31,7 @@ returns-in-Ok-load_tables-clause-opens g c =
     subst (λ s. Opens view below (view s) image) c.new-storage.ensures.storage (λ honest consistent.
     let there = c.in-Ok.ensures.ok honest in
     let is = opened view below image surplus refl tt (c.in-Ok-load_tables.ensures.loaded (nothing_pending surplus)
-    (fresh_new view below contents (record { alloc = c.args.alloc; storage = c.load.new.storage; header = c.in-Ok.header; caches = c.in-Ok-new.caches; free_list = c.new-2.result }) consistent
+    (new_tables_new view below contents (record { alloc = c.args.alloc; storage = c.load.new.storage; header = c.in-Ok.header; caches = c.in-Ok-new.caches; free_list = c.new-2.result }) consistent
     (read.honest honest) (read.same honest) there new.sound new.known new.settled (new.room (omega arith) (omega arith)) new.pins c.new-2.ensures)) in
     record { opened = is.0; surplus = is.1 ∙ ap (λ h. surplus_of h (byte_at contents)) there.fields })
 
@@ -57,7 +57,7 @@ returns-in-Ok-load_tables-clause-since g c =
     let file : ImageFile _ = record { alloc = c.args.alloc; storage = c.load.new.storage; header = c.in-Ok.header; caches = c.in-Ok-new.caches; free_list = c.new-2.result } in
     kept_opened view below c.load.result c.new-storage.result.storage c.args.metadata c.load_tables.new.file.storage.storage file c.load_tables.new.file c.new-storage.ensures.storage refl read
     (λ honest consistent. c.load_tables.ensures.since (nothing_pending (surplus_of c.in-Ok.header.fields (byte_at contents)))
-    (fresh_new view below contents file consistent (read.honest honest) (read.same honest) (c.in-Ok.ensures.ok honest) new.sound new.known new.settled (new.room (omega arith) (omega arith)) new.pins c.new-2.ensures))
+    (new_tables_new view below contents file consistent (read.honest honest) (read.same honest) (c.in-Ok.ensures.ok honest) new.sound new.known new.settled (new.room (omega arith) (omega arith)) new.pins c.new-2.ensures))
 
 pub returns-in-Err-load_tables-clause-since : goal.returns-in-Err-load_tables-clause-since
 returns-in-Err-load_tables-clause-since g c =
@@ -69,7 +69,7 @@ returns-in-Err-load_tables-clause-since g c =
     let file : ImageFile _ = record { alloc = c.args.alloc; storage = c.load.new.storage; header = c.in-Ok.header; caches = c.in-Ok-new.caches; free_list = c.new-2.result } in
     kept_opened view below c.load.result c.new-storage.result.storage c.args.metadata c.into_storage.result file c.load_tables.new.file c.new-storage.ensures.storage c.into_storage.ensures read
     (λ honest consistent. c.load_tables.ensures.since (nothing_pending (surplus_of c.in-Ok.header.fields (byte_at contents)))
-    (fresh_new view below contents file consistent (read.honest honest) (read.same honest) (c.in-Ok.ensures.ok honest) new.sound new.known new.settled (new.room (omega arith) (omega arith)) new.pins c.new-2.ensures))
+    (new_tables_new view below contents file consistent (read.honest honest) (read.same honest) (c.in-Ok.ensures.ok honest) new.sound new.known new.settled (new.room (omega arith) (omega arith)) new.pins c.new-2.ensures))
 
 pub returns-in-Ok-load_tables-clause-names : goal.returns-in-Ok-load_tables-clause-names
 returns-in-Ok-load_tables-clause-names g c =

@@ -41,7 +41,7 @@ returns-clause-places g c = λ p out sound some format stored.
     c.write_new_l2_table.ensures.written c.write_new_l2_table.ensures.calls c.in_ok-write_new_l2_table.field-0 c.in_ok-write_new_l2_table.was in
     let is : c.clear_modified.new.self ≡ record c.args.table { cluster = Some at; is_modified = false } = c.clear_modified.ensures ∙ ap (λ (t : L2TableView). record t { is_modified = false }) c.set_cluster.ensures in
     let puts = subst (λ (t : L2TableView). PutSound view c.write_new_l2_table.new.self old.file.caches c.l2_insert.new.storage c.l2_insert.new.self (λ h. IsTableOf h t) t.cluster t.bytes t.is_modified) is c.l2_insert.ensures.keeps in
-    let held = subst (λ (t : L2TableView). OnOk c.l2_insert.result (IfSome t.cluster (λ k. l2_at c.l2_insert.new.self k ≡ Some t))) is c.l2_insert.ensures.held in
+    let new_data = subst (λ (t : L2TableView). OnOk c.l2_insert.result (IfSome t.cluster (λ k. l2_at c.l2_insert.new.self k ≡ Some t))) is c.l2_insert.ensures.cached in
     let unmodified = ap (λ (t : L2TableView). t.is_modified) is in
     let stays = puts h p wrote.sound.file.honest wrote.sound.file.caches (record { bits = format.bits; zero_bit = format.zero_bit; external = format.external }) refl (holds view below mid out p wrote.sound still at some c.args.table.bytes long there) in
     let put = keeps_put view below mid out p wrote.sound still at some c.args.table.bytes long there c.l2_insert.new.storage c.l2_insert.new.self stays c.l2_insert.ensures.marks.room c.l2_insert.ensures.marks.pins c.l2_insert.ensures.blocks
@@ -49,4 +49,4 @@ returns-clause-places g c = λ p out sound some format stored.
     places_when view below old new out p at c.args.table.bytes c.l2_insert.result (keeps_then view below out old mid new p p p (λ k h. h) wrote put)
     (if_ok c.l2_insert.result
     (λ x found. stands_ready view below mid out p wrote.sound still at some c.args.table.bytes long there c.l2_insert.new.storage c.l2_insert.new.self stays c.l2_insert.ensures.marks.room c.l2_insert.ensures.marks.pins c.l2_insert.ensures.blocks
-    (λ may. c.l2_insert.ensures.first may unmodified) (record c.args.table { cluster = Some at; is_modified = false }) found refl) held)
+    (λ may. c.l2_insert.ensures.first may unmodified) (record c.args.table { cluster = Some at; is_modified = false }) found refl) new_data)

@@ -15,8 +15,8 @@ use Rattle.qcow2_image.proofs.image.Qcow2.share_at.Goals as goal
 pub returns-in_default-clause-shares : goal.returns-in_default-clause-shares
 returns-in_default-clause-shares g c = λ p out sound holds. back_none g.S.Storage.view g.F.BackingDisk.backing out c.args.self.now p sound UnalignedTable
 
-pub returns-in_err-dropped-clause-shares : goal.returns-in_err-dropped-clause-shares
-returns-in_err-dropped-clause-shares g c = λ p out sound holds.
+pub returns-in_err-old_data-clause-shares : goal.returns-in_err-old_data-clause-shares
+returns-in_err-old_data-clause-shares g c = λ p out sound holds.
     let view = g.S.Storage.view in
     let below = g.F.BackingDisk.backing in
     let old = c.args.self.now in
@@ -47,7 +47,7 @@ returns-clause-shares g c = λ p out sound holds.
     let taken_is = c.hand_back.ensures ∙ ap (λ l. l ++ n ∷ []) c.new-taken.ensures in
     record {
       run = n;
-      is = ap (λ t. New t c.in_ok-dropped.dropped) taken_is ∙ ap (λ d. New (n ∷ []) d) c.in_ok-dropped.ensures.list;
+      is = ap (λ t. New t c.in_ok-old_data.old_data) taken_is ∙ ap (λ d. New (n ∷ []) d) c.in_ok-old_data.ensures.list;
       place = ap (λ x. x * cluster_size h) took.0 ∙ host_is;
       nameable = subst (IsHostCluster h.cluster_bits) (sym took.0) (c.in_ok-pending.ensures.nameable (ap is_some c.in-Some-2.is));
       gained = took.1;

@@ -1,6 +1,6 @@
 use Rattle.std.proofs.Common.{◌≡◌, ◌∙◌, sym, ap, subst}
 use Rattle.std.specs.Prelude.{Err, IfSome, MatchOption, nat_lt}
-use Rattle.image_access.proofs.Passing.{passes_none}
+use Rattle.image_access.proofs.EachMomentSince.{passes_none}
 use Rattle.qcow2_metadata.specs.Header.{HeaderView, cluster_size, rounded_up}
 use Rattle.qcow2_alloc.specs.ImageError.{IsFault}
 use Rattle.qcow2_alloc.specs.ImageFile.{view_in}

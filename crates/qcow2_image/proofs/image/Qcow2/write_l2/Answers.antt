@@ -1,5 +1,5 @@
 use Rattle.std.proofs.Common.{inl, ap, ◌∙◌, arith}
-use Rattle.qcow2_laws.specs.Changes.{one_at, with_fresh}
+use Rattle.qcow2_laws.specs.Changes.{one_at, with_new_tables}
 use Rattle.qcow2_alloc.proofs.AllocationSteps.{handed_on}
 use Rattle.qcow2_alloc.proofs.FileSteps.{one_here}
 use Rattle.qcow2_image.specs.declared.image.Qcow2.{Qcow2}
@@ -12,7 +12,7 @@ pub returns-in_err-store_first-clause-writes : goal.returns-in_err-store_first-c
 returns-in_err-store_first-clause-writes g c = λ p out sound may noted says.
     handed_on (WritesNew g.S.Storage.view g.F.BackingDisk.backing p c.args.self.now c.store_first.new.self out c.args.index c.args.cluster)
     c.from_residual.result c.in_err-store_first.field-0.0 c.from_residual.ensures
-    (inl (c.in_err-store_first.ensures.stores (with_fresh p (one_at c.args.cluster)) out sound))
+    (inl (c.in_err-store_first.ensures.stores (with_new_tables p (one_at c.args.cluster)) out sound))
 
 pub returns-in_err-place_l2-clause-writes : goal.returns-in_err-place_l2-clause-writes
 returns-in_err-place_l2-clause-writes g c = λ p out sound may noted says.
@@ -20,7 +20,7 @@ returns-in_err-place_l2-clause-writes g c = λ p out sound may noted says.
     let below = g.F.BackingDisk.backing in
     let old = c.args.self.now in
     let mid = c.store_first.new.self in
-    let q = with_fresh p (one_at c.args.cluster) in
+    let q = with_new_tables p (one_at c.args.cluster) in
     let own = one_here c.args.cluster in
     let stored = c.in_ok-store_first.ensures.stores q out sound in
     let format = (says_still view below out q q old mid c.args.index c.args.table stored.0 says).format in
@@ -35,7 +35,7 @@ returns-clause-writes g c = λ p out sound may noted says.
     let old = c.args.self.now in
     let first = c.store_first.new.self in
     let mid = c.place_l2.new.self in
-    let q = with_fresh p (one_at c.args.cluster) in
+    let q = with_new_tables p (one_at c.args.cluster) in
     let own = one_here c.args.cluster in
     let same = ap (λ (x : Qcow2 _ _). x.l1_table) c.place_l2.ensures.rest ∙ ap (λ (x : Qcow2 _ _). x.l1_table) c.store_first.ensures.rest in
     let stored = c.in_ok-store_first.ensures.stores q out sound in

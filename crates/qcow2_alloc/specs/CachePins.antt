@@ -26,7 +26,7 @@ module _ {S : Type 0} where
     pub free : pinned caches.rb.entries ≡ []
 
   -- pins stay, and a change that was noted stays noted
-  pub record KeepsMarks (old new : MetadataCaches S) : Type 0 where
+  pub record KeepsPinsAndNotes (old new : MetadataCaches S) : Type 0 where
     pub pins : (cluster : ℕ) → l2_pins new cluster ≡ l2_pins old cluster
     pub room : CachesHaveRoom old → CachesHaveRoom new
     pub changed : IsTrue old.is_changed → IsTrue new.is_changed

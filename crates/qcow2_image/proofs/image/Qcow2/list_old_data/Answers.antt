@@ -1,12 +1,12 @@
 use Rattle.std.proofs.Common.{◌≡◌, ◌++◌, sym, ap, ◌∙◌, subst}
 use Rattle.qcow2_metadata.specs.Cover.{cover}
-use Rattle.qcow2_metadata.specs.L2Mapping.{IsInReach, dropped_run}
+use Rattle.qcow2_metadata.specs.L2Mapping.{IsInReach, old_data_run}
 use Rattle.qcow2_metadata.specs.declared.l2_mapping.L2Mapping.{L2Mapping}
 use Rattle.qcow2_alloc.specs.ImageFile.{known_in}
 use Rattle.qcow2_image.specs.Clearing.{cover_once_cleared}
 use Rattle.qcow2_image.specs.ImageInvariant.{listed_run}
 use Rattle.qcow2_image.proofs.Clear.Between.{on_ok}
-use Rattle.qcow2_image.proofs.image.Qcow2.list_dropped.Goals as goal
+use Rattle.qcow2_image.proofs.image.Qcow2.list_old_data.Goals as goal
 
 pub returns-clause-reads : goal.returns-clause-reads
 returns-clause-reads g c = on_ok c.list_run.result (λ listed p i sound at here.
@@ -14,8 +14,8 @@ returns-clause-reads g c = on_ok c.list_run.result (λ listed p i sound at here.
     let how = c.args.how in
     let old = c.in_ok-old.old in
     let says : cover c.args.self.now.file.header.fields (known_in g.S.Storage.view c.args.self.now.file) c.args.cluster ≡ c.in_ok-old.old = c.in_ok-old.ensures.says p i sound at here in
-    let run : c.dropped-run.result ≡ dropped_run c.args.self.now.file.header.fields.cluster_bits (cover c.args.self.now.file.header.fields (known_in g.S.Storage.view c.args.self.now.file) c.args.cluster) (cover_once_cleared c.args.how (cover c.args.self.now.file.header.fields (known_in g.S.Storage.view c.args.self.now.file) c.args.cluster)) =
-    c.dropped-run.ensures ∙ ap (λ b. dropped_run b old (cover_once_cleared how old)) c.cluster_bits.ensures.value ∙ ap (λ (v : L2Mapping). dropped_run h.cluster_bits v (cover_once_cleared how v)) (sym says) in
+    let run : c.old_data-run.result ≡ old_data_run c.args.self.now.file.header.fields.cluster_bits (cover c.args.self.now.file.header.fields (known_in g.S.Storage.view c.args.self.now.file) c.args.cluster) (cover_once_cleared c.args.how (cover c.args.self.now.file.header.fields (known_in g.S.Storage.view c.args.self.now.file) c.args.cluster)) =
+    c.old_data-run.ensures ∙ ap (λ b. old_data_run b old (cover_once_cleared how old)) c.cluster_bits.ensures.value ∙ ap (λ (v : L2Mapping). old_data_run h.cluster_bits v (cover_once_cleared how v)) (sym says) in
     (listed ∙ ap (λ r. c.args.list.now ++ listed_run r) run, subst IsInReach (sym says) c.in_ok-old.ensures.reach)) c.list_run.ensures.listed
 
 pub returns-in_err-old-clause-only_faults : goal.returns-in_err-old-clause-only_faults

@@ -2,7 +2,7 @@
 use Rattle.std.proofs.Common.{◌≡◌, ◌⊎◌, inl, inr, ⊎_elim, ℕ, ◌≤◌, List, Result, Ok, Err, sym, ◌∙◌, subst, arith}
 use Rattle.image_access.specs.declared.error.StorageError.{StorageError}
 use Rattle.image_access.specs.declared.error.StorageError.TheVariants.{Fault, Memory}
-use Rattle.image_access.specs.Moments.{StorageView, ContentsBecome, Rose, HasCause, Passing, Calls, ContentsStay, Changes}
+use Rattle.image_access.specs.Moments.{StorageView, ContentsBecome, Rose, HasCause, EachMomentSince, Calls, ContentsStay, Changes}
 
 -- whatever the answer, the change is whole or nothing
 pub whole_or_nothing : {T : Type 0} (result : Result T StorageError) (old changed new : List ℕ) → ContentsBecome result old changed new → (new ≡ old) ⊎ (new ≡ changed)
@@ -11,12 +11,12 @@ whole_or_nothing (Err Memory) old changed new is = inl is
 whole_or_nothing (Err Fault) old changed new either = either
 
 -- no call at all
-pub passes_none : (view : StorageView) (P : List ℕ → Type 0) → Passing view view P
+pub passes_none : (view : StorageView) (P : List ℕ → Type 0) → EachMomentSince view view P
 passes_none view P = record { later = omega arith; each = λ t c le had. inl had }
 
 module _ {old mid new : StorageView} where
   -- one run after another
-  pub passes_more : {P Q : List ℕ → Type 0} → Passing old mid P → Passing mid new Q → Passing old new (λ c. P c ⊎ Q c)
+  pub passes_more : {P Q : List ℕ → Type 0} → EachMomentSince old mid P → EachMomentSince mid new Q → EachMomentSince old new (λ c. P c ⊎ Q c)
   passes_more first second = record {
     later = omega (arith, first.later, second.later);
     each = λ t c le had. ⊎_elim
@@ -26,7 +26,7 @@ module _ {old mid new : StorageView} where
   }
 
   -- one call or run more, at whose moments P holds too
-  pub passes_on : {Q : List ℕ → Type 0} (P : List ℕ → Type 0) → Passing old mid P → Passing mid new Q → ((c : List ℕ) → Q c → P c) → Passing old new P
+  pub passes_on : {Q : List ℕ → Type 0} (P : List ℕ → Type 0) → EachMomentSince old mid P → EachMomentSince mid new Q → ((c : List ℕ) → Q c → P c) → EachMomentSince old new P
   passes_on P so_far more here = record {
     later = omega (arith, so_far.later, more.later);
     each = λ t c le had. ⊎_elim (so_far.each t c le) (λ q. inr (here c q)) (more.each t c (omega (arith, le, so_far.later)) had);
@@ -34,11 +34,11 @@ module _ {old mid new : StorageView} where
 
   module _ {T : Type 0} {result : Result T StorageError} where
     -- one call more that changes nothing
-    pub passes_keep : (P : List ℕ → Type 0) → Passing old mid P → Calls mid new result → ContentsStay mid new → mid.is_honest → P mid.contents → Passing old new P
+    pub passes_keep : (P : List ℕ → Type 0) → EachMomentSince old mid P → Calls mid new result → ContentsStay mid new → mid.is_honest → P mid.contents → EachMomentSince old new P
     passes_keep P so_far call keeps honest at_mid = passes_on P so_far call.time (λ c is. subst P (sym (is ∙ keeps honest)) at_mid)
 
     -- one call more, which makes a whole change or none
-    pub passes_change : (P : List ℕ → Type 0) (changed : List ℕ) → Passing old mid P → Calls mid new result → Changes mid new result changed → mid.is_honest → P mid.contents → P changed → Passing old new P
+    pub passes_change : (P : List ℕ → Type 0) (changed : List ℕ) → EachMomentSince old mid P → Calls mid new result → Changes mid new result changed → mid.is_honest → P mid.contents → P changed → EachMomentSince old new P
     passes_change P changed so_far call changes honest at_mid at_changed =
         passes_on P so_far call.time (λ c is. ⊎_elim
         (λ (e : new.contents ≡ mid.contents). subst P (sym (is ∙ e)) at_mid)
@@ -46,11 +46,11 @@ module _ {old mid new : StorageView} where
         (whole_or_nothing result mid.contents changed new.contents (changes honest)))
 
 module _ {old new : StorageView} where
-  pub passes_if : {P : List ℕ → Type 0} (Q : List ℕ → Type 0) → ((c : List ℕ) → P c → Q c) → Passing old new P → Passing old new Q
+  pub passes_if : {P : List ℕ → Type 0} (Q : List ℕ → Type 0) → ((c : List ℕ) → P c → Q c) → EachMomentSince old new P → EachMomentSince old new Q
   passes_if Q implies passes = record { later = passes.later; each = λ t c le had. ⊎_elim (λ h. inl h) (λ p. inr (implies c p)) (passes.each t c le had) }
 
   -- Since its start there are the contents of the start and those with P. The first premise is the trait's `only_now`.
-  pub since_start : {P : List ℕ → Type 0} → ((c : List ℕ) → old.had_since old.moment c → c ≡ old.contents) → Passing old new P → (c : List ℕ) → new.had_since old.moment c → (c ≡ old.contents) ⊎ P c
+  pub since_start : {P : List ℕ → Type 0} → ((c : List ℕ) → old.had_since old.moment c → c ≡ old.contents) → EachMomentSince old new P → (c : List ℕ) → new.had_since old.moment c → (c ≡ old.contents) ⊎ P c
   since_start only passes c had = ⊎_elim (λ h. inl (only c h)) (λ p. inr p) (passes.each old.moment c (omega arith) had)
 
 -- a fault that is counted is counted since earlier

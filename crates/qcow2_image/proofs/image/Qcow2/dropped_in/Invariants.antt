@@ -1,6 +1,0 @@
-use Rattle.qcow2_image.specs.Clearing.{ReadsAll}
-use Rattle.qcow2_image.proofs.image.Qcow2.dropped_in.Given as goal
-
--- the first entries are read
-abbrev pub invariant-loop-i : goal.invariant-loop-i
-invariant-loop-i g l = ReadsAll g.S.Storage.view g.F.BackingDisk.backing l.fn.how l.fn.table l.fn.first l.i l.fn.self l.dropped
