@@ -1,7 +1,7 @@
 -- A call of a boxed storage is a call of the storage in the box.
 use Rattle.std.proofs.Common.{◌≡◌, ℕ, List, Result, sym, ap, ◌∙◌, subst}
 use Rattle.image_access.specs.declared.error.StorageError.{StorageError}
-use Rattle.image_access.specs.Moments.{StorageView, ContentsBecome, Calls}
+use Rattle.image_access.specs.Moments.{StorageView, ContentsBecome, Calls, QuietCalls}
 
 -- The call was of z, which the box held as w.
 module _ {Z : Type 0} {z w : Z} (same : z ≡ w) (view : Z → StorageView) where
@@ -16,3 +16,6 @@ module _ {Z : Type 0} {z w : Z} (same : z ≡ w) (view : Z → StorageView) wher
 
   pub boxed_calls : {T : Type 0} {new : StorageView} {result : Result T StorageError} → Calls (view z) new result → Calls (view w) new result
   boxed_calls {new = new} {result = result} call = subst (λ x. Calls (view x) new result) same call
+
+  pub boxed_quiet : {T : Type 0} {new : StorageView} {result : Result T StorageError} → QuietCalls (view z) new result → QuietCalls (view w) new result
+  boxed_quiet {new = new} {result = result} call = subst (λ x. QuietCalls (view x) new result) same call

@@ -41,8 +41,14 @@ pub record EachMomentSince (old new : StorageView) (P : List ℕ → Type 0) : T
   pub later : old.moment ≤ new.moment
   pub each : (t : ℕ) (c : List ℕ) → t ≤ old.moment → new.had_since t c → old.had_since t c ⊎ P c
 
--- What every call of a storage says: it stays honest, each moment since is one of before or has the contents at the return, and a fault is counted.
+-- What a call says that may change the contents: the storage stays honest, and a fault is counted. Of an honest one, each moment since is one of before or has the contents at the return.
 pub record Calls {T : Type 0} (old new : StorageView) (result : Result T StorageError) : Type 0 where
+  pub honest : old.is_honest → new.is_honest
+  pub time : old.is_honest → EachMomentSince old new (λ c. c ≡ new.contents)
+  pub cause : HasCause old.faults new.faults result
+
+-- What a call says that changes nothing: the same, and of the moments of any storage.
+pub record QuietCalls {T : Type 0} (old new : StorageView) (result : Result T StorageError) : Type 0 where
   pub honest : old.is_honest → new.is_honest
   pub time : EachMomentSince old new (λ c. c ≡ new.contents)
   pub cause : HasCause old.faults new.faults result

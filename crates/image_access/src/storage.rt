@@ -1,6 +1,6 @@
 ghost use Rattle.std.specs.Prelude.{◌≡◌, ◌<◌, ◌≤◌, List, ℕ, length, IfOk, OnOk};
 ghost use Rattle.image_access.specs.Contents.{bytes_at, resized, overwritten, zeroed};
-ghost use Rattle.image_access.specs.Moments.{StorageView, ContentsStay, Changes, Calls};
+ghost use Rattle.image_access.specs.Moments.{StorageView, ContentsStay, Changes, Calls, QuietCalls};
 
 use crate::StorageError;
 
@@ -26,13 +26,13 @@ pub trait Storage: Drop {
     fn size(&mut self) -> Result<u64, StorageError>
         ensures size { (view self.old).is_honest → IfOk result (λ size. size ≡ length (view self.old).contents) }
         ensures same { ContentsStay (view self.old) (view self.new) }
-        ensures calls { Calls (view self.old) (view self.new) result };
+        ensures calls { QuietCalls (view self.old) (view self.new) result };
 
     /// Fills the buffer with the bytes from an offset on, zeros past the end. After a refusal it may hold any bytes.
     fn read(&mut self, at: u64, buf: &mut [u8]) -> Result<(), StorageError>
         ensures read { (view self.old).is_honest → OnOk result (buf.new ≡ bytes_at (view self.old).contents at (length buf.old)) }
         ensures same { ContentsStay (view self.old) (view self.new) }
-        ensures calls { Calls (view self.old) (view self.new) result };
+        ensures calls { QuietCalls (view self.old) (view self.new) result };
 
     /// Writes bytes at an offset. Past the end it extends the contents, with zeros between.
     fn write(&mut self, at: u64, bytes: &[u8]) -> Result<(), StorageError>
@@ -57,17 +57,17 @@ pub trait Storage: Drop {
     /// Hands all that was written on: of a file, to the operating system. That outlives an end of the program, and a loss of power only after `sync`.
     fn flush(&mut self) -> Result<(), StorageError>
         ensures same { ContentsStay (view self.old) (view self.new) }
-        ensures calls { Calls (view self.old) (view self.new) result };
+        ensures calls { QuietCalls (view self.old) (view self.new) result };
 
     /// Returns once what was written would outlive a loss of power.
     fn sync(&mut self) -> Result<(), StorageError>
         ensures same { ContentsStay (view self.old) (view self.new) }
-        ensures calls { Calls (view self.old) (view self.new) result };
+        ensures calls { QuietCalls (view self.old) (view self.new) result };
 
     /// Forgets what it keeps of earlier reads, so that the next reads ask anew.
     fn invalidate_cache(&mut self) -> Result<(), StorageError>
         ensures same { ContentsStay (view self.old) (view self.new) }
-        ensures calls { Calls (view self.old) (view self.new) result };
+        ensures calls { QuietCalls (view self.old) (view self.new) result };
 
     /// The alignment of offsets and lengths with which it works best, in bytes. Others are taken too.
     fn req_align(&self) -> usize

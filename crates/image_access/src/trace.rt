@@ -160,7 +160,7 @@ impl Storage for TraceStorage {
     ghost use Rattle.std.specs.Prelude.{◌≡◌, length, IfOk, OnOk};
     ghost use Rattle.image_access.specs.Changes.{counts_all, only_all};
     ghost use Rattle.image_access.specs.Contents.{bytes_at, resized, overwritten, zeroed};
-    ghost use Rattle.image_access.specs.Moments.{ContentsStay, Changes, Calls};
+    ghost use Rattle.image_access.specs.Moments.{ContentsStay, Changes, Calls, QuietCalls};
     ghost use Rattle.image_access.specs.TraceStorage.{contents_of, view_of_trace, with_read, Answers, Adds};
 
     ghost view = { view_of_trace };
@@ -176,7 +176,7 @@ impl Storage for TraceStorage {
     fn size(&mut self) -> Result<u64, StorageError>
         ensures size { IfOk result (λ size. size ≡ length (contents_of self.old)) }
         ensures same { ContentsStay (view_of_trace self.old) (view_of_trace self.new) }
-        ensures calls { Calls (view_of_trace self.old) (view_of_trace self.new) result }
+        ensures calls { QuietCalls (view_of_trace self.old) (view_of_trace self.new) result }
         ensures answers { Answers self.old self.new result self.old }
     {
         self.calls.begin()?;
@@ -186,7 +186,7 @@ impl Storage for TraceStorage {
     fn read(&mut self, at: u64, buf: &mut [u8]) -> Result<(), StorageError>
         ensures read { OnOk result (buf.new ≡ bytes_at (contents_of self.old) at (length buf.old)) }
         ensures same { ContentsStay (view_of_trace self.old) (view_of_trace self.new) }
-        ensures calls { Calls (view_of_trace self.old) (view_of_trace self.new) result }
+        ensures calls { QuietCalls (view_of_trace self.old) (view_of_trace self.new) result }
         ensures answers { Answers self.old self.new result (with_read self.old) }
     {
         self.calls.begin()?;
@@ -239,7 +239,7 @@ impl Storage for TraceStorage {
 
     fn flush(&mut self) -> Result<(), StorageError>
         ensures same { ContentsStay (view_of_trace self.old) (view_of_trace self.new) }
-        ensures calls { Calls (view_of_trace self.old) (view_of_trace self.new) result }
+        ensures calls { QuietCalls (view_of_trace self.old) (view_of_trace self.new) result }
         ensures answers { Answers self.old self.new result self.old }
     {
         self.calls.begin()
@@ -247,7 +247,7 @@ impl Storage for TraceStorage {
 
     fn sync(&mut self) -> Result<(), StorageError>
         ensures same { ContentsStay (view_of_trace self.old) (view_of_trace self.new) }
-        ensures calls { Calls (view_of_trace self.old) (view_of_trace self.new) result }
+        ensures calls { QuietCalls (view_of_trace self.old) (view_of_trace self.new) result }
         ensures answers { Answers self.old self.new result self.old }
     {
         self.flush()
@@ -255,7 +255,7 @@ impl Storage for TraceStorage {
 
     fn invalidate_cache(&mut self) -> Result<(), StorageError>
         ensures same { ContentsStay (view_of_trace self.old) (view_of_trace self.new) }
-        ensures calls { Calls (view_of_trace self.old) (view_of_trace self.new) result }
+        ensures calls { QuietCalls (view_of_trace self.old) (view_of_trace self.new) result }
         ensures answers { Answers self.old self.new result self.old }
     {
         self.flush()

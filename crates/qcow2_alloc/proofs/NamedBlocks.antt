@@ -314,4 +314,4 @@ module _ {S : Type 0} (view : S → StorageView) (d : Bool) (p : Pending) (range
         (λ is. (state_in view (record file { storage = storage }) p, refl, leads storage is))
 
     pub named_so : (x : Unit {0}) → result ≡ Ok x → UnseenFileStep view q p file (record file { storage = storage }) × HasReftable view (record file { storage = storage }) t'
-    named_so x done = let is = rw done at (changes sound.honest) in (moves_named storage is (calls.honest sound.honest) calls.time, reftable_named storage is)
+    named_so x done = let is = rw done at (changes sound.honest) in (moves_named storage is (calls.honest sound.honest) (calls.time sound.honest), reftable_named storage is)

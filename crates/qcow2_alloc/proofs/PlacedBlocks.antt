@@ -134,7 +134,7 @@ module _ {S : Type 0} (view : S → StorageView) where
     ]
 
     pub moves_rewritten : UnseenFileStep view q q file rewritten
-    moves_rewritten = moves_written view q file storage sound (calls.honest sound.honest) each calls.time
+    moves_rewritten = moves_written view q file storage sound (calls.honest sound.honest) each (calls.time sound.honest)
 
     pub reftable_rewritten : (t : EntryTableView) → HasReftable view file t → HasReftable view rewritten t
     reftable_rewritten = reftable_written view q file storage sound (calls.honest sound.honest) each

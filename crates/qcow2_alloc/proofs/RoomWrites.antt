@@ -238,7 +238,7 @@ module _ {S : Type 0} (view : S → StorageView) where
 
     becomes_table : UnseenAllocatorStep view table_pending file a table_written table_pending
     becomes_table = record {
-      moves = moves_written view table_pending file after sound.sound (table_calls.honest sound.sound.honest) each table_calls.time;
+      moves = moves_written view table_pending file after sound.sound (table_calls.honest sound.sound.honest) each (table_calls.time sound.sound.honest);
       reftable = reftable_written view table_pending file after sound.sound (table_calls.honest sound.sound.honest) each a.reftable sound.reftable;
     }
 

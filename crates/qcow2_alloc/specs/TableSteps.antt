@@ -1,7 +1,7 @@
 -- What loading and flushing a cached table do to the storage.
 use Rattle.std.specs.Prelude.{◌≡◌, ◌⊎◌, ℕ, ◌*◌, ◌^◌, Bool, true, false, List, length, Result, Ok, Err, IsErrOf}
 use Rattle.image_access.specs.Contents.{bytes_at, overwritten}
-use Rattle.image_access.specs.Moments.{StorageView, ContentsStay, Calls}
+use Rattle.image_access.specs.Moments.{StorageView, ContentsStay, Calls, QuietCalls}
 use Rattle.image_access.specs.declared.error.StorageError.{StorageError}
 use Rattle.image_access.specs.declared.error.StorageError.TheVariants.{Fault}
 use Rattle.qcow2_metadata.specs.declared.error.MetadataError.{MetadataError}
@@ -30,13 +30,13 @@ module _ {S V : Type 0} (view : S → StorageView) (cluster_bits : ℕ) (bytes :
     pub unmodified : is_modified v ≡ false
     pub fits : IsFit v
     pub read : (view s).is_honest → bytes v ≡ bytes_at (view s).contents (place_of_cluster k) (2 ^ cluster_bits)
-    pub calls : Calls (view s) (view t) answer_done
+    pub calls : QuietCalls (view s) (view t) answer_done
     pub keeps : ContentsStay (view s) (view t)
 
   -- a cluster that has a place is refused by the storage, or for memory
   pub record FailsToLoad (s : S) (k : ℕ) (e : MetadataError) (t : S) : Type 0 where
     pub cause : HasPlace cluster_bits k → IsOfStorageOrMemory e
-    pub calls : Calls (view s) (view t) (answer_refused e)
+    pub calls : QuietCalls (view s) (view t) (answer_refused e)
     pub keeps : ContentsStay (view s) (view t)
 
   -- the table's bytes stand in its cluster

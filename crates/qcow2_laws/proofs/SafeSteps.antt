@@ -137,7 +137,7 @@ step_endures {result = result} old new s s' given asked changed call changes hon
 pub write_endures : {T : Type 0} {result : Result T StorageError} (old new : StorageView) (s : DriverState) (given : Bytes → List GivenBytes) (asked : List ℕ) (changed : List ℕ) → Calls old new result → Changes old new result changed → old.is_honest
     → s.on_storage ≡ byte_at old.contents → (new.contents ≡ changed → (s' : DriverState) × (s'.on_storage ≡ byte_at new.contents) × SafeStep s s' given asked) → SafeThroughout old new s.known given asked
 write_endures {result = result} old new s given asked changed call changes honest is step =
-    by_return old new s.known given asked call.time (λ backing m ok known_ok. ⊎_elim
+    by_return old new s.known given asked (call.time honest) (λ backing m ok known_ok. ⊎_elim
     (λ (same : new.contents ≡ old.contents). subst (λ (c : List ℕ). StopOkEverywhere backing (checkpoint_with (given backing) asked m) (byte_at c)) (sym same) (kept_more backing (given backing) asked m (byte_at old.contents) ok))
     (λ (done : new.contents ≡ changed).
     let made = step done in

@@ -4,7 +4,7 @@ ghost use Rattle.std.specs.Prelude.{◌≡◌, ℕ, ◌+◌, ◌-◌, ◌*◌, �
 ghost use Rattle.std.specs.Bool.{OnTrue, OnFalse};
 ghost use Rattle.std.specs.Int.{w64, to_be_bytes};
 ghost use Rattle.image_access.specs.Contents.{bytes_at, overwritten};
-ghost use Rattle.image_access.specs.Moments.{ContentsStay, Changes, Calls};
+ghost use Rattle.image_access.specs.Moments.{ContentsStay, Changes, Calls, QuietCalls};
 ghost use Rattle.qcow2_metadata.specs.MetadataError.{storage_result};
 ghost use Rattle.qcow2_metadata.specs.L2Mapping.{IsHostCluster};
 ghost use Rattle.qcow2_metadata.specs.TableBytes.{entry_at as entry_of, ChangesEntry, IsClusterBits, IsOfStorageOrMemory};
@@ -78,7 +78,7 @@ pub(crate) fn load_bytes<S: Storage>(
     ensures length { IfOk result (λ bytes. length bytes.items ≡ count) }
     ensures causes { IfErr result IsOfStorageOrMemory }
     ensures same { ContentsStay (S.view storage.old) (S.view storage.new) }
-    ensures calls { Calls (S.view storage.old) (S.view storage.new) (storage_result result) }
+    ensures calls { QuietCalls (S.view storage.old) (S.view storage.new) (storage_result result) }
     ensures none { count ≡ 0 → storage.new ≡ storage.old }
 {
     if count == 0 {
@@ -147,7 +147,7 @@ impl EntryTable {
         ensures err { IfErr result (IsReasonNotToLoad (PassesLimit greatest cluster_bits cluster entries)
             ((S.view storage.old).is_honest → SomeUnread (IsClear reserved) (bytes_at (S.view storage.old).contents (cluster * 2 ^ cluster_bits) (8 * entries)))) }
         ensures same { ContentsStay (S.view storage.old) (S.view storage.new) }
-        ensures calls { Calls (S.view storage.old) (S.view storage.new) (storage_result result) }
+        ensures calls { QuietCalls (S.view storage.old) (S.view storage.new) (storage_result result) }
         ensures none { entries ≡ 0 → storage.new ≡ storage.old }
     {
         if entries > greatest {

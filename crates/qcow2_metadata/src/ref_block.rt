@@ -1,6 +1,6 @@
 ghost use Rattle.std.specs.Prelude.{◌≡◌, ℕ, ◌+◌, ◌-◌, ◌*◌, ◌/◌, ◌%◌, ◌^◌, ◌<◌, ◌≤◌, ◌↔◌, Some, None, true, false, length, replicate, IsTrue, IsFalse, IsSome, IsOk, OnOk, OnErr, IfOk, IfErr, IfSome};
 ghost use Rattle.image_access.specs.Contents.{bytes_at, overwritten};
-ghost use Rattle.image_access.specs.Moments.{ContentsStay, Changes, Calls};
+ghost use Rattle.image_access.specs.Moments.{ContentsStay, Changes, Calls, QuietCalls};
 ghost use Rattle.qcow2_metadata.specs.Bytes.{byte_at};
 ghost use Rattle.qcow2_metadata.specs.Header.{cluster_size};
 ghost use Rattle.qcow2_metadata.specs.MetadataError.{storage_result};
@@ -150,7 +150,7 @@ impl RefBlock {
         ensures whole { IfOk result IsRefBlock }
         ensures err { IfErr result IsOfStorageOrMemory }
         ensures same { ContentsStay (S.view storage.old) (S.view storage.new) }
-        ensures calls { Calls (S.view storage.old) (S.view storage.new) (storage_result result) }
+        ensures calls { QuietCalls (S.view storage.old) (S.view storage.new) (storage_result result) }
     {
         let cluster_bits = header.cluster_bits();
         let at = cluster.offset(cluster_bits).value();

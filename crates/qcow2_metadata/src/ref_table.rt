@@ -3,7 +3,7 @@
 ghost use Rattle.std.specs.Prelude.{◌≡◌, ℕ, ◌+◌, ◌-◌, ◌*◌, ◌/◌, ◌%◌, ◌^◌, ◌<◌, ◌≤◌, ◌↔◌, ◌++◌, Some, None, true, length, replicate, IsTrue, IsSome, IfOk, IfErr, IfSome, IfNone, OnOk};
 ghost use Rattle.std.specs.Int.{w64, to_be_bytes};
 ghost use Rattle.image_access.specs.Contents.{bytes_at, overwritten};
-ghost use Rattle.image_access.specs.Moments.{ContentsStay, Changes, Calls};
+ghost use Rattle.image_access.specs.Moments.{ContentsStay, Changes, Calls, QuietCalls};
 ghost use Rattle.qcow2_metadata.specs.Bytes.{byte_at};
 ghost use Rattle.qcow2_metadata.specs.Header.{HeaderFields, cluster_size};
 ghost use Rattle.qcow2_metadata.specs.Entries.{block_offset as block_offset_of, ReftableEntryReads};
@@ -86,7 +86,7 @@ impl RefTable {
         ensures err { IfErr result (IsReasonNotToLoad (PassesLimit 1048576 header.now.fields.cluster_bits cluster entries)
             ((S.view storage.old).is_honest → SomeUnread ReftableEntryReads (bytes_at (S.view storage.old).contents (cluster * cluster_size header.now.fields) (8 * entries)))) }
         ensures same { ContentsStay (S.view storage.old) (S.view storage.new) }
-        ensures calls { Calls (S.view storage.old) (S.view storage.new) (storage_result result) }
+        ensures calls { QuietCalls (S.view storage.old) (S.view storage.new) (storage_result result) }
         ensures none { entries ≡ 0 → storage.new ≡ storage.old }
     {
         let bits = header.cluster_bits();

@@ -2,7 +2,7 @@
 
 ghost use Rattle.std.specs.Prelude.{◌≡◌, ◌+◌, ◌*◌, ◌≤◌, length, replicate, IfOk, IfErr};
 ghost use Rattle.image_access.specs.Contents.{bytes_at, overwritten};
-ghost use Rattle.image_access.specs.Moments.{ContentsStay, Calls};
+ghost use Rattle.image_access.specs.Moments.{ContentsStay, QuietCalls};
 ghost use Rattle.qcow2_metadata.specs.MetadataError.{storage_result};
 ghost use Rattle.qcow2_metadata.specs.TableBytes.{entry_at as entry_of, ChangesEntry, IsOfStorageOrMemory};
 
@@ -28,7 +28,7 @@ pub(crate) fn load<S: Storage>(
     ensures length { IfOk result (λ bytes. length bytes.items ≡ count) }
     ensures causes { IfErr result IsOfStorageOrMemory }
     ensures same { ContentsStay (S.view storage.old) (S.view storage.new) }
-    ensures calls { Calls (S.view storage.old) (S.view storage.new) (storage_result result) }
+    ensures calls { QuietCalls (S.view storage.old) (S.view storage.new) (storage_result result) }
 {
     let mut bytes = zeros(alloc, count)?;
     storage.read(at, &mut bytes)?;

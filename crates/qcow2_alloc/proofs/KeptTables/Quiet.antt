@@ -4,7 +4,7 @@ use Rattle.std.specs.Option.{IfSome, IsNone, option_map}
 use Rattle.std.specs.Map.{lookup, lookup_entry, remove_entry}
 use Rattle.lru.specs.LruCache.{promoted}
 use Rattle.image_access.specs.declared.error.StorageError.{StorageError}
-use Rattle.image_access.specs.Moments.{StorageView, Calls, ContentsStay}
+use Rattle.image_access.specs.Moments.{StorageView, Calls, QuietCalls, ContentsStay}
 use Rattle.image_access.proofs.EachMomentSince.{passes_none, passes_on, passes_if}
 use Rattle.qcow2_metadata.specs.declared.error.MetadataError.{MetadataError}
 use Rattle.qcow2_metadata.specs.L2Table.{L2TableView}
@@ -45,6 +45,13 @@ quiet_then a b c first second = record {
 -- one call of the storage that changes nothing
 quiet_call : {T : Type 0} (a b : StorageView) (r : Result T StorageError) → Calls a b r → ContentsStay a b → a.is_honest → IsQuiet a b
 quiet_call a b r calls keeps honest = record {
+  honest = calls.honest honest;
+  contents = keeps honest;
+  moments = passes_if _ (λ c is. is ∙ keeps honest) (calls.time honest);
+}
+
+quiet_read : {T : Type 0} (a b : StorageView) (r : Result T StorageError) → QuietCalls a b r → ContentsStay a b → a.is_honest → IsQuiet a b
+quiet_read a b r calls keeps honest = record {
   honest = calls.honest honest;
   contents = keeps honest;
   moments = passes_if _ (λ c is. is ∙ keeps honest) calls.time;
@@ -100,18 +107,18 @@ module _ {S V : Type 0} (view : S → StorageView) (bits : ℕ) (bytes : V → L
     new_quiet : (t : S) (fs : List (ℕ × Slot V)) (k : ℕ) (r : Result Bool (CacheError ℕ MetadataError)) → GetsNew (table_steps view bits bytes is_modified cleared IsFit) eqb size may_flush k s es r t fs → Quiet s t
     new_quiet t fs k (Ok true) h honest =
         let one = room_quiet h.0 h.1 h.3 honest in
-        quiet_then (view s) (view h.0) (view t) one (quiet_call (view h.0) (view t) answer_done h.4.calls h.4.keeps one.honest)
+        quiet_then (view s) (view h.0) (view t) one (quiet_read (view h.0) (view t) answer_done h.4.calls h.4.keeps one.honest)
     new_quiet t fs k (Ok false) h honest = no_room_quiet t fs (Ok false) h honest
     new_quiet t fs k (Err InUse) h honest = no_room_quiet t fs (Err InUse) h honest
     new_quiet t fs k (Err (StillInUse keys)) h honest = absurd h
     new_quiet t fs k (Err Memory) h honest =
         let one = room_quiet h.0 fs h.2 honest in
-        quiet_then (view s) (view h.0) (view t) one (quiet_call (view h.0) (view t) answer_done h.3.calls h.3.keeps one.honest)
+        quiet_then (view s) (view h.0) (view t) one (quiet_read (view h.0) (view t) answer_done h.3.calls h.3.keeps one.honest)
     new_quiet t fs k (Err (Backend x)) h honest = elim h [
       | inl none ↦ no_room_quiet t fs (Err (Backend x)) none honest
       | inr failed ↦
           let one = room_quiet failed.0 fs failed.1 honest in
-          quiet_then (view s) (view failed.0) (view t) one (quiet_call (view failed.0) (view t) _ failed.2.calls failed.2.keeps one.honest)
+          quiet_then (view s) (view failed.0) (view t) one (quiet_read (view failed.0) (view t) _ failed.2.calls failed.2.keeps one.honest)
     ]
 
     put_new_quiet : (t : S) (fs : List (ℕ × Slot V)) (k : ℕ) (v : V) (left : Option V) (r : Result Bool (CacheError ℕ MetadataError)) → InsertsNew (table_steps view bits bytes is_modified cleared IsFit) eqb size may_flush k v s es r t fs left → Quiet s t

@@ -171,8 +171,8 @@ module _ {S V : Type 0} (view : S → StorageView) (bits : ℕ) (bytes : V → L
 
   entry_calls : (s t : S) (e : ℕ × Slot V) (x : Option MetadataError) (d : Slot V) → (view s).is_honest → FlushesEntry (table_steps view bits bytes is_modified cleared IsFit) s e x t d
       → (view t).is_honest × EachMomentSince (view s) (view t) (λ c. c ≡ (view t).contents)
-  entry_calls s t e None d honest f = (f.0.calls.honest honest, f.0.calls.time)
-  entry_calls s t e (Some x) d honest f = (f.0.calls.honest honest, f.0.calls.time)
+  entry_calls s t e None d honest f = (f.0.calls.honest honest, f.0.calls.time honest)
+  entry_calls s t e (Some x) d honest f = (f.0.calls.honest honest, f.0.calls.time honest)
 
   -- ---- a whole cache is flushed, where each write of one of its tables keeps P and what is known
   module _ (P : List CachedTable → Bytes → Type 0) (all : List CachedTable → Bytes → Bytes) where

@@ -1,8 +1,8 @@
-use Rattle.image_access.proofs.Boxed.{boxed_calls, boxed_keeps}
+use Rattle.image_access.proofs.Boxed.{boxed_keeps, boxed_quiet}
 use Rattle.image_access.proofs.dynamic.BoxDynDynStorageStorage.invalidate_cache.Goals as goal
 
 pub returns-clause-same : goal.returns-clause-same
 returns-clause-same g c = boxed_keeps c.deref_box_mut-1.ensures.value.1 (λ z. (g.dyn-1.0.entry z.0).1.Storage.view z.1) c.invalidate_cache.ensures.0
 
 pub returns-clause-calls : goal.returns-clause-calls
-returns-clause-calls g c = boxed_calls c.deref_box_mut-1.ensures.value.1 (λ z. (g.dyn-1.0.entry z.0).1.Storage.view z.1) c.invalidate_cache.ensures.1
+returns-clause-calls g c = boxed_quiet c.deref_box_mut-1.ensures.value.1 (λ z. (g.dyn-1.0.entry z.0).1.Storage.view z.1) c.invalidate_cache.ensures.1
