@@ -74,7 +74,7 @@ module _ {S F : Type 0} (view : S → StorageView) where
   pub record WritesBytes (old new : Qcow2 S F) (host : ℕ) (bytes : List ℕ) (result : Result (Unit {0}) ImageError) : Type 0 where
     pub rest : new ≡ record old { file = record old.file { storage = new.file.storage } }
     pub honest : (view_in view old.file).is_honest → (view_in view new.file).is_honest
-    pub time : EachMomentSince (view_in view old.file) (view_in view new.file) (λ c. c ≡ (view_in view new.file).contents)
+    pub time : (view_in view old.file).is_honest → EachMomentSince (view_in view old.file) (view_in view new.file) (λ c. c ≡ (view_in view new.file).contents)
     pub written : (view_in view old.file).is_honest → IsWriteOutcome result (view_in view old.file).contents (overwritten (view_in view old.file).contents host bytes) (view_in view new.file).contents
 
   module _ (backing : F → BackingView) where

@@ -124,11 +124,11 @@ module _ {S F : Type 0} (view : S → StorageView) (backing : F → BackingView)
       calls_now = subst (λ (s : S). Calls (view_in view image.file) (view s) result) (sym stored) calls
 
       reftable_now : (a : Option Allocator) → IfSome a (IsAllocatorOf view image.file) → IfSome a (IsAllocatorOf view placed.file)
-      reftable_now = allocator_moved view image.file placed.file q (moves_written view q image.file storage sound.file (calls_now.honest sound.file.honest) each_now calls_now.time)
+      reftable_now = allocator_moved view image.file placed.file q (moves_written view q image.file storage sound.file (calls_now.honest sound.file.honest) each_now (calls_now.time sound.file.honest))
           (reftable_written view q image.file storage sound.file (calls_now.honest sound.file.honest) each_now)
 
       pub keeps_placed : UnseenStep view backing q q image placed out
-      keeps_placed = file_moved view backing image out q q sound placed.file image.allocator (moves_written view q image.file storage sound.file (calls_now.honest sound.file.honest) each_now calls_now.time) (reftable_now image.allocator sound.reftable)
+      keeps_placed = file_moved view backing image out q q sound placed.file image.allocator (moves_written view q image.file storage sound.file (calls_now.honest sound.file.honest) each_now (calls_now.time sound.file.honest)) (reftable_now image.allocator sound.reftable)
           (λ k. refl) refl
 
       pub stands_whole : (t' : EntryTableView) → t' ≡ record t { cluster = Some cluster } → (x : Unit {0}) → result ≡ Ok x → StandsWhole view placed t' cluster

@@ -22,7 +22,7 @@ use Rattle.qcow2_metadata.specs.Tables.{CachedTable, known}
 use Rattle.qcow2_laws.proofs.Lists.{clean_known}
 use Rattle.qcow2_laws.specs.Caches.{AreNamedBlocks}
 use Rattle.image_access.specs.declared.error.StorageError.{StorageError}
-use Rattle.image_access.specs.Moments.{Calls, EachMomentSince, ContentsStay}
+use Rattle.image_access.specs.Moments.{QuietCalls, EachMomentSince, ContentsStay}
 use Rattle.qcow2_laws.proofs.SafeSteps.{leads_none, endures_none}
 use Rattle.qcow2_alloc.specs.MetadataCaches.{l2_tables, refblocks, known_of, AreAllWritten, CacheInvariant, UnseenCacheStep}
 use Rattle.qcow2_alloc.specs.ImageFile.{state_in, view_in, contents_in, known_in}
@@ -139,6 +139,6 @@ module _ {S F : Type 0} (view : S → StorageView) (backing : F → BackingView)
   still_moved storage' honest time same = caches_moved view backing image out p sound storage' image.file.caches
       (stays_still image.file.header.fields p image.file.caches (view_in view image.file) (view (storage_of storage')) honest time same sound.file.caches) (λ room. room) (λ table. refl)
 
-  pub read_moved : {T : Type 0} {result : Result T StorageError} (storage' : ImageStorage S) → Calls (view_in view image.file) (view (storage_of storage')) result → ContentsStay (view_in view image.file) (view (storage_of storage'))
+  pub read_moved : {T : Type 0} {result : Result T StorageError} (storage' : ImageStorage S) → QuietCalls (view_in view image.file) (view (storage_of storage')) result → ContentsStay (view_in view image.file) (view (storage_of storage'))
       → UnseenStep view backing p p image (with_caches view backing image out p sound storage' image.file.caches) out
   read_moved storage' calls keeps = still_moved storage' (calls.honest sound.file.honest) calls.time (keeps sound.file.honest)

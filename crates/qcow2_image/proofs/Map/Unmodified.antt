@@ -3,7 +3,7 @@ use Rattle.std.proofs.Common.{◌≡◌, ⊎_elim, ℕ, ◌/◌, ◌^◌, List, 
 use mathlib.Core.Path.{fun_ext}
 use Rattle.std.specs.Prelude.{Bool, Option}
 use Rattle.image_access.specs.Backing.{BackingView}
-use Rattle.image_access.specs.Moments.{StorageView, EachMomentSince, Calls}
+use Rattle.image_access.specs.Moments.{StorageView, EachMomentSince, QuietCalls}
 use Rattle.image_access.specs.declared.error.StorageError.{StorageError}
 use Rattle.image_access.proofs.EachMomentSince.{passes_none, passes_if, passes_on}
 use Rattle.qcow2_metadata.specs.Bytes.{Bytes, byte_at}
@@ -79,7 +79,7 @@ module _ {S F : Type 0} (view : S → StorageView) where
         }
 
     -- bytes are read
-    pub read_bytes : {T : Type 0} {result : Result T StorageError} → Calls (view_in view old.file) (view (storage_of storage)) result → (view (storage_of storage)).contents ≡ (view_in view old.file).contents
+    pub read_bytes : {T : Type 0} {result : Result T StorageError} → QuietCalls (view_in view old.file) (view (storage_of storage)) result → (view (storage_of storage)).contents ≡ (view_in view old.file).contents
         → IsOnlyRead view old (record old { file = record old.file { storage = storage } })
     read_bytes calls same = record {
       storage = holds_read (view_in view old.file) (view (storage_of storage)) calls.time same;

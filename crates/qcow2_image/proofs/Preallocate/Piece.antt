@@ -298,7 +298,7 @@ module _ {S F : Type 0} (view : S → StorageView) (backing : F → BackingView)
         let contents = (view_in view mid.file).contents in
         let storage = mid2.file.storage in
         subst (λ (image : Qcow2 S F). PutsPart view backing mid image (Some p ∷ out) 0 p 0 (zeros_of p.length) r) (sym w.rest)
-        (zeros_put out old mid p from n sound ready answered all_fits storage (w.honest ready.sound.file.honest) w.time r
+        (zeros_put out old mid p from n sound ready answered all_fits storage (w.honest ready.sound.file.honest) (w.time ready.sound.file.honest) r
         (subst (λ k. IsWriteOutcome r contents (overwritten contents p.offset (zeros_of k)) (view_in view mid2.file).contents) all_counted (w.written ready.sound.file.honest)))
 
     pub all_header : (mid2 : Qcow2 S F) (r : Result (Unit {0}) ImageError) → WritesBytes view mid mid2 p.offset (replicate count 0) r → mid2.file.header ≡ mid.file.header
@@ -313,7 +313,7 @@ module _ {S F : Type 0} (view : S → StorageView) (backing : F → BackingView)
         let contents = (view_in view mid.file).contents in
         let put : (g : ℕ) → cover mid.file.header.fields (known_in view mid.file) g ≡ cover mid2.file.header.fields (known_in view mid2.file) g =
         subst (λ (image : Qcow2 S F). (g : ℕ) → cover mid.file.header.fields (known_in view mid.file) g ≡ cover image.file.header.fields (known_in view image.file) g) (sym w.rest)
-        (zeros_covers out old mid p from n sound ready answered all_fits storage (w.honest ready.sound.file.honest) w.time
+        (zeros_covers out old mid p from n sound ready answered all_fits storage (w.honest ready.sound.file.honest) (w.time ready.sound.file.honest)
         (w.written ready.sound.file.honest ∙ ap (λ k. overwritten contents p.offset (zeros_of k)) all_counted)) in
         let so_far : (g : ℕ) → cover h (known_in view old.file) g ≡ cover mid2.file.header.fields (known_in view mid2.file) g = λ g. ready.covers g ∙ put g in
         let from_is : p.guest ≡ from = ready.prepared.from in

@@ -190,11 +190,11 @@ module _ {S F : Type 0} (view : S → StorageView) (backing : F → BackingView)
   module _ (old new : Qcow2 S F) (p : Pending) (sound : ImageInvariant view backing p old out) (cluster at : ℕ) (bytes : List ℕ) (own : IsInHeldCluster view backing p old out cluster at (length bytes)) (holds : HoldsAll view backing p out)
       (r : Result (Unit {0}) ImageError) (w : WritesBytes view old new at bytes r) where
     still : (view_in view new.file).contents ≡ (view_in view old.file).contents → UnseenFillingStep view backing p p old (record old { file = record old.file { storage = new.file.storage } }) out
-    still same = goes_kept old (record old { file = record old.file { storage = new.file.storage } }) p p sound holds holds (still_moved view backing old out p sound new.file.storage (w.honest sound.file.honest) w.time same)
+    still same = goes_kept old (record old { file = record old.file { storage = new.file.storage } }) p p sound holds holds (still_moved view backing old out p sound new.file.storage (w.honest sound.file.honest) (w.time sound.file.honest) same)
 
     pub goes_data : UnseenFillingStep view backing p p old new out
     goes_data = subst (λ (image : Qcow2 S F). UnseenFillingStep view backing p p old image out) (sym w.rest)
-        (⊎_elim still (λ (is : (view_in view new.file).contents ≡ overwritten (view_in view old.file).contents at bytes). goes_written old p sound cluster at bytes own new.file.storage (w.honest sound.file.honest) w.time is) (written_or_not r (view_in view old.file).contents (overwritten (view_in view old.file).contents at bytes) (view_in view new.file).contents (w.written sound.file.honest)))
+        (⊎_elim still (λ (is : (view_in view new.file).contents ≡ overwritten (view_in view old.file).contents at bytes). goes_written old p sound cluster at bytes own new.file.storage (w.honest sound.file.honest) (w.time sound.file.honest) is) (written_or_not r (view_in view old.file).contents (overwritten (view_in view old.file).contents at bytes) (view_in view new.file).contents (w.written sound.file.honest)))
 
 -- a range of the same length in an image of the same file
 pub own_of : {S F : Type 0} (view : S → StorageView) (backing : F → BackingView) (p : Pending) (old new : Qcow2 S F) (out : List (Option Prepared)) (cluster at n m : ℕ) → m ≡ n → new.file.header ≡ old.file.header

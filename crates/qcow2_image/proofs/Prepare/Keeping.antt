@@ -146,8 +146,8 @@ module _ {S F : Type 0} (view : S → StorageView) (backing : F → BackingView)
       subst (λ (image : Qcow2 S F). UnseenFillingStep view backing p p old image out) (sym w.rest)
       (⊎_elim
       (λ (same : (view_in view new.file).contents ≡ (view_in view old.file).contents). goes_kept view backing out old (record old { file = record old.file { storage = new.file.storage } }) p p sound holds holds
-      (still_moved view backing old out p sound new.file.storage (w.honest sound.file.honest) w.time same))
-      (λ (is : (view_in view new.file).contents ≡ overwritten (view_in view old.file).contents (host + at) bytes). goes_written new.file.storage (w.honest sound.file.honest) w.time is)
+      (still_moved view backing old out p sound new.file.storage (w.honest sound.file.honest) (w.time sound.file.honest) same))
+      (λ (is : (view_in view new.file).contents ≡ overwritten (view_in view old.file).contents (host + at) bytes). goes_written new.file.storage (w.honest sound.file.honest) (w.time sound.file.honest) is)
       (written_or_not r (view_in view old.file).contents (overwritten (view_in view old.file).contents (host + at) bytes) (view_in view new.file).contents (w.written sound.file.honest)))
 
 -- so many zeros fill a part of it

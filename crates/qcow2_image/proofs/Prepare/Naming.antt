@@ -378,4 +378,4 @@ module _ {S F : Type 0} (view : S → StorageView) (backing : F → BackingView)
         sound.file.honest refl (λ is. (state_in view (record old.file { storage = storage }) (replacing view p old index), refl, leads storage is))
 
     pub named_so : (x : Unit {0}) → result ≡ Ok x → UnseenStep view backing q (replacing view p old index) old (record old { file = record old.file { storage = storage }; l1_table = t' }) out × NamesCopied view (record old { file = record old.file { storage = storage }; l1_table = t' }) index at
-    named_so x done = let is = rw done at (changes sound.file.honest) in (keeps_named storage is (calls.honest sound.file.honest) calls.time, names_copied storage is)
+    named_so x done = let is = rw done at (changes sound.file.honest) in (keeps_named storage is (calls.honest sound.file.honest) (calls.time sound.file.honest), names_copied storage is)

@@ -234,13 +234,13 @@ module _ {S F : Type 0} (view : S → StorageView) (backing : F → BackingView)
         grows_sized (Ok x) marked marks cause fault writes = done marked marks writes
         grows_sized (Err e) marked marks cause fault writes = undone e marked cause (fault cause) writes
 
-        pub last_sized : (marked : Bool) → EachMomentSince (view_in view filled.file) (view_in view new.file) (λ c. c ≡ (view_in view new.file).contents) → (out : List (Option Prepared)) → ImageInvariant view backing (pending_in view backing old out) old out
+        pub last_sized : (marked : Bool) → ((view_in view filled.file).is_honest → EachMomentSince (view_in view filled.file) (view_in view new.file) (λ c. c ≡ (view_in view new.file).contents)) → (out : List (Option Prepared)) → ImageInvariant view backing (pending_in view backing old out) old out
             → WritesSizeLast view backing old (record new { is_failed = marked })
         last_sized marked time out sound =
             passes_on (λ c. ((header (byte_at c)).size ≡ size_of old) ⊎ (c ≡ (view_in view new.file).contents))
             (passes_if (λ c. ((header (byte_at c)).size ≡ size_of old) ⊎ (c ≡ (view_in view new.file).contents)) (λ c is. inl is)
             (size_stays_in_calls (state_in view old.file (pending_in view backing old out)) (abstract_of view backing old out) (abstract_of view backing filled out) given_bytes sound.file.caches.kept.kept.guarded refl refl (fills_works out sound)))
-            time (λ c is. inr is)
+            (time (fills_sound out sound).file.honest) (λ c is. inr is)
 
 -- the L1 table has an entry for the last byte
 module _ {S F : Type 0} (view : S → StorageView) (backing : F → BackingView) (out : List (Option Prepared)) where

@@ -384,6 +384,9 @@ module _ {S F : Type 0} (view : S → StorageView) (backing : F → BackingView)
   tail_works old mid size at None out tail = (_, tail.0.works)
   tail_works old mid size at (Some e) out tail = (_, tail.0)
 
+  pub uncovered_honest : (old mid : Qcow2 S F) (size at : ℕ) (out : List (Option Prepared)) → UncoversTail view backing old mid size at None out → (view_in view mid.file).is_honest
+  uncovered_honest old mid size at out tail = tail.0.sound.file.honest
+
   pub size_is_last : (old mid new : Qcow2 S F) (size at : ℕ) (r : Option ImageError) → ((out : List (Option Prepared)) → ImageInvariant view backing (pending_in view backing old out) old out → UncoversTail view backing old mid size at r out)
       → EachMomentSince (view_in view mid.file) (view_in view new.file) (λ c. c ≡ (view_in view new.file).contents) → (out : List (Option Prepared)) → ImageInvariant view backing (pending_in view backing old out) old out → WritesSizeLast view backing old new
   size_is_last old mid new size at r tail time out sound =

@@ -291,7 +291,7 @@ module _ {S F : Type 0} (view : S → StorageView) (backing : F → BackingView)
     size_is_refused SE.Fault done new is = inr (subst (λ (a : Qcow2 S F). MayStand view backing old a out size I.Storage) (sym is) (unsized_fails storage (calls.honest sound.file.honest) since))
     size_is_refused SE.Memory done new is =
         let contents = rw done at (changes sound.file.honest) in
-        inl (subst (λ (a : Qcow2 S F). UnseenCall view backing old a out) (sym is) (unsized_stays storage (calls.honest sound.file.honest) calls.time contents))
+        inl (subst (λ (a : Qcow2 S F). UnseenCall view backing old a out) (sym is) (unsized_stays storage (calls.honest sound.file.honest) (calls.time sound.file.honest) contents))
 
 -- ---- while no mapping is out, whatever is pending
 module _ {S F : Type 0} (view : S → StorageView) (backing : F → BackingView) (p : Pending) (old : Qcow2 S F) (sound : ImageInvariant view backing p old []) (size : ℕ) (fits : size < 2 ^ 64) (storage : ImageStorage S) (result : Result (Unit {0}) StorageError) (asked : S)

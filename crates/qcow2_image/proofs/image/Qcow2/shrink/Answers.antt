@@ -10,7 +10,7 @@ use Rattle.qcow2_image.specs.Image.{is_failed, size_of}
 use Rattle.qcow2_image.specs.Refusals.{MarksRefused}
 use Rattle.qcow2_image.specs.Resizing.{Shrinks, UncoversTail, WritesSizeLast}
 use Rattle.qcow2_image.proofs.Sizing.Noted.{fewer_noted, shrinks_noted}
-use Rattle.qcow2_image.proofs.Sizing.Shrinking.{shrinks_done, shrinks_stopped, shrinks_unwritten, size_is_last, written_stops}
+use Rattle.qcow2_image.proofs.Sizing.Shrinking.{shrinks_done, shrinks_stopped, shrinks_unwritten, size_is_last, uncovered_honest, written_stops}
 use Rattle.qcow2_image.proofs.Call.Marked.{may_mark_refused, refused_on, refused_since}
 use Rattle.qcow2_image.proofs.Call.FaultCounts.{counted_as, counted_still}
 use Rattle.qcow2_image.specs.Faults.{TellsFault}
@@ -61,7 +61,7 @@ returns-in-Err-clause-last g c = λ out sound.
     let mid = c.uncover_tail-end.new.self in
     let new = c.write_size.new.self in
     subst (λ (image : Qcow2 _ _). WritesSizeLast view g.F.BackingDisk.backing old image) (sym c.mark_refused-in-Err.ensures.rest)
-    (size_is_last view g.F.BackingDisk.backing old mid new c.args.size c.uncover_tail-end.result.0 c.uncover_tail-end.result.1 c.uncover_tail-end.ensures.uncovers c.write_size.ensures.time out sound)
+    (size_is_last view g.F.BackingDisk.backing old mid new c.args.size c.uncover_tail-end.result.0 c.uncover_tail-end.result.1 c.uncover_tail-end.ensures.uncovers (c.write_size.ensures.time (uncovered_honest g.S.Storage.view g.F.BackingDisk.backing c.args.self.now c.uncover_tail-end.new.self c.args.size c.uncover_tail-end.result.0 out (subst (λ r. UncoversTail g.S.Storage.view g.F.BackingDisk.backing c.args.self.now c.uncover_tail-end.new.self c.args.size c.uncover_tail-end.result.0 r out) c.in_default.is (c.uncover_tail-end.ensures.uncovers out sound)))) out sound)
 
 pub returns-clause-sees : goal.returns-clause-sees
 returns-clause-sees g c =
@@ -77,7 +77,7 @@ returns-clause-sees g c =
 
 pub returns-clause-last : goal.returns-clause-last
 returns-clause-last g c = λ out sound.
-    size_is_last g.S.Storage.view g.F.BackingDisk.backing c.args.self.now c.uncover_tail-end.new.self c.write_size.new.self c.args.size c.uncover_tail-end.result.0 c.uncover_tail-end.result.1 c.uncover_tail-end.ensures.uncovers c.write_size.ensures.time out sound
+    size_is_last g.S.Storage.view g.F.BackingDisk.backing c.args.self.now c.uncover_tail-end.new.self c.write_size.new.self c.args.size c.uncover_tail-end.result.0 c.uncover_tail-end.result.1 c.uncover_tail-end.ensures.uncovers (c.write_size.ensures.time (uncovered_honest g.S.Storage.view g.F.BackingDisk.backing c.args.self.now c.uncover_tail-end.new.self c.args.size c.uncover_tail-end.result.0 out (subst (λ r. UncoversTail g.S.Storage.view g.F.BackingDisk.backing c.args.self.now c.uncover_tail-end.new.self c.args.size c.uncover_tail-end.result.0 r out) c.in_default.is (c.uncover_tail-end.ensures.uncovers out sound)))) out sound
 
 pub returns-clause-stops : goal.returns-clause-stops
 returns-clause-stops g c = λ none out sound unprepared lt.

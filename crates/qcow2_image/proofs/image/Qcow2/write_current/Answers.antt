@@ -44,7 +44,7 @@ returns-clause-puts g c = λ some fits out k placed sound.
     subst (λ o. IsMappedAs view mid (p.guest + at) (Raw Image o true) (length bytes)) host_is (c.in_ok-check_in_place.ensures.mapped none some (pending_in view below old out) out sound) in
     subst (λ (image : Qcow2 _ _). PutsPart view below old image out k p at bytes c.write_data.result) (sym w.rest)
     (puts_then view below out k p at bytes placed old mid (record mid { file = record mid.file { storage = storage } }) c.write_data.result quiet sound
-    (puts_written view below out k p at bytes placed mid still fits (mapped_in_place view below out k p at bytes placed mid mapped) storage (w.honest still.file.honest) w.time c.write_data.result done))
+    (puts_written view below out k p at bytes placed mid still fits (mapped_in_place view below out k p at bytes placed mid mapped) storage (w.honest still.file.honest) (w.time still.file.honest) c.write_data.result done))
 
 pub returns-in_err-check_in_place-clause-outdated : goal.returns-in_err-check_in_place-clause-outdated
 returns-in_err-check_in_place-clause-outdated g c = λ some none p out sound is whole.
