@@ -77,7 +77,7 @@ pub record CrashInvariant (h : HeaderFields) (d : Direction) (p : Pending) (on_s
   pub known_aligned : (g : ℕ) → CoverIsAligned h (cover h known g)
   -- where a guest cluster has a host cluster to itself, its entry on the storage has it so too, or doesn't name it
   pub own : (g c : ℕ) → 0 < marks h known c g → names h on_storage c g ≤ marks h on_storage c g
-  -- no table is laid over what entries name, or what is held for them
+  -- no table is laid over what entries name, or new data
   pub not_overlaid : (o : ℕ) → 0 < named_in_either h on_storage known (o / cluster_size h) + p.new_data (o / cluster_size h) → on_storage o ≡ known o
 
 -- the same bytes in a cluster
