@@ -30,7 +30,7 @@ abbrev pub is_data : ClusterKind → Bool
 is_data Data = true
 is_data Metadata = false
 
--- clusters that are taken for data are held, those for tables are fresh
+-- clusters that are taken for data are new data, those for tables new tables
 abbrev pub taken_as : Bool → Pending → (ℕ → ℕ) → Pending
 taken_as true p n = with_new_data p n
 taken_as false p n = with_new_tables p n

@@ -81,7 +81,7 @@ impl Allocator {
         Ok(())
     }
 
-    /// Works off the list of clusters that are to be freed: metadata first, then data. From then on L2 tables are written before refblocks.
+    /// Works off the list of clusters that are to be freed: metadata first, then data. Where data were listed, L2 tables are written before refblocks from then on.
     /// Refused, the clusters that aren't freed yet stay listed.
     pub fn free<S: Storage>(&mut self, file: &mut ImageFile<S>) -> Result<(), ImageError>
         ensures marks { KeepsPinsAndNotes file.old.caches file.new.caches }

@@ -96,7 +96,7 @@ module _ (h : HeaderFields) where
   share_of p g = if nat_le (cluster_of p) g then slice_get p.shares.items (g - cluster_of p) else None
 
   module _ (known on_storage : Bytes) (p : Prepared) where
-    -- what the L2 entry of its i-th guest cluster says: for a new cluster, what isn't copied data; what it names is dropped
+    -- what the L2 entry of its i-th guest cluster says: for a new cluster, what isn't copied data; what it names is old data then
     pub record IsNewAt (i : ℕ) (taken old_data : List ClustersToFreeEntry) : Type 0 where
       pub first : ℕ
       pub is : taken ≡ data_entry first 1 ∷ []
@@ -197,7 +197,7 @@ module _ {S F : Type 0} (view : S → StorageView) (backing : F → BackingView)
     pub pinned : (table : ℕ) → l2_pins image.file.caches table ≡ over_all pins_by out table
     pub once : (table : ℕ) → over_all pins_by out table ≤ 1
 
-  -- how much more often a cluster is counted than it is named, held or to be freed
+  -- how much more often a cluster is counted than it is named, new data or to be freed
   abbrev pub surplus_in : Qcow2 S F → List (Option Prepared) → ℕ → ℕ
   surplus_in image out k =
       count image.file.header.fields (known_in view image.file) k

@@ -98,7 +98,7 @@ module _ {S F : Type 0} where
       PlacesTable p old new out t cluster (Ok _) = UnseenStep view backing p p old new out × StandsWhole new t cluster
       PlacesTable p old new out t cluster (Err e) = UnseenStep view backing p p old new out
 
-      -- the header names it in the place of the L1 table; where that is refused, its clusters are fresh still, or it broke off
+      -- the header names it in the place of the L1 table; where that is refused, its clusters are still those of a new table, or it broke off
       abbrev pub NamesTable : Pending → Qcow2 S F → Qcow2 S F → List (Option Prepared) → EntryTableView → ℕ → Result (Unit {0}) ImageError → Type 0
       NamesTable p old new out t cluster (Ok _) = UnseenMove (with_table p t cluster) (without_l1 p old.file.header.fields) old new out
       NamesTable p old new out t cluster (Err e) = UnseenStep view backing (with_table p t cluster) (with_table p t cluster) old new out ⊎ InterruptedMove old new e

@@ -41,7 +41,7 @@ module _ {S F : Type 0} (view : S → StorageView) where
     pub counts : AreClean (refblocks image.file.caches)
     pub first : BlocksMayGo (order_of image.file.caches) (l2_tables image.file.caches)
 
-  -- then the table's bytes stand in a cluster, and are held for it
+  -- then the table's bytes stand in its cluster
   pub record StandsReady (image : Qcow2 S F) (cluster : ℕ) (bytes : List ℕ) : Type 0 where
     pub stored : IsStored image
     pub new_data : (t : L2TableView) × (l2_at image.file.caches cluster ≡ Some t) × (t.bytes ≡ bytes)
@@ -90,7 +90,7 @@ module _ {S F : Type 0} (view : S → StorageView) where
     NamesNew p old new out index cluster (Ok _) = UnseenStep view backing (with_new_tables p (one_at cluster)) (replacing p old index) old new out × NamesCopied new index cluster
     NamesNew p old new out index cluster (Err e) = InterruptedFileStep view old.file new.file e
 
-    -- both; where it is refused, the cluster is fresh still, or it broke off
+    -- both; where it is refused, the cluster is still that of a new table, or it broke off
     abbrev pub WritesNew : Pending → Qcow2 S F → Qcow2 S F → List (Option Prepared) → ℕ → ℕ → Result (Unit {0}) ImageError → Type 0
     WritesNew p old new out index cluster (Ok _) = UnseenStep view backing (with_new_tables p (one_at cluster)) (replacing p old index) old new out × NamesCopied new index cluster
     WritesNew p old new out index cluster (Err e) = UnseenStep view backing (with_new_tables p (one_at cluster)) (with_new_tables p (one_at cluster)) old new out ⊎ InterruptedFileStep view old.file new.file e

@@ -172,7 +172,7 @@ module _ {S F : Type 0} where
     abbrev pub RefusedFillingStep : Pending → Qcow2 S F → Qcow2 S F → List (Option Prepared) → ImageError → Type 0
     RefusedFillingStep p old new out e = UnseenFillingStep p (pending_with_listed p old new) old new out ⊎ InterruptedStep old new e
 
-    -- clusters that are held have the bytes that they had
+    -- clusters of new data have the bytes that they had
     abbrev pub SameHeld : Pending → Qcow2 S F → Qcow2 S F → Type 0
     SameHeld p old new = (o : ℕ) → 0 < p.new_data (o / cluster_size old.file.header.fields) → contents_in view new.file o ≡ contents_in view old.file o
 
@@ -180,7 +180,7 @@ module _ {S F : Type 0} where
     abbrev pub HoldsAll : Pending → List (Option Prepared) → Type 0
     HoldsAll p out = (k : ℕ) → over_all new_data_by out k ≤ p.new_data k
 
-    -- a range of the file lies in a cluster that is held, and that no mapping has yet
+    -- a range of the file lies in a cluster of new data that no mapping has yet
     pub record IsInHeldCluster (p : Pending) (image : Qcow2 S F) (out : List (Option Prepared)) (cluster at n : ℕ) : Type 0 where
       pub new_data : 0 < p.new_data cluster
       pub unused : over_all new_data_by out cluster ≡ 0

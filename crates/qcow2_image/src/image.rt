@@ -8,7 +8,6 @@ use qcow2_alloc::{
 use qcow2_metadata::{Header, HostCluster, L1Table, MAGIC};
 use std::alloc::Global;
 
-/// The first four bytes of every image.
 /// How many L2 tables are cached.
 const L2_TABLES: usize = 128;
 

@@ -22,11 +22,11 @@ without_old_tables p n = record p { old_tables = λ k. p.old_tables k - n k }
 abbrev pub without_old_data : Pending → (ℕ → ℕ) → Pending
 without_old_data p n = record p { old_data = λ k. p.old_data k - n k }
 
--- what was held is to be freed as data
+-- what was new data is to be freed as data
 abbrev pub new_data_to_old_data : Pending → (ℕ → ℕ) → Pending
 new_data_to_old_data p n = record p { new_data = λ k. p.new_data k - n k; old_data = λ k. p.old_data k + n k }
 
--- what was held is to be freed at once
+-- what was new data is to be freed at once
 abbrev pub new_data_to_old_tables : Pending → (ℕ → ℕ) → Pending
 new_data_to_old_tables p n = record p { new_data = λ k. p.new_data k - n k; old_tables = λ k. p.old_tables k + n k }
 
@@ -34,14 +34,14 @@ new_data_to_old_tables p n = record p { new_data = λ k. p.new_data k - n k; old
 abbrev pub new_tables_to_old_tables : Pending → (ℕ → ℕ) → Pending
 new_tables_to_old_tables p n = record p { new_tables = λ k. p.new_tables k - n k; old_tables = λ k. p.old_tables k + n k }
 
--- an entry named the old ones, and names the new ones, which were held
+-- an entry named the old ones, and names the new ones, which were new data
 abbrev pub remapped : Pending → (ℕ → ℕ) → (ℕ → ℕ) → Pending
 remapped p old new = record p { new_data = λ k. p.new_data k - (new k - old k); old_data = λ k. p.old_data k + (old k - new k) }
 
--- tables are named that were fresh
+-- new tables are named
 abbrev pub named_now : Pending → (ℕ → ℕ) → Pending
 named_now p n = record p { new_tables = λ k. p.new_tables k - n k }
 
--- tables are named that were fresh, and others no longer
+-- new tables are named, and others no longer
 abbrev pub renamed : Pending → (ℕ → ℕ) → (ℕ → ℕ) → Pending
 renamed p new old = record p { new_tables = λ k. p.new_tables k - new k; old_tables = λ k. p.old_tables k + old k }

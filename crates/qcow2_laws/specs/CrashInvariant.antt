@@ -36,12 +36,17 @@ SameCovers h b c = (g : ℕ) → cover h b g ≡ cover h c g
 abbrev pub SameCounts : HeaderFields → Bytes → Bytes → Type 0
 SameCounts h b c = (cluster : ℕ) → count h b cluster ≡ count h c cluster
 
--- clusters that a call or the image holds and no table names, by kind, and how much more than all this each is counted
+-- how often each cluster is counted without a known entry that names it, by kind
 pub record Pending : Type 0 where
+  -- for data that no entry names yet
   pub new_data : ℕ → ℕ
+  -- for a table that nothing names yet
   pub new_tables : ℕ → ℕ
+  -- for a former table, to be freed
   pub old_tables : ℕ → ℕ
+  -- for former data, to be freed
   pub old_data : ℕ → ℕ
+  -- for none of these
   pub surplus : ℕ → ℕ
 
 -- on_storage is what is on the storage, known what is there with the modified tables laid over
@@ -72,7 +77,7 @@ pub record CrashInvariant (h : HeaderFields) (d : Direction) (p : Pending) (on_s
   pub known_aligned : (g : ℕ) → CoverIsAligned h (cover h known g)
   -- where a guest cluster has a host cluster to itself, its entry on the storage has it so too, or doesn't name it
   pub own : (g c : ℕ) → 0 < marks h known c g → names h on_storage c g ≤ marks h on_storage c g
-  -- no table is laid over what entries name, or what is held for them
+  -- no table is laid over what entries name, or new data
   pub not_overlaid : (o : ℕ) → 0 < named_in_either h on_storage known (o / cluster_size h) + p.new_data (o / cluster_size h) → on_storage o ≡ known o
 
 -- the same bytes in a cluster

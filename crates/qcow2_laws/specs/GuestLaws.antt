@@ -113,7 +113,7 @@ KeptClusterIsCommitted =
 
 -- ---- one storage write over a run of clusters
 
--- How a guest byte has a place to itself. It is copied data there, or the zero entry of its cluster keeps the place, or the place is held and nothing names it.
+-- How a guest byte has a place to itself. It is copied data there, or the zero entry of its cluster keeps the place, or the place is new data and nothing names it.
 pub data Hosting : Type 0 where
   InPlace : Hosting
   Kept : Hosting
@@ -135,7 +135,7 @@ is_private_hosting InPlace = false
 is_private_hosting Kept = true
 is_private_hosting Held = true
 
--- a byte is given where a stop may leave it to be seen: what is held is in no entry on the storage
+-- a byte is given where a stop may leave it to be seen: new data are in no entry on the storage
 abbrev pub IsGivenAt : List GivenBytes → Hosting → (o byte : ℕ) → Type 0
 IsGivenAt given InPlace o byte = IsGiven given o (known_byte byte)
 IsGivenAt given Kept o byte = IsGiven given o (known_byte byte)
@@ -145,7 +145,7 @@ IsGivenAt given Held o byte = Unit {0}
 abbrev pub with_seen_bytes : (ℕ → Hosting) → Disk → ℕ → List ℕ → Disk
 with_seen_bytes hosting d offset bytes = record d { value = λ o. if is_private_hosting (hosting o) then d.value o else (with_bytes d offset bytes).value o }
 
--- Bytes were written to the places of a guest range. All entries stay, and so does each byte that another guest cluster has, or that is held elsewhere.
+-- Bytes were written to the places of a guest range. All entries stay, and so does each byte that another guest cluster has, or that is new data elsewhere.
 pub record WritesRun (hosting : ℕ → Hosting) (offset place : ℕ) (bytes : List ℕ) (given : List GivenBytes) (old new : DriverState) : Type 0 where
   pub leads : SafeStep old new (λ _. given) []
   pub covers : SameCovers old.header old.known new.known
@@ -156,7 +156,7 @@ pub record WritesRun (hosting : ℕ → Hosting) (offset place : ℕ) (bytes : L
       → SameIn (cluster_size old.header) k old.on_storage new.on_storage × SameIn (cluster_size old.header) k old.known new.known
   pub shows : (backing : Bytes) → disk new.known backing ≡ with_seen_bytes hosting (disk old.known backing) offset bytes
 
--- One storage write goes over a run of clusters, each of them data in place, kept or held. Guests see at once what is in place, and nothing else of it. No table stands at such a place.
+-- One storage write goes over a run of clusters, each of them data in place, kept or new data. Guests see at once what is in place, and nothing else of it. No table stands at such a place.
 pub record RunIsWritten : Type 0 where
   pub written : (s : DriverState) (on_storage' known' : Bytes) (hosting : ℕ → Hosting) (offset place : ℕ) (bytes : List ℕ) (given : List GivenBytes) → StateInvariant s
       → ((i : ℕ) → i < length bytes → IsHostedAt s (hosting (offset + i)) (offset + i) (place + i))

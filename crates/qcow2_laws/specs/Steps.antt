@@ -36,7 +36,7 @@ pub record CountFalls (h : HeaderFields) (known known' : Bytes) (c : ℕ) : Type
 abbrev pub guest_at : HeaderFields → ℕ → ℕ → ℕ
 guest_at h i j = i * entries_per_cluster h + j
 
--- Entry j of the L2 table of L1 entry i changes, and no other. What it names now beside the old is held; what it marks now it named, and marked, or takes from what is held.
+-- Entry j of the L2 table of L1 entry i changes, and no other. What it names now beside the old was new data; what it marks now it named, and marked, or takes from new data.
 pub record EntryChanges (s : DriverState) (known' : Bytes) (i j : ℕ) : Type 0 where
   pub real : table_at s.header s.known i ≢ 0
   pub within : j < entries_per_cluster s.header

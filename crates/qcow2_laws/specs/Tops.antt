@@ -60,7 +60,7 @@ pub record WritesL1Entry (h : HeaderFields) (on_storage known on_storage' known'
   pub is : l1_entry h on_storage' i ≡ entry
   pub known_is : l1_entry h known' i ≡ entry
 
--- the table that an L1 entry is to name: its cluster is fresh and counted on the storage, and it says what was said before
+-- the table that an L1 entry is to name: its cluster is that of a new table, counted on the storage, and it says what was said before
 pub record IsNewTable (h : HeaderFields) (d : Direction) (p : Pending) (on_storage known : Bytes) (i entry : ℕ) : Type 0 where
   pub reads : L1EntryReads entry
   pub real : host_offset entry ≢ 0
@@ -108,7 +108,7 @@ with_l1_at h offset entries = record (places_of h) { l1_offset = offset; l1_entr
 abbrev pub with_reftable_at : HeaderFields → ℕ → ℕ → Places
 with_reftable_at h offset clusters = record (places_of h) { reftable_offset = offset; reftable_clusters = clusters }
 
--- an L1 table that stands in fresh clusters, counted on the storage, and has the entries of the old one, and then none
+-- an L1 table that stands in clusters of new tables, counted on the storage, and has the entries of the old one, and then none
 pub record IsNewL1 (h : HeaderFields) (d : Direction) (p : Pending) (on_storage known : Bytes) (offset entries : ℕ) : Type 0 where
   pub longer : h.l1_entries ≤ entries
   pub aligned : IsAligned h offset
@@ -118,7 +118,7 @@ pub record IsNewL1 (h : HeaderFields) (d : Direction) (p : Pending) (on_storage 
   pub written : d ≡ RbDependsOnL2 → SameCovers h on_storage known
 
 -- A reftable that stands in other clusters and has the entries of the old one, and more. Of each cluster it is said how often new refblocks stand in it, and
--- how often new refblocks count it, which no old one does. Each cluster of the table and of new refblocks is fresh, counted on the storage, or counted by new refblocks.
+-- how often new refblocks count it, which no old one does. Each cluster of the table and of new refblocks is one of new tables, counted on the storage, or counted by new refblocks.
 pub record IsNewReftable (h : HeaderFields) (d : Direction) (p : Pending) (on_storage known : Bytes) (offset clusters : ℕ) (blocks counted : ℕ → ℕ) : Type 0 where
   pub aligned : IsAligned h offset
   pub same : (k : ℕ) → block_offset (reftable_entry h on_storage k) ≢ 0 → reftable_entry (with_places h (with_reftable_at h offset clusters)) on_storage k ≡ reftable_entry h on_storage k

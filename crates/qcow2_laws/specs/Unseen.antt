@@ -10,7 +10,7 @@ use Rattle.qcow2_laws.specs.Guests.{over_guests, names}
 use Rattle.qcow2_laws.specs.CrashInvariant.{SameCovers}
 use Rattle.qcow2_laws.specs.SafeSteps.{DriverState}
 
--- how often a cluster is known to be named by guest clusters, or is held for them
+-- how often a cluster is known to be named by guest clusters, or is new data for them
 abbrev pub used_by_guests : DriverState → ℕ → ℕ
 used_by_guests s c = over_guests s.header (names s.header s.known c) + s.pending.new_data c
 

@@ -11,9 +11,8 @@ use image_access::{Storage, WrappedFormat};
 use qcow2_image::{ImageError, Qcow2};
 use std::alloc::Global;
 
-/// Opens an image that needs no other file, for writing, and answers each command as `run` does. What is modified then is written by a
-/// `flush`. An image that needs another
-/// file is refused, and stays as it is. A refused opening hands the storage back; images that are open together have different numbers.
+/// Opens an image that needs no other file, for writing, and answers each command as `run` does. Modified tables stay in memory until a
+/// `flush`. An image that needs another file is refused, and stays as it is. A refused opening hands the storage back; images that are open together have different numbers.
 pub fn open_and_run<S: Storage, F: WrappedFormat<S>>(
     alloc: Global,
     storage: S,
