@@ -104,7 +104,8 @@ fn list_run(
 #[tactic(auto, using(crate::proofs::Call::MetErrors::tables_met, crate::proofs::Call::MetErrors::storage_met, crate::proofs::Call::MetErrors::metadata_met, crate::proofs::Call::MetErrors::metadata_of_tables))]
 impl<S: Storage, F: WrappedFormat<S>> Qcow2<S, F> {
     /// Drops the whole clusters of a range, in bytes, so that the disk below shows there. Answers where the first whole cluster begins,
-    /// and how many bytes of the range were cleared: within one L2 table, and 0 where no cluster is whole.
+    /// and how many bytes of the range were cleared: within one L2 table, and 0 where no cluster is whole. The disk's last cluster is
+    /// whole where the range ends at the disk's size.
     /// Refused in this order: 16 (failed), 12 (dependency), 1 (read-only), 2 (beyond size), 20 (overflow) where rounding up passes 64
     /// bits. Then comes 9 (table prepared), where a mapping that isn't existing is prepared in its L2 table. Where the work meets them:
     /// 4 (unaligned table), 8 (everything is in use), 13 (limit), 14 (memory), 15 (storage).
@@ -132,7 +133,8 @@ impl<S: Storage, F: WrappedFormat<S>> Qcow2<S, F> {
     }
 
     /// Drops the whole clusters of a range, in bytes, which read as zeros then. Answers where the first whole cluster begins, and how
-    /// many bytes of the range were cleared: within one L2 table, and 0 where no cluster is whole.
+    /// many bytes of the range were cleared: within one L2 table, and 0 where no cluster is whole. The disk's last cluster is whole where
+    /// the range ends at the disk's size.
     /// Refused in this order: 16 (failed), 12 (dependency), 1 (read-only), 2 (beyond size), 3 (version) below version 3, 20 (overflow)
     /// where rounding up passes 64 bits. Then comes 9 (table prepared), where a mapping that isn't existing is prepared in its L2 table.
     /// Where the work meets them: 4 (unaligned table), 8 (everything is in use), 13 (limit), 14 (memory), 15 (storage).
@@ -160,7 +162,8 @@ impl<S: Storage, F: WrappedFormat<S>> Qcow2<S, F> {
     }
 
     /// Drops the whole clusters of a range, in bytes, whatever they read as then: zeros, today. Answers where the first whole cluster
-    /// begins, and how many bytes of the range were cleared: within one L2 table, and 0 where no cluster is whole.
+    /// begins, and how many bytes of the range were cleared: within one L2 table, and 0 where no cluster is whole. The disk's last
+    /// cluster is whole where the range ends at the disk's size.
     /// Refused in this order: 16 (failed), 12 (dependency), 1 (read-only), 2 (beyond size), 3 (version) below version 3, 20 (overflow)
     /// where rounding up passes 64 bits. Then comes 9 (table prepared), where a mapping that isn't existing is prepared in its L2 table.
     /// Where the work meets them: 4 (unaligned table), 8 (everything is in use), 13 (limit), 14 (memory), 15 (storage).
@@ -189,6 +192,7 @@ impl<S: Storage, F: WrappedFormat<S>> Qcow2<S, F> {
 
     /// Makes the whole clusters of a range, in bytes, read as zeros. A host cluster that is marked copied is kept. Answers where the
     /// first whole cluster begins, and how many bytes of the range were cleared: within one L2 table, and 0 where no cluster is whole.
+    /// The disk's last cluster is whole where the range ends at the disk's size.
     /// Refused in this order: 16 (failed), 12 (dependency), 1 (read-only), 2 (beyond size), 3 (version) below version 3, 20 (overflow)
     /// where rounding up passes 64 bits. Then comes 9 (table prepared), where a mapping that isn't existing is prepared in its L2 table.
     /// Where the work meets them: 4 (unaligned table), 8 (everything is in use), 13 (limit), 14 (memory), 15 (storage).
