@@ -11,8 +11,8 @@ use image_access::{Storage, WrappedFormat};
 use qcow2_image::{ImageError, Qcow2};
 use std::alloc::Global;
 
-/// Opens an image that needs no other file, for writing, and answers each command as `run` does. What is modified then is written by a
-/// `flush`. A refused opening hands the storage back; images that are open together have different numbers.
+/// Opens an image that needs no other file, for writing, and answers each command as `run` does. Tables that are still modified then stay
+/// in memory until a `flush`. A refused opening hands the storage back; images that are open together have different numbers.
 /// Refused as `open_alone` is. For the header 19 (metadata), 13 (limit), 4 (unaligned table), in this order. Then 12 (dependency) for an
 /// image that needs another file, which stays as it is. For its tables 13 (limit), 19 (metadata), and where the work meets them
 /// 14 (memory), 15 (storage).
