@@ -14,7 +14,8 @@ pub trait BackingDisk: Drop {
     fn size(&self) -> u64
         ensures { (backing self.now).is_honest → result ≡ length (backing self.now).bytes };
 
-    /// Fills the buffer with the bytes from an offset on, zeros past the size. After a refusal it may hold any bytes.
+    /// Fills the buffer with the bytes from an offset in bytes on, zeros past the size. After a refusal it may hold any bytes. Refused
+    /// `Fault` where the disk failed, and `Memory` where memory is missing.
     fn read(&mut self, at: u64, buf: &mut [u8]) -> Result<(), StorageError>
         ensures read { (backing self.old).is_honest → OnOk result (buf.new ≡ bytes_at (backing self.old).bytes at (length buf.old)) }
         ensures stays { Stays (backing self.old) (backing self.new) result };
@@ -25,7 +26,7 @@ pub trait WrappedFormat<S>: BackingDisk {
     /// The storages that it stands on.
     ghost dependencies: { Self → List S };
 
-    /// Those storages, in an order of its own.
+    /// Those storages, in an order of its own. Refused where memory is missing.
     fn storage_dependencies(&self, alloc: Global) -> Result<Vec<&S>, AllocError>
         ensures listed { IfOk result (λ storages. map (λ s. s.now) storages.items ≡ dependencies self.now) };
 }

@@ -49,7 +49,7 @@ impl TraceStorage {
     ghost use Rattle.image_access.specs.Changes.{replayed, up_to_write, write_offsets};
     ghost use Rattle.image_access.specs.TraceStorage.{contents_of, with_change};
 
-    /// A storage with these bytes and no change yet.
+    /// A storage with these bytes and no change yet. Refused where memory is missing.
     pub fn new(alloc: Global, bytes: Vec<u8>) -> Result<Self, AllocError>
         ensures { IfOk result (λ t. t ≡ record { start = bytes.items; changes = []; reads = 0; calls = uncounted }) }
     {
@@ -78,7 +78,7 @@ impl TraceStorage {
         &self.changes
     }
 
-    /// The offsets of the writes and zeroings in their order, in bytes. Resizes aren't among them.
+    /// The offsets of the writes and zeroings in their order, in bytes. Resizes aren't among them. Refused where memory is missing.
     pub fn writes(&self, alloc: Global) -> Result<Vec<u64>, AllocError>
         ensures { IfOk result (λ offsets. offsets.items ≡ write_offsets self.now.changes) }
     {
@@ -88,8 +88,8 @@ impl TraceStorage {
             .collect(alloc)
     }
 
-    /// The contents right after the first so many writes and zeroings, with the resizes before the last of them; after all
-    /// changes where there were fewer.
+    /// The contents right after the first so many writes and zeroings, with the resizes before the last of them; after all changes where
+    /// there were fewer. Refused where memory is missing.
     pub fn after(&self, alloc: Global, writes: usize) -> Result<Vec<u8>, AllocError>
         ensures { IfOk result (λ bytes. bytes.items ≡ replayed self.now.start (up_to_write writes self.now.changes)) }
     {

@@ -13,7 +13,10 @@ use qcow2_session::convert::{to_qcow2, to_raw};
 use std::alloc::Global;
 
 /// Makes an image with the bytes of a raw disk, in clusters of so many bytes that are counted in so many bits, and hands its storage
-/// back. A raw disk that ends with another size than it had is refused 15.
+/// back. The answer is the number of bytes.
+/// Refused 5 (invalid option) for clusters or counts that images don't have, and then nothing was written. Where the work meets them:
+/// 13 (limit), 14 (memory), 15 (storage). A raw disk whose size changes meanwhile is refused 5 (invalid option) or 15 (storage). Of a
+/// storage that returns other bytes than were written, others come too.
 pub fn make_image<R: Storage, S: Storage>(
     alloc: Global,
     raw: &mut R,
@@ -63,8 +66,9 @@ fn fill<R: Storage, S: Storage, F: WrappedFormat<S>>(
     Ok(count)
 }
 
-/// Makes a raw disk of an image, which is only read, and hands the image's storage back. The answer is the number of bytes. An image
-/// that needs another file is refused, and the raw disk stays as it is.
+/// Makes a raw disk of an image, which is only read, and hands the image's storage back. The answer is the number of bytes.
+/// An image that doesn't open alone is refused as `open_alone` is: 19 (metadata), 13 (limit), 4 (unaligned table), 12 (dependency). The
+/// raw disk stays as it is then. Where the work meets them: 4 (unaligned table), 7 (compressed), 14 (memory), 15 (storage).
 pub fn make_raw_disk<S: Storage, R: Storage>(
     alloc: Global,
     storage: S,

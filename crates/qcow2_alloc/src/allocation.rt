@@ -23,7 +23,7 @@ use crate::{
 use image_access::Storage;
 use qcow2_metadata::{ClusterCount, HostCluster, MAX_HOST_OFFSET, RefTable};
 
-/// Takes clusters. No cluster below the first free one has count 0.
+/// Takes clusters, and frees those that are to be freed. No cluster below the first free one has count 0.
 #[derive(Drop)]
 pub struct Allocator {
     pub(crate) reftable: RefTable,
@@ -33,7 +33,8 @@ pub struct Allocator {
 
 #[tactic(auto, using(crate::proofs::TableErrors::storage_of_tables, crate::proofs::TableErrors::metadata_of_tables, crate::proofs::TableErrors::cache_of_tables))]
 impl Allocator {
-    /// Loads the reftable.
+    /// Loads the reftable. Refused 4 (unaligned table) where it isn't on a cluster, 13 (limit) where it would end past 64 bits,
+    /// 19 (metadata) where an entry doesn't read. Where the work meets them: 14 (memory), 15 (storage).
     pub fn new<S: Storage>(file: &mut ImageFile<S>) -> Result<Allocator, ImageError>
         ensures cause { IfErr result IsOfTables }
         ensures storage_faults { CountsFaults S.view file.old.storage file.new.storage result }
@@ -79,7 +80,10 @@ impl Allocator {
         HostCluster::new(self.first_free_cluster)
     }
 
-    /// Takes the lowest run of so many free clusters for metadata.
+    /// Takes the lowest run of so many free clusters for metadata; the count is to be 1 at least.
+    /// Refused 13 (limit) where there is no such run up to the greatest host offset, for no clusters, or where a refblock or a longer
+    /// reftable has no place. Refused 4 (unaligned table) where a refblock that is needed isn't on a cluster. Refused
+    /// 8 (everything is in use) by a cache without room for a refblock. Where the work meets them: 14 (memory), 15 (storage).
     pub fn allocate_meta<S: Storage>(
         &mut self,
         file: &mut ImageFile<S>,
@@ -103,7 +107,8 @@ impl Allocator {
         self.allocate(file, count, ClusterKind::Metadata)
     }
 
-    /// Takes the lowest run of so many free clusters for data. From here on refblocks are written before L2 tables.
+    /// Takes the lowest run of so many free clusters for data; the count is to be 1 at least. From here on refblocks are written before
+    /// L2 tables. Refused as `allocate_meta` is.
     pub fn allocate_data<S: Storage>(
         &mut self,
         file: &mut ImageFile<S>,
@@ -128,8 +133,9 @@ impl Allocator {
         self.allocate(file, count, ClusterKind::Data)
     }
 
-    /// Takes just the cluster that is asked for, for data: None where it is in use, or passes the greatest offset of a host cluster. From
-    /// here on refblocks are written before L2 tables.
+    /// Takes just the cluster that is asked for, for data: None where it is cluster 0, is in use, or passes the greatest offset of a host
+    /// cluster. From here on refblocks are written before L2 tables. Refused as `allocate_meta` is, 13 (limit) where a refblock or a
+    /// longer reftable has no place.
     pub fn allocate_data_at<S: Storage>(
         &mut self,
         file: &mut ImageFile<S>,

@@ -44,7 +44,7 @@ impl<B: AsyncLruCacheBackend> Model for AsyncLruCache<B> {
 }
 
 impl<B: AsyncLruCacheBackend> AsyncLruCache<B> {
-    /// An empty cache.
+    /// An empty cache of at most `size` entries. Refused where memory is missing.
     pub fn new(alloc: Global, backend: B, size: usize) -> Result<Self, AllocError>
     where
         B: Drop,
@@ -67,8 +67,10 @@ impl<B: AsyncLruCacheBackend> AsyncLruCache<B> {
         self.entries.len()
     }
 
-    /// Brings the value under a key to the front; where it isn't there, it is loaded first: true. False where the cache is full and nothing may be
-    /// flushed. Where it may, the least recently used entry with no pin is flushed and then removed.
+    /// Brings the value under a key to the front; where it isn't there, it is loaded first: true. False where the cache is full and
+    /// nothing may be flushed. Where it may, the least recently used entry with no pin is flushed and then removed.
+    /// Refused `InUse` where that is needed and no entry is without a pin, `Backend` where a flush or the load fails, and `Memory`. A
+    /// flush that fails leaves the entries as they were; what fails behind it leaves them without the removed one.
     pub fn get_or_insert(
         &mut self,
         store: &mut B::Store,
@@ -106,8 +108,10 @@ impl<B: AsyncLruCacheBackend> AsyncLruCache<B> {
         )
     }
 
-    /// Puts a value in front: true. Under a key that isn't there it is put as if it were loaded. Else it takes the place of the value that is there,
-    /// which is flushed first. It is taken only then. False where nothing may be flushed and it had to be, and where there is no value.
+    /// Puts a value in front: true. Under a key that isn't there it is put as if it were loaded. Else it takes the place of the value
+    /// that is there, which is flushed first. It is taken only then. False where nothing may be flushed and it had to be, and where there
+    /// is no value. Refused `InUse`, `Memory` as `get_or_insert` is, and `Backend` where a flush fails; the value stays with the caller
+    /// then.
     pub fn insert(
         &mut self,
         store: &mut B::Store,
@@ -211,7 +215,7 @@ impl<B: AsyncLruCacheBackend> AsyncLruCache<B> {
         first_pinned(&self.entries)
     }
 
-    /// Flushes each entry, the most recently used first, also past a failure. The first failure is answered.
+    /// Flushes each entry, the most recently used first, also past a failure. Refused `Backend` with the first failure.
     pub fn flush(&mut self, store: &mut B::Store) -> Result<(), CacheError<B::Key, B::Error>>
         ensures flushed { Flushes (B.steps self.old.backend) store.old self.old.entries result store.new self.new.entries }
         ensures others { self.new ≡ with_entries self.old self.new.entries }
@@ -224,7 +228,7 @@ impl<B: AsyncLruCacheBackend> AsyncLruCache<B> {
         }
     }
 
-    /// Flushes the entry under a key. False where there is none. The order stays.
+    /// Flushes the entry under a key. False where there is none. The order stays. Refused `Backend` where the flush fails.
     pub fn flush_key(
         &mut self,
         store: &mut B::Store,
@@ -253,7 +257,8 @@ impl<B: AsyncLruCacheBackend> AsyncLruCache<B> {
         oldest_free(&self.entries)
     }
 
-    /// Gives each entry with no pin to the backend, unflushed. The keys of those that are still in use are answered.
+    /// Gives each entry with no pin to the backend, unflushed. Refused `StillInUse` with the keys of those that are pinned, which stay.
+    /// Refused `Memory` where the keys have no room, and then nothing changed.
     pub fn invalidate(&mut self) -> Result<(), CacheError<B::Key, B::Error>>
         ensures answer { Invalidates self.old.entries result self.new.entries }
         ensures evicted { result ≢ Err CacheError.Memory

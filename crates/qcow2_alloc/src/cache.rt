@@ -30,12 +30,17 @@ use std::alloc::{AllocError, Global};
 /// Which cache has to be written before the other one may be.
 #[derive(Clone, Copy, Debug, PartialEq, Eq)]
 pub enum Direction {
+    /// Neither has to: each may be written first.
     None,
+    /// Refblocks are written before L2 tables.
     L2DependsOnRb,
+    /// L2 tables are written before refblocks.
     RbDependsOnL2,
 }
 
 /// The L2 tables and refblocks that are loaded. Those that are modified are written at a flush, or as others need their place.
+/// A call that writes is refused 14 (memory), 15 (storage), as the storage is. A modified table of another cluster size than the image's,
+/// which only a caller can put in, is refused 19 (metadata) there.
 #[derive(Drop)]
 pub struct MetadataCaches<S: Storage> {
     l2: AsyncLruCache<L2CacheBackend<S>>,
@@ -46,7 +51,7 @@ pub struct MetadataCaches<S: Storage> {
 
 #[tactic(auto, using(crate::proofs::TableErrors::storage_of_tables, crate::proofs::TableErrors::metadata_of_tables, crate::proofs::TableErrors::cache_of_tables))]
 impl<S: Storage> MetadataCaches<S> {
-    /// Empty caches for so many tables and refblocks at most.
+    /// Empty caches for so many L2 tables and refblocks at most. Refused where memory is missing: 14 (memory).
     pub fn new(
         alloc: Global,
         header: &Header,
@@ -108,7 +113,8 @@ impl<S: Storage> MetadataCaches<S> {
         Ok(())
     }
 
-    /// From here on refblocks are written before L2 tables.
+    /// From here on refblocks are written before L2 tables. Where it was the other way round, the L2 tables are written now. Refused as
+    /// that is: 14 (memory), 15 (storage), and then it isn't turned round.
     pub fn l2_depends_on_rb(&mut self, storage: &mut ImageStorage<S>) -> Result<(), ImageError>
         ensures cause { IfErr result IsOfTables }
         ensures storage_faults { CountsFaults S.view storage.old storage.new result }
@@ -132,7 +138,8 @@ impl<S: Storage> MetadataCaches<S> {
         Ok(())
     }
 
-    /// From here on L2 tables are written before refblocks.
+    /// From here on L2 tables are written before refblocks. Where it was the other way round, the refblocks are written now. Refused as
+    /// that is: 14 (memory), 15 (storage), and then it isn't turned round.
     pub fn rb_depends_on_l2(&mut self, storage: &mut ImageStorage<S>) -> Result<(), ImageError>
         ensures cause { IfErr result IsOfTables }
         ensures storage_faults { CountsFaults S.view storage.old storage.new result }
@@ -156,7 +163,7 @@ impl<S: Storage> MetadataCaches<S> {
         Ok(())
     }
 
-    /// Writes both caches, in the order that the direction asks for.
+    /// Writes both caches, in the order that the direction asks for. Refused 14 (memory), 15 (storage), as the storage is.
     pub fn flush_all(&mut self, storage: &mut ImageStorage<S>) -> Result<(), ImageError>
         ensures cause { IfErr result IsOfTables }
         ensures storage_faults { CountsFaults S.view storage.old storage.new result }
@@ -180,7 +187,8 @@ impl<S: Storage> MetadataCaches<S> {
         }
     }
 
-    /// Writes the refblocks, and the L2 tables before them where the direction asks for it.
+    /// Writes the refblocks, and the L2 tables before them where the direction asks for it. Refused 14 (memory), 15 (storage), as the
+    /// storage is.
     pub fn flush_rb(&mut self, storage: &mut ImageStorage<S>) -> Result<(), ImageError>
         ensures cause { IfErr result IsOfTables }
         ensures storage_faults { CountsFaults S.view storage.old storage.new result }
@@ -245,7 +253,9 @@ impl<S: Storage> MetadataCaches<S> {
         }
     }
 
-    /// Brings the L2 table of a cluster to the front, loading it where it isn't there.
+    /// Brings the L2 table of a cluster to the front, loading it where it isn't there. Refused 8 (everything is in use) where the cache
+    /// is full and no entry is without a pin, and 13 (limit) for a cluster whose offset passes 64 bits. Where the work meets them:
+    /// 14 (memory), 15 (storage).
     pub fn l2_get_or_insert(
         &mut self,
         storage: &mut ImageStorage<S>,
@@ -271,7 +281,9 @@ impl<S: Storage> MetadataCaches<S> {
         Ok(())
     }
 
-    /// Brings the refblock of a cluster to the front, loading it where it isn't there.
+    /// Brings the refblock of a cluster to the front, loading it where it isn't there. Refused 8 (everything is in use) where the cache
+    /// is full and no entry is without a pin, and 13 (limit) for a cluster whose offset passes 64 bits. Where the work meets them:
+    /// 14 (memory), 15 (storage).
     pub fn rb_get_or_insert(
         &mut self,
         storage: &mut ImageStorage<S>,
@@ -297,7 +309,9 @@ impl<S: Storage> MetadataCaches<S> {
         Ok(())
     }
 
-    /// Puts an L2 table to the front, in the place of one that is there for its cluster.
+    /// Puts an L2 table to the front, in the place of one that is there for its cluster, which it is to have. Refused
+    /// 8 (everything is in use) where the cache is full and no entry is without a pin. Where the work meets them: 14 (memory),
+    /// 15 (storage).
     pub fn l2_insert(
         &mut self,
         storage: &mut ImageStorage<S>,
@@ -334,7 +348,9 @@ impl<S: Storage> MetadataCaches<S> {
         Ok(())
     }
 
-    /// Puts a refblock to the front, in the place of one that is there for its cluster.
+    /// Puts a refblock to the front, in the place of one that is there for its cluster, which it is to have. Refused
+    /// 8 (everything is in use) where the cache is full and no entry is without a pin. Where the work meets them: 14 (memory),
+    /// 15 (storage).
     pub fn rb_insert(
         &mut self,
         storage: &mut ImageStorage<S>,
@@ -422,7 +438,8 @@ impl<S: Storage> MetadataCaches<S> {
         self.rb.remove(cluster)
     }
 
-    /// Drops the L2 tables without a pin, unwritten. The clusters of those that are pinned are answered.
+    /// Drops the L2 tables without a pin, unwritten. Refused 21 (still in use) with the clusters of those that are pinned, and
+    /// 14 (memory), which drops nothing.
     pub fn invalidate_l2(&mut self) -> Result<(), ImageError>
         ensures cause { IfErr result IsOfTables }
         ensures order { order_of self.new ≡ order_of self.old }
@@ -435,7 +452,8 @@ impl<S: Storage> MetadataCaches<S> {
         Ok(())
     }
 
-    /// Drops the refblocks without a pin, unwritten. The clusters of those that are pinned are answered.
+    /// Drops the refblocks without a pin, unwritten. Refused 21 (still in use) with the clusters of those that are pinned, and
+    /// 14 (memory), which drops nothing.
     pub fn invalidate_rb(&mut self) -> Result<(), ImageError>
         ensures cause { IfErr result IsOfTables }
         ensures order { order_of self.new ≡ order_of self.old }

@@ -8,15 +8,20 @@ use std::marker::Model;
 /// What clusters were taken for.
 #[derive(Clone, Copy, Debug, PartialEq, Eq)]
 pub enum ClusterKind {
+    /// For a guest's data.
     Data,
+    /// For tables: the L1 table, L2 tables, the reftable, refblocks.
     Metadata,
 }
 
 /// A run of clusters of one kind.
 #[derive(Clone, Copy, Debug, PartialEq, Eq)]
 pub struct ClustersToFreeEntry {
+    /// The first cluster of the run.
     pub first_cluster: HostCluster,
+    /// How many clusters it has.
     pub count: ClusterCount,
+    /// What they were taken for.
     pub kind: ClusterKind,
 }
 
@@ -127,7 +132,7 @@ impl ClustersToFreeList {
         }
     }
 
-    /// Room for a run of clusters that may come back to any list.
+    /// Room for a run of clusters that may come back to any list. Refused where memory is missing: 14 (memory).
     pub fn pending_guard(
         alloc: Global,
         entry: ClustersToFreeEntry,
@@ -144,7 +149,7 @@ impl ClustersToFreeList {
         }
     }
 
-    /// Puts a run of clusters at the end. Refused memory leaves the list as it was.
+    /// Puts a run of clusters at the end. Refused where memory is missing, 14 (memory), the list is as it was.
     pub fn push(&mut self, alloc: Global, entry: ClustersToFreeEntry) -> Result<(), AllocError>
         ensures ok { OnOk result (self.new ≡ self.old ++ entry ∷ []) }
         ensures err { OnErr result (self.new ≡ self.old) }

@@ -10,67 +10,67 @@ use thiserror::Error;
 /// Why a call of the driver is refused. Each case has a number and a name of its own.
 #[derive(Debug, PartialEq, Eq, Drop, Error)]
 pub enum ImageError {
-    /// The image was opened without writing.
+    /// 1 (read-only): the image was opened without writing.
     #[error("read-only")]
     ReadOnly,
-    /// The range isn't empty and passes the disk's size.
+    /// 2 (beyond size): the range isn't empty and passes the disk's size.
     #[error("beyond size")]
     BeyondSize,
-    /// The image's version is below 3 where 3 is needed.
+    /// 3 (version): the image's version is below 3 where 3 is needed.
     #[error("version")]
     Version,
-    /// The offset of a table or of a data cluster isn't on a cluster.
+    /// 4 (unaligned table): the offset of a table or of a data cluster isn't on a cluster.
     #[error("unaligned table")]
     UnalignedTable,
-    /// A builder's value isn't allowed.
+    /// 5 (invalid option): a builder's value isn't allowed, or the two disks of a conversion differ in size.
     #[error("invalid option")]
     InvalidOption,
-    /// An allocating mode with a backing disk, or in creating with a backing name.
+    /// 6 (preallocation): an allocating mode with a disk below.
     #[error("preallocation")]
     Preallocation,
-    /// Data of a compressed cluster is needed.
+    /// 7 (compressed): data of a compressed cluster is needed.
     #[error("compressed")]
     Compressed,
-    /// No cache entry is without a pin.
+    /// 8 (everything is in use): no cache entry is without a pin.
     #[error("everything is in use")]
     InUse,
-    /// The L2 table is under a prepared mapping.
+    /// 9 (table prepared): the L2 table is under a prepared mapping.
     #[error("table prepared")]
     TablePrepared,
-    /// The range is no longer mapped so.
+    /// 10 (outdated mapping): the range is no longer mapped so.
     #[error("outdated mapping")]
     OutdatedMapping,
-    /// It belongs to another image.
+    /// 11 (foreign state): it belongs to another image.
     #[error("foreign state")]
     ForeignState,
-    /// A named or required file is missing.
+    /// 12 (dependency): a named or required file is missing.
     #[error("dependency")]
     Dependency,
-    /// A limit of the format or of this driver is passed.
+    /// 13 (limit): a limit of the format or of this driver is passed, or clusters that are needed have no place.
     #[error("limit")]
     Limit,
-    /// A growth of memory was refused.
+    /// 14 (memory): a growth of memory was refused.
     #[error("memory")]
     Memory,
-    /// A storage or the backing failed in this call.
+    /// 15 (storage): a storage or the disk below failed in this call.
     #[error("storage")]
     Storage,
-    /// An earlier call marked the image as failed.
+    /// 16 (failed): an earlier call marked the image as failed.
     #[error("failed")]
     Failed,
-    /// Not while a mapping is prepared.
+    /// 17 (mapping prepared): not while a mapping is prepared.
     #[error("mapping prepared")]
     MappingPrepared,
-    /// The range isn't compressed, from this guest offset on.
+    /// 18 (not compressed): the range isn't compressed, from this guest offset in bytes on.
     #[error("not compressed")]
     NotCompressed { offset: u64 },
-    /// A header or an entry doesn't read.
+    /// 19 (metadata): a header or an entry doesn't read.
     #[error("metadata")]
     Metadata,
-    /// A sum passes 64 bits.
+    /// 20 (overflow): a sum passes 64 bits.
     #[error("overflow")]
     Overflow,
-    /// Invalidating kept the tables of these clusters, which are pinned.
+    /// 21 (still in use): invalidating kept the tables of these clusters, which are pinned.
     #[error("still in use")]
     StillInUse { tables: Vec<HostCluster> },
 }
@@ -107,7 +107,7 @@ impl ImageError {
         }
     }
 
-    /// Whether a storage failed, or memory was refused.
+    /// Whether it is 15 (storage) or 14 (memory): a storage failed, or memory was refused.
     pub fn is_fault(&self) -> bool
         ensures { IsTrue result ↔ IsFault self.now }
     {

@@ -19,8 +19,11 @@ use image_access::Storage;
 /// Clusters for new refblocks, and behind them those for a reftable.
 #[derive(Clone, Copy)]
 pub(crate) struct Room {
+    /// The number of its first cluster.
     pub first: u64,
+    /// How many clusters there are for refblocks.
     pub blocks: u64,
+    /// How many there are for the reftable.
     pub clusters: u64,
 }
 

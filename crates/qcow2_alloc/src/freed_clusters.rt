@@ -81,8 +81,9 @@ impl Allocator {
         Ok(())
     }
 
-    /// Works off the list of clusters that are to be freed: metadata first, then data. Where data were listed, L2 tables are written before refblocks from then on.
-    /// Refused, the clusters that aren't freed yet stay listed.
+    /// Works off the list of clusters that are to be freed: metadata first, then data. Where data were listed, L2 tables are written
+    /// before refblocks from then on. Refused 14 (memory), 15 (storage), the clusters that aren't freed yet stay listed. One whose count
+    /// can't be lowered for another reason is counted by `leaked_clusters`.
     pub fn free<S: Storage>(&mut self, file: &mut ImageFile<S>) -> Result<(), ImageError>
         ensures marks { KeepsPinsAndNotes file.old.caches file.new.caches }
         ensures emptied { OnOk result (file.new.free_list ≡ []) }

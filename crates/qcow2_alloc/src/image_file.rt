@@ -6,10 +6,15 @@ use std::alloc::Global;
 /// What the driver holds of an image's file: the storage, the header, the cached tables, and the clusters to be freed.
 #[derive(Drop)]
 pub struct ImageFile<S: Storage> {
+    /// Where its memory comes from.
     pub alloc: Global,
+    /// The storage that the image stands in.
     pub storage: ImageStorage<S>,
+    /// The header, as it stands in memory.
     pub header: Header,
+    /// The L2 tables and refblocks that are cached.
     pub caches: MetadataCaches<S>,
+    /// The clusters that are to be freed.
     pub free_list: ClustersToFreeList,
 }
 

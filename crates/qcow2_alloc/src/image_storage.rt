@@ -15,7 +15,8 @@ pub enum WriteKind {
     Other,
 }
 
-/// The image's storage. Every write to it goes through here, and is told its kind beforehand.
+/// The image's storage. Every write to it goes through here, and is told its kind beforehand. Offsets and lengths are in bytes. A call is
+/// refused where the storage refuses it: 15 (storage) for a fault, 14 (memory) for want of memory, and then nothing changed.
 #[derive(Drop)]
 pub struct ImageStorage<S: Storage> {
     storage: S,
@@ -27,7 +28,7 @@ impl<S: Storage> ImageStorage<S> {
     ghost use Rattle.qcow2_alloc.specs.ImageStorage.{storage_of, kind_of, is_changed_of, NotesWrite};
     ghost use Rattle.std.specs.Prelude.{true, false};
 
-    /// Nothing is written yet.
+    /// The storage of an image. Nothing is written yet.
     pub fn new(storage: S) -> Self
         ensures storage { storage_of result ≡ storage }
         ensures unchanged { is_changed_of result ≡ false }
@@ -82,7 +83,7 @@ impl<S: Storage> ImageStorage<S> {
         self.is_changed
     }
 
-    /// Notes a change.
+    /// Notes a change, as if its bytes had been changed.
     pub fn note_change(&mut self)
         ensures { self.new ≡ record self.old { is_changed = true } }
     {

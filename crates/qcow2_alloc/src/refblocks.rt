@@ -72,8 +72,8 @@ fn write_block<S: Storage>(file: &mut ImageFile<S>, mut block: RefBlock) -> Resu
 
 #[tactic(auto, using(crate::proofs::TableErrors::storage_of_tables, crate::proofs::TableErrors::metadata_of_tables, crate::proofs::TableErrors::cache_of_tables))]
 impl Allocator {
-    /// Drops the refblocks without a pin, unwritten. The clusters of those that are pinned are answered. Counts that weren't written are
-    /// forgotten so, and the search for free clusters begins anew.
+    /// Drops the refblocks without a pin, unwritten. Counts that weren't written are forgotten so, and the search for free clusters
+    /// begins anew. Refused 21 (still in use) with the clusters of those that are pinned, and 14 (memory), which drops nothing.
     pub fn invalidate_rb_cache<S: Storage>(
         &mut self,
         file: &mut ImageFile<S>,

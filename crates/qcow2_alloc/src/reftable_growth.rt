@@ -29,8 +29,9 @@ use std::alloc::Global;
 
 #[tactic(auto, using(crate::proofs::TableErrors::metadata_of_tables))]
 impl Allocator {
-    /// Makes the reftable long enough to have an entry of an index. The new one, with the refblocks that it needs, lies in a run of
-    /// free clusters: first the refblocks, then the table. The old one is listed to be freed.
+    /// Makes the reftable long enough to have an entry of an index. The new one, with the refblocks that it needs, lies in a run of free
+    /// clusters: first the refblocks, then the table. The old one is listed to be freed. Refused 13 (limit) where it would have more than
+    /// 1,048,576 entries, or finds no such run. Where the work meets them: 14 (memory), 15 (storage).
     pub fn grow_reftable<S: Storage>(
         &mut self,
         file: &mut ImageFile<S>,

@@ -14,7 +14,7 @@ use image_access::{Storage, StorageError};
 use qcow2_metadata::{Header, HostCluster, L1Table, L2Table, RefBlock, RefTable};
 
 impl<S: Storage> ImageStorage<S> {
-    /// Writes a guest's bytes.
+    /// Writes a guest's bytes at an offset, in bytes. Refused 14 (memory), 15 (storage), as the storage is.
     pub fn write_data(&mut self, at: u64, bytes: &[u8]) -> Result<(), StorageError>
         requires { IsToldData self.old }
         ensures written { Changes (S.view (storage_of self.old)) (S.view (storage_of self.new)) result (overwritten (S.view (storage_of self.old)).contents at bytes.now) }
@@ -23,7 +23,8 @@ impl<S: Storage> ImageStorage<S> {
         self.write(at, bytes)
     }
 
-    /// Writes zeros as a guest's bytes. The place that they take may be given back.
+    /// Writes so many zeros at an offset, both in bytes, as a guest's bytes. The place that they take may be given back. Refused
+    /// 14 (memory), 15 (storage), as the storage is.
     pub fn write_zero_data(&mut self, at: u64, length: u64) -> Result<(), StorageError>
         requires { IsToldData self.old }
         ensures zeroed { Changes (S.view (storage_of self.old)) (S.view (storage_of self.new)) result (zeroed (S.view (storage_of self.old)).contents at length) }
@@ -32,7 +33,7 @@ impl<S: Storage> ImageStorage<S> {
         self.write_zeroes(at, length)
     }
 
-    /// The same, and the place that they take stays taken where it can.
+    /// The same, and the place that they take stays taken where it can. Refused 14 (memory), 15 (storage), as the storage is.
     pub fn write_allocated_zero_data(&mut self, at: u64, length: u64) -> Result<(), StorageError>
         requires { IsToldData self.old }
         ensures zeroed { Changes (S.view (storage_of self.old)) (S.view (storage_of self.new)) result (zeroed (S.view (storage_of self.old)).contents at length) }
@@ -41,7 +42,7 @@ impl<S: Storage> ImageStorage<S> {
         self.write_allocated_zeroes(at, length)
     }
 
-    /// Writes an L2 table of the cache, if it is modified.
+    /// Writes an L2 table of the cache to a cluster, if it is modified. Refused 14 (memory), 15 (storage), as the storage is.
     pub fn write_l2_table(
         &mut self,
         table: &mut L2Table,
@@ -59,7 +60,7 @@ impl<S: Storage> ImageStorage<S> {
         table.write_if_modified(self, cluster)
     }
 
-    /// Writes a refblock of the cache, if it is modified.
+    /// Writes a refblock of the cache to a cluster, if it is modified. Refused 14 (memory), 15 (storage), as the storage is.
     pub fn write_refblock(
         &mut self,
         block: &mut RefBlock,
@@ -77,7 +78,7 @@ impl<S: Storage> ImageStorage<S> {
         block.write_if_modified(self, cluster)
     }
 
-    /// Writes a new L2 table to its cluster.
+    /// Writes a new L2 table to its cluster. Refused 14 (memory), 15 (storage), as the storage is.
     pub fn write_new_l2_table(&mut self, table: &L2Table) -> Result<(), StorageError>
         requires placed { IsSome table.now.cluster }
         requires told { IsToldOther self.old }
@@ -88,7 +89,7 @@ impl<S: Storage> ImageStorage<S> {
         table.write(self)
     }
 
-    /// Writes a new refblock to its cluster.
+    /// Writes a new refblock to its cluster. Refused 14 (memory), 15 (storage), as the storage is.
     pub fn write_new_refblock(&mut self, block: &RefBlock) -> Result<(), StorageError>
         requires placed { IsSome block.now.cluster }
         requires told { IsToldOther self.old }
@@ -99,7 +100,7 @@ impl<S: Storage> ImageStorage<S> {
         block.write(self)
     }
 
-    /// Writes an L1 table to its clusters.
+    /// Writes an L1 table to its clusters. Refused 14 (memory), 15 (storage), as the storage is.
     pub fn write_l1_table(&mut self, table: &L1Table) -> Result<(), StorageError>
         requires placed { IsSome table.now.cluster }
         requires told { IsToldOther self.old }
@@ -110,7 +111,7 @@ impl<S: Storage> ImageStorage<S> {
         table.write(self)
     }
 
-    /// Writes an entry of an L1 table.
+    /// Writes the entry of an index, below its length, of an L1 table. Refused 14 (memory), 15 (storage), as the storage is.
     pub fn write_l1_entry(&mut self, table: &L1Table, index: usize) -> Result<(), StorageError>
         requires placed { IsSome table.now.cluster }
         requires within { index < entry_count table.now }
@@ -123,7 +124,7 @@ impl<S: Storage> ImageStorage<S> {
         table.write_entry(self, index)
     }
 
-    /// Writes a reftable to its clusters.
+    /// Writes a reftable to its clusters. Refused 14 (memory), 15 (storage), as the storage is.
     pub fn write_reftable(&mut self, table: &RefTable) -> Result<(), StorageError>
         requires placed { IsSome table.now.cluster }
         requires told { IsToldOther self.old }
@@ -134,7 +135,7 @@ impl<S: Storage> ImageStorage<S> {
         table.write(self)
     }
 
-    /// Writes an entry of a reftable.
+    /// Writes the entry of an index, below its length, of a reftable. Refused 14 (memory), 15 (storage), as the storage is.
     pub fn write_reftable_entry(
         &mut self,
         table: &RefTable,
@@ -151,7 +152,7 @@ impl<S: Storage> ImageStorage<S> {
         table.write_entry(self, index)
     }
 
-    /// Writes the place and the length of the L1 table.
+    /// Writes the place and the length of the L1 table. Refused 14 (memory), 15 (storage), as the storage is.
     pub fn write_l1_table_pointer(&mut self, header: &Header) -> Result<(), StorageError>
         requires { IsToldOther self.old }
         ensures written { Changes (S.view (storage_of self.old)) (S.view (storage_of self.new)) result (l1_table_pointer_written header.now.fields (S.view (storage_of self.old)).contents) }
@@ -160,7 +161,7 @@ impl<S: Storage> ImageStorage<S> {
         header.write_l1_table_pointer(self)
     }
 
-    /// Writes the place and the length of the reftable.
+    /// Writes the place and the length of the reftable. Refused 14 (memory), 15 (storage), as the storage is.
     pub fn write_reftable_pointer(&mut self, header: &Header) -> Result<(), StorageError>
         requires { IsToldOther self.old }
         ensures written { Changes (S.view (storage_of self.old)) (S.view (storage_of self.new)) result (reftable_pointer_written header.now.fields (S.view (storage_of self.old)).contents) }
@@ -169,7 +170,7 @@ impl<S: Storage> ImageStorage<S> {
         header.write_reftable_pointer(self)
     }
 
-    /// Writes the disk's size.
+    /// Writes the disk's size. Refused 14 (memory), 15 (storage), as the storage is.
     pub fn write_size(&mut self, header: &Header) -> Result<(), StorageError>
         requires { IsToldOther self.old }
         ensures written { Changes (S.view (storage_of self.old)) (S.view (storage_of self.new)) result (size_written header.now.fields (S.view (storage_of self.old)).contents) }

@@ -22,7 +22,9 @@ use std::alloc::Global;
 /// What is wrong with an image, and what it keeps for nothing.
 #[derive(Debug, Drop)]
 pub struct Report {
+    /// Each breach, in the order of `Breach` and then by rising number; none where the image is consistent.
     pub breaches: Vec<Breach>,
+    /// Each cluster that is counted more often than named, by rising number.
     pub leaks: Vec<Leak>,
 }
 
@@ -77,8 +79,10 @@ fn tallies<S: Storage>(
     Ok(Findings { names, offsets })
 }
 
-/// What is wrong with the image on a storage, by its bytes alone. That is each breach, in the order of `Breach` and then by rising number, and each cluster that is counted more often than
-/// named. There is no breach exactly where the image is consistent. Refused `Format` for a header, L1 table or reftable that doesn't read, and `Limit` for one that is too long or ends past 64 bits.
+/// What is wrong with the image on a storage, by its bytes alone. That is each breach, in the order of `Breach` and then by rising
+/// number, and each cluster that is counted more often than named. There is no breach exactly where the image is consistent.
+/// Refused `Format`, 19 (metadata), for a header, L1 table or reftable that doesn't read, and `Limit`, 13 (limit), for one that is too
+/// long or ends past 64 bits. Where the work meets them: `Memory`, 14 (memory), and `Storage`, as the storage is.
 pub fn check<S: Storage>(alloc: Global, storage: &mut S) -> Result<Report, MetadataError>
     ensures breaches { (S.view storage.old).is_honest → IfOk result (λ r. r.breaches.items
         ≡ breach_lines (header (byte_at (S.view storage.old).contents)) (byte_at (S.view storage.old).contents)) }

@@ -15,7 +15,7 @@ pub enum Kind {
     Data,
 }
 
-/// A breach of consistency.
+/// A breach of consistency. Clusters are told by their numbers in the file, from 0.
 #[derive(Clone, Copy, Debug, PartialEq, Eq)]
 pub enum Breach {
     /// The image has so many internal snapshots.
@@ -51,7 +51,10 @@ pub enum Breach {
 /// A cluster that is counted more often than it is named.
 #[derive(Clone, Copy, Debug, PartialEq, Eq)]
 pub struct Leak {
+    /// Its number in the file, from 0.
     pub cluster: u64,
+    /// Its count: how often it is counted.
     pub count: u64,
+    /// How often it is named.
     pub named: u64,
 }

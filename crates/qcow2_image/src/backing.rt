@@ -10,8 +10,8 @@ use crate::{ImageError, Qcow2};
 use image_access::{Storage, WrappedFormat};
 
 impl<S: Storage, F: WrappedFormat<S>> Qcow2<S, F> {
-    /// Takes a disk below the image, or none, in the place of the one that is there, which is dropped. It is refused after a failure
-    /// (16), and while a mapping is prepared that isn't existing (17). Then the disk is handed back.
+    /// Takes a disk below the image, or none, in the place of the one that is there, which is dropped. Refused 16 (failed), and
+    /// 17 (mapping prepared) while a mapping is prepared that isn't existing. Then the disk is handed back.
     pub fn set_backing(&mut self, backing: Option<F>) -> Result<(), (Option<F>, ImageError)>
         ensures failed { IsTrue (is_failed self.old) → (result ≡ Err (backing, Failed)) × (self.new ≡ self.old) }
         ensures refused { is_failed self.old ≡ false → IfErr result (λ refused. (refused ≡ (backing, MappingPrepared)) × (self.new ≡ self.old)) }

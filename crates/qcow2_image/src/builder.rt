@@ -22,7 +22,7 @@ use qcow2_alloc::{ImageError, ImageStorage, WriteKind};
 use qcow2_metadata::{Header, HostCluster, RefBlock, RefTable};
 use std::alloc::{AllocError, Global};
 
-/// What a new image is to be like.
+/// What a new image is to be like. What it is told is refused by `create` and `create_open` alone.
 #[derive(Drop)]
 pub struct Qcow2CreateBuilder<S: Storage> {
     image: S,
@@ -81,7 +81,7 @@ impl<S: Storage> Qcow2CreateBuilder<S> {
     ghost use Rattle.std.specs.Prelude.{true, false};
     ghost use Rattle.qcow2_image.specs.Image.{number_of};
 
-    /// A disk of no bytes for which no place is taken, clusters of 65,536 bytes and counts of 16 bits.
+    /// A builder for a storage: a disk of no bytes for which no place is taken, clusters of 65,536 bytes and counts of 16 bits.
     pub fn new(image: S) -> Qcow2CreateBuilder<S>
         ensures { result ≡ record { image = image; size = 0; preallocate = PreallocateMode.None; cluster_size = 65536; refcount_width = 16 } }
     {
@@ -94,7 +94,7 @@ impl<S: Storage> Qcow2CreateBuilder<S> {
         }
     }
 
-    /// The size of the disk, in bytes.
+    /// The size of the disk, in bytes. One for which an L1 table of 4,194,304 entries is too short is refused 13 (limit).
     pub fn size(mut self, size: u64) -> Qcow2CreateBuilder<S>
         ensures { result ≡ record self { size = size } }
     {
@@ -124,7 +124,7 @@ impl<S: Storage> Qcow2CreateBuilder<S> {
         self.preallocate
     }
 
-    /// The size of a cluster, in bytes: a power of two from 512 to 2,097,152.
+    /// The size of a cluster, in bytes: a power of two from 512 to 2,097,152. Any other is refused 5 (invalid option).
     pub fn cluster_size(mut self, cluster_size: u64) -> Qcow2CreateBuilder<S>
         ensures { result ≡ record self { cluster_size = cluster_size } }
     {
@@ -132,7 +132,7 @@ impl<S: Storage> Qcow2CreateBuilder<S> {
         self
     }
 
-    /// The bits of a count: a power of two from 1 to 64.
+    /// The bits of a count: a power of two from 1 to 64. Any other is refused 5 (invalid option).
     pub fn refcount_width(mut self, refcount_width: u64) -> Qcow2CreateBuilder<S>
         ensures { result ≡ record self { refcount_width = refcount_width } }
     {
@@ -140,8 +140,10 @@ impl<S: Storage> Qcow2CreateBuilder<S> {
         self
     }
 
-    /// Writes the new image, and hands its storage back. Its disk shows zeros, and takes the place that was asked for. Clusters or counts
-    /// that images don't have are refused, and then nothing was written.
+    /// Writes the new image, and hands its storage back. Its disk shows zeros, and takes the place that was asked for. Refused
+    /// 5 (invalid option) for clusters or counts that images don't have, and then nothing was written. Where the work meets them:
+    /// 13 (limit), 14 (memory), 15 (storage). Of a storage that returns other bytes than were written, refusals of `open_image` and
+    /// `resize_grow` come too.
     pub fn create(self, alloc: Global) -> (S, Result<(), ImageError>)
         ensures stops { (S.view self.image).is_honest → StopsCreating self.preallocate self.size (S.view self.image) (S.view result.0) }
         ensures created { (S.view self.image).is_honest → IfOk result.1 (λ done. IsCreated self (S.view result.0)) }
@@ -173,7 +175,8 @@ impl<S: Storage> Qcow2CreateBuilder<S> {
         grow_new_image::<S, NoBacking>(alloc, storage.into_inner(), size, preallocate)
     }
 
-    /// Writes the new image and opens it for writing, with no disk below it. A refusal hands the storage back.
+    /// Writes the new image and opens it for writing, with no disk below it. A refusal hands the storage back. Images that are open
+    /// together have different numbers. Refused 5 (invalid option), 13 (limit), 14 (memory), 15 (storage), as `create` is.
     pub fn create_open<F: WrappedFormat<S>>(
         self,
         alloc: Global,

@@ -5,7 +5,9 @@ ghost use Rattle.qcow2_image.specs.CopyRange.{announced_range_of, copy_range_of,
 /// A part of a cluster, in bytes from its start.
 #[derive(Clone, Copy, Debug, PartialEq, Eq)]
 pub struct CopyRange {
+    /// Where it begins.
     pub start: u64,
+    /// Where it ends: the first byte behind it.
     pub end: u64,
 }
 
@@ -54,7 +56,8 @@ fn uncut(cluster_size: u64, announced: Option<CopyRange>) -> CopyRange
     }
 }
 
-/// What is copied into a new cluster of which a part may be announced as overwritten. A part in the middle doesn't help.
+/// What is copied into a new cluster of which a part may be announced as overwritten. A part in the middle doesn't help. The cluster's
+/// size and the alignment are in bytes; both ends of what is copied are rounded to the alignment.
 pub fn copy_range(
     cluster_size: u64,
     alignment: u64,

@@ -103,7 +103,12 @@ fn list_run(
 
 #[tactic(auto, using(crate::proofs::Call::MetErrors::tables_met, crate::proofs::Call::MetErrors::storage_met, crate::proofs::Call::MetErrors::metadata_met, crate::proofs::Call::MetErrors::metadata_of_tables))]
 impl<S: Storage, F: WrappedFormat<S>> Qcow2<S, F> {
-    /// Drops the whole clusters of a range, so that the disk below shows there. Answers how much of the range that was.
+    /// Drops the whole clusters of a range, in bytes, so that the disk below shows there. Answers where the first whole cluster begins,
+    /// and how many bytes of the range were cleared: within one L2 table, and 0 where no cluster is whole. The disk's last cluster is
+    /// whole where the range ends at the disk's size.
+    /// Refused in this order: 16 (failed), 12 (dependency), 1 (read-only), 2 (beyond size), 20 (overflow) where rounding up passes 64
+    /// bits. Then comes 9 (table prepared), where a mapping that isn't existing is prepared in its L2 table. Where the work meets them:
+    /// 4 (unaligned table), 8 (everything is in use), 13 (limit), 14 (memory), 15 (storage).
     pub fn discard_to_backing_unsafe(
         &mut self,
         offset: u64,
@@ -127,7 +132,12 @@ impl<S: Storage, F: WrappedFormat<S>> Qcow2<S, F> {
         self.clear_range(offset, length, Clearance::Uncovered)
     }
 
-    /// Drops the whole clusters of a range, which read as zeros then. Answers how much of the range that was.
+    /// Drops the whole clusters of a range, in bytes, which read as zeros then. Answers where the first whole cluster begins, and how
+    /// many bytes of the range were cleared: within one L2 table, and 0 where no cluster is whole. The disk's last cluster is whole where
+    /// the range ends at the disk's size.
+    /// Refused in this order: 16 (failed), 12 (dependency), 1 (read-only), 2 (beyond size), 3 (version) below version 3, 20 (overflow)
+    /// where rounding up passes 64 bits. Then comes 9 (table prepared), where a mapping that isn't existing is prepared in its L2 table.
+    /// Where the work meets them: 4 (unaligned table), 8 (everything is in use), 13 (limit), 14 (memory), 15 (storage).
     pub fn discard_to_zero_unsafe(
         &mut self,
         offset: u64,
@@ -151,7 +161,12 @@ impl<S: Storage, F: WrappedFormat<S>> Qcow2<S, F> {
         self.clear_range(offset, length, Clearance::Zeros)
     }
 
-    /// Drops the whole clusters of a range, whatever they read as then: zeros, today. Answers how much of the range that was.
+    /// Drops the whole clusters of a range, in bytes, whatever they read as then: zeros, today. Answers where the first whole cluster
+    /// begins, and how many bytes of the range were cleared: within one L2 table, and 0 where no cluster is whole. The disk's last
+    /// cluster is whole where the range ends at the disk's size.
+    /// Refused in this order: 16 (failed), 12 (dependency), 1 (read-only), 2 (beyond size), 3 (version) below version 3, 20 (overflow)
+    /// where rounding up passes 64 bits. Then comes 9 (table prepared), where a mapping that isn't existing is prepared in its L2 table.
+    /// Where the work meets them: 4 (unaligned table), 8 (everything is in use), 13 (limit), 14 (memory), 15 (storage).
     pub fn discard_to_any_unsafe(
         &mut self,
         offset: u64,
@@ -175,7 +190,12 @@ impl<S: Storage, F: WrappedFormat<S>> Qcow2<S, F> {
         self.discard_to_zero_unsafe(offset, length)
     }
 
-    /// Makes the whole clusters of a range read as zeros. A host cluster that is marked copied is kept. Answers how much of the range that was.
+    /// Makes the whole clusters of a range, in bytes, read as zeros. A host cluster that is marked copied is kept. Answers where the
+    /// first whole cluster begins, and how many bytes of the range were cleared: within one L2 table, and 0 where no cluster is whole.
+    /// The disk's last cluster is whole where the range ends at the disk's size.
+    /// Refused in this order: 16 (failed), 12 (dependency), 1 (read-only), 2 (beyond size), 3 (version) below version 3, 20 (overflow)
+    /// where rounding up passes 64 bits. Then comes 9 (table prepared), where a mapping that isn't existing is prepared in its L2 table.
+    /// Where the work meets them: 4 (unaligned table), 8 (everything is in use), 13 (limit), 14 (memory), 15 (storage).
     pub fn ensure_zero_mapping(
         &mut self,
         offset: u64,

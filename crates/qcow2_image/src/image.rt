@@ -14,7 +14,9 @@ const L2_TABLES: usize = 128;
 /// How many refblocks are cached.
 const REFBLOCKS: usize = 32;
 
-/// An open image. Its storage is `S`, the disk below it `F`.
+/// An open image. Its storage is `S`, the disk below it `F`. Offsets, lengths and sizes are in bytes. A call that is refused
+/// 15 (storage), or 14 (memory) after its first change, marks the image as failed. From then on only `discard_data_mapping` and the
+/// getters answer.
 #[derive(Drop)]
 pub struct Qcow2<S: Storage, F: WrappedFormat<S> = Box<dyn BackingDisk>> {
     pub(crate) number: u64,
@@ -84,7 +86,8 @@ impl<S: Storage, F: WrappedFormat<S>> Qcow2<S, F> {
     ghost use Rattle.qcow2_image.specs.Opened.{IsFresh, StaysFresh, IsLoaded, IsKeptSince, SameNames, HasNamesIn, NeedsAnother, IsRefusedAlone, storage_after, Opens};
     ghost use Rattle.std.specs.Option.{is_some};
 
-    /// Whether the first bytes of a storage are those of an image of version 2 or 3.
+    /// Whether the first bytes of a storage are those of an image of version 2 or 3. Refused 14 (memory), 15 (storage), as the storage
+    /// is.
     pub fn probe(storage: &mut S) -> Result<bool, ImageError>
         ensures answer { (S.view storage.old).is_honest → IfOk result (λ found. found ≡ begins_image (byte_at (S.view storage.old).contents)) }
         ensures same { ContentsStay (S.view storage.old) (S.view storage.new) }
@@ -100,8 +103,11 @@ impl<S: Storage, F: WrappedFormat<S>> Qcow2<S, F> {
         Ok(magic == MAGIC && (version == 2 || version == 3))
     }
 
-    /// Opens an image. Other files that its header names or requires aren't asked for. A refusal hands the storage back. Images that are open
-    /// together have different numbers.
+    /// Opens an image. Other files that its header names or requires aren't asked for. A refusal hands the storage back. Images that are
+    /// open together have different numbers.
+    /// Refused for the header 19 (metadata), 13 (limit), 4 (unaligned table), in this order. Then for the L1 table 13 (limit) where it
+    /// would end past 64 bits, and 19 (metadata); to write, the same for the reftable. Where the work meets them: 14 (memory),
+    /// 15 (storage).
     pub fn open_image(
         alloc: Global,
         metadata: S,
@@ -121,8 +127,10 @@ impl<S: Storage, F: WrappedFormat<S>> Qcow2<S, F> {
         Self::open(alloc, metadata, writable, number, false)
     }
 
-    /// Opens an image that needs no other file. One whose data stand in another, or whose header names one, is refused 12 before anything is
-    /// written. Else as `open_image`.
+    /// Opens an image that needs no other file. One whose data stand in another, or whose header names one, is refused 12 (dependency)
+    /// before anything is written.
+    /// Else it is refused as `open_image` is: for the header 19 (metadata), 13 (limit), 4 (unaligned table), before 12. Behind that come
+    /// 13 and 19 for its tables. Where the work meets them: 14 (memory), 15 (storage).
     pub fn open_alone(
         alloc: Global,
         metadata: S,
@@ -372,7 +380,8 @@ impl<S: Storage, F: WrappedFormat<S>> Qcow2<S, F> {
         }
     }
 
-    /// Frees the clusters that are to be freed, writes what is cached, and flushes the storage.
+    /// Frees the clusters that are to be freed, writes what is cached, and flushes the storage. Refused 16 (failed), then 14 (memory),
+    /// 15 (storage) where the work meets them.
     pub fn flush(&mut self) -> Result<(), ImageError>
         ensures early { IsTrue (is_failed self.old) → (result ≡ Err Failed) × (self.new ≡ self.old) }
         ensures late { is_failed self.old ≡ false → IfErr result IsMet }

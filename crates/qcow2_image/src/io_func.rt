@@ -26,7 +26,8 @@ use qcow2_alloc::{ImageError, WriteKind};
 
 #[tactic(auto, using(crate::proofs::Call::MetErrors::tables_met, crate::proofs::Call::MetErrors::storage_met, crate::proofs::Call::MetErrors::metadata_met))]
 impl<S: Storage, F: WrappedFormat<S>> Qcow2<S, F> {
-    /// Refuses a range that can't be read.
+    /// Refuses a range that can't be read, in this order: 16 (failed), 12 (dependency), 2 (beyond size). The last is for a range of one
+    /// byte or more that passes the disk's size. Nothing is read.
     pub fn check_read(&self, offset: u64, length: u64) -> Result<(), ImageError>
         ensures refusal { MatchOption (refuses_to_read self.now offset length) (result ≡ Ok tt) (λ e. result ≡ Err e) }
         ensures end { IfOk result (λ done. offset + length < 2 ^ 64) }
@@ -39,7 +40,11 @@ impl<S: Storage, F: WrappedFormat<S>> Qcow2<S, F> {
         Ok(())
     }
 
-    /// Reads the bytes of a mapping, from `at` within it on. It is refused where the range is no longer mapped so.
+    /// Reads the bytes of a mapping, from `at` bytes within it on. They have to lie within its length. After a refusal the buffer may
+    /// hold any bytes.
+    /// Refused in this order: 16 (failed), 12 (dependency), 11 (foreign state) for a mapping of another image. Of no bytes it is Ok then.
+    /// Else 10 (outdated mapping) where the range is no longer mapped so, 7 (compressed). Where the work meets them: 4 (unaligned table),
+    /// 8 (everything is in use), 14 (memory), 15 (storage).
     pub fn read_mapped(
         &mut self,
         mapping: &Mapping,
@@ -183,8 +188,10 @@ impl<S: Storage, F: WrappedFormat<S>> Qcow2<S, F> {
         Ok(())
     }
 
-    /// Reads a range that isn't mapped plainly. Where a compressed cluster stands at its begin that is refused 7, and any other
-    /// range 18, with its offset. No bytes are read anywhere. The slice stays as it is.
+    /// Reads a range that isn't mapped plainly, from a guest offset on. Of no bytes it is Ok at any offset. The slice stays as it is.
+    /// Refused 16 (failed), 12 (dependency), in this order. Then 7 (compressed) where a compressed cluster stands at the range's begin,
+    /// and 18 (not compressed) with the offset where none does. Where the work meets them: 4 (unaligned table), 8 (everything is in use),
+    /// 14 (memory), 15 (storage).
     pub fn readv_special(&mut self, bytes: &mut [u8], offset: u64) -> Result<(), ImageError>
         ensures early { IfSome (unusable self.old) (λ e. (result ≡ Err e) × (self.new ≡ self.old)) }
         ensures late { unusable self.old ≡ None → IfErr result (λ e. IsMet e ⊎ (e ≡ NotCompressed offset)) }
@@ -204,7 +211,9 @@ impl<S: Storage, F: WrappedFormat<S>> Qcow2<S, F> {
         }
     }
 
-    /// The same, but that the offset is answered of a range that is refused 18 there.
+    /// The same, but that the offset is answered of a range that is refused 18 there, and none of no bytes.
+    /// Refused 16 (failed), 12 (dependency), in this order, then 7 (compressed) where a compressed cluster stands at the range's begin.
+    /// Where the work meets them: 4 (unaligned table), 8 (everything is in use), 14 (memory), 15 (storage).
     pub fn try_readv_special(
         &mut self,
         bytes: &mut [u8],
@@ -249,8 +258,10 @@ impl<S: Storage, F: WrappedFormat<S>> Qcow2<S, F> {
         Ok(Some(offset))
     }
 
-    /// Writes bytes into a prepared mapping, from `at` within it on. An existing mapping that is no longer copied data
-    /// at its place is refused.
+    /// Writes bytes into a prepared mapping, from `at` bytes within it on. They have to lie within its length.
+    /// Refused in this order: 16 (failed), 12 (dependency), 11 (foreign state) for a mapping of another image. Of no bytes it is Ok then.
+    /// Else 1 (read-only), and 10 (outdated mapping) for an existing mapping that is no longer copied data at its place. Where the work
+    /// meets them: 14 (memory), 15 (storage), and of an existing mapping 4 (unaligned table), 8 (everything is in use).
     pub fn write_mapped(
         &mut self,
         prepared: &Prepared,

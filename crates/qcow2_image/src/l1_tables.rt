@@ -20,7 +20,6 @@ use qcow2_alloc::{
 };
 use qcow2_metadata::{GuestOffset, HostCluster, L1Table, MAX_L1_ENTRIES};
 
-/// The longest L1 table.
 #[tactic(auto, using(crate::proofs::Call::MetErrors::tables_met, crate::proofs::Call::MetErrors::storage_met, crate::proofs::Call::MetErrors::metadata_met))]
 impl<S: Storage, F: WrappedFormat<S>> Qcow2<S, F> {
     // Sees to it that there is an L1 entry for an offset. Where the L1 table is too short for it, a longer one takes its place, and the clusters that are to be freed are freed then.

@@ -14,13 +14,13 @@ pub enum Place {
 /// What stands for a range of the guest's disk.
 #[derive(Clone, Copy, Debug, PartialEq, Eq)]
 pub enum MappingKind {
-    /// Bytes of a file, from an offset on. Writable means that they may be written in place.
+    /// Bytes of a file, from an offset in bytes on. Writable means that they may be written in place.
     Raw {
         place: Place,
         offset: u64,
         writable: bool,
     },
-    /// Bytes of the backing disk, from an offset on.
+    /// Bytes of the disk below, from an offset in bytes on.
     Indirect {
         offset: u64,
     },
@@ -30,7 +30,7 @@ pub enum MappingKind {
     },
     /// The range begins at or past the disk's end.
     Eof,
-    /// Data that can't be read plainly, from this guest offset on.
+    /// Data that can't be read plainly: compressed data, from this guest offset in bytes on.
     Special {
         offset: u64,
     },
@@ -45,6 +45,7 @@ pub struct Mapping {
     pub offset: u64,
     /// How long it is, in bytes.
     pub length: u64,
+    /// What stands for it, from its first byte on.
     pub kind: MappingKind,
 }
 

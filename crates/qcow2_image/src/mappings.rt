@@ -147,8 +147,10 @@ pub(crate) fn keeps(mapping: &L2Mapping, place: u64) -> bool
 
 #[tactic(auto, using(crate::proofs::Call::MetErrors::tables_met, crate::proofs::Call::MetErrors::storage_met, crate::proofs::Call::MetErrors::metadata_met, crate::proofs::Call::MetErrors::metadata_of_tables))]
 impl<S: Storage, F: WrappedFormat<S>> Qcow2<S, F> {
-    /// What stands at a guest offset, and for how many bytes, up to `max`, all is mapped alike: within one L2 table,
-    /// and below the disk's size.
+    /// What stands at a guest offset, and for how many bytes, up to `max`, all is mapped alike: within one L2 table, and below the disk's
+    /// size. At the size or past it that is `Eof`, for 0 bytes.
+    /// Refused 16 (failed), 12 (dependency), in this order. Where the work meets them: 4 (unaligned table), 8 (everything is in use),
+    /// 14 (memory), 15 (storage).
     pub fn get_mapping(&mut self, offset: u64, max: u64) -> Result<(Mapping, u64), ImageError>
         ensures early { IfSome (unusable self.old) (λ e. (result ≡ Err e) × (self.new ≡ self.old)) }
         ensures late { unusable self.old ≡ None → IfErr result IsMet }
@@ -334,8 +336,11 @@ impl<S: Storage, F: WrappedFormat<S>> Qcow2<S, F> {
         }
     }
 
-    /// Makes a range ready to be written at one place. Of what is announced as overwritten nothing is copied.
-    /// The mapping may be shorter than the range, and has to be committed or discarded.
+    /// Makes a range ready to be written at one place. Of what is announced as overwritten nothing is copied. The mapping may be shorter
+    /// than the range, and has to be committed or discarded. One that isn't existing has the rest of its first cluster at least.
+    /// Refused in this order: 16 (failed), 12 (dependency), 2 (beyond size), 1 (read-only). A length of 0 is answered before 1. Then
+    /// comes 9 (table prepared), where another mapping that isn't existing is prepared in its L2 table. Where the work meets them:
+    /// 4 (unaligned table), 7 (compressed), 8 (everything is in use), 13 (limit), 14 (memory), 15 (storage).
     pub fn prepare_data_mapping(
         &mut self,
         offset: u64,
@@ -572,8 +577,10 @@ impl<S: Storage, F: WrappedFormat<S>> Qcow2<S, F> {
         pending.hand_back(&mut self.file.free_list);
     }
 
-    /// Makes a prepared mapping visible. Where it isn't existing, the clusters that are to be freed are freed then.
-    /// A refusal that leaves the mapping as it is hands it back.
+    /// Makes a prepared mapping visible. Where it isn't existing, the clusters that are to be freed are freed then. A refusal that leaves
+    /// the mapping as it is hands it back (`Kept`).
+    /// Refused 11 (foreign state) for a mapping of another image, then 16 (failed). Where clusters can't be freed: 14 (memory),
+    /// 15 (storage).
     pub fn commit_data_mapping(&mut self, mut prepared: Prepared) -> Result<(), CommitRefused>
         ensures foreign { image_of prepared ≢ number_of self.old → (result ≡ Err (Kept ForeignState prepared)) × (self.new ≡ self.old) }
         ensures failed { image_of prepared ≡ number_of self.old → IsTrue (is_failed self.old) → (result ≡ Err (Kept Failed prepared)) × (self.new ≡ self.old) }
@@ -670,7 +677,8 @@ impl<S: Storage, F: WrappedFormat<S>> Qcow2<S, F> {
         }
     }
 
-    /// Drops a prepared mapping: its new clusters are to be freed. A mapping of another image is handed back.
+    /// Drops a prepared mapping: its new clusters are to be freed. A failed image does so too. Refused 11 (foreign state) for a mapping
+    /// of another image, which is handed back.
     pub fn discard_data_mapping(&mut self, prepared: Prepared) -> Result<(), (ImageError, Prepared)>
         ensures own { image_of prepared ≡ number_of self.old → IsOk result }
         ensures foreign { IfErr result (λ (e, p). (image_of prepared ≢ number_of self.old) × (e ≡ ForeignState) × (p ≡ prepared) × (self.new ≡ self.old)) }

@@ -32,7 +32,9 @@ pub struct Prepared {
 
 /// Why a commit is refused, with the mapping where it isn't spent.
 pub enum CommitRefused {
+    /// Nothing was changed: the refusal, and the mapping as it was.
     Kept(ImageError, Prepared),
+    /// The refusal. The mapping is visible, and the image is failed.
     Spent(ImageError),
 }
 
@@ -77,7 +79,7 @@ impl Prepared {
         self.image == image.number
     }
 
-    /// An existing mapping: nothing is to be committed.
+    /// Whether it is existing: all of it is written in place, and nothing is to be committed.
     pub fn is_nonblocking(&self) -> bool
         ensures { result ≡ is_none (table_of self.now) }
     {

@@ -28,8 +28,10 @@ use qcow2_metadata::GuestOffset;
 
 impl<S: Storage, F: WrappedFormat<S>> Qcow2<S, F> {
     /// Makes the disk smaller, and drops the whole clusters behind its new end, so that the disk below shows there should it grow again.
-    /// Answers the offset up to which that was done, which is less than the old size only where dropping the next cluster is refused. A size
-    /// that isn't smaller changes nothing, and answers the old one. It is refused while a mapping is prepared that isn't existing (17).
+    /// Answers the offset up to which that was done, which is less than the old size only where dropping the next cluster is refused. A
+    /// size that isn't smaller changes nothing, and answers the old one.
+    /// Refused in this order: 16 (failed), 12 (dependency), 1 (read-only). Of a smaller size also 17 (mapping prepared) while a mapping
+    /// is prepared that isn't existing. Where the work meets them: 14 (memory), 15 (storage).
     pub fn resize_shrink(&mut self, size: u64) -> Result<u64, ImageError>
         ensures early { IfSome (refuses_to_resize self.old) (λ e. (result ≡ Err e) × (self.new ≡ self.old)) }
         ensures no_smaller { refuses_to_resize self.old ≡ None → size_of self.old ≤ size → (result ≡ Ok (size_of self.old)) × (self.new ≡ self.old) }
@@ -148,8 +150,11 @@ impl<S: Storage, F: WrappedFormat<S>> Qcow2<S, F> {
         }
     }
 
-    /// Makes the disk larger. The mode says what its new bytes are, and what place they take. A size that isn't larger changes nothing. A mode that
-    /// takes clusters is refused where there is a disk below (6). Zeros that take none need version 3, and are refused below it (3).
+    /// Makes the disk larger. The mode says what its new bytes are, and what place they take. A size that isn't larger changes nothing.
+    /// Refused in this order: 16 (failed), 12 (dependency), 1 (read-only). Of a larger size also 6 (preallocation), for a mode that takes
+    /// clusters where there is a disk below. Then 13 (limit) where the L1 table would be too long, and 3 (version) for `Zero` below
+    /// version 3. Where the work meets them: 4 (unaligned table), 13 (limit), 14 (memory), 15 (storage). All modes but `None` may meet
+    /// 7 (compressed), 8 (everything is in use), 9 (table prepared) too.
     pub fn resize_grow(&mut self, size: u64, mode: PreallocateMode) -> Result<(), ImageError>
         ensures early { IfSome (refuses_to_resize self.old) (λ e. (result ≡ Err e) × (self.new ≡ self.old)) }
         ensures no_larger { refuses_to_resize self.old ≡ None → size ≤ size_of self.old → (result ≡ Ok tt) × (self.new ≡ self.old) }

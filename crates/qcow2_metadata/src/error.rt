@@ -4,25 +4,25 @@ use image_access::StorageError;
 use std::alloc::{AllocError, AllocFailed};
 use thiserror::Error;
 
-/// Why a header or a table isn't loaded or written, or an entry isn't used.
+/// Why a header or a table isn't loaded or written, or an entry isn't used. The driver gives each case a number.
 #[derive(Clone, Copy, Debug, PartialEq, Eq, Error)]
 pub enum MetadataError {
-    /// The storage failed, or had no memory.
+    /// The storage failed, 15 (storage), or had no memory, 14 (memory).
     #[error("{0}")]
     Storage(StorageError),
-    /// A growth was refused.
+    /// A growth was refused: 14 (memory).
     #[error("out of memory")]
     Memory,
-    /// Version 3 is needed.
+    /// Version 3 is needed: 3 (version).
     #[error("version")]
     Version,
-    /// An offset isn't on a cluster.
+    /// An offset isn't on a cluster: 4 (unaligned table).
     #[error("unaligned table")]
     Unaligned,
-    /// A limit of the format or of this driver is passed.
+    /// A limit of the format or of this driver is passed: 13 (limit).
     #[error("limit")]
     Limit,
-    /// It doesn't read.
+    /// It doesn't read: 19 (metadata).
     #[error("metadata")]
     Format,
 }

@@ -11,26 +11,44 @@ use crate::{HostOffset, MAX_L1_ENTRIES, MAX_REFTABLE_ENTRIES, MetadataError};
 pub(crate) use load::{cluster_bytes, read_first_cluster, require_readable};
 use std::marker::Model;
 
-/// The numbers of a header, at the places that the format gives them.
+/// The numbers of a header, at the places that the format gives them. The ranges are those of a header that reads.
 #[derive(Clone, Copy, Debug, PartialEq, Eq)]
 pub struct HeaderFields {
+    /// What an image begins with: `MAGIC`.
     pub magic: u32,
+    /// The version: 2 or 3.
     pub version: u32,
+    /// Where the name of the backing file stands, in bytes; 0 for none.
     pub backing_offset: u64,
+    /// The length of that name, in bytes.
     pub backing_length: u32,
+    /// The binary logarithm of the cluster size in bytes: 9 to 21.
     pub cluster_bits: u32,
+    /// The size of the guest's disk, in bytes.
     pub size: u64,
+    /// How data are encrypted: 0 for not at all, which is all that this library reads.
     pub crypt_method: u32,
+    /// How many entries the L1 table has: up to 4,194,304.
     pub l1_entries: u32,
+    /// Where the L1 table stands in the file, in bytes.
     pub l1_offset: u64,
+    /// Where the reftable stands in the file, in bytes.
     pub reftable_offset: u64,
+    /// How many clusters the reftable has: up to 1,048,576 entries.
     pub reftable_clusters: u32,
+    /// How many internal snapshots there are.
     pub snapshots: u32,
+    /// Where the table of snapshots stands in the file, in bytes.
     pub snapshots_offset: u64,
+    /// The bits of features that a driver must know: 0, or 4 for an external data file. 0 in version 2.
     pub incompatible: u64,
+    /// The bits of features that a driver may pass over; 0 in version 2.
     pub compatible: u64,
+    /// The bits of features that a writer which doesn't know them clears; 0 in version 2.
     pub autoclear: u64,
+    /// The binary logarithm of the bits of a count: 0 to 6, and 4 in version 2.
     pub refcount_order: u32,
+    /// The length of the header, in bytes: 72 in version 2, at least 104 in version 3, at most a cluster.
     pub header_length: u32,
 }
 
@@ -89,7 +107,7 @@ impl Header {
         self.fields.version
     }
 
-    /// Where the name of the backing file stands, 0 where there is none.
+    /// Where the name of the backing file stands, in bytes; 0 where there is none.
     pub fn backing_offset(&self) -> u64
         ensures { result ≡ self.now.fields.backing_offset }
     {
@@ -103,7 +121,7 @@ impl Header {
         self.fields.backing_length
     }
 
-    /// The logarithm of the cluster size: 9 to 21.
+    /// The binary logarithm of the cluster size in bytes: 9 to 21.
     pub fn cluster_bits(&self) -> u32
         ensures value { result ≡ self.now.fields.cluster_bits }
         ensures low { 9 ≤ result }
@@ -112,7 +130,7 @@ impl Header {
         self.fields.cluster_bits
     }
 
-    /// The size of the guest's disk.
+    /// The size of the guest's disk, in bytes.
     pub fn size(&self) -> u64
         ensures { result ≡ self.now.fields.size }
     {
@@ -126,7 +144,7 @@ impl Header {
         self.fields.crypt_method
     }
 
-    /// How many entries the L1 table has.
+    /// How many entries the L1 table has: up to 4,194,304.
     pub fn l1_table_entries(&self) -> u32
         ensures value { result ≡ self.now.fields.l1_entries }
         ensures limit { result ≤ 4194304 }
@@ -162,7 +180,7 @@ impl Header {
         self.fields.snapshots
     }
 
-    /// Where the table of snapshots stands in the file; without snapshots it means nothing.
+    /// Where the table of snapshots stands in the file, in bytes; without snapshots it means nothing.
     pub fn snapshots_offset(&self) -> u64
         ensures { result ≡ self.now.fields.snapshots_offset }
     {
@@ -190,7 +208,7 @@ impl Header {
         self.fields.autoclear
     }
 
-    /// The logarithm of the bits of a count: 0 to 6, and 4 in version 2.
+    /// The binary logarithm of the bits of a count: 0 to 6, and 4 in version 2.
     pub fn refcount_order(&self) -> u32
         ensures value { result ≡ self.now.fields.refcount_order }
         ensures high { result ≤ 6 }
@@ -233,7 +251,7 @@ impl Header {
         self.fields.incompatible & DATA_FILE_BIT != 0
     }
 
-    /// The bytes of a cluster.
+    /// The bytes of a cluster: 512 to 2,097,152.
     pub fn cluster_size(&self) -> u64
         ensures value { result ≡ cluster_size_of self.now.fields }
         ensures low { 512 ≤ result }
@@ -242,7 +260,7 @@ impl Header {
         1 << self.cluster_bits()
     }
 
-    /// The entries of an L2 table.
+    /// The entries of an L2 table: an eighth of a cluster's bytes.
     pub fn l2_entries(&self) -> usize
         ensures value { result ≡ entries_per_cluster self.now.fields }
         ensures low { 64 ≤ result }
@@ -251,7 +269,7 @@ impl Header {
         self.cluster_size() as usize / 8
     }
 
-    /// The entries of the reftable.
+    /// The entries of the reftable: up to 1,048,576.
     pub fn reftable_entries(&self) -> u64
         ensures value { result ≡ reftable_entries_of self.now.fields }
         ensures limit { result ≤ 1048576 }
@@ -259,7 +277,7 @@ impl Header {
         u64::from(self.fields.reftable_clusters) * (self.cluster_size() / 8)
     }
 
-    /// The counts of a refblock are two to this.
+    /// The binary logarithm of the counts of a refblock.
     pub fn rb_bits(&self) -> u32
         ensures value { result ≡ counts_bits self.now.fields }
         ensures counts { counts_per_block self.now.fields ≡ 2 ^ result }
@@ -278,7 +296,7 @@ impl Header {
         1 << self.rb_bits()
     }
 
-    /// Refuses an image of an older version.
+    /// Refuses an image of an older version: `Version`.
     pub fn require_version(&self, minimum: u32) -> Result<(), MetadataError>
         ensures ok { OnOk result (minimum ≤ self.now.fields.version) }
         ensures err { IfErr result (λ e. (e ≡ MetadataError.Version) × (self.now.fields.version < minimum)) }
@@ -299,7 +317,7 @@ impl Header {
         };
     }
 
-    /// Sets the place and the length of the L1 table.
+    /// Sets the place and the length of the L1 table, in memory alone. Refused `Limit` for more than 4,194,304 entries.
     pub fn set_l1_table(&mut self, offset: HostOffset, entries: u32) -> Result<(), MetadataError>
         ensures ok { OnOk result (self.new ≡ with_fields self.old (with_l1_table self.old.fields offset entries)) }
         ensures err { IfErr result (λ e. (e ≡ MetadataError.Limit) × (4194304 < entries)) }
@@ -316,7 +334,7 @@ impl Header {
         Ok(())
     }
 
-    /// Sets the place and the length of the reftable.
+    /// Sets the place and the length of the reftable, in memory alone. Refused `Limit` for clusters of more than 1,048,576 entries.
     pub fn set_reftable(&mut self, offset: HostOffset, clusters: u32) -> Result<(), MetadataError>
         ensures ok { OnOk result (self.new ≡ with_fields self.old (with_reftable self.old.fields offset clusters)) }
         ensures err { IfErr result (λ e. (e ≡ MetadataError.Limit) × (1048576 < clusters * entries_per_cluster self.old.fields)) }
@@ -333,7 +351,8 @@ impl Header {
         Ok(())
     }
 
-    /// Takes over where the L1 table and the reftable of another header lie, and how long they are.
+    /// Takes over where the L1 table and the reftable of another header lie, and how long they are, in memory alone. Refused as
+    /// `set_reftable` and `set_l1_table` are.
     pub fn update(&mut self, other: &Header) -> Result<(), MetadataError>
         ensures ok { OnOk result (self.new ≡ with_fields self.old (with_tables_of self.old.fields other.now.fields)) }
         ensures err { IfErr result (λ e. (e ≡ MetadataError.Limit) × (1048576 < other.now.fields.reftable_clusters * entries_per_cluster self.old.fields)) }

@@ -26,7 +26,7 @@ pub(crate) const RESERVED: u64 = 0x7f00_0000_0000_01ff;
 /// What an entry of the L1 table names.
 #[derive(Clone, Copy, Debug, PartialEq, Eq)]
 pub struct L1Entry {
-    /// Where the L2 table lies.
+    /// Where the L2 table lies in the file, in bytes.
     pub offset: HostOffset,
     /// Whether its cluster is counted for this entry alone.
     pub copied: bool,
@@ -62,7 +62,7 @@ fn copied_entry(offset: HostOffset) -> u64
 }
 
 impl L1Table {
-    /// A table of so many entries that name nothing. It has no place yet.
+    /// A table of so many entries that name nothing. It has no place yet. Refused `Limit` for more than 4,194,304 entries, and `Memory`.
     pub fn new_cleared(
         alloc: Global,
         header: &Header,
@@ -77,7 +77,9 @@ impl L1Table {
         Ok(L1Table { table })
     }
 
-    /// Loads a table of so many entries that lies from a cluster on. With no entries the storage isn't read.
+    /// Loads a table of so many entries that lies from a cluster on. With no entries the storage isn't read. Refused `Limit` for more
+    /// than 4,194,304 entries or an end past 64 bits, and `Format` where an entry has a bit without meaning. Where the work meets them:
+    /// `Memory`, `Storage`.
     pub fn load<S: Storage>(
         alloc: Global,
         storage: &mut S,
@@ -112,7 +114,7 @@ impl L1Table {
         Ok(L1Table { table })
     }
 
-    /// The logarithm of the cluster size.
+    /// The binary logarithm of the cluster size in bytes.
     pub fn cluster_bits(&self) -> u32
         ensures value { result ≡ self.now.cluster_bits }
         ensures is_table { IsL1Table self.now }
@@ -170,7 +172,7 @@ impl L1Table {
         self.table.set(index, copied_entry(offset));
     }
 
-    /// Writes all entries to where the table lies.
+    /// Writes all entries to where the table lies. It is to have a place. Refused as the storage is.
     pub fn write<S: Storage>(&self, storage: &mut S) -> Result<(), StorageError>
         requires { IsSome self.now.cluster }
         ensures written { IfSome self.now.cluster (λ cluster. Changes (S.view storage.old) (S.view storage.new) result
@@ -182,7 +184,7 @@ impl L1Table {
         self.table.write(storage)
     }
 
-    /// Writes one entry to where it lies.
+    /// Writes the entry of an index, below its length, to where it lies. Refused as the storage is.
     pub fn write_entry<S: Storage>(&self, storage: &mut S, index: usize) -> Result<(), StorageError>
         requires placed { IsSome self.now.cluster }
         requires within { index < entry_count self.now }
@@ -197,7 +199,8 @@ impl L1Table {
         self.table.write_entry(storage, index)
     }
 
-    /// A table of so many entries that begins with the same ones. The others name nothing, and it has no place yet.
+    /// A table of so many entries, not fewer than its own, that begins with the same ones. The others name nothing, and it has no place
+    /// yet. Refused `Limit` for more than 4,194,304 entries, and `Memory`.
     pub fn clone_and_grow(&self, alloc: Global, entries: usize) -> Result<L1Table, MetadataError>
         requires { entry_count self.now ≤ entries }
         ensures table { IfOk result (λ t. t ≡ record self.now { cluster = None; bytes = self.now.bytes ++ replicate (8 * entries - length self.now.bytes) 0 }) }

@@ -82,7 +82,8 @@ fn run_of_bytes(first: u64, last: u64, cluster_bits: u32) -> (HostCluster, Clust
 }
 
 impl L2Mapping {
-    /// What an L2 entry says.
+    /// What an L2 entry says. `cluster_bits` is 9 to 21. Bit 0 means zeros only with `has_zero_bit`, and a copied offset of 0 is a place
+    /// only with `data_is_external`.
     #[tactic(auto, unfolding(crate::specs::Cover::cover_of))]
     pub fn of_entry(
         entry: u64,

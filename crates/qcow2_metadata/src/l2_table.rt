@@ -86,7 +86,7 @@ fn copied_host(mapping: L2Mapping) -> Option<HostOffset>
 }
 
 impl L2Table {
-    /// A table whose entries are 0.
+    /// A table whose entries are 0. Refused `Memory`.
     pub fn new_cleared(alloc: Global, header: &Header) -> Result<L2Table, MetadataError>
         ensures table { IfOk result (λ table. table ≡ l2_table header.now.fields None (replicate (cluster_size header.now.fields) 0) true) }
         ensures zeros { IfOk result (λ table. (i : ℕ) → entry_of table.bytes i ≡ 0) }
@@ -103,7 +103,7 @@ impl L2Table {
         })
     }
 
-    /// Loads the table that lies in a cluster.
+    /// Loads the table that lies in a cluster. Refused `Memory`, and `Storage` as the storage is.
     pub fn load<S: Storage>(
         alloc: Global,
         storage: &mut S,
@@ -134,7 +134,7 @@ impl L2Table {
         })
     }
 
-    /// A new table with the same entries.
+    /// A new table with the same entries. Refused `Memory`.
     pub fn clone(&self) -> Result<L2Table, MetadataError>
         ensures ok { IfOk result (λ table. table ≡ record self.now { cluster = None; is_modified = true }) }
         ensures err { IfErr result (λ e. e ≡ MetadataError.Memory) }
@@ -149,7 +149,7 @@ impl L2Table {
         })
     }
 
-    /// Writes it to its cluster.
+    /// Writes it to its cluster, which it is to have. Refused as the storage is.
     pub fn write<S: Storage>(&self, storage: &mut S) -> Result<(), StorageError>
         requires { IsSome self.now.cluster }
         ensures written { IfSome self.now.cluster (λ cluster. Changes (S.view storage.old) (S.view storage.new) result
@@ -165,7 +165,7 @@ impl L2Table {
         storage.write(at, &self.bytes)
     }
 
-    /// Writes it to a cluster if it is new or changed, and then it is neither.
+    /// Writes it to a cluster if it is new or changed, and then it is neither. Refused as the storage is.
     pub fn write_if_modified<S: Storage>(
         &mut self,
         storage: &mut S,
@@ -203,7 +203,8 @@ impl L2Table {
         )
     }
 
-    /// What it says of a guest cluster that it covers. An offset of data that isn't on a cluster is refused.
+    /// What it says of a guest cluster that it covers. Refused `Unaligned` where data, or a host cluster that it keeps, have an offset
+    /// that isn't on a cluster.
     pub fn get_mapping(&self, guest: GuestCluster) -> Result<L2Mapping, MetadataError>
         ensures ok { IfOk result (λ mapping. mapping ≡ cover_at self.now (guest % entries_of self.now)) }
         ensures aligned { IfOk result (HasAlignedHost self.now.cluster_bits) }

@@ -118,7 +118,7 @@ fn write_count(block: &mut [u8], order: u32, index: usize, count: u64)
 }
 
 impl RefBlock {
-    /// A refblock whose counts are 0.
+    /// A refblock whose counts are 0. Refused `Memory`.
     pub fn new_cleared(alloc: Global, header: &Header) -> Result<RefBlock, MetadataError>
         ensures block { IfOk result (λ block. block ≡ ref_block header.now.fields None (replicate (cluster_size header.now.fields) 0) true) }
         ensures zeros { IfOk result (λ block. (i : ℕ) → count_at block i ≡ 0) }
@@ -134,7 +134,7 @@ impl RefBlock {
         })
     }
 
-    /// Loads the refblock that lies in a cluster.
+    /// Loads the refblock that lies in a cluster. Refused `Memory`, and `Storage` as the storage is.
     pub fn load<S: Storage>(
         alloc: Global,
         storage: &mut S,
@@ -164,7 +164,7 @@ impl RefBlock {
         })
     }
 
-    /// Writes it to its cluster.
+    /// Writes it to its cluster, which it is to have. Refused as the storage is.
     pub fn write<S: Storage>(&self, storage: &mut S) -> Result<(), StorageError>
         requires { IsSome self.now.cluster }
         ensures written { IfSome self.now.cluster (λ cluster. Changes (S.view storage.old) (S.view storage.new) result
@@ -180,7 +180,7 @@ impl RefBlock {
         storage.write(at, &self.bytes)
     }
 
-    /// Writes it to a cluster if it is new or changed, and then it is neither.
+    /// Writes it to a cluster if it is new or changed, and then it is neither. Refused as the storage is.
     pub fn write_if_modified<S: Storage>(
         &mut self,
         storage: &mut S,

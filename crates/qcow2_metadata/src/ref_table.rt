@@ -47,7 +47,7 @@ pub fn block_offset(entry: u64) -> u64
 }
 
 impl RefTable {
-    /// A table of so many entries that name nothing. It has no place yet.
+    /// A table of so many entries that name nothing. It has no place yet. Refused `Limit` for more than 1,048,576 entries, and `Memory`.
     pub fn new_cleared(
         alloc: Global,
         header: &Header,
@@ -67,7 +67,9 @@ impl RefTable {
         Ok(RefTable { table })
     }
 
-    /// Loads a table of so many entries that lies from a cluster on. With no entries the storage isn't read.
+    /// Loads a table of so many entries that lies from a cluster on. With no entries the storage isn't read. Refused `Limit` for more
+    /// than 1,048,576 entries or an end past 64 bits, and `Format` where an entry has a bit without meaning. Where the work meets them:
+    /// `Memory`, `Storage`.
     pub fn load<S: Storage>(
         alloc: Global,
         storage: &mut S,
@@ -102,7 +104,7 @@ impl RefTable {
         Ok(RefTable { table })
     }
 
-    /// The logarithm of the cluster size.
+    /// The binary logarithm of the cluster size in bytes.
     pub fn cluster_bits(&self) -> u32
         ensures value { result ≡ self.now.cluster_bits }
         ensures is_table { IsRefTable self.now }
@@ -154,7 +156,7 @@ impl RefTable {
         self.table.set(index, offset);
     }
 
-    /// Writes all entries to where the table lies.
+    /// Writes all entries to where the table lies. It is to have a place. Refused as the storage is.
     pub fn write<S: Storage>(&self, storage: &mut S) -> Result<(), StorageError>
         requires { IsSome self.now.cluster }
         ensures written { IfSome self.now.cluster (λ cluster. Changes (S.view storage.old) (S.view storage.new) result
@@ -166,7 +168,7 @@ impl RefTable {
         self.table.write(storage)
     }
 
-    /// Writes one entry to where it lies.
+    /// Writes the entry of an index, below its length, to where it lies. Refused as the storage is.
     pub fn write_entry<S: Storage>(&self, storage: &mut S, index: usize) -> Result<(), StorageError>
         requires placed { IsSome self.now.cluster }
         requires within { index < entry_count self.now }
@@ -181,7 +183,8 @@ impl RefTable {
         self.table.write_entry(storage, index)
     }
 
-    /// A table of so many entries that begins with the same ones. The others name nothing, and it has no place yet.
+    /// A table of so many entries, not fewer than its own, that begins with the same ones. The others name nothing, and it has no place
+    /// yet. Refused `Limit` for more than 1,048,576 entries, and `Memory`.
     pub fn clone_and_grow(&self, alloc: Global, entries: usize) -> Result<RefTable, MetadataError>
         requires { entry_count self.now ≤ entries }
         ensures table { IfOk result (λ t. t ≡ record self.now { cluster = None; bytes = self.now.bytes ++ replicate (8 * entries - length self.now.bytes) 0 }) }

@@ -44,7 +44,8 @@ fn load_entries<S: Storage>(
 }
 
 impl HeaderFields {
-    /// The numbers of the header in cluster 0, where it reads. Its tables may lie anywhere.
+    /// The numbers of the header in cluster 0, where it reads. Its tables may lie anywhere. Refused `Format`, then `Limit` where a table
+    /// is too long. Where the work meets them: `Memory`, `Storage`.
     pub fn load<S: Storage>(alloc: Global, storage: &mut S) -> Result<HeaderFields, MetadataError>
         ensures fields { (S.view storage.old).is_honest → IfOk result (λ h. h ≡ header (byte_at (S.view storage.old).contents)) }
         ensures ok { (S.view storage.old).is_honest → IfOk result (λ h. HeaderReads h (byte_at (S.view storage.old).contents)) }
@@ -59,7 +60,8 @@ impl HeaderFields {
         Ok(fields)
     }
 
-    /// The bytes of the L1 table, from its offset on.
+    /// The bytes of the L1 table, from its offset on. Refused `Limit` where it would end past 64 bits, and `Format` where an entry has a
+    /// bit without meaning. Where the work meets them: `Memory`, `Storage`.
     pub fn load_l1_entries<S: Storage>(
         &self,
         alloc: Global,
@@ -94,7 +96,7 @@ impl HeaderFields {
         (u64::from(self.reftable_clusters) * per_cluster) as usize
     }
 
-    /// The bytes of the reftable, from its offset on.
+    /// The bytes of the reftable, from its offset on. Refused as `load_l1_entries` is.
     pub fn load_reftable_entries<S: Storage>(
         &self,
         alloc: Global,

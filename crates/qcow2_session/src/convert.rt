@@ -12,10 +12,12 @@ use image_access::{Storage, StoragePreallocate, WrappedFormat};
 use qcow2_image::{ImageError, Qcow2};
 use std::alloc::Global;
 
-/// Makes an image's disk as a raw disk of the same size is, cluster by cluster, and flushes the image. The answer is the number
-/// of bytes. Only a cluster that differs is written, so where both read zero nothing is. Before any work a failed image (16), a
-/// missing data file (12) and unequal sizes (5) are refused. After a refusal other than 14 and 15 the disk has the raw disk's
-/// bytes up to a cluster's start, and its own from there on.
+/// Makes an image's disk as a raw disk of the same size is, cluster by cluster, and flushes the image. The answer is the number of bytes.
+/// Only a cluster that differs is written, so where both read zero nothing is. After a refusal other than 14 and 15 the disk has the raw
+/// disk's bytes up to a cluster's start, and its own from there on.
+/// Before any work it is refused 16 (failed), 12 (dependency), then 5 (invalid option) for unequal sizes. A cluster that differs is
+/// refused 1 (read-only), 9 (table prepared) as a write is. Where the work meets them: 4 (unaligned table), 7 (compressed),
+/// 8 (everything is in use), 13 (limit), 14 (memory), 15 (storage).
 pub fn to_qcow2<R: Storage, S: Storage, F: WrappedFormat<S>>(
     alloc: Global,
     raw: &mut R,
@@ -91,9 +93,10 @@ fn import_at<R: Storage, S: Storage, F: WrappedFormat<S>>(
     }
 }
 
-/// Makes a raw disk as an image's disk is, cluster by cluster. It is resized to no bytes, then to the disk's size, and each cluster
-/// that isn't all zeros is written. The answer is the number of bytes. Before any work a failed image (16) and a missing data
-/// file (12) are refused, and want of memory. After another refusal the raw disk may have any bytes. What the image's guest sees stays.
+/// Makes a raw disk as an image's disk is, cluster by cluster. It is resized to no bytes, then to the disk's size, and each cluster that
+/// isn't all zeros is written. The answer is the number of bytes. What the image's guest sees stays.
+/// Before any work it is refused 16 (failed), 12 (dependency), then 14 (memory) where two clusters have no room. Where the work meets
+/// them: 4 (unaligned table), 7 (compressed), 8 (everything is in use), 14 (memory), 15 (storage). The raw disk may have any bytes then.
 pub fn to_raw<S: Storage, F: WrappedFormat<S>, R: Storage>(
     alloc: Global,
     image: &mut Qcow2<S, F>,

@@ -11,8 +11,11 @@ use image_access::{Storage, WrappedFormat};
 use qcow2_image::{ImageError, Qcow2};
 use std::alloc::Global;
 
-/// Opens an image that needs no other file, for writing, and answers each command as `run` does. Modified tables stay in memory until a
-/// `flush`. An image that needs another file is refused, and stays as it is. A refused opening hands the storage back; images that are open together have different numbers.
+/// Opens an image that needs no other file, for writing, and answers each command as `run` does. Tables that are still modified then stay
+/// in memory until a `flush`. A refused opening hands the storage back; images that are open together have different numbers.
+/// Refused as `open_alone` is. For the header 19 (metadata), 13 (limit), 4 (unaligned table), in this order. Then 12 (dependency) for an
+/// image that needs another file, which stays as it is. For its tables 13 (limit), 19 (metadata), and where the work meets them
+/// 14 (memory), 15 (storage).
 pub fn open_and_run<S: Storage, F: WrappedFormat<S>>(
     alloc: Global,
     storage: S,

@@ -25,76 +25,95 @@ use image_access::{PreallocateMode, Storage, WrappedFormat};
 use qcow2_image::{CommitRefused, ImageError, Mapping, Prepared, Qcow2};
 use std::alloc::Global;
 
-/// A call on an image. Prepared mappings stand in slots, and so do mappings.
+/// A call on an image. Prepared mappings stand in 256 slots, and mappings in 256 others. Offsets, lengths and sizes are in bytes. Each
+/// but `Write` is replied `Refused` where its call is refused.
 #[derive(Debug, PartialEq, Drop)]
 pub enum Command {
+    /// `read` of so many bytes from a guest offset on. Replied `Bytes`.
     Read {
         offset: u64,
         length: u64,
     },
+    /// `write` of bytes from a guest offset on. Replied `Done` or `WriteRefused`.
     Write {
         offset: u64,
         bytes: Vec<u8>,
     },
+    /// `get_mapping` from a guest offset on, up to `max` bytes, into a slot for mappings. Replied `Mapping`.
     GetMapping {
         slot: u8,
         offset: u64,
         max: u64,
     },
+    /// `read_mapped` of so many bytes, from `at` within the mapping in a slot on. Replied `Bytes`, or `Misuse`.
     ReadMapped {
         slot: u8,
         at: u64,
         length: u64,
     },
+    /// `prepare_data_mapping` of a range, into an empty slot for prepared mappings. Replied `Prepared`, or `Misuse`.
     PrepareDataMapping {
         slot: u8,
         offset: u64,
         length: u64,
         overwrite: bool,
     },
+    /// `write_mapped` of bytes, from `at` within the prepared mapping in a slot on. Replied `Done`, or `Misuse`.
     WriteMapped {
         slot: u8,
         at: u64,
         bytes: Vec<u8>,
     },
+    /// `commit_data_mapping` of what stands in a slot, which is empty then, but where that is handed back. Replied `Done`, or `Misuse`.
     CommitDataMapping {
         slot: u8,
     },
+    /// `discard_data_mapping` of what stands in a slot, which is empty then. Replied `Done`, or `Misuse`.
     DiscardDataMapping {
         slot: u8,
     },
+    /// `ensure_zero_mapping` of a range. Replied `Range`.
     EnsureZeroMapping {
         offset: u64,
         length: u64,
     },
+    /// `discard_to_zero_unsafe` of a range. Replied `Range`.
     DiscardToZero {
         offset: u64,
         length: u64,
     },
+    /// `discard_to_any_unsafe` of a range. Replied `Range`.
     DiscardToAny {
         offset: u64,
         length: u64,
     },
+    /// `discard_to_backing_unsafe` of a range. Replied `Range`.
     DiscardToBacking {
         offset: u64,
         length: u64,
     },
+    /// `readv_special` of so many bytes from a guest offset on. Replied `Done`.
     ReadvSpecial {
         offset: u64,
         length: u64,
     },
+    /// `try_readv_special` of so many bytes from a guest offset on. Replied `NotCompressed`.
     TryReadvSpecial {
         offset: u64,
         length: u64,
     },
+    /// `flush`. Replied `Done`.
     Flush,
+    /// `resize_grow` to a size, in a mode. Replied `Done`.
     ResizeGrow {
         size: u64,
         mode: PreallocateMode,
     },
+    /// `resize_shrink` to a size. Replied `Shrunk`.
     ResizeShrink {
         size: u64,
     },
+    /// `size`, which is never refused. Replied `Size`.
     Size,
 }
 
@@ -105,8 +124,9 @@ pub enum Reply {
     Done,
     /// The bytes that were read.
     Bytes(Vec<u8>),
+    /// What stands for a range, and for how many bytes.
     Mapping(Mapping),
-    /// Where a prepared mapping is to be written in the file, and for how many bytes.
+    /// Where a prepared mapping is to be written in the file, for how many bytes, and whether it is existing.
     Prepared {
         offset: u64,
         length: u64,
@@ -119,9 +139,11 @@ pub enum Reply {
     },
     /// The offset of a range that doesn't begin in a compressed cluster, or none of no bytes.
     NotCompressed(Option<u64>),
-    /// The offset up to which a smaller disk's tail was dropped.
+    /// The offset up to which a smaller disk's tail was dropped, or the old size where nothing became smaller.
     Shrunk(u64),
+    /// The size of the guest's disk, in bytes.
     Size(u64),
+    /// The call was refused, by a number and a name.
     Refused(ImageError),
     /// A write was refused after so many leading bytes were written.
     WriteRefused(ImageError, u64),
@@ -129,8 +151,10 @@ pub enum Reply {
     Misuse,
 }
 
-/// Reads so many bytes of the guest's disk, from an offset in bytes on. It is refused as `read_into` is, and as want of memory
-/// where the bytes have no room.
+/// Reads so many bytes of the guest's disk, from an offset in bytes on.
+/// Refused in this order: 16 (failed), 12 (dependency), 2 (beyond size) for a range of one byte or more that passes the size. Where the
+/// work meets them: 4 (unaligned table), 7 (compressed), 8 (everything is in use), 14 (memory), 15 (storage). 14 also where the bytes
+/// have no room.
 pub fn read<S: Storage, F: WrappedFormat<S>>(
     alloc: Global,
     image: &mut Qcow2<S, F>,
@@ -155,9 +179,10 @@ pub fn read<S: Storage, F: WrappedFormat<S>>(
     Ok(bytes)
 }
 
-/// Fills the buffer with the guest's bytes, from an offset in bytes on, whatever clusters and tables they lie in. A failed image
-/// (16), a missing data file (12) and a range of one byte or more that passes the size (2) are refused first. Then comes what the work
-/// meets, such as compressed data (7). After a refusal the buffer may hold any bytes.
+/// Fills the buffer with the guest's bytes, from an offset in bytes on, whatever clusters and tables they lie in. After a refusal the
+/// buffer may hold any bytes.
+/// Refused in this order: 16 (failed), 12 (dependency), 2 (beyond size) for a range of one byte or more that passes the size. Where the
+/// work meets them: 4 (unaligned table), 7 (compressed), 8 (everything is in use), 14 (memory), 15 (storage).
 pub fn read_into<S: Storage, F: WrappedFormat<S>>(
     image: &mut Qcow2<S, F>,
     offset: u64,
@@ -209,8 +234,12 @@ fn read_some<S: Storage, F: WrappedFormat<S>>(
     Ok(count)
 }
 
-/// Writes bytes to the guest's disk. A refusal says how many leading bytes were written; of a sound image they are none, or end
-/// where a cluster does.
+/// Writes bytes to the guest's disk, from an offset in bytes on. A refusal says how many leading bytes were written; of a sound image
+/// they are none, or end where a cluster does.
+/// Refused in this order: 16 (failed), 12 (dependency), 2 (beyond size) for a range of one byte or more that passes the size,
+/// 1 (read-only) for one byte or more. Then comes 9 (table prepared), where a mapping that isn't existing is prepared in an L2 table of
+/// the range. Where the work meets them: 4 (unaligned table), 7 (compressed), 8 (everything is in use), 13 (limit), 14 (memory),
+/// 15 (storage).
 pub fn write<S: Storage, F: WrappedFormat<S>>(
     image: &mut Qcow2<S, F>,
     offset: u64,
@@ -296,7 +325,8 @@ fn release<S: Storage, F: WrappedFormat<S>>(image: &mut Qcow2<S, F>, prepared: P
     }
 }
 
-/// Answers each command. Where room for the replies or the slots is refused the answer is empty, and nothing was called.
+/// Answers each command. Where room for the replies or the slots is refused the answer is empty, and nothing was called. Mappings that
+/// stand in slots at the end are discarded.
 pub fn run<S: Storage, F: WrappedFormat<S>>(
     alloc: Global,
     image: &mut Qcow2<S, F>,

@@ -15,8 +15,8 @@ use program_parts::{make_image, make_raw_disk};
 use std::alloc::Global;
 use std::io::Write;
 
-/// Makes an image of a raw disk in the storage, with the clusters and counts that the words ask for, and answers the exit status, with the
-/// storage. A raw disk that ends with another size than it had is refused 15.
+/// Makes an image of a raw disk in the storage, with the clusters and counts that the words ask for, and answers the exit status, with
+/// the storage. Refused as `make_image` is.
 pub fn import_raw<R: Storage, S: Storage, W: Write>(
     alloc: Global,
     raw: &mut R,
@@ -47,7 +47,7 @@ pub fn import_raw<R: Storage, S: Storage, W: Write>(
 }
 
 /// Makes a raw disk of the image in the storage, which is only read, and answers the exit status, with the storage. An image that needs
-/// another file is refused, and the raw disk stays as it is.
+/// another file is refused 12 (dependency), and the raw disk stays as it is. Else it is refused as `make_raw_disk` is.
 pub fn export_raw<S: Storage, R: Storage, W: Write>(
     alloc: Global,
     storage: S,

@@ -30,7 +30,7 @@ impl From<AllocError> for LineError {
     }
 }
 
-/// The command of a line, which is given without its end.
+/// The command of a line, which is given without its end. Refused `Unreadable` where it isn't the line of a command, and `Memory`.
 pub fn parse_line(alloc: Global, line: &str) -> Result<Command, LineError>
     ensures ok { IfOk result (λ command. order_of_line line.now ≡ Some (order_of_command command)) }
     ensures unreadable { IsErrOf result Unreadable → order_of_line line.now ≡ None }

@@ -16,16 +16,17 @@ use std::alloc::Global;
 use std::io;
 use std::io::{BufRead, Write};
 
-/// The exit status of a run in which nothing was refused.
+/// The exit status of a run in which nothing was refused: 0.
 pub const DONE: u8 = 0;
 
-/// The exit status where a printed line is a refusal, or a line couldn't be written.
+/// The exit status where a printed line is a refusal, or a line couldn't be written: 1.
 pub const REFUSED: u8 = 1;
 
-/// The exit status where the words, or a line of the input, couldn't be read.
+/// The exit status where the words, or a line of the input, couldn't be read: 2.
 pub const UNREADABLE: u8 = 2;
 
-/// Makes an image in the storage, as the words ask for, and answers the exit status, with the storage.
+/// Makes an image in the storage, as the words ask for, and answers the exit status, with the storage. Refused as
+/// `Qcow2CreateBuilder::create` is: 5 (invalid option), 13 (limit), 14 (memory), 15 (storage).
 pub fn create<S: Storage, W: Write>(
     alloc: Global,
     storage: S,
@@ -58,9 +59,9 @@ pub fn create<S: Storage, W: Write>(
     (status, storage)
 }
 
-/// Reads commands from the input, runs them on the image in the storage, prints their answers, and answers the exit status,
-/// with the storage. Messages name the lines that were refused or couldn't be read. An image that needs another file is refused, and
-/// stays as it is. `F` is the kind of a disk below; none is given.
+/// Reads commands from the input, runs them on the image in the storage, prints their answers, and answers the exit status, with the
+/// storage. Messages name the lines that were refused or couldn't be read. An image that needs another file is refused 12 (dependency),
+/// and stays as it is; else it is refused as `open_and_run` is. `F` is the kind of a disk below; none is given.
 pub fn script<S: Storage, F: WrappedFormat<S>, R: BufRead, W: Write, M: Write>(
     alloc: Global,
     storage: S,

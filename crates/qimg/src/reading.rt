@@ -13,13 +13,14 @@ use std::io::BufRead;
 /// The commands of an input.
 #[derive(Debug, Drop)]
 pub struct Script {
+    /// The commands of the lines before that, in their order.
     pub commands: Vec<Command>,
     /// Whether the line after those of the commands couldn't be read, and ended the input.
     pub is_cut: bool,
 }
 
-/// Reads lines to the end of the input, or to the first one that can't be read. Such a line asks for no command, its bytes aren't
-/// UTF-8, or a read fails in it.
+/// Reads lines to the end of the input, or to the first one that can't be read. Such a line asks for no command, its bytes aren't UTF-8,
+/// or a read fails in it. Refused where memory is missing.
 pub fn read_script<R: BufRead>(alloc: Global, input: &mut R) -> Result<Script, AllocError>
     ensures { IfSome (R.remaining input.old) (λ text. IfOk result (λ script. IsScriptOf text (map order_of_command script.commands.items) script.is_cut)) }
 {

@@ -23,7 +23,8 @@ const BROKEN: u8 = 2;
 const LEAKING: u8 = 3;
 
 /// Prints the report of an image, which is only read, and answers the exit status. That is 0 where it is consistent without leaked
-/// clusters, 3 with some, and 2 where it isn't consistent.
+/// clusters, 3 with some, and 2 where it isn't consistent. Refused 19 (metadata), 13 (limit) for a header, L1 table or reftable that
+/// doesn't read. Where the work meets them: 14 (memory), 15 (storage), and `Unprinted`.
 pub fn check<S: Storage, W: Write>(
     alloc: Global,
     storage: &mut S,

@@ -9,8 +9,8 @@ use image_access::Storage;
 use qcow2_image::{ImageError, Qcow2CreateBuilder};
 use std::alloc::Global;
 
-/// Makes an image with a disk of so many bytes, which are zeros, and hands its storage back. A layout that images don't have is
-/// refused 5, and then nothing was written.
+/// Makes an image with a disk of so many bytes, which are zeros, and hands its storage back. A layout that images don't have is refused
+/// 5 (invalid option), and then nothing was written. Where the work meets them: 13 (limit), 14 (memory), 15 (storage).
 pub fn create<S: Storage>(
     alloc: Global,
     storage: S,

@@ -18,11 +18,14 @@ const LAZY_COUNTS: u64 = 1;
 /// A file, by its name, and the room that it takes on its device, where that is known.
 #[derive(Clone, Copy)]
 pub struct File<'a> {
+    /// Its name, as the words give it.
     pub name: &'a str,
+    /// The bytes that it takes on its device, where that is known.
     pub room: Option<u64>,
 }
 
-/// Prints what the header of an image says. The image is only read.
+/// Prints what the header of an image says. The image is only read. Refused for its header 19 (metadata), 13 (limit),
+/// 4 (unaligned table). Where the work meets them: 14 (memory), 15 (storage), and `Unprinted`.
 pub fn info<S: Storage, W: Write>(
     alloc: Global,
     storage: &mut S,

@@ -8,7 +8,7 @@ ghost use Rattle.qimg_tools.specs.Json.{escaped, escaped_text, json_text};
 use std::io;
 use std::io::Write;
 
-/// Prints a text between quotation marks.
+/// Prints a text between quotation marks. Refused as the output is.
 pub fn print_text<W: Write>(output: &mut W, text: &str) -> io::Result<()>
     ensures { OnOk result (Appends (W.contents output.old) (W.contents output.new) (json_text text.now)) }
 {

@@ -47,8 +47,9 @@ struct Page<'a> {
     form: Form,
 }
 
-/// Prints what each run of an image's disk is mapped to. The image is opened for reading alone, and without the disk below
-/// it, and its storage is handed back.
+/// Prints what each run of an image's disk is mapped to. The image is opened for reading alone, and without the disk below it, and its
+/// storage is handed back. Refused as `open_image` is: 19 (metadata), 13 (limit), 4 (unaligned table). An image whose data stand in
+/// another file is refused 12 (dependency). Where the work meets them: 4 (unaligned table), 14 (memory), 15 (storage), and `Unprinted`.
 pub fn map<S: Storage, W: Write>(
     alloc: Global,
     storage: S,

@@ -15,44 +15,63 @@ The status is 0, or 1 where something is refused. Of check it is 2 for an image 
 /// What is to be done.
 #[derive(Clone, Copy)]
 pub enum Command {
+    /// Tell what an image is.
     Info,
+    /// Tell what an image's disk is mapped to.
     Map,
+    /// Tell whether an image is consistent.
     Check,
+    /// Make an image of a raw disk, or a raw disk of an image.
     Convert,
+    /// Make an image.
     Create,
+    /// Print the usage.
     Help,
+    /// Print the version.
     Version,
 }
 
 /// How an answer is printed.
 #[derive(Clone, Copy)]
 pub enum Form {
+    /// As lines to be read by people: `human`.
     Text,
+    /// As JSON: `json`.
     Json,
 }
 
 /// The format of a disk in a file.
 #[derive(Clone, Copy)]
 pub enum DiskFormat {
+    /// The bytes of the disk themselves.
     Raw,
+    /// An image of this library.
     Qcow2,
 }
 
 /// How a new image is laid out: the bytes of a cluster, and the bits of its count.
 #[derive(Clone, Copy)]
 pub struct Layout {
+    /// The bytes of a cluster: 65,536 where none are asked for. Images have powers of two from 512 to 2,097,152.
     pub cluster_size: u64,
+    /// The bits of a count: 16 where none are asked for. Images have powers of two from 1 to 64.
     pub refcount_bits: u64,
 }
 
 /// What the words beside the command ask for.
 #[derive(Clone, Copy)]
 pub struct Settings<'a> {
+    /// How the answer is printed: as text where nothing is asked for.
     pub form: Form,
+    /// The format of the disk that is converted; None where nothing is asked for.
     pub source: Option<DiskFormat>,
+    /// The format of the disk that is made: raw where nothing is asked for.
     pub target: DiskFormat,
+    /// How a new image is laid out.
     pub layout: Layout,
+    /// Whether the begin and the end of a conversion are told.
     pub shows_progress: bool,
+    /// The files, or the file and the size, in their order; at most two.
     pub operands: (Option<&'a str>, Option<&'a str>),
 }
 

@@ -83,7 +83,8 @@ fn new_fields(
 
 impl Header {
     #[tactic(auto, using(crate::proofs::NewHeader::short_name))]
-    /// Whether a new header has room for these names, and knows such clusters and counts.
+    /// Whether a new header has room for these names in its cluster, and knows such clusters and counts: bits of 9 to 21, and an order of
+    /// 0 to 6.
     pub fn fits(
         cluster_bits: u32,
         refcount_order: u32,

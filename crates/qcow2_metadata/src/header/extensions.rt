@@ -78,7 +78,9 @@ fn name_so_far<'a>(
 /// The names that the extensions give: the first of each kind.
 #[derive(Clone, Copy)]
 pub(crate) struct ExtensionNames<'a> {
+    /// The format of the backing file.
     pub backing_format: Option<&'a str>,
+    /// The name of the external data file.
     pub data_file_name: Option<&'a str>,
 }
 

@@ -222,7 +222,9 @@ fn from_first_cluster(
 }
 
 impl Header {
-    /// Reads the header, with its extensions and names, from cluster 0.
+    /// Reads the header, with its extensions and names, from cluster 0. Refused `Format` where it doesn't read, then `Limit` where a
+    /// table is too long. Then `Unaligned` where the L1 table, or to write the reftable, isn't on a cluster. Where the work meets them:
+    /// `Memory`, `Storage`.
     pub fn load<S: Storage>(
         alloc: Global,
         storage: &mut S,
