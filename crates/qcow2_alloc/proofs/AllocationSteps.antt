@@ -1,12 +1,14 @@
 -- Loading refblocks, and taking and giving back one cluster.
 use Rattle.std.proofs.Common.{◌≡◌, ◌≢◌, inl, inr, refl, ℕ, ◌+◌, ◌*◌, ◌/◌, ◌%◌, ◌^◌, ◌<◌, ◌≤◌, Bool, true, false, List, length, Option, Some, None, Result, Ok, Err, IsErr, IsErrAnd, IsSome, IsTrue, sym, ap, ◌∙◌, subst, arith}
 use Rattle.std.specs.Option.{is_some}
+use Rattle.std.proofs.lemmas.Bool.{cases_eq}
+use Rattle.std.proofs.Math.Nat.{mul-le-mul_right}
 use Rattle.std.proofs.lemmas.Nat.{mod_below, pow_pos, div-add-mod'}
 use Rattle.image_access.specs.Moments.{StorageView}
 use Rattle.qcow2_metadata.specs.Bytes.{byte_at}
 use Rattle.qcow2_metadata.specs.declared.header.HeaderFields.{HeaderFields}
 use Rattle.qcow2_metadata.specs.EntryTable.{EntryTableView, entry_table, NamesRefTable, IsRefTableOf}
-use Rattle.qcow2_metadata.specs.TableBytes.{entry_at, HasPlace}
+use Rattle.qcow2_metadata.specs.TableBytes.{entry_at, HasPlace, ChangesEntry}
 use Rattle.qcow2_metadata.specs.Header.{cluster_size, counts_per_block, reftable_entries}
 use Rattle.qcow2_metadata.specs.Entries.{reftable_entry, block_offset, count}
 use Rattle.qcow2_laws.specs.Changes.{one_at}
@@ -19,7 +21,7 @@ use Rattle.qcow2_alloc.specs.declared.image_file.ImageFile.{ImageFile}
 use Rattle.qcow2_alloc.specs.declared.clusters_to_free.ClusterKind.{ClusterKind}
 use Rattle.qcow2_alloc.specs.declared.clusters_to_free.ClusterKind.TheVariants.{Data, Metadata}
 use Rattle.qcow2_alloc.specs.declared.clusters_to_free.ClustersToFreeEntry.{ClustersToFreeEntry}
-use Rattle.qcow2_alloc.specs.Allocation.{run_at, is_data, taken_as, Owed, Taken, Listed, owed_as, MayTake, MayLower, HasNone, KeepsEntries, RefblockAt, UnseenAllocatorStep, UnseenAllocatorGrowth, PlacesBlock, GetsBlock, RefusedGrowth, TakesOne, TakesCluster, Allocates}
+use Rattle.qcow2_alloc.specs.Allocation.{run_at, is_data, taken_as, Owed, Taken, Listed, owed_as, MayTake, MayLower, HasNone, NamesBehindHeader, KeepsEntries, RefblockAt, UnseenAllocatorStep, UnseenAllocatorGrowth, PlacesBlock, GetsBlock, RefusedGrowth, TakesOne, TakesCluster, Allocates}
 use Rattle.qcow2_laws.specs.Caches.{AreNamedBlocks}
 use Rattle.qcow2_alloc.specs.CachePins.{KeepsPinsAndNotes, SameTables}
 use Rattle.qcow2_alloc.specs.ImageFile.{view_in, contents_in, known_in, FileInvariant, AllocatorInvariant, HasReftable, RefusedFileStep}
@@ -56,6 +58,37 @@ pub fault_of_storage : (e : StorageError) → IsFault (of_storage e)
 fault_of_storage Fault = inl refl
 fault_of_storage Memory = inr refl
 
+-- ---- reftables whose new entries name refblocks behind cluster 0
+pub behind_none : (t : EntryTableView) → NamesBehindHeader t t
+behind_none t = record { bits = refl; each = λ k. inl refl }
+
+-- one with the same entries
+pub behind_same : (a b : EntryTableView) → b.cluster_bits ≡ a.cluster_bits → ((k : ℕ) → entry_at b.bytes k ≡ entry_at a.bytes k) → NamesBehindHeader a b
+behind_same a b bits same = record { bits = bits; each = λ k. inl (same k) }
+
+pub behind_then : (a b c : EntryTableView) → NamesBehindHeader a b → NamesBehindHeader b c → NamesBehindHeader a c
+behind_then a b c first then = record {
+  bits = then.bits ∙ first.bits;
+  each = λ k. elim (then.each k) [
+    | inl same ↦ elim (first.each k) [
+      | inl stays ↦ inl (same ∙ stays)
+      | inr behind ↦ inr (subst (λ e. 2 ^ a.cluster_bits ≤ block_offset e) (sym same) behind)
+    ]
+    | inr behind ↦ inr (subst (λ n. 2 ^ n ≤ block_offset (entry_at c.bytes k)) first.bits behind)
+  ];
+}
+
+-- a refblock is entered in a cluster behind that one
+pub behind_entered : (t t' : EntryTableView) (range at value : ℕ) → 0 < at → t' ≡ record t { bytes = t'.bytes } → ChangesEntry t.bytes t'.bytes range value → block_offset (entry_at t'.bytes range) ≡ at * 2 ^ t.cluster_bits → NamesBehindHeader t t'
+behind_entered t t' range at value some rest enters offset = record {
+  bits = ap (λ (x : EntryTableView). x.cluster_bits) rest;
+  each = λ k. elim (cases_eq k range) [
+    | inl here ↦ inr (subst (λ n. 2 ^ t.cluster_bits ≤ block_offset (entry_at t'.bytes n)) (sym here)
+        (let product : 1 * 2 ^ t.cluster_bits ≤ at * 2 ^ t.cluster_bits = mul-le-mul_right (2 ^ t.cluster_bits) some in omega (arith, offset, product)))
+    | inr other ↦ inl (enters.others k other)
+  ];
+}
+
 -- ---- reftables with the same entries
 pub entries_then : (P : ℕ → Type 0) (a b c : EntryTableView) → KeepsEntries P a b → KeepsEntries P b c → KeepsEntries P a c
 entries_then P a b c first second = record {
@@ -63,10 +96,22 @@ entries_then P a b c first second = record {
   bits = second.bits ∙ first.bits;
   count = second.count ∙ first.count;
   others = λ k stays. second.others k stays ∙ first.others k stays;
+  behind = behind_then a b c first.behind second.behind;
 }
 
 pub entries_less : (P Q : ℕ → Type 0) (a b : EntryTableView) → ((k : ℕ) → Q k → P k) → KeepsEntries P a b → KeepsEntries Q a b
-entries_less P Q a b fewer keeps = record { cluster = keeps.cluster; bits = keeps.bits; count = keeps.count; others = λ k stays. keeps.others k (fewer k stays) }
+entries_less P Q a b fewer keeps = record { cluster = keeps.cluster; bits = keeps.bits; count = keeps.count; others = λ k stays. keeps.others k (fewer k stays); behind = keeps.behind }
+
+-- one refblock is entered, in a cluster behind the header's
+pub entries_entered : (t t' : EntryTableView) (range at : ℕ) → 0 < at → t' ≡ record t { bytes = t'.bytes } → ChangesEntry t.bytes t'.bytes range (at * 2 ^ t.cluster_bits) → block_offset (entry_at t'.bytes range) ≡ at * 2 ^ t.cluster_bits
+    → KeepsEntries (λ k. k ≢ range) t t'
+entries_entered t t' range at some rest enters offset = record {
+  cluster = ap (λ (x : EntryTableView). x.cluster) rest;
+  bits = ap (λ (x : EntryTableView). x.cluster_bits) rest;
+  count = ap (λ n. n / 8) enters.as_long;
+  others = enters.others;
+  behind = behind_entered t t' range at (at * 2 ^ t.cluster_bits) some rest enters offset;
+}
 
 -- the range of a cluster below an end isn't one from the end on
 pub other_range : (cluster end per per' k : ℕ) → cluster < end → per' ≡ per → end ≤ k * per' → k ≢ cluster / per

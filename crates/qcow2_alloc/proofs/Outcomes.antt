@@ -9,7 +9,7 @@ use Rattle.std.proofs.Math.Nat.{le_trans}
 use Rattle.qcow2_alloc.specs.declared.error.ImageError.{ImageError}
 use Rattle.qcow2_alloc.specs.declared.error.ImageError.TheVariants as I
 use Rattle.qcow2_alloc.specs.Faults.{FaultsTold}
-use Rattle.qcow2_alloc.proofs.AllocationSteps.{handed_on}
+use Rattle.qcow2_alloc.proofs.AllocationSteps.{handed_on, behind_none}
 use Rattle.qcow2_alloc.proofs.Faults.{told_on, told_since}
 
 -- an answer is no refusal
@@ -69,7 +69,7 @@ handed_unaligned r e on is = handed_on (λ x. IsErrOf x I.UnalignedTable) r e on
 
 -- a reftable that stays
 pub entries_none : (P : ℕ → Type 0) (t : EntryTableView) → KeepsEntries P t t
-entries_none P t = record { cluster = refl; bits = refl; count = refl; others = λ k stays. refl }
+entries_none P t = record { cluster = refl; bits = refl; count = refl; others = λ k stays. refl; behind = behind_none t }
 
 -- what holds whatever is answered
 pub on_ok : {A : Type 0} (P : Type 0) (r : Result A ImageError) → P → OnOk r P

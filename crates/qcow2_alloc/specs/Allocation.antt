@@ -1,5 +1,5 @@
 -- What the allocator's calls take, and what they leave of an image's file.
-use Rattle.std.specs.Prelude.{ℕ, ◌+◌, ◌*◌, ◌%◌, ◌<◌, ◌≡◌, ◌≢◌, ◌⊎◌, ◌&&◌, nat_le, nat_lt, Bool, true, false, List, length, Option, Some, None, Result, Ok, Err, IsSome, IsTrue, if◌then◌else◌}
+use Rattle.std.specs.Prelude.{ℕ, ◌+◌, ◌*◌, ◌%◌, ◌^◌, ◌<◌, ◌≤◌, ◌≡◌, ◌≢◌, ◌⊎◌, ◌&&◌, nat_le, nat_lt, Bool, true, false, List, length, Option, Some, None, Result, Ok, Err, IsSome, IsTrue, if◌then◌else◌}
 use Rattle.image_access.specs.Moments.{StorageView}
 use Rattle.qcow2_metadata.specs.declared.header.HeaderFields.{HeaderFields}
 use Rattle.qcow2_metadata.specs.Bytes.{Bytes, byte_at}
@@ -91,12 +91,18 @@ pub record HasPlaceFor (counts_itself : Bool) (h : HeaderFields) (reftable : Ent
   pub none : HasNone reftable range
   pub first : StandsFirst counts_itself h range at
 
+-- No refblock comes to lie in cluster 0: each entry of the reftable stays, or names a refblock behind that cluster.
+pub record NamesBehindHeader (old new : EntryTableView) : Type 0 where
+  pub bits : new.cluster_bits ≡ old.cluster_bits
+  pub each : (k : ℕ) → (entry_at new.bytes k ≡ entry_at old.bytes k) ⊎ (2 ^ old.cluster_bits ≤ block_offset (entry_at new.bytes k))
+
 -- a reftable of the same place and length, with the same entries for these ranges
 pub record KeepsEntries (Stays : ℕ → Type 0) (old new : EntryTableView) : Type 0 where
   pub cluster : new.cluster ≡ old.cluster
   pub bits : new.cluster_bits ≡ old.cluster_bits
   pub count : entry_count new ≡ entry_count old
   pub others : (k : ℕ) → Stays k → entry_at new.bytes k ≡ entry_at old.bytes k
+  pub behind : NamesBehindHeader old new
 
 module _ {S : Type 0} where
   -- data clusters are taken where refblocks are written before L2 tables

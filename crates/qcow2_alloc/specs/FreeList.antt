@@ -5,7 +5,7 @@ use Rattle.qcow2_laws.specs.CrashInvariant.{Pending}
 use Rattle.qcow2_alloc.specs.declared.clusters_to_free.ClusterKind.{ClusterKind}
 use Rattle.qcow2_alloc.specs.declared.clusters_to_free.ClusterKind.TheVariants as Kind
 use Rattle.qcow2_alloc.specs.declared.clusters_to_free.ClustersToFreeEntry.{ClustersToFreeEntry}
-use Rattle.qcow2_alloc.specs.Allocation.{run_at, KeepsEntries}
+use Rattle.qcow2_alloc.specs.Allocation.{run_at, NamesBehindHeader, KeepsEntries}
 use Rattle.qcow2_alloc.specs.ClustersToFree.{metadata_entry}
 
 -- 1 for each cluster of a run
@@ -72,8 +72,9 @@ abbrev pub GaveWay : EntryTableView → List ClustersToFreeEntry → EntryTableV
 GaveWay old [] new = SamePlace old new
 GaveWay old (e ∷ es) new = IsRunOfTable old e × (next : EntryTableView) × (entry_count old ≤ entry_count next) × GaveWay next es new
 
--- what is listed behind what was listed are the clusters of former reftables, and nothing else
+-- What is listed behind what was listed are the clusters of former reftables, and nothing else. No refblock comes to lie in cluster 0.
 pub record ListsReftables (old new : EntryTableView) (list list' : List ClustersToFreeEntry) : Type 0 where
   pub more : List ClustersToFreeEntry
   pub is : list' ≡ list ++ more
   pub gone : GaveWay old more new
+  pub behind : NamesBehindHeader old new

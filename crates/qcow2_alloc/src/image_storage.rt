@@ -19,7 +19,7 @@ pub enum WriteKind {
 /// refused where the storage refuses it: 15 (storage) for a fault, 14 (memory) for want of memory, and then nothing changed.
 #[derive(Drop)]
 pub struct ImageStorage<S: Storage> {
-    storage: S,
+    pub(crate) storage: S,
     kind: WriteKind,
     is_changed: bool,
 }
@@ -91,7 +91,7 @@ impl<S: Storage> ImageStorage<S> {
     }
 
     // Notes a change that was made, or may have been. Where memory was refused there was none.
-    fn noted(&mut self, done: Result<(), StorageError>) -> Result<(), StorageError>
+    pub(crate) fn noted(&mut self, done: Result<(), StorageError>) -> Result<(), StorageError>
         ensures answer { result ≡ done }
         ensures storage { storage_of self.new ≡ storage_of self.old }
         ensures changed { NotesWrite self.old self.new done }

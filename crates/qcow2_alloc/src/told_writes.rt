@@ -6,7 +6,7 @@ ghost use Rattle.std.specs.Int.{w64, to_be_bytes};
 ghost use Rattle.qcow2_metadata.specs.HeaderWrite.{l1_table_pointer_written, reftable_pointer_written, size_written};
 ghost use Rattle.qcow2_metadata.specs.TableBytes.{HasPlace, entry_at};
 ghost use Rattle.qcow2_metadata.specs.EntryTable.{entry_count};
-ghost use Rattle.qcow2_alloc.specs.ImageStorage.{storage_of};
+ghost use Rattle.qcow2_alloc.specs.ImageStorage.{storage_of, NotesWrite};
 ghost use Rattle.qcow2_alloc.specs.WriteKinds.{IsToldData, IsToldL2Table, IsToldRefBlock, IsToldOther};
 
 use crate::ImageStorage;
@@ -19,6 +19,7 @@ impl<S: Storage> ImageStorage<S> {
         requires { IsToldData self.old }
         ensures written { Changes (S.view (storage_of self.old)) (S.view (storage_of self.new)) result (overwritten (S.view (storage_of self.old)).contents at bytes.now) }
         ensures calls { Calls (S.view (storage_of self.old)) (S.view (storage_of self.new)) result }
+        ensures noted { NotesWrite self.old self.new result }
     {
         self.write(at, bytes)
     }
@@ -29,6 +30,7 @@ impl<S: Storage> ImageStorage<S> {
         requires { IsToldData self.old }
         ensures zeroed { Changes (S.view (storage_of self.old)) (S.view (storage_of self.new)) result (zeroed (S.view (storage_of self.old)).contents at length) }
         ensures calls { Calls (S.view (storage_of self.old)) (S.view (storage_of self.new)) result }
+        ensures noted { NotesWrite self.old self.new result }
     {
         self.write_zeroes(at, length)
     }
@@ -38,6 +40,7 @@ impl<S: Storage> ImageStorage<S> {
         requires { IsToldData self.old }
         ensures zeroed { Changes (S.view (storage_of self.old)) (S.view (storage_of self.new)) result (zeroed (S.view (storage_of self.old)).contents at length) }
         ensures calls { Calls (S.view (storage_of self.old)) (S.view (storage_of self.new)) result }
+        ensures noted { NotesWrite self.old self.new result }
     {
         self.write_allocated_zeroes(at, length)
     }
@@ -54,10 +57,13 @@ impl<S: Storage> ImageStorage<S> {
             (overwritten (S.view (storage_of self.old)).contents (cluster * 2 ^ table.old.cluster_bits) table.old.bytes) }
         ensures idle { IsFalse table.old.is_modified → IsOk result × (self.new ≡ self.old) }
         ensures calls { Calls (S.view (storage_of self.old)) (S.view (storage_of self.new)) result }
+        ensures noted { IsTrue table.old.is_modified → NotesWrite self.old self.new result }
         ensures ok { OnOk result (table.new ≡ record table.old { is_modified = false }) }
         ensures err { OnErr result (table.new ≡ table.old) }
     {
-        table.write_if_modified(self, cluster)
+        let is_modified = table.is_modified();
+        let done = table.write_if_modified(&mut self.storage, cluster);
+        if is_modified { self.noted(done) } else { done }
     }
 
     /// Writes a refblock of the cache to a cluster, if it is modified. Refused 14 (memory), 15 (storage), as the storage is.
@@ -72,10 +78,13 @@ impl<S: Storage> ImageStorage<S> {
             (overwritten (S.view (storage_of self.old)).contents (cluster * 2 ^ block.old.cluster_bits) block.old.bytes) }
         ensures idle { IsFalse block.old.is_modified → IsOk result × (self.new ≡ self.old) }
         ensures calls { Calls (S.view (storage_of self.old)) (S.view (storage_of self.new)) result }
+        ensures noted { IsTrue block.old.is_modified → NotesWrite self.old self.new result }
         ensures ok { OnOk result (block.new ≡ record block.old { is_modified = false }) }
         ensures err { OnErr result (block.new ≡ block.old) }
     {
-        block.write_if_modified(self, cluster)
+        let is_modified = block.is_modified();
+        let done = block.write_if_modified(&mut self.storage, cluster);
+        if is_modified { self.noted(done) } else { done }
     }
 
     /// Writes a new L2 table to its cluster. Refused 14 (memory), 15 (storage), as the storage is.
@@ -85,8 +94,10 @@ impl<S: Storage> ImageStorage<S> {
         ensures written { IfSome table.now.cluster (λ cluster. Changes (S.view (storage_of self.old)) (S.view (storage_of self.new)) result
             (overwritten (S.view (storage_of self.old)).contents (cluster * 2 ^ table.now.cluster_bits) table.now.bytes)) }
         ensures calls { Calls (S.view (storage_of self.old)) (S.view (storage_of self.new)) result }
+        ensures noted { NotesWrite self.old self.new result }
     {
-        table.write(self)
+        let new_table_written = table.write(&mut self.storage);
+        self.noted(new_table_written)
     }
 
     /// Writes a new refblock to its cluster. Refused 14 (memory), 15 (storage), as the storage is.
@@ -96,8 +107,10 @@ impl<S: Storage> ImageStorage<S> {
         ensures written { IfSome block.now.cluster (λ cluster. Changes (S.view (storage_of self.old)) (S.view (storage_of self.new)) result
             (overwritten (S.view (storage_of self.old)).contents (cluster * 2 ^ block.now.cluster_bits) block.now.bytes)) }
         ensures calls { Calls (S.view (storage_of self.old)) (S.view (storage_of self.new)) result }
+        ensures noted { NotesWrite self.old self.new result }
     {
-        block.write(self)
+        let new_block_written = block.write(&mut self.storage);
+        self.noted(new_block_written)
     }
 
     /// Writes an L1 table to its clusters. Refused 14 (memory), 15 (storage), as the storage is.
@@ -107,8 +120,10 @@ impl<S: Storage> ImageStorage<S> {
         ensures written { IfSome table.now.cluster (λ cluster. Changes (S.view (storage_of self.old)) (S.view (storage_of self.new)) result
             (overwritten (S.view (storage_of self.old)).contents (cluster * 2 ^ table.now.cluster_bits) table.now.bytes)) }
         ensures calls { Calls (S.view (storage_of self.old)) (S.view (storage_of self.new)) result }
+        ensures noted { NotesWrite self.old self.new result }
     {
-        table.write(self)
+        let l1_table_written = table.write(&mut self.storage);
+        self.noted(l1_table_written)
     }
 
     /// Writes the entry of an index, below its length, of an L1 table. Refused 14 (memory), 15 (storage), as the storage is.
@@ -120,8 +135,10 @@ impl<S: Storage> ImageStorage<S> {
             (overwritten (S.view (storage_of self.old)).contents (cluster * 2 ^ table.now.cluster_bits + 8 * index) (to_be_bytes w64 (entry_at table.now.bytes index)))) }
         ensures fits { entry_at table.now.bytes index < 2 ^ 64 }
         ensures calls { Calls (S.view (storage_of self.old)) (S.view (storage_of self.new)) result }
+        ensures noted { NotesWrite self.old self.new result }
     {
-        table.write_entry(self, index)
+        let l1_entry_written = table.write_entry(&mut self.storage, index);
+        self.noted(l1_entry_written)
     }
 
     /// Writes a reftable to its clusters. Refused 14 (memory), 15 (storage), as the storage is.
@@ -131,8 +148,10 @@ impl<S: Storage> ImageStorage<S> {
         ensures written { IfSome table.now.cluster (λ cluster. Changes (S.view (storage_of self.old)) (S.view (storage_of self.new)) result
             (overwritten (S.view (storage_of self.old)).contents (cluster * 2 ^ table.now.cluster_bits) table.now.bytes)) }
         ensures calls { Calls (S.view (storage_of self.old)) (S.view (storage_of self.new)) result }
+        ensures noted { NotesWrite self.old self.new result }
     {
-        table.write(self)
+        let reftable_written = table.write(&mut self.storage);
+        self.noted(reftable_written)
     }
 
     /// Writes the entry of an index, below its length, of a reftable. Refused 14 (memory), 15 (storage), as the storage is.
@@ -148,8 +167,10 @@ impl<S: Storage> ImageStorage<S> {
             (overwritten (S.view (storage_of self.old)).contents (cluster * 2 ^ table.now.cluster_bits + 8 * index) (to_be_bytes w64 (entry_at table.now.bytes index)))) }
         ensures fits { entry_at table.now.bytes index < 2 ^ 64 }
         ensures calls { Calls (S.view (storage_of self.old)) (S.view (storage_of self.new)) result }
+        ensures noted { NotesWrite self.old self.new result }
     {
-        table.write_entry(self, index)
+        let reftable_entry_written = table.write_entry(&mut self.storage, index);
+        self.noted(reftable_entry_written)
     }
 
     /// Writes the place and the length of the L1 table. Refused 14 (memory), 15 (storage), as the storage is.
@@ -157,8 +178,10 @@ impl<S: Storage> ImageStorage<S> {
         requires { IsToldOther self.old }
         ensures written { Changes (S.view (storage_of self.old)) (S.view (storage_of self.new)) result (l1_table_pointer_written header.now.fields (S.view (storage_of self.old)).contents) }
         ensures calls { Calls (S.view (storage_of self.old)) (S.view (storage_of self.new)) result }
+        ensures noted { NotesWrite self.old self.new result }
     {
-        header.write_l1_table_pointer(self)
+        let l1_table_named = header.write_l1_table_pointer(&mut self.storage);
+        self.noted(l1_table_named)
     }
 
     /// Writes the place and the length of the reftable. Refused 14 (memory), 15 (storage), as the storage is.
@@ -166,8 +189,10 @@ impl<S: Storage> ImageStorage<S> {
         requires { IsToldOther self.old }
         ensures written { Changes (S.view (storage_of self.old)) (S.view (storage_of self.new)) result (reftable_pointer_written header.now.fields (S.view (storage_of self.old)).contents) }
         ensures calls { Calls (S.view (storage_of self.old)) (S.view (storage_of self.new)) result }
+        ensures noted { NotesWrite self.old self.new result }
     {
-        header.write_reftable_pointer(self)
+        let reftable_named = header.write_reftable_pointer(&mut self.storage);
+        self.noted(reftable_named)
     }
 
     /// Writes the disk's size. Refused 14 (memory), 15 (storage), as the storage is.
@@ -175,7 +200,9 @@ impl<S: Storage> ImageStorage<S> {
         requires { IsToldOther self.old }
         ensures written { Changes (S.view (storage_of self.old)) (S.view (storage_of self.new)) result (size_written header.now.fields (S.view (storage_of self.old)).contents) }
         ensures calls { Calls (S.view (storage_of self.old)) (S.view (storage_of self.new)) result }
+        ensures noted { NotesWrite self.old self.new result }
     {
-        header.write_size(self)
+        let size_done = header.write_size(&mut self.storage);
+        self.noted(size_done)
     }
 }

@@ -103,6 +103,11 @@ module _ {S F : Type 0} where
       NamesTable p old new out t cluster (Ok _) = UnseenMove (with_table p t cluster) (without_l1 p old.file.header.fields) old new out
       NamesTable p old new out t cluster (Err e) = UnseenStep view backing (with_table p t cluster) (with_table p t cluster) old new out ⊎ InterruptedMove old new e
 
+      -- so it is with clusters that were taken for it, and with what is listed to be freed then
+      abbrev pub NamesTaken : Pending → Qcow2 S F → Qcow2 S F → List (Option Prepared) → EntryTableView → ClustersToFreeEntry → Result (Unit {0}) ImageError → Type 0
+      NamesTaken p old new out t taken result =
+          (named : Qcow2 S F) × (new ≡ record named { file = record named.file { free_list = new.file.free_list } }) × (named.file.free_list ≡ old.file.free_list) × NamesTable p old named out t taken.first_cluster result
+
       -- it gets its clusters, and takes the place of the L1 table
       abbrev pub TakesTable : Pending → Qcow2 S F → Qcow2 S F → List (Option Prepared) → Result (Unit {0}) ImageError → Type 0
       TakesTable p old new out (Ok _) = UnseenMove p (without_l1 (pending_with_listed p old new) old.file.header.fields) old new out

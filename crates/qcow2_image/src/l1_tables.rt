@@ -1,5 +1,5 @@
 //! A longer L1 table, in the place of the former one.
-ghost use Rattle.std.specs.Prelude.{ℕ, List, Option, ◌≡◌, ◌<◌, ◌≤◌, ◌++◌, ◌+◌, max, Some, IfErr, IfOk, IsTrue, OnOk};
+ghost use Rattle.std.specs.Prelude.{ℕ, List, Option, ◌≡◌, ◌<◌, ◌≤◌, ◌++◌, ◌∷◌, [], ◌+◌, max, Some, IfErr, IfOk, IsTrue, OnErr, OnOk};
 ghost use Rattle.qcow2_metadata.specs.EntryTable.{entry_count};
 ghost use Rattle.qcow2_metadata.specs.L2Mapping.{IsHostCluster};
 ghost use Rattle.qcow2_laws.specs.CrashInvariant.{Pending};
@@ -7,7 +7,7 @@ ghost use Rattle.qcow2_image.specs.declared.prepared.Prepared.{Prepared};
 ghost use Rattle.qcow2_image.specs.Found.{l1_index_of};
 ghost use Rattle.qcow2_image.specs.Image.{HasNothingToFree, ImageStays, is_writable};
 ghost use Rattle.qcow2_image.specs.ImageInvariant.{ImageInvariant, pending_in};
-ghost use Rattle.qcow2_image.specs.LongerTables.{run_of_table, listed, with_table, IsLongerL1, StandsWhole, PlacesTable, NamesTable, TakesTable, Lengthens, MakesEntry};
+ghost use Rattle.qcow2_image.specs.LongerTables.{run_of_table, listed, with_table, IsLongerL1, StandsWhole, PlacesTable, NamesTable, NamesTaken, TakesTable, Lengthens, MakesEntry};
 ghost use Rattle.qcow2_image.specs.NewTables.{IsFaultOrLacksTable};
 ghost use Rattle.qcow2_image.specs.Refusals.{IsMet};
 ghost use Rattle.qcow2_image.specs.UnseenSteps.{ListGrows};
@@ -96,16 +96,23 @@ impl<S: Storage, F: WrappedFormat<S>> Qcow2<S, F> {
             return Err(ImageError::ReadOnly);
         };
         let pending = allocator.allocate_meta(&mut self.file, table.cluster_count())?;
-        match self.write_l1_table(table, pending.cluster()) {
-            Ok(()) => {
-                pending.make_persistent();
-                Ok(())
-            }
-            Err(refusal) => {
-                pending.hand_back(&mut self.file.free_list);
-                Err(refusal)
-            }
-        }
+        self.write_taken(table, pending)
+    }
+
+    // Writes an L1 table to clusters that were taken for it, and then the pointer that names it. Where that is refused, they are listed to be freed.
+    fn write_taken(&mut self, table: L1Table, taken: PendingClusters) -> Result<(), ImageError>
+        requires { IsHostCluster self.old.file.header.fields.cluster_bits taken.first_cluster }
+        ensures stays { ImageStays self.old self.new }
+        ensures cause { IfErr result IsMet }
+        ensures names { (p : Pending) (out : List (Option Prepared)) → ImageInvariant S.view F.backing (with_table p table taken.first_cluster) self.old out → IsTrue self.old.file.caches.is_changed → IsLongerL1 self.old table
+            → NamesTaken S.view F.backing p self.old self.new out table taken result }
+        ensures entries { OnOk result (entry_count self.new.l1_table ≡ entry_count table) }
+        ensures kept { OnOk result (self.new.file.free_list ≡ self.old.file.free_list) }
+        ensures listed { OnErr result (self.new.file.free_list ≡ self.old.file.free_list ++ taken ∷ []) }
+        ensures faults { CountsImageFaults S.view F.backing self.old self.new result }
+    {
+        let done = self.write_l1_table(table, taken.cluster());
+        keep_or_list(taken, done, &mut self.file.free_list)
     }
 
     // The table is written first, then the pointer that names it.
@@ -165,6 +172,23 @@ impl<S: Storage, F: WrappedFormat<S>> Qcow2<S, F> {
         self.l1_table = table;
         Ok(())
     }
+}
+
+// Clusters that were taken for a table stay its own where that was done. Where it was refused, they are to be freed.
+fn keep_or_list(
+    taken: PendingClusters,
+    done: Result<(), ImageError>,
+    list: &mut ClustersToFreeList,
+) -> Result<(), ImageError>
+    ensures answer { result ≡ done }
+    ensures kept { OnOk done (list.new ≡ list.old) }
+    ensures listed { OnErr done (list.new ≡ list.old ++ taken ∷ []) }
+{
+    match &done {
+        Ok(()) => taken.make_persistent(),
+        Err(_) => taken.hand_back(list),
+    }
+    done
 }
 
 fn hand_back(pending: Option<PendingClusters>, list: &mut ClustersToFreeList)

@@ -1,6 +1,7 @@
 -- A longer L1 table takes the place of the former one, part after part: no guest sees it.
 use Rattle.std.proofs.Common.{◌≡◌, inl, inr, ℕ, ◌+◌, ◌-◌, ◌*◌, ◌/◌, ◌%◌, ◌^◌, ◌<◌, ◌≤◌, Bool, true, false, cond, nat_le, nat_lt, ◌&&◌, List, [], ◌∷◌, ◌++◌, length, Option, Some, None, Result, Ok, Err, refl, sym, ap, ◌∙◌, subst, arith, ◌⊎◌}
 use Rattle.std.proofs.lemmas.Bool.{cases_lt}
+use Rattle.std.specs.Prelude.{OnOk, OnErr}
 use Rattle.std.proofs.lemmas.List.{append_assoc}
 use Rattle.std.proofs.lemmas.Nat.{div-mul-add}
 use Rattle.image_access.specs.Backing.{BackingView}
@@ -39,7 +40,7 @@ use Rattle.qcow2_image.specs.declared.image.Qcow2.{Qcow2}
 use Rattle.qcow2_image.specs.declared.prepared.Prepared.{Prepared}
 use Rattle.qcow2_image.specs.CallParts.{RefusedCall, UnseenCall}
 use Rattle.qcow2_image.specs.ImageInvariant.{of_data, of_tables, to_free, pending_in, ImageInvariant, abstract_of}
-use Rattle.qcow2_image.specs.LongerTables.{clusters_of, run_of_table, listed, with_table, without_l1, IsLongerL1, StandsWhole, UnseenMove, InterruptedMove, RefusedMove, PlacesTable, NamesTable, TakesTable, MakesEntry}
+use Rattle.qcow2_image.specs.LongerTables.{clusters_of, run_of_table, listed, with_table, without_l1, IsLongerL1, StandsWhole, UnseenMove, InterruptedMove, RefusedMove, PlacesTable, NamesTable, NamesTaken, TakesTable, MakesEntry}
 use Rattle.qcow2_image.specs.UnseenSteps.{UnseenStep, FreesListed, ListGrows, pending_with_listed}
 use Rattle.qcow2_image.proofs.Call.Answered.{followed, same_setting, still_shown}
 use Rattle.qcow2_image.proofs.Call.Called.{keeps_then}
@@ -211,6 +212,22 @@ module _ {S F : Type 0} (view : S → StorageView) (backing : F → BackingView)
               | inr broke ↦ let on = broke_then p q old taken new e keeps_taken broke in
                   inr (record { breaks = record { fault = on.breaks.fault; noted = on.breaks.noted; since = on.breaks.since }; header = on.header; below = on.below })
             ]
+
+      -- so it is whatever is answered: what was taken stays the table's, or is to be freed
+      pub table_settled : (run : ClustersToFreeEntry) (new : Qcow2 S F) (r : Result (Unit {0}) ImageError) → run.first_cluster ≡ cluster → run.count ≡ clusters_of t → run.kind ≡ Kind.Metadata
+          → (ImageInvariant view backing (with_table since t cluster) taken out → IsLongerL1 taken t → NamesTaken view backing since taken new out t run r)
+          → OnOk r (new.file.free_list ≡ file.free_list) → OnErr r (new.file.free_list ≡ file.free_list ++ run ∷ []) → TakesTable view backing p old new out r
+      table_settled run new r at count kind names kept listed =
+          let it = names keeps_taken.sound longer_taken in
+          subst (λ (i : Qcow2 S F). TakesTable view backing p old i out r) (sym it.1)
+          (settled it.0 it.2 r (subst (λ n. NamesTable view backing since taken it.0 out t n r) at it.3) kept listed)
+        where
+          settled : (mid : Qcow2 S F) → mid.file.free_list ≡ file.free_list → (x : Result (Unit {0}) ImageError) → NamesTable view backing since taken mid out t cluster x
+              → OnOk x (new.file.free_list ≡ file.free_list) → OnErr x (new.file.free_list ≡ file.free_list ++ run ∷ []) → TakesTable view backing p old (record mid { file = record mid.file { free_list = new.file.free_list } }) out x
+          settled mid same (Ok u) named stays grows =
+              subst (λ (l : List ClustersToFreeEntry). TakesTable view backing p old (record mid { file = record mid.file { free_list = l } }) out (Ok u)) (same ∙ sym stays) (table_taken mid (Ok u) same (λ _ _. named) u refl)
+          settled mid same (Err e) named stays grows =
+              table_refused mid (Err e) same (λ _ _. named) e run new.file.free_list refl at count kind (grows ∙ ap (λ (l : List ClustersToFreeEntry). l ++ run ∷ []) (sym same))
 
   -- ---- the former table's clusters are to be freed
 

@@ -228,3 +228,9 @@ returns-clause-cause g c = c.write_reftable.ensures.cause
 
 pub returns-clause-storage_faults : goal.returns-clause-storage_faults
 returns-clause-storage_faults g c = told_since _ _ _ c.take_room.ensures.storage_faults.no_fewer c.write_reftable.ensures.storage_faults
+
+pub returns-in_err-room-clause-behind : goal.returns-in_err-room-clause-behind
+returns-in_err-room-clause-behind g c = on_no_ok _ c.from_residual.result c.in_err-room.field-0.0 c.from_residual.ensures
+
+pub returns-clause-behind : goal.returns-clause-behind
+returns-clause-behind g c = c.write_reftable.ensures.behind

@@ -9,7 +9,7 @@ use Rattle.qcow2_alloc.specs.declared.error.ImageError.{ImageError}
 use Rattle.qcow2_alloc.specs.FreeList.{pending_then}
 use Rattle.qcow2_alloc.specs.Growing.{IsLongEnough}
 use Rattle.qcow2_alloc.specs.Limits.{IsFaultOr, HasNoRoomFor, CantGrow}
-use Rattle.qcow2_alloc.proofs.AllocationSteps.{handed_on}
+use Rattle.qcow2_alloc.proofs.AllocationSteps.{handed_on, behind_same, behind_then}
 use Rattle.qcow2_alloc.proofs.FullRooms.{cant_grow}
 use Rattle.qcow2_alloc.proofs.Limits.{cause_as}
 use Rattle.qcow2_alloc.proofs.Following.{following_same}
@@ -88,6 +88,7 @@ pub returns-in-Ok-clause-former : goal.returns-in-Ok-clause-former
 returns-in-Ok-clause-former g c =
     former_one c.args.self.now.reftable c.enter_reftable.new.self.reftable c.in_ok-former.former c.args.file.now.free_list c.hand_back.new.list c.in_ok-former.ensures.of_table
     (let long = c.in_ok-table.ensures.length.enough.longer in let same = c.in-Ok.ensures.table in omega (arith, long, same))
+    (let clone = c.in_ok-table.ensures.entries in behind_then c.args.self.now.reftable c.in_ok-table.table c.enter_reftable.new.self.reftable (behind_same c.args.self.now.reftable c.in_ok-table.table clone.bits clone.entries) c.in-Ok.ensures.behind)
     (c.hand_back.ensures ∙ ap (λ (l : List ClustersToFreeEntry). l ++ c.in_ok-former.former ∷ []) c.enter_reftable.ensures.list)
 
 pub returns-in-Err-clause-former : goal.returns-in-Err-clause-former

@@ -26,7 +26,7 @@ use Rattle.qcow2_alloc.specs.ImageStorage.{storage_of}
 use Rattle.qcow2_alloc.specs.MetadataCaches.{order_of, l2_tables, refblocks, rb_at}
 use Rattle.qcow2_alloc.specs.TableCaches.{cleared_rb, IsBlockOf}
 use Rattle.qcow2_alloc.proofs.FileSteps.{moves_then, breaks_then}
-use Rattle.qcow2_alloc.proofs.AllocationSteps.{handed_on, fault_of_storage, becomes_then, becomes_marked, is_sound_now, stands}
+use Rattle.qcow2_alloc.proofs.AllocationSteps.{handed_on, entries_entered, fault_of_storage, becomes_then, becomes_marked, is_sound_now, stands}
 use Rattle.qcow2_alloc.proofs.NamedBlocks.{entry_write_as, real, endures_named, named_so}
 use Rattle.qcow2_alloc.proofs.CachePins.{marks_then}
 use Rattle.qcow2_alloc.proofs.Faults.{told_on}
@@ -200,3 +200,9 @@ returns-in_err-write_reftable_entry-clause-noted g c = on_no_ok _ c.from_residua
 
 pub returns-in_err-write_reftable_entry-clause-cause : goal.returns-in_err-write_reftable_entry-clause-cause
 returns-in_err-write_reftable_entry-clause-cause g c = handed_cause c.from_residual-in_err-write_reftable_entry.result (of_storage c.in_err-write_reftable_entry.field-0.0) c.from_residual-in_err-write_reftable_entry.ensures (storage_of_tables c.in_err-write_reftable_entry.field-0.0)
+
+pub returns-in_err-write_reftable_entry-clause-entries : goal.returns-in_err-write_reftable_entry-clause-entries
+returns-in_err-write_reftable_entry-clause-entries g c = entries_entered c.args.self.now.reftable c.enter_refblock.new.self c.args.range c.new-cluster.result (subst (λ n. 0 < n) (sym c.new-cluster.ensures) c.requires.elsewhere) c.enter_refblock.ensures.rest c.enter_refblock.ensures.entry c.enter_refblock.ensures.offset
+
+pub returns-clause-entries : goal.returns-clause-entries
+returns-clause-entries g c = entries_entered c.args.self.now.reftable c.enter_refblock.new.self c.args.range c.new-cluster.result (subst (λ n. 0 < n) (sym c.new-cluster.ensures) c.requires.elsewhere) c.enter_refblock.ensures.rest c.enter_refblock.ensures.entry c.enter_refblock.ensures.offset

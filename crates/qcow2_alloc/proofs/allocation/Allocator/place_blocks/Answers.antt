@@ -9,7 +9,7 @@ use Rattle.qcow2_laws.specs.Caches.{AreClean}
 use Rattle.qcow2_laws.specs.Tops.{IsSameOutside}
 use Rattle.qcow2_metadata.specs.Bytes.{one_if}
 use Rattle.qcow2_metadata.specs.TableBytes.{ChangesEntry}
-use Rattle.qcow2_alloc.specs.Allocation.{run_at, StandAt, UnseenAllocatorStep}
+use Rattle.qcow2_alloc.specs.Allocation.{run_at, NamesBehindHeader, StandAt, UnseenAllocatorStep}
 use Rattle.qcow2_alloc.specs.CachePins.{KeepsPinsAndNotes}
 use Rattle.qcow2_alloc.specs.GrownTables.{with_run}
 use Rattle.qcow2_alloc.specs.ImageFile.{contents_in}
@@ -17,7 +17,7 @@ use Rattle.qcow2_alloc.specs.MetadataCaches.{order_of, l2_tables, refblocks, rb_
 use Rattle.qcow2_alloc.specs.Rooms.{opens, opened, room_length, PlacesBlocks}
 use Rattle.qcow2_alloc.specs.TableCaches.{IsBlockOf}
 use Rattle.qcow2_alloc.proofs.CachePins.{marks_none, marks_then}
-use Rattle.qcow2_alloc.proofs.AllocationSteps.{handed_on, becomes_none, becomes_then, is_sound_now}
+use Rattle.qcow2_alloc.proofs.AllocationSteps.{handed_on, behind_none, behind_then, entries_entered, becomes_none, becomes_then, is_sound_now}
 use Rattle.qcow2_alloc.proofs.FileSteps.{leaves_then}
 use Rattle.qcow2_alloc.proofs.Rooms.{opened_none, empty_run}
 use Rattle.qcow2_alloc.proofs.Runs.{run_in}
@@ -45,6 +45,7 @@ placing-init g c =
       clean = λ all. all;
       rest = refl;
       as_long = refl;
+      behind = behind_none c.args.table.now;
       counts = c.rb_bits-bits.ensures.counts;
       bits = let high = c.rb_bits-bits.ensures.high in omega (arith, high);
       end_is = omega arith;
@@ -109,6 +110,9 @@ placing-preserved g c =
         clean = λ all. subst (λ f. AreClean (refblocks f.caches)) (sym w.file-is) (w.write_new_block.ensures.clean (inv.clean all));
         rest = rest_then c.args.table.now c.placing.table w.enter_refblock.new.self c.if-opens_range.table w.table-is w.enter_refblock.ensures.rest inv.rest;
         as_long = ap (λ x. length x.bytes) w.table-is ∙ w.enter_refblock.ensures.entry.as_long ∙ inv.as_long;
+        behind = subst (NamesBehindHeader c.args.table.now) (sym w.table-is) (behind_then c.args.table.now c.placing.table w.enter_refblock.new.self inv.behind
+            (entries_entered c.placing.table w.enter_refblock.new.self (c.placing.cluster / 2 ^ c.rb_bits-bits.result) w.new-place.result
+            (let is = w.new-place.ensures in let low = inv.low in let above = c.requires.above in omega (arith, is, low, above)) w.enter_refblock.ensures.rest w.enter_refblock.ensures.entry w.enter_refblock.ensures.offset).behind);
         counts = inv.counts;
         bits = inv.bits;
         end_is = inv.end_is;
@@ -164,6 +168,7 @@ placing-preserved g c =
         clean = λ all. subst (λ f. AreClean (refblocks f.caches)) (sym w.file-is) (inv.clean all);
         rest = subst (λ (x : EntryTableView). x ≡ record c.args.table.now { bytes = x.bytes }) (sym w.table-is) inv.rest;
         as_long = ap (λ x. length x.bytes) w.table-is ∙ inv.as_long;
+        behind = subst (NamesBehindHeader c.args.table.now) (sym w.table-is) inv.behind;
         counts = inv.counts;
         bits = inv.bits;
         end_is = inv.end_is;

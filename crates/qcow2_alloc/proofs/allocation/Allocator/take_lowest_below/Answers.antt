@@ -7,7 +7,7 @@ use Rattle.qcow2_alloc.proofs.CachePins.{marks_none, marks_then}
 use Rattle.qcow2_alloc.specs.LowestRuns.{KeepsNoFreeBelowHint}
 use Rattle.qcow2_alloc.proofs.FileSteps.{one_here, leaves_then}
 use Rattle.qcow2_alloc.proofs.Hints.{hint_header, hint_stays, hint_taken, hint_more, hint_refused, range_as, taken_used}
-use Rattle.qcow2_alloc.proofs.AllocationSteps.{becomes_none, handed_on, entries_then, entries_less, other_range, becomes_as, becomes_then, is_sound_now}
+use Rattle.qcow2_alloc.proofs.AllocationSteps.{becomes_none, behind_none, handed_on, entries_then, entries_less, other_range, becomes_as, becomes_then, is_sound_now}
 use Rattle.qcow2_alloc.proofs.Faults.{told_ok}
 use Rattle.qcow2_alloc.proofs.Outcomes.{told_after, if_no_ok, handed_cause}
 use Rattle.std.proofs.Math.Nat.{le_trans}
@@ -49,7 +49,7 @@ search-init g c = record {
   faults = omega arith;
   order = refl;
   above = let first = c.max-self.ensures in omega (arith, first);
-  entries = record { cluster = refl; bits = refl; count = refl; others = λ k past. refl };
+  entries = record { cluster = refl; bits = refl; count = refl; others = λ k past. refl; behind = behind_none c.args.self.now.reftable };
   sound = λ p sound. becomes_none g.S.Storage.view p c.args.file.now (record c.args.self.now { first_free_cluster = c.max-self.result }) (record { sound = sound.sound; reftable = sound.reftable });
   hint = λ p sound hint. hint_header g.S.Storage.view p c.args.file.now c.args.self.now (record c.args.self.now { first_free_cluster = c.max-self.result }) sound.sound (λ k some below. let first = c.max-self.ensures in omega (arith, first, some, below)) hint;
 }

@@ -4,13 +4,13 @@ use Rattle.qcow2_metadata.specs.EntryTable.{EntryTableView}
 use Rattle.qcow2_metadata.specs.Header.{cluster_size}
 use Rattle.qcow2_laws.specs.Caches.{AreClean}
 use Rattle.qcow2_alloc.specs.declared.cache.MetadataCaches.{MetadataCaches}
-use Rattle.qcow2_alloc.specs.Allocation.{run_at, StandAt}
+use Rattle.qcow2_alloc.specs.Allocation.{run_at, NamesBehindHeader, StandAt}
 use Rattle.qcow2_alloc.specs.GrownTables.{with_run, NamesReftable, StandsGrown}
 use Rattle.qcow2_alloc.specs.ImageFile.{contents_in, AllocatorInvariant}
 use Rattle.qcow2_alloc.specs.LowestRuns.{KeepsUsed}
 use Rattle.qcow2_alloc.specs.MetadataCaches.{order_of, l2_tables, refblocks, rb_at}
 use Rattle.qcow2_alloc.specs.Rooms.{room_length, placed_at}
-use Rattle.qcow2_alloc.proofs.AllocationSteps.{handed_on, becomes_cached, becomes_then, is_sound_now}
+use Rattle.qcow2_alloc.proofs.AllocationSteps.{handed_on, behind_same, behind_then, becomes_cached, becomes_then, is_sound_now}
 use Rattle.qcow2_alloc.proofs.FileSteps.{breaks_after}
 use Rattle.qcow2_alloc.proofs.PlacedBlocks.{file_sizes}
 use Rattle.qcow2_alloc.proofs.PlacedRooms.{Counting}
@@ -342,3 +342,18 @@ returns-clause-kept g c = c.name_reftable.ensures.kept
 
 pub returns-clause-storage_faults : goal.returns-clause-storage_faults
 returns-clause-storage_faults g c = told_since _ _ _ (le_trans (le_trans c.flush_rb.ensures.storage_faults.no_fewer c.place_blocks.ensures.storage_faults.no_fewer) c.place_table.ensures.storage_faults.no_fewer) c.name_reftable.ensures.storage_faults
+
+pub returns-clause-behind : goal.returns-clause-behind
+returns-clause-behind g c =
+    ok_as (c.name_reftable.new.self.reftable ≡ c.place_table.new.table) (NamesBehindHeader c.args.table c.name_reftable.new.self.reftable) c.name_reftable.result
+    (λ is. subst (NamesBehindHeader c.args.table) (sym (is ∙ c.place_table.ensures.table)) (behind_then c.args.table c.place_blocks.new.table (placed_at c.place_blocks.new.table c.new.result) c.place_blocks.ensures.behind
+    (behind_same c.place_blocks.new.table (placed_at c.place_blocks.new.table c.new.result) refl (λ k. refl)))) c.name_reftable.ensures.table
+
+pub returns-in_err-flush_rb-clause-behind : goal.returns-in_err-flush_rb-clause-behind
+returns-in_err-flush_rb-clause-behind g c = on_no_ok _ c.from_residual.result c.in_err-flush_rb.field-0.0 c.from_residual.ensures
+
+pub returns-in_err-place_blocks-clause-behind : goal.returns-in_err-place_blocks-clause-behind
+returns-in_err-place_blocks-clause-behind g c = on_no_ok _ c.from_residual-in_err-place_blocks.result c.in_err-place_blocks.field-0.0 c.from_residual-in_err-place_blocks.ensures
+
+pub returns-in_err-place_table-clause-behind : goal.returns-in_err-place_table-clause-behind
+returns-in_err-place_table-clause-behind g c = on_no_ok _ c.from_residual-in_err-place_table.result c.in_err-place_table.field-0.0 c.from_residual-in_err-place_table.ensures

@@ -1,11 +1,11 @@
-use Rattle.std.proofs.Common.{sym, ◌∙◌, subst}
+use Rattle.std.proofs.Common.{refl, ◌∙◌, subst}
 use Rattle.std.specs.Prelude.{IfSome, Some, false}
 use Rattle.qcow2_alloc.specs.Allocation.{run_at, taken_as, UnseenAllocatorGrowth}
 use Rattle.qcow2_alloc.specs.FreeList.{pending_then}
 use Rattle.qcow2_alloc.specs.KeptAllocators.{IsAllocatorOf}
 use Rattle.qcow2_alloc.proofs.AllocationSteps.{handed_on}
 use Rattle.qcow2_image.specs.LongerTables.{TakesTable}
-use Rattle.qcow2_image.proofs.Grow.Lengthened.{none_taken_for_table, refused_none, table_refused, table_taken}
+use Rattle.qcow2_image.proofs.Grow.Lengthened.{none_taken_for_table, refused_none, table_settled}
 use Rattle.qcow2_image.proofs.image.Qcow2.enter_l1_table.Goals as goal
 
 pub returns-in_default-clause-takes : goal.returns-in_default-clause-takes
@@ -20,25 +20,12 @@ returns-in_err-pending-clause-takes g c = λ p out sound longer.
     (none_taken_for_table g.S.Storage.view g.F.BackingDisk.backing out p old sound c.allocate_meta.new.file c.allocate_meta.new.self c.allocate_meta.ensures.marks c.allocate_meta.ensures.list c.allocate_meta.ensures.header c.in_err-pending.field-0.0
     (c.in_err-pending.ensures.sound p (record { sound = sound.file; reftable = own.reftable })) (c.in_err-pending.ensures.hint p (record { sound = record { sound = sound.file; reftable = own.reftable }; hint = own.hint })))
 
-pub returns-in-Ok-clause-takes : goal.returns-in-Ok-clause-takes
-returns-in-Ok-clause-takes g c = λ p out sound longer.
+pub returns-clause-takes : goal.returns-clause-takes
+returns-clause-takes g c = λ p out sound longer.
     let old = c.args.self.now in
     let own = subst (λ o. IfSome o (IsAllocatorOf g.S.Storage.view old.file)) c.in-Some.is sound.reftable in
     let took = c.in_ok-pending.ensures.sound p (record { sound = sound.file; reftable = own.reftable }) in
-    let becomes = subst (λ n. UnseenAllocatorGrowth g.S.Storage.view p old.file c.allocate_meta.new.self c.allocate_meta.new.file (taken_as false (pending_then p old.file.free_list c.allocate_meta.new.file.free_list) (run_at n c.cluster_count.result))) (sym c.cluster.ensures) took.2 in
-    table_taken g.S.Storage.view g.F.BackingDisk.backing out p old sound c.allocate_meta.new.file c.allocate_meta.new.self c.allocate_meta.ensures.marks c.allocate_meta.ensures.list c.allocate_meta.ensures.header
-    c.args.table c.cluster.result c.cluster_count.result c.cluster_count.ensures becomes
-    (c.in_ok-pending.ensures.hint p (record { sound = record { sound = sound.file; reftable = own.reftable }; hint = own.hint })) longer c.write_l1_table.new.self c.write_l1_table.result c.write_l1_table.ensures.list
-    (λ placed. c.write_l1_table.ensures.names (pending_then p old.file.free_list c.allocate_meta.new.file.free_list) out placed c.in_ok-pending.ensures.noted) c.in-Ok.field-0 c.in-Ok.is
-
-pub returns-in-Err-clause-takes : goal.returns-in-Err-clause-takes
-returns-in-Err-clause-takes g c = λ p out sound longer.
-    let old = c.args.self.now in
-    let own = subst (λ o. IfSome o (IsAllocatorOf g.S.Storage.view old.file)) c.in-Some.is sound.reftable in
-    let took = c.in_ok-pending.ensures.sound p (record { sound = sound.file; reftable = own.reftable }) in
-    let becomes = subst (λ n. UnseenAllocatorGrowth g.S.Storage.view p old.file c.allocate_meta.new.self c.allocate_meta.new.file (taken_as false (pending_then p old.file.free_list c.allocate_meta.new.file.free_list) (run_at n c.cluster_count.result))) (sym c.cluster.ensures) took.2 in
-    table_refused g.S.Storage.view g.F.BackingDisk.backing out p old sound c.allocate_meta.new.file c.allocate_meta.new.self c.allocate_meta.ensures.marks c.allocate_meta.ensures.list c.allocate_meta.ensures.header
-    c.args.table c.cluster.result c.cluster_count.result c.cluster_count.ensures becomes
-    (c.in_ok-pending.ensures.hint p (record { sound = record { sound = sound.file; reftable = own.reftable }; hint = own.hint })) longer c.write_l1_table.new.self c.write_l1_table.result c.write_l1_table.ensures.list
-    (λ placed. c.write_l1_table.ensures.names (pending_then p old.file.free_list c.allocate_meta.new.file.free_list) out placed c.in_ok-pending.ensures.noted)
-    c.in-Err.refusal c.in_ok-pending.pending c.hand_back.new.list c.in-Err.is (sym c.cluster.ensures) (took.0 ∙ c.cluster_count.ensures) took.1 c.hand_back.ensures
+    table_settled g.S.Storage.view g.F.BackingDisk.backing out p old sound c.allocate_meta.new.file c.allocate_meta.new.self c.allocate_meta.ensures.marks c.allocate_meta.ensures.list c.allocate_meta.ensures.header
+    c.args.table c.in_ok-pending.pending.first_cluster c.cluster_count.result c.cluster_count.ensures took.2
+    (c.in_ok-pending.ensures.hint p (record { sound = record { sound = sound.file; reftable = own.reftable }; hint = own.hint })) longer c.in_ok-pending.pending c.write_taken.new.self c.write_taken.result refl (took.0 ∙ c.cluster_count.ensures) took.1
+    (λ placed. c.write_taken.ensures.names (pending_then p old.file.free_list c.allocate_meta.new.file.free_list) out placed c.in_ok-pending.ensures.noted) c.write_taken.ensures.kept c.write_taken.ensures.listed

@@ -1,0 +1,18 @@
+use Rattle.std.proofs.Common.{refl, sym, subst}
+use Rattle.qcow2_image.specs.ImageInvariant.{ImageInvariant}
+use Rattle.qcow2_image.specs.LongerTables.{with_table, NamesTable}
+use Rattle.qcow2_image.proofs.image.Qcow2.write_taken.Goals as goal
+
+pub returns-clause-names : goal.returns-clause-names
+returns-clause-names g c = λ p out sound noted longer.
+    let view = g.S.Storage.view in
+    let below = g.F.BackingDisk.backing in
+    let old = c.args.self.now in
+    let named = c.write_l1_table-done.new.self in (
+      named,
+      refl,
+      c.write_l1_table-done.ensures.list,
+      subst (NamesTable view below p old named out c.args.table c.args.taken.first_cluster) (sym c.keep_or_list.ensures.answer)
+          (subst (λ n. ImageInvariant view below (with_table p c.args.table n) old out → NamesTable view below p old named out c.args.table n c.write_l1_table-done.result) c.cluster.ensures
+          (λ s. c.write_l1_table-done.ensures.names p out s noted longer) sound),
+    )
