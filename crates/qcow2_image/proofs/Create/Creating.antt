@@ -1,6 +1,6 @@
 -- An unwritten image is opened, made larger and flushed: what a stop leaves on the way, and what stands then.
 use Rattle.std.proofs.Common.{◌≡◌, ◌⊎◌, inl, inr, ⊎_elim, ℕ, ◌^◌, max, List, [], ◌∷◌, ◌++◌, None, Result, Ok, Err, refl, sym, ap, ◌∙◌, subst, arith}
-use Rattle.std.specs.Prelude.{IfOk}
+use Rattle.std.specs.Prelude.{IfOk, OnOk}
 use Rattle.image_access.specs.Backing.{BackingView}
 use Rattle.image_access.specs.Moments.{StorageView}
 use Rattle.image_access.specs.declared.storage.PreallocateMode.{PreallocateMode}
@@ -14,6 +14,7 @@ use Rattle.qcow2_metadata.specs.HeaderWrite.{new_header, new_fields, HasNewNames
 use Rattle.qcow2_disk.specs.Disk.{disk, disk_with}
 use Rattle.qcow2_disk.specs.Stops.{SafeThroughout, Checkpoint, checkpoint_at, checkpoint_with, IsAsked, StopOkEverywhere}
 use Rattle.qcow2_laws.specs.NewImages.{IsNewImage}
+use Rattle.qcow2_laws.specs.Opened.{HasNoLeaks}
 use Rattle.qcow2_laws.specs.Tops.{places_of, with_places}
 use Rattle.qcow2_disk.specs.AbstractImages.{IsOpened}
 use Rattle.qcow2_alloc.specs.declared.error.ImageError.{ImageError}
@@ -169,8 +170,8 @@ module _ {S : Type 0} (view : S → StorageView) (builder : Qcow2CreateBuilder S
   header_then : SameFormat (header (byte_at (view mid).contents)) (header (byte_at (view last).contents)) → header (byte_at (view last).contents) ≡ with_places (new_fields bits order None None None) (places_of (header (byte_at (view last).contents)))
   header_then format = format ∙ ap (λ h. with_places h (places_of (header (byte_at (view last).contents)))) (three.1.header_is ∙ ap (λ (w : HeaderView). w.fields) is)
 
-  pub created_so : builder.cluster_size ≡ 2 ^ bits → builder.refcount_width ≡ 2 ^ order → (r : Result (Unit {0}) ImageError) → Enlarges builder.preallocate builder.size (view mid) (view last) r → IfOk r (λ done. IsCreated builder (view last))
-  created_so clusters counts (Ok x) done = let h = header_then done.format in record {
+  pub created_so : builder.cluster_size ≡ 2 ^ bits → builder.refcount_width ≡ 2 ^ order → (r : Result (Unit {0}) ImageError) → Enlarges builder.preallocate builder.size (view mid) (view last) r → OnOk r (HasNoLeaks (byte_at (view last).contents)) → IfOk r (λ done. IsCreated builder (view last))
+  created_so clusters counts (Ok x) done exact = let h = header_then done.format in record {
     honest = done.stays.honest;
     new_disk = done.new_disk;
     covers = done.covers;
@@ -178,9 +179,10 @@ module _ {S : Type 0} (view : S → StorageView) (builder : Qcow2CreateBuilder S
     clusters = ap (λ (k : HeaderFields). 2 ^ k.cluster_bits) h ∙ sym clusters;
     counts = ap (λ (k : HeaderFields). 2 ^ k.refcount_order) h ∙ sym counts;
     reaches = done.reaches;
+    no_leaks = exact;
     no_backing_file = ap (λ (k : HeaderFields). k.backing_offset) h;
   }
-  created_so clusters counts (Err e) stops = tt
+  created_so clusters counts (Err e) stops exact = tt
 
 -- ---- and is opened then
 new_opened : (mode : PreallocateMode) (n : ℕ) (old new : StorageView) → IsNewDisk mode n (byte_at old.contents) → IsKeptSince old new → IsNewDisk mode n (byte_at new.contents)

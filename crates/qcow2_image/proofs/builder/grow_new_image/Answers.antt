@@ -1,4 +1,7 @@
-use Rattle.std.proofs.Common.{inl, true}
+use Rattle.std.proofs.Common.{◌∙◌, ℕ, ap, inl, subst, sym, true}
+use Rattle.std.specs.Prelude.{OnOk}
+use Rattle.qcow2_metadata.specs.Bytes.{byte_at}
+use Rattle.qcow2_laws.specs.Opened.{HasNoLeaks}
 use Rattle.qcow2_image.proofs.Create.Causes.{opening_met, told_closed, told_opening, usable_opened}
 use Rattle.qcow2_image.proofs.Create.Creating.{opening_stops, enlarged_so, unwritten_mid}
 use Rattle.qcow2_image.proofs.builder.grow_new_image.Goals as goal
@@ -32,3 +35,10 @@ pub returns-in-Ok-clause-faults : goal.returns-in-Ok-clause-faults
 returns-in-Ok-clause-faults g c = λ none.
     told_closed g.S.Storage.view g.F.BackingDisk.backing none (g.S.Storage.view c.args.storage).faults c.in-Ok.image c.grow_and_flush-done.new.image c.into_storage.result c.grow_and_flush-done.result c.in-Ok.ensures.faults.no_fewer
     c.grow_and_flush-done.ensures.faults c.into_storage.ensures
+
+pub returns-in-Ok-clause-leaks : goal.returns-in-Ok-clause-leaks
+returns-in-Ok-clause-leaks g c = λ honest unwritten none.
+    let view = g.S.Storage.view in
+    let opens = c.in-Ok.ensures.opens honest unwritten.consistent in
+    let flushed = c.grow_and_flush-done.ensures.leaks opens.opened c.in-Ok.ensures.ok.2 (λ k. ap (λ (f : ℕ → ℕ). f k) opens.surplus ∙ none k) in
+    subst (λ s. OnOk c.grow_and_flush-done.result (HasNoLeaks (byte_at (view s).contents))) (sym c.into_storage.ensures) flushed
