@@ -103,6 +103,7 @@ module _ {S : Type 0} where
     pub reaches : ReachesSize (header (byte_at storage.contents))
     pub no_leaks : HasNoLeaks (byte_at storage.contents)
     pub no_backing_file : (header (byte_at storage.contents)).backing_offset ≡ 0
+    pub no_autoclear : (header (byte_at storage.contents)).autoclear ≡ 0
 
 -- ---- its parts
 
@@ -136,6 +137,7 @@ pub record IsEnlarged (mode : PreallocateMode) (n : ℕ) (old new : StorageView)
   pub new_disk : IsNewDisk mode n (byte_at new.contents)
   pub covers : IsPreallocated mode n (byte_at new.contents)
   pub format : SameFormat (header (byte_at old.contents)) (header (byte_at new.contents))
+  pub no_autoclear : (header (byte_at old.contents)).autoclear ≡ 0 → (header (byte_at new.contents)).autoclear ≡ 0
   pub reaches : ReachesSize (header (byte_at new.contents))
 
 -- it is opened, made larger and flushed, or a stop is as said above

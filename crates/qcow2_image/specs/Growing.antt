@@ -39,6 +39,7 @@ module _ {S F : Type 0} (view : S → StorageView) where
       pub leads : SafeStep (state_in view old.file p) (state_in view new.file p') nothing_given asked
       pub since : Lasts old new asked
       pub format : SameFormat old.file.header.fields new.file.header.fields
+      pub autoclear : new.file.header.fields.autoclear ≡ old.file.header.fields.autoclear
 
     -- the size is written
     abbrev pub Resizes : Pending → Qcow2 S F → Qcow2 S F → ℕ → Result (Unit {0}) ImageError → Type 0

@@ -81,7 +81,8 @@ impl<S: Storage> Qcow2CreateBuilder<S> {
     ghost use Rattle.qcow2_alloc.specs.declared.error.ImageError.TheVariants.{InvalidOption};
     ghost use Rattle.qcow2_image.specs.Created.{StopsCreating, IsCreated, IsAllowed, IsNewDisk, IsReasonNotToCreate};
     ghost use Rattle.std.specs.Prelude.{true, false};
-    ghost use Rattle.qcow2_image.specs.Image.{number_of};
+    ghost use Rattle.qcow2_image.specs.Image.{number_of, storage_of_image};
+    ghost use Rattle.qcow2_image.specs.Opened.{storage_after};
 
     /// A disk of no bytes for which no place is taken, clusters of 65,536 bytes and counts of 16 bits.
     pub fn new(image: S) -> Qcow2CreateBuilder<S>
@@ -181,7 +182,11 @@ impl<S: Storage> Qcow2CreateBuilder<S> {
         alloc: Global,
         number: u64,
     ) -> Result<Qcow2<S, F>, (S, ImageError)>
+        ensures stops { (S.view self.image).is_honest → StopsCreating self.preallocate self.size (S.view self.image) (S.view (storage_after result)) }
+        ensures created { (S.view self.image).is_honest → IfOk result (λ image. IsCreated self (S.view (storage_of_image image))) }
+        ensures refused { ¬ IsAllowed self → result ≡ Err (self.image, InvalidOption) }
         ensures opens { (S.view self.image).is_honest → IfOk result (λ image. IsOpened (abstract_of S.view F.backing image [])) }
+        ensures surplus { (S.view self.image).is_honest → IfOk result (λ image. (c : ℕ) → (abstract_of S.view F.backing image []).surplus c ≡ 0) }
         ensures new_disk { (S.view self.image).is_honest → IfOk result (λ image. IsNewDisk self.preallocate self.size (abstract_of S.view F.backing image []).known) }
         ensures ok { IfOk result (λ image. (number_of image ≡ number) × (is_failed image ≡ false) × (is_writable image ≡ true)) }
         ensures below { IfOk result (λ image. is_some image.backing ≡ false) }

@@ -37,6 +37,7 @@ module _ {S F : Type 0} (view : S → StorageView) (backing : F → BackingView)
     leads = moves.leads;
     since = moves.since;
     format = moves_format a.file.header.fields b.file.header.fields moves.header;
+    autoclear = ap (λ (h : HeaderFields). h.autoclear) moves.header;
   }
 
   -- where that was refused, what was kept is kept
@@ -49,6 +50,7 @@ module _ {S F : Type 0} (view : S → StorageView) (backing : F → BackingView)
     leads = keeps.leads;
     since = keeps.since;
     format = subst (λ (h : HeaderFields). h ≡ with_places a.file.header.fields (places_of h)) (sym keeps.unseen.header) refl;
+    autoclear = ap (λ (h : HeaderFields). h.autoclear) keeps.unseen.header;
   }
 
   pub extends_then : (p q r : Pending) (a b c : Qcow2 S F) (asked asks : List ℕ) → Extends view backing p q a b asked → Extends view backing q r b c asks → Extends view backing p r a c (asks ++ asked)
@@ -57,6 +59,7 @@ module _ {S F : Type 0} (view : S → StorageView) (backing : F → BackingView)
     leads = leads_then (state_in view a.file p) (state_in view b.file q) (state_in view c.file r) nothing_given nothing_given asked asks first.leads then.leads;
     since = steps_endure (view_in view a.file) (view_in view b.file) (view_in view c.file) (state_in view a.file p) (state_in view b.file q) nothing_given nothing_given asked asks refl first.since first.leads then.since;
     format = then.format ∙ ap (λ h. with_places h (places_of c.file.header.fields)) first.format;
+    autoclear = then.autoclear ∙ first.autoclear;
   }
 
   pub lasts_then : (p q : Pending) (a b c : Qcow2 S F) (asked asks : List ℕ) → Extends view backing p q a b asked → Lasts view b c asks → Lasts view a c (asks ++ asked)
@@ -148,6 +151,7 @@ module _ {S F : Type 0} (view : S → StorageView) (backing : F → BackingView)
     leads = tidies.leads;
     since = tidies.since;
     format = subst (λ (h : HeaderFields). h ≡ with_places a.file.header.fields (places_of h)) (sym tidies.unseen.header) refl;
+    autoclear = ap (λ (h : HeaderFields). h.autoclear) tidies.unseen.header;
   }
 
   pub written_back : (p : Pending) (old big new : Qcow2 S F) (done r : Result (Unit {0}) ImageError) → FreesListed view backing p old big [] done → r ≡ done → new ≡ record big { is_failed = is_failed new } → MayMarkBy done (is_failed big) (is_failed new)
