@@ -6,3 +6,4 @@ pub mod ThreeWrites
 pub mod Creating
 pub mod Causes
 pub mod TakingPlace
+pub mod Leaks

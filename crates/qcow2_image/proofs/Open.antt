@@ -5,3 +5,4 @@ pub mod Clearing
 pub mod HeaderKept
 pub mod Probing
 pub mod Reftables
+pub mod Left

@@ -19,6 +19,7 @@ use Rattle.qcow2_metadata.specs.declared.l2_mapping.L2Mapping.TheVariants.{Zero,
 use Rattle.qcow2_disk.specs.Disk.{disk}
 use Rattle.qcow2_disk.specs.Mappings.{is_copied_data}
 use Rattle.qcow2_laws.specs.NewImages.{IsNewImage}
+use Rattle.qcow2_laws.specs.Opened.{HasNoLeaks}
 use Rattle.qcow2_alloc.specs.declared.error.ImageError.{ImageError}
 use Rattle.qcow2_alloc.specs.declared.error.ImageError.TheVariants as I
 use Rattle.qcow2_image.specs.Growing.{GrowsDisk, SameFormat, ReachesSize}
@@ -100,7 +101,9 @@ module _ {S : Type 0} where
     pub counts : count_width (header (byte_at storage.contents)) ≡ builder.refcount_width
     -- as QEMU asks for
     pub reaches : ReachesSize (header (byte_at storage.contents))
+    pub no_leaks : HasNoLeaks (byte_at storage.contents)
     pub no_backing_file : (header (byte_at storage.contents)).backing_offset ≡ 0
+    pub no_autoclear : (header (byte_at storage.contents)).autoclear ≡ 0
 
 -- ---- its parts
 
@@ -134,6 +137,7 @@ pub record IsEnlarged (mode : PreallocateMode) (n : ℕ) (old new : StorageView)
   pub new_disk : IsNewDisk mode n (byte_at new.contents)
   pub covers : IsPreallocated mode n (byte_at new.contents)
   pub format : SameFormat (header (byte_at old.contents)) (header (byte_at new.contents))
+  pub no_autoclear : (header (byte_at old.contents)).autoclear ≡ 0 → (header (byte_at new.contents)).autoclear ≡ 0
   pub reaches : ReachesSize (header (byte_at new.contents))
 
 -- it is opened, made larger and flushed, or a stop is as said above

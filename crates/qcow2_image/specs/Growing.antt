@@ -14,10 +14,10 @@ use Rattle.qcow2_alloc.specs.FreeList.{with_listed}
 use Rattle.qcow2_alloc.specs.declared.error.ImageError.{ImageError}
 use Rattle.qcow2_alloc.specs.ImageFile.{view_in, known_in, state_in, nothing_given}
 use Rattle.qcow2_image.specs.declared.image.Qcow2.{Qcow2}
-use Rattle.qcow2_image.specs.Image.{size_of}
+use Rattle.qcow2_image.specs.Image.{is_writable, size_of}
 use Rattle.qcow2_image.specs.MovedTables.{CoversStay}
 use Rattle.qcow2_image.specs.UnseenSteps.{pending_with_listed}
-use Rattle.qcow2_image.specs.ImageInvariant.{ImageInvariant, pending_in}
+use Rattle.qcow2_image.specs.ImageInvariant.{ImageInvariant, abstract_of, pending_in}
 
 -- the header differs only in numbers that are written again after it was created
 abbrev pub SameFormat : HeaderFields → HeaderFields → Type 0
@@ -39,6 +39,7 @@ module _ {S F : Type 0} (view : S → StorageView) where
       pub leads : SafeStep (state_in view old.file p) (state_in view new.file p') nothing_given asked
       pub since : Lasts old new asked
       pub format : SameFormat old.file.header.fields new.file.header.fields
+      pub autoclear : new.file.header.fields.autoclear ≡ old.file.header.fields.autoclear
 
     -- the size is written
     abbrev pub Resizes : Pending → Qcow2 S F → Qcow2 S F → ℕ → Result (Unit {0}) ImageError → Type 0
@@ -50,6 +51,12 @@ module _ {S F : Type 0} (view : S → StorageView) where
     GrowsDisk old new size (Ok _) = Extends (pending_in view backing old []) (pending_in view backing new []) old new (size ∷ []) × (size_of new ≡ max (size_of old) size)
         × (ReachesSize old.file.header.fields → ReachesSize new.file.header.fields)
     GrowsDisk old new size (Err e) = Lasts old new (size ∷ [])
+
+    -- It is sound still, may be written as before, and counts no cluster more or less beyond what is named and pending.
+    pub record KeepsSurplus (old new : Qcow2 S F) : Type 0 where
+      pub sound : (abstract_of view backing new []).is_sound
+      pub writable : is_writable new ≡ is_writable old
+      pub surplus : (abstract_of view backing new []).surplus ≡ (abstract_of view backing old []).surplus
 
     -- What is listed is freed, and all tables are written. What is listed then is pending still, and the same stands for each guest cluster.
     abbrev pub WritesBack : Pending → Qcow2 S F → Qcow2 S F → Result (Unit {0}) ImageError → Type 0

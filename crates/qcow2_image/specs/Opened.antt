@@ -1,8 +1,8 @@
 -- What opening an image gives: its header and its tables as they stand on the storage, and nothing modified.
-use Rattle.std.specs.Prelude.{ℕ, ◌≡◌, ◌⊎◌, ◌||◌, Bool, true, IfSome, List, [], Option, Result, Ok, Err}
+use Rattle.std.specs.Prelude.{ℕ, ◌≡◌, ◌⊎◌, ◌||◌, Bool, false, true, IfSome, List, [], Option, Result, Ok, Err}
 use Rattle.std.specs.Option.{is_some}
 use Rattle.image_access.specs.Backing.{BackingView}
-use Rattle.image_access.specs.Moments.{StorageView}
+use Rattle.image_access.specs.Moments.{ContentsStay, StorageView}
 use Rattle.qcow2_metadata.specs.Bytes.{Bytes, byte_at}
 use Rattle.qcow2_metadata.specs.Consistent.{IsConsistent}
 use Rattle.qcow2_metadata.specs.EntryTable.{EntryTableView}
@@ -27,6 +27,12 @@ use Rattle.qcow2_image.specs.ImageInvariant.{abstract_of, HasL1Table}
 -- at each moment since, and now, what was kept of the contents is kept: a consistent image stays so, and shows the same disk
 abbrev pub IsKeptSince : StorageView → StorageView → Type 0
 IsKeptSince old new = SafeThroughout old new (byte_at old.contents) nothing_given []
+
+-- What opening leaves of a storage: it is honest where it was. Opened for reading, or where no autoclear bit is set, it has the bytes that it had.
+pub record LeavesStorage (writable : Bool) (autoclear : ℕ) (old new : StorageView) : Type 0 where
+  pub honest : old.is_honest → new.is_honest
+  pub reading : writable ≡ false → ContentsStay old new
+  pub uncleared : autoclear ≡ 0 → ContentsStay old new
 
 -- the names behind a header's numbers are the same
 abbrev pub SameNames : HeaderView → HeaderView → Type 0

@@ -117,6 +117,7 @@ module _ {S F : Type 0} (view : S → StorageView) (backing : F → BackingView)
   -- What a larger disk leaves of the tables: a header of the same format, an L1 table with an entry for each byte and no more than that and the old one need, and for each guest cluster what the mode asks for.
   pub record LeavesTables (mode : PreallocateMode) (size : ℕ) (old new : Qcow2 S F) : Type 0 where
     pub format : SameFormat old.file.header.fields new.file.header.fields
+    pub autoclear : new.file.header.fields.autoclear ≡ old.file.header.fields.autoclear
     pub reaches : ReachesSize new.file.header.fields
     pub length : ReachesOffset (size - 1) old.file.header.fields new.file.header.fields
     pub covers : GrownCovers mode (size_of old) size old.file.header.fields (known_in view old.file) new.file.header.fields (known_in view new.file)

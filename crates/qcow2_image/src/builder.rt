@@ -12,6 +12,8 @@ ghost use Rattle.qcow2_image.specs.Image.{is_failed, is_writable};
 ghost use Rattle.qcow2_image.specs.Refusals.{IsMet, IsMetPreparing, MarksFailed};
 ghost use Rattle.qcow2_image.specs.Resizing.{refuses_to_resize};
 ghost use Rattle.qcow2_image.specs.ImageInvariant.{abstract_of};
+ghost use Rattle.qcow2_image.specs.Growing.{KeepsSurplus};
+ghost use Rattle.qcow2_laws.specs.Opened.{HasNoLeaks};
 ghost use Rattle.qcow2_image.specs.Created.{IsUnwritten, IsNewHeader, CountsThree, NamesOne, WritesThree, Enlarges, GrowsBy};
 
 use crate::Qcow2;
@@ -79,7 +81,8 @@ impl<S: Storage> Qcow2CreateBuilder<S> {
     ghost use Rattle.qcow2_alloc.specs.declared.error.ImageError.TheVariants.{InvalidOption};
     ghost use Rattle.qcow2_image.specs.Created.{StopsCreating, IsCreated, IsAllowed, IsNewDisk, IsReasonNotToCreate};
     ghost use Rattle.std.specs.Prelude.{true, false};
-    ghost use Rattle.qcow2_image.specs.Image.{number_of};
+    ghost use Rattle.qcow2_image.specs.Image.{number_of, storage_of_image};
+    ghost use Rattle.qcow2_image.specs.Opened.{storage_after};
 
     /// A builder for a storage: a disk of no bytes for which no place is taken, clusters of 65,536 bytes and counts of 16 bits.
     pub fn new(image: S) -> Qcow2CreateBuilder<S>
@@ -182,7 +185,11 @@ impl<S: Storage> Qcow2CreateBuilder<S> {
         alloc: Global,
         number: u64,
     ) -> Result<Qcow2<S, F>, (S, ImageError)>
+        ensures stops { (S.view self.image).is_honest → StopsCreating self.preallocate self.size (S.view self.image) (S.view (storage_after result)) }
+        ensures created { (S.view self.image).is_honest → IfOk result (λ image. IsCreated self (S.view (storage_of_image image))) }
+        ensures refused { ¬ IsAllowed self → result ≡ Err (self.image, InvalidOption) }
         ensures opens { (S.view self.image).is_honest → IfOk result (λ image. IsOpened (abstract_of S.view F.backing image [])) }
+        ensures surplus { (S.view self.image).is_honest → IfOk result (λ image. (c : ℕ) → (abstract_of S.view F.backing image []).surplus c ≡ 0) }
         ensures new_disk { (S.view self.image).is_honest → IfOk result (λ image. IsNewDisk self.preallocate self.size (abstract_of S.view F.backing image []).known) }
         ensures ok { IfOk result (λ image. (number_of image ≡ number) × (is_failed image ≡ false) × (is_writable image ≡ true)) }
         ensures below { IfOk result (λ image. is_some image.backing ≡ false) }
@@ -289,6 +296,7 @@ fn grow_new_image<S: Storage, F: WrappedFormat<S>>(
     mode: PreallocateMode,
 ) -> (S, Result<(), ImageError>)
     ensures enlarges { (S.view storage).is_honest → IsUnwritten 0 (byte_at (S.view storage).contents) → Enlarges mode size (S.view storage) (S.view result.0) result.1 }
+    ensures leaks { (S.view storage).is_honest → IsUnwritten 0 (byte_at (S.view storage).contents) → HasNoLeaks (byte_at (S.view storage).contents) → OnOk result.1 (HasNoLeaks (byte_at (S.view result.0).contents)) }
     ensures cause { (S.view storage).is_honest → IsUnwritten 0 (byte_at (S.view storage).contents) → IfErr result.1 IsMetPreparing }
     ensures faults { ((below : F) → (F.backing below).faults ≡ 0) → FaultsTold (S.view storage).faults (S.view result.0).faults result.1 }
 {
@@ -308,6 +316,8 @@ fn grow_and_flush<S: Storage, F: WrappedFormat<S>>(
 ) -> Result<(), ImageError>
     ensures enlarges { IsOpened (abstract_of S.view F.backing image.old []) → IsTrue (is_writable image.old) → is_some image.old.backing ≡ false → IsUnwritten 0 (byte_at (view_in S.view image.old.file).contents)
         → Enlarges mode size (view_in S.view image.old.file) (view_in S.view image.new.file) result }
+    ensures leaks { IsOpened (abstract_of S.view F.backing image.old []) → IsTrue (is_writable image.old) → ((c : ℕ) → (abstract_of S.view F.backing image.old []).surplus c ≡ 0)
+        → OnOk result (HasNoLeaks (byte_at (view_in S.view image.new.file).contents)) }
     ensures cause { refuses_to_resize image.old ≡ None → IsTrue (is_writable image.old) → is_some image.old.backing ≡ false → IfErr result IsMetPreparing }
     ensures faults { CountsImageFaults S.view F.backing image.old image.new result }
 {
@@ -322,6 +332,7 @@ fn grow_by<S: Storage, F: WrappedFormat<S>>(
     mode: PreallocateMode,
 ) -> Result<(), ImageError>
     ensures grows { GrowsBy S.view F.backing mode image.old image.new size result }
+    ensures surplus { refuses_to_resize image.old ≡ None → (abstract_of S.view F.backing image.old []).is_sound → OnOk result (KeepsSurplus S.view F.backing image.old image.new) }
     ensures cause { refuses_to_resize image.old ≡ None → IsTrue (is_writable image.old) → is_some image.old.backing ≡ false → IfErr result IsMetPreparing }
     ensures marks { MarksFailed image.old image.new result }
     ensures faults { CountsImageFaults S.view F.backing image.old image.new result }

@@ -83,7 +83,7 @@ impl<S: Storage, F: WrappedFormat<S>> Qcow2<S, F> {
     ghost use Rattle.qcow2_image.specs.Created.{begins_image};
     ghost use Rattle.qcow2_image.specs.Growing.{SameFormat, WritesBack};
     ghost use Rattle.qcow2_image.specs.Unwritten.{OnlyReadsImage};
-    ghost use Rattle.qcow2_image.specs.Opened.{IsFresh, StaysFresh, IsLoaded, IsKeptSince, SameNames, HasNamesIn, NeedsAnother, IsRefusedAlone, storage_after, Opens};
+    ghost use Rattle.qcow2_image.specs.Opened.{IsFresh, StaysFresh, IsLoaded, IsKeptSince, SameNames, HasNamesIn, NeedsAnother, IsRefusedAlone, LeavesStorage, storage_after, Opens};
     ghost use Rattle.std.specs.Option.{is_some};
 
     /// Whether the first bytes of a storage are those of an image of version 2 or 3. Refused 14 (memory), 15 (storage), as the storage
@@ -121,7 +121,7 @@ impl<S: Storage, F: WrappedFormat<S>> Qcow2<S, F> {
         ensures faults { OpeningCounts S.view (S.view metadata).faults result }
         ensures below { IfOk result (λ image. is_some image.backing ≡ false) }
         ensures names { (S.view metadata).is_honest → IfOk result (λ image. HasNamesIn image.file.header (S.view metadata).contents) }
-        ensures reading { writable ≡ false → ContentsStay (S.view metadata) (S.view (storage_after result)) }
+        ensures storage { LeavesStorage writable (header (byte_at (S.view metadata).contents)).autoclear (S.view metadata) (S.view (storage_after result)) }
         ensures cause { OpensRightly (S.view metadata) writable false result }
     {
         Self::open(alloc, metadata, writable, number, false)
@@ -144,7 +144,7 @@ impl<S: Storage, F: WrappedFormat<S>> Qcow2<S, F> {
         ensures faults { OpeningCounts S.view (S.view metadata).faults result }
         ensures below { IfOk result (λ image. is_some image.backing ≡ false) }
         ensures names { (S.view metadata).is_honest → IfOk result (λ image. HasNamesIn image.file.header (S.view metadata).contents) }
-        ensures reading { writable ≡ false → ContentsStay (S.view metadata) (S.view (storage_after result)) }
+        ensures storage { LeavesStorage writable (header (byte_at (S.view metadata).contents)).autoclear (S.view metadata) (S.view (storage_after result)) }
         ensures another { (S.view metadata).is_honest → NeedsAnother (S.view metadata).contents → IsRefusedAlone result × ContentsStay (S.view metadata) (S.view (storage_after result)) }
         ensures cause { OpensRightly (S.view metadata) writable true result }
     {
@@ -166,7 +166,7 @@ impl<S: Storage, F: WrappedFormat<S>> Qcow2<S, F> {
         ensures faults { OpeningCounts S.view (S.view metadata).faults result }
         ensures below { IfOk result (λ image. is_some image.backing ≡ false) }
         ensures names { (S.view metadata).is_honest → IfOk result (λ image. HasNamesIn image.file.header (S.view metadata).contents) }
-        ensures reading { writable ≡ false → ContentsStay (S.view metadata) (S.view (storage_after result)) }
+        ensures storage { LeavesStorage writable (header (byte_at (S.view metadata).contents)).autoclear (S.view metadata) (S.view (storage_after result)) }
         ensures another { IsTrue alone → (S.view metadata).is_honest → NeedsAnother (S.view metadata).contents → IsRefusedAlone result × ContentsStay (S.view metadata) (S.view (storage_after result)) }
         ensures cause { OpensRightly (S.view metadata) writable alone result }
     {
@@ -240,6 +240,7 @@ impl<S: Storage, F: WrappedFormat<S>> Qcow2<S, F> {
     fn load_allocator(file: &mut ImageFile<S>) -> Result<Allocator, ImageError>
         ensures format { OnOk result (SameFormat file.old.header.fields file.new.header.fields) }
         ensures names { OnOk result (SameNames file.old.header file.new.header) }
+        ensures storage { LeavesStorage true file.old.header.fields.autoclear (view_in S.view file.old) (view_in S.view file.new) }
         ensures faults { FaultsTold (view_in S.view file.old).faults (view_in S.view file.new).faults result }
         ensures since { (p : Pending) → IsFresh S.view F.backing p file.old → IsKeptSince (view_in S.view file.old) (view_in S.view file.new) }
         ensures loaded { (p : Pending) → IsFresh S.view F.backing p file.old → IfOk result (λ allocator. StaysFresh S.view F.backing p file.old file.new × IsAllocatorOf S.view file.new allocator) }
@@ -255,7 +256,7 @@ impl<S: Storage, F: WrappedFormat<S>> Qcow2<S, F> {
     // Loads the L1 table and, for writing, the reftable.
     fn load_tables(file: &mut ImageFile<S>, writable: bool) -> Result<Tables, ImageError>
         ensures allocator { IfOk result (λ tables. is_some tables.allocator ≡ writable) }
-        ensures reading { writable ≡ false → ContentsStay (view_in S.view file.old) (view_in S.view file.new) }
+        ensures storage { LeavesStorage writable file.old.header.fields.autoclear (view_in S.view file.old) (view_in S.view file.new) }
         ensures format { OnOk result (SameFormat file.old.header.fields file.new.header.fields) }
         ensures names { OnOk result (SameNames file.old.header file.new.header) }
         ensures faults { FaultsTold (view_in S.view file.old).faults (view_in S.view file.new).faults result }

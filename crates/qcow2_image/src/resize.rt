@@ -4,7 +4,7 @@ ghost use Rattle.qcow2_image.specs.Faults.{CountsImageFaults};
 ghost use Rattle.qcow2_image.specs.Image.{is_failed, is_writable};
 ghost use Rattle.qcow2_image.specs.Refusals.{IsMet, MarksFailed};
 ghost use Rattle.qcow2_laws.specs.CrashInvariant.{Pending};
-ghost use Rattle.qcow2_image.specs.Growing.{Resizes, GrowsDisk, ReachesSize};
+ghost use Rattle.qcow2_image.specs.Growing.{Resizes, GrowsDisk, KeepsSurplus, ReachesSize};
 ghost use Rattle.qcow2_image.specs.UnseenSteps.{ListGrows};
 ghost use Rattle.qcow2_image.specs.ImageInvariant.{ImageInvariant, abstract_of};
 
@@ -17,6 +17,7 @@ impl<S: Storage, F: WrappedFormat<S>> Qcow2<S, F> {
     // Makes the disk larger: a new L1 table, then the size. A size that isn't larger changes nothing.
     pub(crate) fn grow(&mut self, size: u64) -> Result<(), ImageError>
         ensures grows { (abstract_of S.view F.backing self.old []).is_sound → GrowsDisk S.view F.backing self.old self.new size result }
+        ensures surplus { (abstract_of S.view F.backing self.old []).is_sound → OnOk result (KeepsSurplus S.view F.backing self.old self.new) }
         ensures cause { is_failed self.old ≡ false → IsTrue (is_writable self.old) → IfErr result IsMet }
         ensures marks { MarksFailed self.old self.new result }
         ensures faults { CountsImageFaults S.view F.backing self.old self.new result }
@@ -39,6 +40,7 @@ impl<S: Storage, F: WrappedFormat<S>> Qcow2<S, F> {
         ensures reaches { (p : Pending) → ImageInvariant S.view F.backing p self.old [] → OnOk result (ReachesSize self.new.file.header.fields) }
         ensures cause { IsTrue (is_writable self.old) → IfErr result IsMet }
         ensures failed { is_failed self.new ≡ is_failed self.old }
+        ensures writable { is_writable self.new ≡ is_writable self.old }
         ensures faults { CountsImageFaults S.view F.backing self.old self.new result }
     {
         let bits = self.file.header.cluster_bits();

@@ -8,12 +8,13 @@ use Rattle.std.proofs.Math.Pow.{pow_mono}
 use Rattle.std.proofs.Math.Nat.{mod-eq_of_lt, div-one}
 use Rattle.qcow2_metadata.specs.Bytes.{Bytes, one_if}
 use Rattle.qcow2_metadata.specs.declared.header.HeaderFields.{HeaderFields}
-use Rattle.qcow2_metadata.specs.Header.{cluster_size, entries_per_cluster, reftable_entries, count_width, counts_per_block}
+use Rattle.qcow2_metadata.specs.Header.{header, cluster_size, entries_per_cluster, reftable_entries, count_width, counts_per_block}
 use Rattle.qcow2_metadata.specs.Entries.{reftable_entry, count, block_count, block_offset, ReftableEntryReads}
 use Rattle.qcow2_metadata.specs.Named.{in_cluster, table_in, named, named_for_tables, named_by_reftable, named_by_l1_table, named_by_l2_tables}
 use Rattle.qcow2_metadata.specs.Consistent.{Consistent, IsConsistent, IsAligned}
 use Rattle.qcow2_laws.specs.Changes.{one_at}
 use Rattle.qcow2_laws.specs.NewImages.{IsNewImage}
+use Rattle.qcow2_laws.specs.Opened.{HasNoLeaks, surplus_of}
 use Rattle.qcow2_laws.proofs.Sums.{sum_below-change, sum_below-zero}
 use Rattle.qcow2_laws.proofs.Places.{Sizes, Sizes-from, count_in, count_none}
 use Rattle.qcow2_laws.proofs.Shares.{shares, in_l1, in_reftable}
@@ -205,3 +206,7 @@ module _ (h : HeaderFields) (b : Bytes) (new : IsNewImage h b) where
 
   pub new_image_consistent : IsConsistent b
   new_image_consistent = subst (λ t. Consistent t b) (sym new.header_is) new_consistent
+
+  -- its counts are exact
+  pub new_image_exact : HasNoLeaks b
+  new_image_exact c = ap (λ t. surplus_of t b c) new.header_is ∙ omega (arith, named_is c, three c, count_is c)

@@ -1,8 +1,9 @@
 -- What is pending as an image is opened: nothing. What is counted more than named is surplus.
-use Rattle.std.specs.Prelude.{ℕ, ◌-◌}
+use Rattle.std.specs.Prelude.{ℕ, ◌-◌, ◌≡◌}
 use Rattle.qcow2_metadata.specs.Bytes.{Bytes}
 use Rattle.qcow2_metadata.specs.declared.header.HeaderFields.{HeaderFields}
 use Rattle.qcow2_metadata.specs.Entries.{count}
+use Rattle.qcow2_metadata.specs.Header.{header}
 use Rattle.qcow2_metadata.specs.Named.{named}
 use Rattle.qcow2_laws.specs.CrashInvariant.{Pending}
 
@@ -12,3 +13,7 @@ nothing_pending surplus = record { new_data = λ c. 0; new_tables = λ c. 0; old
 -- how much more often each cluster is counted than named
 abbrev pub surplus_of : HeaderFields → Bytes → ℕ → ℕ
 surplus_of h b c = count h b c - named h b c
+
+-- no cluster is counted more often than it is named
+abbrev pub HasNoLeaks : Bytes → Type 0
+HasNoLeaks b = (c : ℕ) → surplus_of (header b) b c ≡ 0

@@ -5,6 +5,7 @@ ghost use Rattle.qcow2_metadata.specs.Consistent.{IsConsistent};
 ghost use Rattle.qcow2_metadata.specs.declared.header.HeaderFields.{HeaderFields};
 ghost use Rattle.qcow2_laws.specs.Samples.{empty_image};
 ghost use Rattle.qcow2_laws.specs.NewImages.{IsNewImage};
+ghost use Rattle.qcow2_laws.specs.Opened.{HasNoLeaks};
 ghost use Rattle.qcow2_laws.specs.GuestLaws.{ClustersInTurnAreARange, KeptClusterIsCommitted, KeptClusterIsWritten, LongerL1TableKeepsGuests, RunIsWritten, SizeStaysUnlessAsked};
 ghost use Rattle.qcow2_laws.specs.Laws.{SoundIsConsistent, MixIsSafe, TableIsWritten, CountIsChanged, PendingIsChanged, EntryIsChanged, DataIsWritten, TableIsNamed, HeaderIsWritten, StepsCompose};
 
@@ -88,8 +89,9 @@ pub fn run_is_written()
     ensures { RunIsWritten }
 {}
 
-/// The image of three clusters that creating begins with is consistent, of whatever size clusters and counts are.
+/// The image of three clusters that creating begins with is consistent, of whatever size clusters and counts are. It counts no cluster more often than it names it.
 pub fn new_image_is_consistent()
     ensures each { (h : HeaderFields) (b : Bytes) → IsNewImage h b → IsConsistent b }
+    ensures exact { (h : HeaderFields) (b : Bytes) → IsNewImage h b → HasNoLeaks b }
     ensures small { IsConsistent (byte_at empty_image) }
 {}

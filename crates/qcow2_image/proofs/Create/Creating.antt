@@ -1,6 +1,6 @@
 -- An unwritten image is opened, made larger and flushed: what a stop leaves on the way, and what stands then.
-use Rattle.std.proofs.Common.{◌≡◌, ◌⊎◌, inl, inr, ⊎_elim, ℕ, ◌^◌, max, List, [], ◌∷◌, ◌++◌, None, Result, Ok, Err, refl, sym, ap, ◌∙◌, subst, arith}
-use Rattle.std.specs.Prelude.{IfOk}
+use Rattle.std.proofs.Common.{◌≡◌, ◌⊎◌, inl, inr, ⊎_elim, ℕ, ◌^◌, max, List, [], ◌∷◌, ◌++◌, None, Result, Ok, Err, true, refl, sym, ap, ◌∙◌, subst, arith}
+use Rattle.std.specs.Prelude.{IfOk, OnOk}
 use Rattle.image_access.specs.Backing.{BackingView}
 use Rattle.image_access.specs.Moments.{StorageView}
 use Rattle.image_access.specs.declared.storage.PreallocateMode.{PreallocateMode}
@@ -9,21 +9,23 @@ use Rattle.image_access.proofs.EachMomentSince.{passes_on, passes_if}
 use Rattle.qcow2_metadata.specs.Bytes.{Bytes, byte_at}
 use Rattle.qcow2_metadata.specs.Consistent.{IsConsistent}
 use Rattle.qcow2_metadata.specs.declared.header.HeaderFields.{HeaderFields}
-use Rattle.qcow2_metadata.specs.Header.{HeaderView, header}
+use Rattle.qcow2_metadata.specs.Header.{HeaderView, cluster_size, count_width, header}
 use Rattle.qcow2_metadata.specs.HeaderWrite.{new_header, new_fields, HasNewNames}
 use Rattle.qcow2_disk.specs.Disk.{disk, disk_with}
 use Rattle.qcow2_disk.specs.Stops.{SafeThroughout, Checkpoint, checkpoint_at, checkpoint_with, IsAsked, StopOkEverywhere}
 use Rattle.qcow2_laws.specs.NewImages.{IsNewImage}
+use Rattle.qcow2_laws.specs.Opened.{HasNoLeaks}
 use Rattle.qcow2_laws.specs.Tops.{places_of, with_places}
 use Rattle.qcow2_disk.specs.AbstractImages.{IsOpened}
 use Rattle.qcow2_alloc.specs.declared.error.ImageError.{ImageError}
+use Rattle.qcow2_alloc.specs.declared.error.ImageError.TheVariants as I
 use Rattle.qcow2_alloc.specs.ImageFile.{nothing_given, view_in}
 use Rattle.qcow2_image.specs.declared.builder.Qcow2CreateBuilder.{Qcow2CreateBuilder}
 use Rattle.qcow2_image.specs.declared.image.Qcow2.{Qcow2}
-use Rattle.qcow2_image.specs.Created.{IsNewDisk, IsUnwritten, ShowsZeros, IsStopOfCreating, StopsCreating, StaysCreating, IsNewHeader, IsCreated, Enlarges}
+use Rattle.qcow2_image.specs.Created.{IsNewDisk, IsPreallocated, IsUnwritten, ShowsZeros, IsStopOfCreating, StopsCreating, StaysCreating, IsNewHeader, IsCreated, Enlarges}
 use Rattle.qcow2_image.specs.Growing.{SameFormat, GrowsWhole, ReachesSize}
 use Rattle.qcow2_image.specs.Image.{size_of, storage_of_image}
-use Rattle.qcow2_image.specs.Opened.{IsKeptSince, Opens, storage_after}
+use Rattle.qcow2_image.specs.Opened.{IsKeptSince, LeavesStorage, Opens, storage_after}
 use Rattle.qcow2_image.specs.ImageInvariant.{abstract_of}
 use Rattle.qcow2_image.proofs.Create.NewDisks.{new_disk_consistent, unwritten_covers, unwritten_new}
 use Rattle.qcow2_image.proofs.Create.ThreeWrites.{new_unwritten}
@@ -65,12 +67,11 @@ unwritten_either size old c unwritten kept = ⊎_elim
 pub opens_unwritten : (n : ℕ) (old new : StorageView) → IsUnwritten n (byte_at old.contents) → IsKeptSince old new → IsUnwritten n (byte_at new.contents)
 opens_unwritten n old new unwritten since = unwritten_still n (byte_at old.contents) (byte_at new.contents) unwritten (λ backing m ok. since.contents backing m ok ok)
 
-opens_zeros : (n : ℕ) (old new : StorageView) → ShowsZeros n (byte_at old.contents) → IsKeptSince old new → ShowsZeros n (byte_at new.contents)
-opens_zeros n old new shows since =
-    let b = byte_at old.contents in
-    let c = byte_at new.contents in
+-- what is kept of an image that shows zeros shows them
+zeros_still : (n : ℕ) (b c : Bytes) → ShowsZeros n b → ((backing : Bytes) (m : Checkpoint) → StopOkEverywhere backing m b → StopOkEverywhere backing (checkpoint_with [] [] m) c) → ShowsZeros n c
+zeros_still n b c shows keep =
     let start : StopOkEverywhere (λ o. 0) (checkpoint_at (disk b (λ o. 0))) b = record { consistent = shows.consistent; size = inl refl; values = λ o. inl refl } in
-    let kept : StopOkEverywhere (λ o. 0) (checkpoint_with [] [] (checkpoint_at (disk b (λ o. 0)))) c = since.contents (λ o. 0) (checkpoint_at (disk b (λ o. 0))) start start in
+    let kept : StopOkEverywhere (λ o. 0) (checkpoint_with [] [] (checkpoint_at (disk b (λ o. 0)))) c = keep (λ o. 0) (checkpoint_at (disk b (λ o. 0))) start in
     record {
       consistent = kept.consistent;
       size = ⊎_elim (λ same. sym (disk_size c (λ o. 0)) ∙ same ∙ disk_size b (λ o. 0) ∙ shows.size) (λ none. absurd none) kept.size;
@@ -111,13 +112,15 @@ module _ {S F : Type 0} (view : S → StorageView) (backing : F → BackingView)
         new_disk = disk_is;
         covers = unwritten_covers size (byte_at (view_in view new.file).contents) disk_is;
         format = format_stored _ _ old.file.header.fields new.file.header.fields old_is new_is extends.format;
+        no_autoclear = λ none. ap (λ (h : HeaderFields). h.autoclear) new_is ∙ extends.autoclear ∙ ap (λ (h : HeaderFields). h.autoclear) (sym old_is) ∙ none;
         reaches = subst ReachesSize (sym new_is) (grows.3 (omega (arith, none)));
       }
   enlarged (Err e) lasts = growing_stops size (view_in view old.file) (view_in view new.file) _ unwritten opened.clean lasts
 
 -- ---- it was opened before that
 module _ {S F : Type 0} (view : S → StorageView) (backing : F → BackingView) (mode : PreallocateMode) (size : ℕ) (start : S) (mid : Qcow2 S F) (unwritten : IsUnwritten 0 (byte_at (view start).contents)) (since : IsKeptSince (view start) (view (storage_of_image mid)))
-    (opened : IsOpened (abstract_of view backing mid [])) (format : SameFormat (header (byte_at (view start).contents)) mid.file.header.fields) where
+    (opened : IsOpened (abstract_of view backing mid [])) (format : SameFormat (header (byte_at (view start).contents)) mid.file.header.fields)
+    (uncleared : (header (byte_at (view start).contents)).autoclear ≡ 0 → (view_in view mid.file).contents ≡ (view start).contents) where
   pub unwritten_mid : IsUnwritten 0 (byte_at (view_in view mid.file).contents)
   unwritten_mid = opens_unwritten 0 (view start) (view_in view mid.file) unwritten since
 
@@ -132,6 +135,7 @@ module _ {S F : Type 0} (view : S → StorageView) (backing : F → BackingView)
         new_disk = done.new_disk;
         covers = done.covers;
         format = done.format ∙ ap (λ h. with_places h (places_of (header (byte_at new.contents)))) (mid_is ∙ format);
+        no_autoclear = λ none. done.no_autoclear (ap (λ (l : List ℕ). (header (byte_at l)).autoclear) (uncleared none) ∙ none);
         reaches = done.reaches;
       }
   opened_first new (Err e) stops = all_stops new stops
@@ -169,8 +173,8 @@ module _ {S : Type 0} (view : S → StorageView) (builder : Qcow2CreateBuilder S
   header_then : SameFormat (header (byte_at (view mid).contents)) (header (byte_at (view last).contents)) → header (byte_at (view last).contents) ≡ with_places (new_fields bits order None None None) (places_of (header (byte_at (view last).contents)))
   header_then format = format ∙ ap (λ h. with_places h (places_of (header (byte_at (view last).contents)))) (three.1.header_is ∙ ap (λ (w : HeaderView). w.fields) is)
 
-  pub created_so : builder.cluster_size ≡ 2 ^ bits → builder.refcount_width ≡ 2 ^ order → (r : Result (Unit {0}) ImageError) → Enlarges builder.preallocate builder.size (view mid) (view last) r → IfOk r (λ done. IsCreated builder (view last))
-  created_so clusters counts (Ok x) done = let h = header_then done.format in record {
+  pub created_so : builder.cluster_size ≡ 2 ^ bits → builder.refcount_width ≡ 2 ^ order → (r : Result (Unit {0}) ImageError) → Enlarges builder.preallocate builder.size (view mid) (view last) r → OnOk r (HasNoLeaks (byte_at (view last).contents)) → IfOk r (λ done. IsCreated builder (view last))
+  created_so clusters counts (Ok x) done exact = let h = header_then done.format in record {
     honest = done.stays.honest;
     new_disk = done.new_disk;
     covers = done.covers;
@@ -178,17 +182,69 @@ module _ {S : Type 0} (view : S → StorageView) (builder : Qcow2CreateBuilder S
     clusters = ap (λ (k : HeaderFields). 2 ^ k.cluster_bits) h ∙ sym clusters;
     counts = ap (λ (k : HeaderFields). 2 ^ k.refcount_order) h ∙ sym counts;
     reaches = done.reaches;
+    no_leaks = exact;
     no_backing_file = ap (λ (k : HeaderFields). k.backing_offset) h;
+    no_autoclear = done.no_autoclear (ap (λ (k : HeaderFields). k.autoclear) (three.1.header_is ∙ ap (λ (w : HeaderView). w.fields) is));
   }
-  created_so clusters counts (Err e) stops = tt
+  created_so clusters counts (Err e) stops exact = tt
 
 -- ---- and is opened then
+new_still : (mode : PreallocateMode) (n : ℕ) (b c : Bytes) → IsNewDisk mode n b → ((backing : Bytes) (m : Checkpoint) → StopOkEverywhere backing m b → StopOkEverywhere backing (checkpoint_with [] [] m) c) → IsNewDisk mode n c
+new_still Mode.None n b c disk_is kept = unwritten_still n b c disk_is kept
+new_still Mode.Zero n b c disk_is kept = zeros_still n b c disk_is kept
+new_still Mode.FormatAllocate n b c disk_is kept = zeros_still n b c disk_is kept
+new_still Mode.FullAllocate n b c disk_is kept = zeros_still n b c disk_is kept
+new_still Mode.WriteData n b c disk_is kept = zeros_still n b c disk_is kept
+
 new_opened : (mode : PreallocateMode) (n : ℕ) (old new : StorageView) → IsNewDisk mode n (byte_at old.contents) → IsKeptSince old new → IsNewDisk mode n (byte_at new.contents)
-new_opened Mode.None n old new disk_is since = opens_unwritten n old new disk_is since
-new_opened Mode.Zero n old new disk_is since = opens_zeros n old new disk_is since
-new_opened Mode.FormatAllocate n old new disk_is since = opens_zeros n old new disk_is since
-new_opened Mode.FullAllocate n old new disk_is since = opens_zeros n old new disk_is since
-new_opened Mode.WriteData n old new disk_is since = opens_zeros n old new disk_is since
+new_opened mode n old new disk_is since = new_still mode n (byte_at old.contents) (byte_at new.contents) disk_is (λ backing m ok. since.contents backing m ok ok)
+
+opening_new_stops : (mode : PreallocateMode) (n : ℕ) (old new : StorageView) → IsNewDisk mode n (byte_at old.contents) → IsKeptSince old new → StopsCreating mode n old new
+opening_new_stops mode n old new disk_is since =
+    passes_if (λ c. IsStopOfCreating mode n (byte_at c)) (λ c kept. inr (inr (new_still mode n (byte_at old.contents) (byte_at c) disk_is (λ backing m ok. kept backing m ok ok)))) since.moments
+
+created_still : {S : Type 0} (builder : Qcow2CreateBuilder S) (old new : StorageView) → IsCreated builder old → new.is_honest → new.contents ≡ old.contents → IsCreated builder new
+created_still builder old new made honest same =
+    let still : (P : Bytes → Type 0) → P (byte_at old.contents) → P (byte_at new.contents) = λ P there. subst (λ (l : List ℕ). P (byte_at l)) (sym same) there in record {
+      honest = honest;
+      new_disk = still (IsNewDisk builder.preallocate builder.size) made.new_disk;
+      covers = still (IsPreallocated builder.preallocate builder.size) made.covers;
+      version = still (λ b. (header b).version ≡ 3) made.version;
+      clusters = still (λ b. cluster_size (header b) ≡ builder.cluster_size) made.clusters;
+      counts = still (λ b. count_width (header b) ≡ builder.refcount_width) made.counts;
+      reaches = still (λ b. ReachesSize (header b)) made.reaches;
+      no_leaks = still HasNoLeaks made.no_leaks;
+      no_backing_file = still (λ b. (header b).backing_offset ≡ 0) made.no_backing_file;
+      no_autoclear = still (λ b. (header b).autoclear ≡ 0) made.no_autoclear;
+    }
+
+-- what was created is left so, and so it is on the way
+module _ {S : Type 0} (view : S → StorageView) (builder : Qcow2CreateBuilder S) (storage last : S) (made : IsCreated builder (view storage)) where
+  whole : IsConsistent (byte_at (view storage).contents)
+  whole = new_disk_consistent builder.preallocate builder.size (byte_at (view storage).contents) made.new_disk
+
+  pub stops_opened : StopsCreating builder.preallocate builder.size (view builder.image) (view storage) → ((view storage).is_honest → IsConsistent (byte_at (view storage).contents) → IsKeptSince (view storage) (view last))
+      → StopsCreating builder.preallocate builder.size (view builder.image) (view last)
+  stops_opened first since =
+      passes_on (λ c. IsStopOfCreating builder.preallocate builder.size (byte_at c)) first (opening_new_stops builder.preallocate builder.size (view storage) (view last) made.new_disk (since made.honest whole)) (λ c is. is)
+
+  pub created_opened : LeavesStorage true (header (byte_at (view storage).contents)).autoclear (view storage) (view last) → IsCreated builder (view last)
+  created_opened left = created_still builder (view storage) (view last) made (left.honest made.honest) (left.uncleared made.no_autoclear made.honest)
+
+  pub no_surplus : {F : Type 0} (backing : F → BackingView) (result : Result (Qcow2 S F) (S × ImageError)) → IfOk result (Opens view backing (view storage)) → IfOk result (λ image. (k : ℕ) → (abstract_of view backing image []).surplus k ≡ 0)
+  no_surplus backing (Ok image) opens = λ k. ap (λ (f : ℕ → ℕ). f k) (opens made.honest whole).surplus ∙ made.no_leaks k
+  no_surplus backing (Err e) opens = tt
+
+pub made_so : {S : Type 0} (view : S → StorageView) (builder : Qcow2CreateBuilder S) (storage : S) (done : Result (Unit {0}) ImageError) (x : Unit {0}) → done ≡ Ok x → IfOk done (λ d. IsCreated builder (view storage)) → IsCreated builder (view storage)
+made_so view builder storage done x is created = subst (λ (r : Result (Unit {0}) ImageError). IfOk r (λ d. IsCreated builder (view storage))) is created
+
+-- what holds of the storage afterwards holds of the image's
+pub of_image : {S F : Type 0} (P : S → Type 0) (result : Result (Qcow2 S F) (S × ImageError)) → P (storage_after result) → IfOk result (λ image. P (storage_of_image image))
+of_image P (Ok image) holds = holds
+of_image P (Err e) holds = tt
+
+pub refused_open : {S F : Type 0} (storage image : S) (refusal : ImageError) (done : Result (Unit {0}) ImageError) → done ≡ Err refusal → (done ≡ Err I.InvalidOption) × (storage ≡ image) → ◌≡◌ {A = Result (Qcow2 S F) (S × ImageError)} (Err (storage, refusal)) (Err (image, I.InvalidOption))
+refused_open storage image refusal done is refused = let told = refused.0 in let same = refused.1 in cc
 
 pub opened_new : {S F : Type 0} (view : S → StorageView) (backing : F → BackingView) (builder : Qcow2CreateBuilder S) (storage : S) (done : Result (Unit {0}) ImageError) (x : Unit {0}) → done ≡ Ok x → IfOk done (λ d. IsCreated builder (view storage))
     → (result : Result (Qcow2 S F) (S × ImageError)) → IfOk result (Opens view backing (view storage)) → ((view storage).is_honest → IsConsistent (byte_at (view storage).contents) → IsKeptSince (view storage) (view (storage_after result)))

@@ -122,6 +122,9 @@ module _ {S F : Type 0} (view : S → StorageView) (backing : F → BackingView)
       format_mid : SameFormat old.file.header.fields mid.file.header.fields
       format_mid = elim (cases_lt 0 size) [ inl lt ↦ (leaves lt).format | inr le ↦ subst (λ (i : Qcow2 S F). SameFormat old.file.header.fields i.file.header.fields) (sym (same_none le)) refl ]
 
+      autoclear_mid : mid.file.header.fields.autoclear ≡ old.file.header.fields.autoclear
+      autoclear_mid = elim (cases_lt 0 size) [ inl lt ↦ (leaves lt).autoclear | inr le ↦ ap (λ (i : Qcow2 S F). i.file.header.fields.autoclear) (same_none le) ]
+
       reaches_mid : ReachesSize mid.file.header.fields
       reaches_mid = elim (cases_lt 0 size) [ inl lt ↦ (leaves lt).reaches | inr le ↦ subst (λ (i : Qcow2 S F). ReachesSize i.file.header.fields) (sym (same_none le)) (omega (arith, no_bytes)) ]
 
@@ -163,6 +166,7 @@ module _ {S F : Type 0} (view : S → StorageView) (backing : F → BackingView)
               stays = record { honest = written.0.sound.file.honest; moments = taken_stops works sound.0 new written.0.since };
               new_disk = zeros_new mode size after hides (taken_zeros works sound.0 new written.0.since is);
               covers = covers_then after clusters_same stay_stored;
+              no_autoclear = λ none. ap (λ (h : HeaderFields). h.autoclear) new_is ∙ written.0.autoclear ∙ autoclear_mid ∙ ap (λ (h : HeaderFields). h.autoclear) (sym header_is) ∙ none;
               format = format_stored (header before) (header after) old.file.header.fields new.file.header.fields header_is new_is format_new;
               reaches = subst ReachesSize (sym new_is) (written.1 reaches_mid);
             }

@@ -18,8 +18,8 @@ use Rattle.qcow2_alloc.proofs.FileSteps.{pending_same}
 use Rattle.qcow2_alloc.proofs.PlacedBlocks.{file_sizes}
 use Rattle.qcow2_image.specs.declared.image.Qcow2.{Qcow2}
 use Rattle.qcow2_image.specs.LongerTables.{RefusedMove, UnseenMove}
-use Rattle.qcow2_image.specs.Growing.{Lasts, Extends, Resizes, GrowsDisk, WritesBack, ReachesSize, GrowsWhole}
-use Rattle.qcow2_image.specs.Image.{size_of, is_failed}
+use Rattle.qcow2_image.specs.Growing.{Lasts, Extends, Resizes, GrowsDisk, KeepsSurplus, WritesBack, ReachesSize, GrowsWhole}
+use Rattle.qcow2_image.specs.Image.{size_of, is_failed, is_writable}
 use Rattle.qcow2_image.proofs.Call.Marked.{MayMarkBy}
 use Rattle.qcow2_alloc.specs.FreeList.{with_listed}
 use Rattle.qcow2_image.proofs.Flush.Freeing.{all_listed, beside}
@@ -37,6 +37,7 @@ module _ {S F : Type 0} (view : S → StorageView) (backing : F → BackingView)
     leads = moves.leads;
     since = moves.since;
     format = moves_format a.file.header.fields b.file.header.fields moves.header;
+    autoclear = ap (λ (h : HeaderFields). h.autoclear) moves.header;
   }
 
   -- where that was refused, what was kept is kept
@@ -49,6 +50,7 @@ module _ {S F : Type 0} (view : S → StorageView) (backing : F → BackingView)
     leads = keeps.leads;
     since = keeps.since;
     format = subst (λ (h : HeaderFields). h ≡ with_places a.file.header.fields (places_of h)) (sym keeps.unseen.header) refl;
+    autoclear = ap (λ (h : HeaderFields). h.autoclear) keeps.unseen.header;
   }
 
   pub extends_then : (p q r : Pending) (a b c : Qcow2 S F) (asked asks : List ℕ) → Extends view backing p q a b asked → Extends view backing q r b c asks → Extends view backing p r a c (asks ++ asked)
@@ -57,6 +59,7 @@ module _ {S F : Type 0} (view : S → StorageView) (backing : F → BackingView)
     leads = leads_then (state_in view a.file p) (state_in view b.file q) (state_in view c.file r) nothing_given nothing_given asked asks first.leads then.leads;
     since = steps_endure (view_in view a.file) (view_in view b.file) (view_in view c.file) (state_in view a.file p) (state_in view b.file q) nothing_given nothing_given asked asks refl first.since first.leads then.since;
     format = then.format ∙ ap (λ h. with_places h (places_of c.file.header.fields)) first.format;
+    autoclear = then.autoclear ∙ first.autoclear;
   }
 
   pub lasts_then : (p q : Pending) (a b c : Qcow2 S F) (asked asks : List ℕ) → Extends view backing p q a b asked → Lasts view b c asks → Lasts view a c (asks ++ asked)
@@ -126,6 +129,21 @@ module _ {S F : Type 0} (view : S → StorageView) (backing : F → BackingView)
         subst (λ (s : Result (Unit {0}) ImageError). GrowsDisk view backing old new size s) (sym answer)
         (subst (λ (i : Qcow2 S F). GrowsDisk view backing old i size done) (sym rest) (grown done (is_failed new) resizes grows reaches marks))
 
+    kept : (r : Result (Unit {0}) ImageError) (failed : Bool) → is_writable big ≡ is_writable old → Resizes view backing p mid big size r → OnOk r (ListGrows mid big) → MayMarkBy r (is_failed big) failed
+        → OnOk r (KeepsSurplus view backing old (record big { is_failed = failed }))
+    kept (Ok x) failed writable resizes grows marks =
+        let q = pending_with_listed p mid big in
+        let pending = pending_is view backing big [] q resizes.0.leads.sound (nothing_else grows) in
+        subst (λ (f : Bool). KeepsSurplus view backing old (record big { is_failed = f })) (sym marks)
+        (record { sound = subst (λ (r : Pending). ImageInvariant view backing r big []) pending resizes.0.sound; writable = writable; surplus = ap (λ (r : Pending). r.surplus) (sym pending) })
+    kept (Err e) failed writable resizes grows marks = tt
+
+    pub surplus_grown : is_writable big ≡ is_writable old → (new : Qcow2 S F) (done r : Result (Unit {0}) ImageError) → r ≡ done → new ≡ record big { is_failed = is_failed new } → MayMarkBy done (is_failed big) (is_failed new) → Resizes view backing p mid big size done
+        → OnOk done (ListGrows mid big) → OnOk r (KeepsSurplus view backing old new)
+    surplus_grown writable new done r answer rest marks resizes grows =
+        subst (λ (s : Result (Unit {0}) ImageError). OnOk s (KeepsSurplus view backing old new)) (sym answer)
+        (subst (λ (i : Qcow2 S F). OnOk done (KeepsSurplus view backing old i)) (sym rest) (kept done (is_failed new) writable resizes grows marks))
+
   -- ---- what is listed is freed, and all tables are written
   extends_tidying : (p q : Pending) (a b : Qcow2 S F) → UnseenFreeingStep view backing p q a b [] → Extends view backing p q a b []
   extends_tidying p q a b tidies = record {
@@ -133,6 +151,7 @@ module _ {S F : Type 0} (view : S → StorageView) (backing : F → BackingView)
     leads = tidies.leads;
     since = tidies.since;
     format = subst (λ (h : HeaderFields). h ≡ with_places a.file.header.fields (places_of h)) (sym tidies.unseen.header) refl;
+    autoclear = ap (λ (h : HeaderFields). h.autoclear) tidies.unseen.header;
   }
 
   pub written_back : (p : Pending) (old big new : Qcow2 S F) (done r : Result (Unit {0}) ImageError) → FreesListed view backing p old big [] done → r ≡ done → new ≡ record big { is_failed = is_failed new } → MayMarkBy done (is_failed big) (is_failed new)

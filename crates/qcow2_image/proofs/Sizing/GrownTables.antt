@@ -100,6 +100,9 @@ format_sized h m h' size moves is =
     let e : h' ≡ with_size (with_tables_of h m) size = is ∙ ap (λ (k : HeaderFields). with_size k size) moves in
     subst (λ (k : HeaderFields). k ≡ with_places h (places_of k)) (sym e) refl
 
+autoclear_sized : (h m h' : HeaderFields) (size : ℕ) → MovesTables h m → h' ≡ with_size m size → h'.autoclear ≡ h.autoclear
+autoclear_sized h m h' size moves is = ap (λ (k : HeaderFields). k.autoclear) is ∙ ap (λ (k : HeaderFields). k.autoclear) moves
+
 module _ {S F : Type 0} (view : S → StorageView) (backing : F → BackingView) (out : List (Option Prepared)) where
   -- what fills the range behind the old end leaves that
   module _ (long filled : Qcow2 S F) (size : ℕ) (sound : ImageInvariant view backing (pending_in view backing long out) long out) (larger : size_of long < size) where
@@ -146,7 +149,7 @@ module _ {S F : Type 0} (view : S → StorageView) (backing : F → BackingView)
   -- the size is written last
   pub tables_sized : (old filled new : Qcow2 S F) (marked : Bool) (size : ℕ) (mode : PreallocateMode) (r : Result (Unit {0}) ImageError) → MovesTables old.file.header.fields filled.file.header.fields → IfErr r IsFaultOfTables → OnOk r (new.file.header ≡ with_fields filled.file.header (with_size filled.file.header.fields size))
       → ReachesSize (with_size filled.file.header.fields size) → ReachesOffset (size - 1) old.file.header.fields filled.file.header.fields → OnOk r (Leaves old new size mode) → GrowsTables view backing old (record new { is_failed = marked }) size mode out r
-  tables_sized old filled new marked size mode (Ok x) moves cause header reached length covers = record { format = format_sized old.file.header.fields filled.file.header.fields new.file.header.fields size moves (ap (λ (v : HeaderView). v.fields) header); reaches = subst (λ (v : HeaderView). ReachesSize v.fields) (sym header) reached; length = ap (λ (v : HeaderView). v.fields.l1_entries) header ∙ length; covers = covers }
+  tables_sized old filled new marked size mode (Ok x) moves cause header reached length covers = record { autoclear = autoclear_sized old.file.header.fields filled.file.header.fields new.file.header.fields size moves (ap (λ (v : HeaderView). v.fields) header); format = format_sized old.file.header.fields filled.file.header.fields new.file.header.fields size moves (ap (λ (v : HeaderView). v.fields) header); reaches = subst (λ (v : HeaderView). ReachesSize v.fields) (sym header) reached; length = ap (λ (v : HeaderView). v.fields.l1_entries) header ∙ length; covers = covers }
   tables_sized old filled new marked size mode (Err e) moves cause header reached length covers = λ is. absurd (elim cause [ inl fault ↦ (let no : I.TablePrepared ≡ I.Storage = sym is ∙ fault in cc) | inr fault ↦ (let no : I.TablePrepared ≡ I.Memory = sym is ∙ fault in cc) ])
 
   -- ---- the entries can't tell zeros

@@ -1,6 +1,6 @@
 -- What a call noted is seen by no guest: what it did, it did also to the image with other notes.
 use Rattle.std.proofs.Common.{◌≡◌, Bool, Option, Some, None, List, ℕ, inl, inr, sym, subst, arith}
-use Rattle.std.specs.Prelude.{IfSome, IsTrue, Result, Ok, Err}
+use Rattle.std.specs.Prelude.{IfSome, Result, Ok, Err}
 use Rattle.image_access.specs.Backing.{BackingView}
 use Rattle.image_access.specs.Moments.{StorageView}
 use Rattle.image_access.specs.declared.storage.PreallocateMode.{PreallocateMode}
@@ -79,7 +79,7 @@ module _ {S F : Type 0} (view : S → StorageView) (backing : F → BackingView)
       grows_noted (Err e) grows = λ out. refuses_noted _ image noted out _ _ _ (grows out)
 
       pub tables_noted : (out : List (Option Prepared)) (r : Result (Unit {0}) ImageError) → GrowsTables view backing old image size mode out r → GrowsTables view backing old (with_marks image noted (is_failed image)) size mode out r
-      tables_noted out (Ok done) tables = record { format = tables.format; reaches = tables.reaches; length = tables.length; covers = tables.covers }
+      tables_noted out (Ok done) tables = record { autoclear = tables.autoclear; format = tables.format; reaches = tables.reaches; length = tables.length; covers = tables.covers }
       tables_noted out (Err e) tables = tables
 
     pub unchanged_noted : (out : List (Option Prepared)) (r : Result (Unit {0}) ImageError) → RefusesUnchanged view backing old image out r → RefusesUnchanged view backing old (with_marks image noted (is_failed image)) out r

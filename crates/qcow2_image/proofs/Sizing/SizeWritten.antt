@@ -306,7 +306,7 @@ module _ {S F : Type 0} (view : S → StorageView) (backing : F → BackingView)
       let honest = calls.honest sound.file.honest in
       let final = sized view backing [] p old sound size fits storage contents honest in
       let extends : Extends view backing p p old (sized view backing [] p old sound size fits storage contents honest) (size ∷ []) =
-      record { sound = resized_sound view backing [] p old sound size fits storage contents honest; leads = leads_now view backing [] p old sound size fits storage contents honest; since = all_since; format = refl } in
+      record { sound = resized_sound view backing [] p old sound size fits storage contents honest; leads = leads_now view backing [] p old sound size fits storage contents honest; since = all_since; format = refl; autoclear = refl } in
       subst (λ (a : Qcow2 S F). Resizes view backing p old a size (Ok x)) (sym is)
       (subst (λ (r : Pending). Extends view backing p r old final (size ∷ [])) (unlisted view backing [] p old final refl) extends, refl)
 

@@ -7,6 +7,8 @@ use Rattle.qcow2_image.proofs.Sizing.ShrinkCalls.{resize_works}
 use Rattle.qcow2_alloc.specs.ImageFile.{view_in}
 use Rattle.qcow2_alloc.proofs.AllocationSteps.{handed_on}
 use Rattle.qcow2_image.specs.Created.{Enlarges, GrowsBy}
+use Rattle.qcow2_image.proofs.Create.Causes.{usable_opened}
+use Rattle.qcow2_image.proofs.Create.Leaks.{no_leaks_flushed}
 use Rattle.qcow2_image.proofs.Create.TakingPlace.{grown_by, refused_by}
 use Rattle.qcow2_image.proofs.builder.grow_and_flush.Goals as goal
 
@@ -43,3 +45,10 @@ returns-in_err-grow_by-clause-faults g c =
 
 pub returns-clause-faults : goal.returns-clause-faults
 returns-clause-faults g c = counted_since g.S.Storage.view g.F.BackingDisk.backing c.args.image.now c.grow_by.new.image c.flush.new.self c.flush.result c.grow_by.ensures.faults.no_fewer c.flush.ensures.faults
+
+pub returns-clause-leaks : goal.returns-clause-leaks
+returns-clause-leaks g c = λ opened writable none.
+    let view = g.S.Storage.view in
+    let below = g.F.BackingDisk.backing in
+    let grew = c.in_ok-grow_by.ensures.surplus (usable_opened view below c.args.image.now opened writable) opened.sound in
+    no_leaks_flushed view below c.args.image.now c.grow_by.new.image c.flush.new.self grew writable none c.flush.result c.flush.ensures.sees c.flush.ensures.emptied

@@ -2,6 +2,7 @@ use Rattle.std.proofs.Common.{[], sym, subst}
 use Rattle.qcow2_image.specs.Created.{GrowsBy}
 use Rattle.qcow2_image.proofs.Create.Causes.{grown_alone, met_preparing}
 use Rattle.qcow2_image.proofs.Sizing.ShrinkCalls.{resize_works}
+use Rattle.qcow2_image.proofs.Create.Leaks.{surplus_taken}
 use Rattle.qcow2_image.proofs.Create.TakingPlace.{takes_by}
 use Rattle.qcow2_image.proofs.builder.grow_by.Goals as goal
 
@@ -23,3 +24,8 @@ returns-in-None-clause-cause g c = λ usable writable alone. met_preparing c.gro
 
 pub returns-in_default-clause-cause : goal.returns-in_default-clause-cause
 returns-in_default-clause-cause g c = λ usable writable alone. grown_alone c.args.image.now c.args.mode c.resize_grow.result alone (c.resize_grow.ensures.late usable)
+
+pub returns-in_default-clause-surplus : goal.returns-in_default-clause-surplus
+returns-in_default-clause-surplus g c = λ usable sound.
+    let does = c.resize_grow.ensures in
+    surplus_taken g.S.Storage.view g.F.BackingDisk.backing c.args.image.now c.resize_grow.new.self c.args.size c.args.mode c.resize_grow.result sound (does.no_larger usable) does.image does.sees

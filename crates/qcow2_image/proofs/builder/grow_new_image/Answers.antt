@@ -1,4 +1,9 @@
-use Rattle.std.proofs.Common.{inl, true}
+use Rattle.std.proofs.Common.{◌≡◌, ◌∙◌, ℕ, ap, inl, subst, sym, true}
+use Rattle.std.specs.Prelude.{OnOk}
+use Rattle.qcow2_metadata.specs.Bytes.{byte_at}
+use Rattle.qcow2_metadata.specs.Header.{header}
+use Rattle.qcow2_alloc.specs.ImageFile.{view_in}
+use Rattle.qcow2_laws.specs.Opened.{HasNoLeaks}
 use Rattle.qcow2_image.proofs.Create.Causes.{opening_met, told_closed, told_opening, usable_opened}
 use Rattle.qcow2_image.proofs.Create.Creating.{opening_stops, enlarged_so, unwritten_mid}
 use Rattle.qcow2_image.proofs.builder.grow_new_image.Goals as goal
@@ -13,8 +18,9 @@ returns-in-Ok-clause-enlarges g c = λ honest unwritten.
     let opened = (c.in-Ok.ensures.opens honest unwritten.consistent).opened in
     let since = c.in-Ok.ensures.since honest unwritten.consistent in
     let format = c.in-Ok.ensures.format honest in
-    let mid = unwritten_mid view below c.args.mode c.args.size c.args.storage c.in-Ok.image unwritten since opened format in
-    enlarged_so view below c.args.mode c.args.size c.args.storage c.in-Ok.image unwritten since opened format c.grow_and_flush-done.new.image c.into_storage.result c.grow_and_flush-done.result
+    let uncleared : (header (byte_at (view c.args.storage).contents)).autoclear ≡ 0 → (view_in view c.in-Ok.image.file).contents ≡ (view c.args.storage).contents = λ none. c.in-Ok.ensures.storage.uncleared none honest in
+    let mid = unwritten_mid view below c.args.mode c.args.size c.args.storage c.in-Ok.image unwritten since opened format uncleared in
+    enlarged_so view below c.args.mode c.args.size c.args.storage c.in-Ok.image unwritten since opened format uncleared c.grow_and_flush-done.new.image c.into_storage.result c.grow_and_flush-done.result
     c.into_storage.ensures (c.grow_and_flush-done.ensures.enlarges opened c.in-Ok.ensures.ok.2 c.in-Ok.ensures.below mid)
 
 pub returns-in-Err-clause-cause : goal.returns-in-Err-clause-cause
@@ -32,3 +38,10 @@ pub returns-in-Ok-clause-faults : goal.returns-in-Ok-clause-faults
 returns-in-Ok-clause-faults g c = λ none.
     told_closed g.S.Storage.view g.F.BackingDisk.backing none (g.S.Storage.view c.args.storage).faults c.in-Ok.image c.grow_and_flush-done.new.image c.into_storage.result c.grow_and_flush-done.result c.in-Ok.ensures.faults.no_fewer
     c.grow_and_flush-done.ensures.faults c.into_storage.ensures
+
+pub returns-in-Ok-clause-leaks : goal.returns-in-Ok-clause-leaks
+returns-in-Ok-clause-leaks g c = λ honest unwritten none.
+    let view = g.S.Storage.view in
+    let opens = c.in-Ok.ensures.opens honest unwritten.consistent in
+    let flushed = c.grow_and_flush-done.ensures.leaks opens.opened c.in-Ok.ensures.ok.2 (λ k. ap (λ (f : ℕ → ℕ). f k) opens.surplus ∙ none k) in
+    subst (λ s. OnOk c.grow_and_flush-done.result (HasNoLeaks (byte_at (view s).contents))) (sym c.into_storage.ensures) flushed

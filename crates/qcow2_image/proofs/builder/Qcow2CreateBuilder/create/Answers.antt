@@ -1,5 +1,6 @@
 use Rattle.std.proofs.Common.{◌≡◌, ◌∙◌, Ok, true, false, sym, subst}
 use Rattle.qcow2_image.proofs.Create.Causes.{no_such_header, reasons_met}
+use Rattle.qcow2_laws.proofs.NewImages.{new_image_exact}
 use Rattle.qcow2_alloc.specs.ImageStorage.{storage_of}
 use Rattle.qcow2_image.specs.Created.{WritesThree}
 use Rattle.qcow2_image.proofs.Create.Creating.{new_header_is, unwritten, creating_stops, created_so}
@@ -32,7 +33,7 @@ returns-clause-created g c = λ honest.
     let there = subst (λ s. WritesThree v.fields (view start) (view s) (Ok c.in_default-write_new_image.field-0)) (sym c.into_inner-2.ensures) three in
     let none = unwritten view builder bits order v c.new-header.ensures.value start mid c.grow_new_image.result.0 c.new-storage.ensures.storage there in
     created_so view builder bits order v c.new-header.ensures.value start mid c.grow_new_image.result.0 c.new-storage.ensures.storage there c.in-Some.ensures.some c.in-Some-power_of_two.ensures.some c.grow_new_image.result.1
-    (c.grow_new_image.ensures.enlarges there.0.honest none)
+    (c.grow_new_image.ensures.enlarges there.0.honest none) (c.grow_new_image.ensures.leaks there.0.honest none (new_image_exact v.fields _ there.1))
 
 pub returns-then-not-fits-clause-cause : goal.returns-then-not-fits-clause-cause
 returns-then-not-fits-clause-cause g c = λ honest.

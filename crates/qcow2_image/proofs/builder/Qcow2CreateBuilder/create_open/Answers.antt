@@ -1,8 +1,11 @@
-use Rattle.std.proofs.Common.{Result, subst}
+use Rattle.std.proofs.Common.{◌≡◌, ◌∙◌, Result, Ok, Err, sym, subst}
 use Rattle.std.specs.Prelude.{IfErr, IfOk}
+use Rattle.qcow2_alloc.specs.declared.error.ImageError.{ImageError}
+use Rattle.qcow2_alloc.specs.declared.error.ImageError.TheVariants as I
 use Rattle.qcow2_image.specs.Created.{IsCreated, IsReasonNotToCreate}
+use Rattle.qcow2_image.specs.Opened.{storage_after}
 use Rattle.qcow2_image.proofs.Create.Causes.{counts_opened, counts_refused, opening_reasons}
-use Rattle.qcow2_image.proofs.Create.Creating.{opened_new}
+use Rattle.qcow2_image.proofs.Create.Creating.{created_opened, made_so, no_surplus, of_image, opened_new, refused_open, stops_opened}
 use Rattle.qcow2_image.proofs.builder.Qcow2CreateBuilder.create_open.Goals as goal
 
 pub returns-clause-new_disk : goal.returns-clause-new_disk
@@ -24,3 +27,32 @@ returns-clause-cause g c = λ honest.
 
 pub returns-clause-faults : goal.returns-clause-faults
 returns-clause-faults g c = counts_opened g.S.Storage.view (g.S.Storage.view c.args.self.image).faults (g.S.Storage.view c.create-storage.result.0).faults c.open_image.result c.create-storage.ensures.faults.no_fewer c.open_image.ensures.faults
+
+pub returns-in-Err-clause-stops : goal.returns-in-Err-clause-stops
+returns-in-Err-clause-stops g c = λ honest. c.create-storage.ensures.stops honest
+
+pub returns-clause-stops : goal.returns-clause-stops
+returns-clause-stops g c = λ honest.
+    let view = g.S.Storage.view in
+    let made = made_so view c.args.self c.create-storage.result.0 c.create-storage.result.1 c.in_default.field-0 c.in_default.is (c.create-storage.ensures.created honest) in
+    stops_opened view c.args.self c.create-storage.result.0 (storage_after c.open_image.result) made (c.create-storage.ensures.stops honest) c.open_image.ensures.since
+
+pub returns-clause-created : goal.returns-clause-created
+returns-clause-created g c = λ honest.
+    let view = g.S.Storage.view in
+    let made = made_so view c.args.self c.create-storage.result.0 c.create-storage.result.1 c.in_default.field-0 c.in_default.is (c.create-storage.ensures.created honest) in
+    of_image (λ s. IsCreated c.args.self (view s)) c.open_image.result (created_opened view c.args.self c.create-storage.result.0 (storage_after c.open_image.result) made c.open_image.ensures.storage)
+
+pub returns-clause-surplus : goal.returns-clause-surplus
+returns-clause-surplus g c = λ honest.
+    let view = g.S.Storage.view in
+    let made = made_so view c.args.self c.create-storage.result.0 c.create-storage.result.1 c.in_default.field-0 c.in_default.is (c.create-storage.ensures.created honest) in
+    no_surplus view c.args.self c.create-storage.result.0 c.create-storage.result.0 made g.F.BackingDisk.backing c.open_image.result c.open_image.ensures.opens
+
+pub returns-in-Err-clause-refused : goal.returns-in-Err-clause-refused
+returns-in-Err-clause-refused g c = λ none. refused_open c.create-storage.result.0 c.args.self.image c.in-Err.refusal c.create-storage.result.1 c.in-Err.is (c.create-storage.ensures.refused none)
+
+pub returns-clause-refused : goal.returns-clause-refused
+returns-clause-refused g c = λ none.
+    let told = (c.create-storage.ensures.refused none).0 in
+    absurd (let bad : ◌≡◌ {A = Result _ ImageError} (Ok c.in_default.field-0) (Err I.InvalidOption) = sym c.in_default.is ∙ told in cc)

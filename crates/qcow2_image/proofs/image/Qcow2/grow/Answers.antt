@@ -5,7 +5,7 @@ use Rattle.qcow2_image.specs.Refusals.{IsMet, MarksFailed}
 use Rattle.qcow2_image.proofs.Call.FaultCounts.{counted_marked}
 use Rattle.qcow2_image.specs.ImageInvariant.{pending_in}
 use Rattle.qcow2_image.proofs.Call.Marked.{may_mark, marks_since}
-use Rattle.qcow2_image.proofs.Grow.Grown.{grown_so}
+use Rattle.qcow2_image.proofs.Grow.Grown.{grown_so, surplus_grown}
 use Rattle.qcow2_image.proofs.image.Qcow2.grow.Goals as goal
 
 pub returns-clause-grows : goal.returns-clause-grows
@@ -29,3 +29,12 @@ returns-clause-marks g c =
 
 pub returns-clause-cause : goal.returns-clause-cause
 returns-clause-cause g c = λ works writable. subst (λ (r : Result _ _). IfErr r IsMet) (sym c.mark_failure.ensures.answer) (c.grow_to-done.ensures.cause (c.begin.ensures.stays.image.writable ∙ writable))
+
+pub returns-clause-surplus : goal.returns-clause-surplus
+returns-clause-surplus g c = λ sound.
+    let old = c.args.self.now in
+    let begun = c.begin.ensures.keeps (pending_in g.S.Storage.view g.F.BackingDisk.backing old []) [] sound in
+    let larger : size_of old < c.args.size = omega (arith, c.if-size.false, c.size.ensures) in
+    surplus_grown g.S.Storage.view g.F.BackingDisk.backing old c.begin.new.self c.grow_to-done.new.self sound begun c.begin.ensures.list c.args.size larger (c.grow_to-done.ensures.writable ∙ c.begin.ensures.stays.image.writable) c.mark_failure.new.self c.grow_to-done.result
+    c.mark_failure.result c.mark_failure.ensures.answer c.mark_failure.ensures.rest (may_mark c.grow_to-done.new.self c.mark_failure.new.self c.grow_to-done.result c.mark_failure.ensures.marks)
+    (c.grow_to-done.ensures.resizes (pending_in g.S.Storage.view g.F.BackingDisk.backing old []) begun.sound) c.grow_to-done.ensures.list

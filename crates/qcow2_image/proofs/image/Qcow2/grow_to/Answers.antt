@@ -3,7 +3,7 @@ use Rattle.qcow2_image.specs.declared.image.Qcow2.{Qcow2}
 use Rattle.qcow2_image.specs.Growing.{Resizes}
 use Rattle.qcow2_image.specs.UnseenSteps.{pending_with_listed}
 use Rattle.std.proofs.Common.{arith, [], refl, ap, ◌∙◌, ◌-◌, ◌/◌, ◌^◌}
-use Rattle.qcow2_image.specs.Image.{is_failed}
+use Rattle.qcow2_image.specs.Image.{is_failed, is_writable}
 use Rattle.qcow2_image.proofs.Call.FaultCounts.{counted_on, counted_since, untouched}
 use Rattle.qcow2_image.proofs.Create.Causes.{faults_met}
 use Rattle.qcow2_image.proofs.Grow.Grown.{extends_moving, lasts_more, lasts_refused, resized_then, resized_reaches}
@@ -45,3 +45,6 @@ returns-clause-cause g c = λ writable. faults_met c.write_size.result c.write_s
 
 pub returns-clause-failed : goal.returns-clause-failed
 returns-clause-failed g c = ap is_failed c.write_size.ensures.rest ∙ c.grow_l1_table.ensures.stays.failed
+
+pub returns-clause-writable : goal.returns-clause-writable
+returns-clause-writable g c = ap is_writable c.write_size.ensures.rest ∙ c.grow_l1_table.ensures.stays.image.writable

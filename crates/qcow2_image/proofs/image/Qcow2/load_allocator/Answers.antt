@@ -1,11 +1,14 @@
-use Rattle.std.proofs.Common.{Result, sym, ap, subst, arith}
+use Rattle.std.proofs.Common.{◌∙◌, Result, true, sym, ap, subst, arith}
 use Rattle.std.specs.Prelude.{MatchResult}
 use Rattle.qcow2_alloc.specs.declared.error.ImageError.{ImageError}
 use Rattle.qcow2_alloc.specs.ImageError.{of_storage}
+use Rattle.qcow2_alloc.specs.ImageStorage.{storage_of}
 use Rattle.qcow2_alloc.specs.ImageFile.{contents_in}
 use Rattle.qcow2_alloc.specs.LoadedTables.{IsReasonAgainstReftable, ReftableReads}
 use Rattle.qcow2_alloc.proofs.AllocationSteps.{handed_on}
 use Rattle.qcow2_image.proofs.Open.Reading.{against_storage}
+use Rattle.qcow2_alloc.specs.declared.image_file.ImageFile.{ImageFile}
+use Rattle.qcow2_image.proofs.Open.Left.{left_cleared, left_read, left_then}
 use Rattle.qcow2_image.proofs.Open.Opening.{new_tables_read, new_tables_then, kept_read, stays_then, told_new_tables, kept_then}
 use Rattle.qcow2_image.proofs.Open.Clearing.{stays_after, kept_after}
 use Rattle.qcow2_image.proofs.image.Qcow2.load_allocator.Goals as goal
@@ -64,3 +67,28 @@ pub returns-in_err-allocator-clause-since : goal.returns-in_err-allocator-clause
 returns-in_err-allocator-clause-since g c = λ p new_tables.
     let view = g.S.Storage.view in
     kept_read (view c.args.file.now.storage.storage) (view c.new.new.file.storage.storage) c.new.ensures.time (c.new.ensures.same new_tables.sound.honest)
+
+pub returns-in_err-allocator-clause-storage : goal.returns-in_err-allocator-clause-storage
+returns-in_err-allocator-clause-storage g c = left_read true _ _ _ c.new.ensures.honest c.new.ensures.same
+
+pub returns-in_err-clear_autoclear-clause-storage : goal.returns-in_err-clear_autoclear-clause-storage
+returns-in_err-clear_autoclear-clause-storage g c =
+    let view = g.S.Storage.view in
+    let old = c.args.file.now in
+    let file = c.new.new.file in
+    let cleared = c.clear_autoclear.ensures in
+    let none = old.header.fields.autoclear in
+    left_then true none (view old.storage.storage) (view file.storage.storage) (view c.clear_autoclear.new.storage.storage) (left_read true none (view old.storage.storage) (view file.storage.storage) c.new.ensures.honest c.new.ensures.same)
+    (left_cleared view none file.storage.storage c.will_write.new.self.storage c.clear_autoclear.new.storage.storage c.clear_autoclear.result c.will_write.ensures.storage cleared.calls
+    (λ is. ap storage_of (cleared.untouched (ap (λ (f : ImageFile _). f.header.fields.autoclear) c.new.ensures.rest ∙ is)).1))
+
+pub returns-clause-storage : goal.returns-clause-storage
+returns-clause-storage g c =
+    let view = g.S.Storage.view in
+    let old = c.args.file.now in
+    let file = c.new.new.file in
+    let cleared = c.clear_autoclear.ensures in
+    let none = old.header.fields.autoclear in
+    left_then true none (view old.storage.storage) (view file.storage.storage) (view c.clear_autoclear.new.storage.storage) (left_read true none (view old.storage.storage) (view file.storage.storage) c.new.ensures.honest c.new.ensures.same)
+    (left_cleared view none file.storage.storage c.will_write.new.self.storage c.clear_autoclear.new.storage.storage c.clear_autoclear.result c.will_write.ensures.storage cleared.calls
+    (λ is. ap storage_of (cleared.untouched (ap (λ (f : ImageFile _). f.header.fields.autoclear) c.new.ensures.rest ∙ is)).1))

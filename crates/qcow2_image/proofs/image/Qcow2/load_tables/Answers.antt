@@ -1,10 +1,12 @@
-use Rattle.std.proofs.Common.{◌≡◌, ◌∙◌, Result, true, false, inl, inr, sym}
+use Rattle.std.proofs.Common.{◌≡◌, ◌∙◌, Result, true, false, inl, inr, sym, ap}
 use Rattle.std.specs.Prelude.{MatchResult}
 use Rattle.qcow2_alloc.specs.declared.error.ImageError.{ImageError}
 use Rattle.qcow2_alloc.specs.ImageFile.{contents_in}
 use Rattle.qcow2_alloc.specs.LoadedTables.{IsReasonAgainstReftable, ReftableReads}
 use Rattle.qcow2_alloc.proofs.AllocationSteps.{handed_on}
 use Rattle.qcow2_image.specs.Readable.{IsReasonAgainstTables, NeededTablesRead}
+use Rattle.qcow2_alloc.specs.declared.image_file.ImageFile.{ImageFile}
+use Rattle.qcow2_image.proofs.Open.Left.{left_as, left_read, left_then}
 use Rattle.qcow2_image.proofs.Open.Reading.{so_before}
 use Rattle.qcow2_image.proofs.Open.Opening.{new_tables_then, kept_read, kept_then}
 use Rattle.qcow2_image.proofs.image.Qcow2.load_tables.Goals as goal
@@ -79,3 +81,29 @@ returns-in_err-l1_table-clause-since g c = λ p new_tables.
     let view = g.S.Storage.view in
     let l1 = c.load_l1_table.ensures in
     kept_read (view c.args.file.now.storage.storage) (view c.load_l1_table.new.file.storage.storage) l1.time (l1.same new_tables.sound.honest)
+
+pub returns-in_err-l1_table-clause-storage : goal.returns-in_err-l1_table-clause-storage
+returns-in_err-l1_table-clause-storage g c = left_read c.args.writable _ _ _ c.load_l1_table.ensures.honest c.load_l1_table.ensures.same
+
+pub returns-then-not-writable-clause-storage : goal.returns-then-not-writable-clause-storage
+returns-then-not-writable-clause-storage g c = left_read c.args.writable _ _ _ c.load_l1_table.ensures.honest c.load_l1_table.ensures.same
+
+pub returns-in_err-allocator-clause-storage : goal.returns-in_err-allocator-clause-storage
+returns-in_err-allocator-clause-storage g c =
+    let view = g.S.Storage.view in
+    let old = c.args.file.now in
+    let mid = c.load_l1_table.new.file in
+    let l1 = c.load_l1_table.ensures in
+    let none = old.header.fields.autoclear in
+    left_then c.args.writable none (view old.storage.storage) (view mid.storage.storage) (view c.load_allocator.new.file.storage.storage) (left_read c.args.writable none (view old.storage.storage) (view mid.storage.storage) l1.honest l1.same)
+    (left_as c.args.writable none mid.header.fields.autoclear (view mid.storage.storage) (view c.load_allocator.new.file.storage.storage) c.if-not-writable.false (ap (λ (f : ImageFile _). f.header.fields.autoclear) l1.rest) c.load_allocator.ensures.storage)
+
+pub returns-clause-storage : goal.returns-clause-storage
+returns-clause-storage g c =
+    let view = g.S.Storage.view in
+    let old = c.args.file.now in
+    let mid = c.load_l1_table.new.file in
+    let l1 = c.load_l1_table.ensures in
+    let none = old.header.fields.autoclear in
+    left_then c.args.writable none (view old.storage.storage) (view mid.storage.storage) (view c.load_allocator.new.file.storage.storage) (left_read c.args.writable none (view old.storage.storage) (view mid.storage.storage) l1.honest l1.same)
+    (left_as c.args.writable none mid.header.fields.autoclear (view mid.storage.storage) (view c.load_allocator.new.file.storage.storage) c.if-not-writable.false (ap (λ (f : ImageFile _). f.header.fields.autoclear) l1.rest) c.load_allocator.ensures.storage)

@@ -5,6 +5,7 @@ use Rattle.qcow2_laws.specs.Opened.{nothing_pending, surplus_of}
 use Rattle.qcow2_alloc.specs.declared.image_file.ImageFile.{ImageFile}
 use Rattle.qcow2_image.specs.declared.image.Qcow2.{Qcow2}
 use Rattle.qcow2_image.specs.Opened.{Opens, IsKeptSince, HasNamesIn}
+use Rattle.qcow2_image.proofs.Open.Left.{left_loaded, left_opened}
 use Rattle.qcow2_image.proofs.Open.Opening.{new_tables_new, opened, kept_loaded, kept_opened, named_still}
 use Rattle.qcow2_metadata.specs.HeaderLoad.{IsHeaderIn, IsReasonToRefuse}
 use Rattle.qcow2_metadata.specs.Header.{HeaderReads, header}
@@ -144,3 +145,22 @@ returns-in-Err-load_tables-clause-cause g c = (
   refused_rightly g.S.Storage.view c.args.metadata c.new-storage.result.storage c.load.new.storage.storage c.new-storage.ensures.storage c.args.writable c.args.alone c.load.result c.load.ensures.reads c.in-Ok.header c.in-Ok.ensures.ok c.in-Ok.ensures.aligned
       c.in-Err-load_tables.e (sym c.lacks_another.ensures ∙ c.if-lacks_another.false) c.in-Err-load_tables.ensures.why,
 )
+
+pub returns-in-Err-clause-storage : goal.returns-in-Err-clause-storage
+returns-in-Err-clause-storage g c = left_loaded g.S.Storage.view c.args.writable c.args.metadata c.new-storage.result.storage c.load.new.storage.storage c.new-storage.ensures.storage c.load.result c.load.ensures.reads c.into_inner.result c.into_inner.ensures
+
+pub returns-then-lacks_another-clause-storage : goal.returns-then-lacks_another-clause-storage
+returns-then-lacks_another-clause-storage g c = left_loaded g.S.Storage.view c.args.writable c.args.metadata c.new-storage.result.storage c.load.new.storage.storage c.new-storage.ensures.storage c.load.result c.load.ensures.reads c.into_inner-then-lacks_another.result c.into_inner-then-lacks_another.ensures
+
+pub returns-in-Err-new-clause-storage : goal.returns-in-Err-new-clause-storage
+returns-in-Err-new-clause-storage g c = left_loaded g.S.Storage.view c.args.writable c.args.metadata c.new-storage.result.storage c.load.new.storage.storage c.new-storage.ensures.storage c.load.result c.load.ensures.reads c.into_inner-in-Err-new.result c.into_inner-in-Err-new.ensures
+
+pub returns-in-Ok-load_tables-clause-storage : goal.returns-in-Ok-load_tables-clause-storage
+returns-in-Ok-load_tables-clause-storage g c =
+    left_opened g.S.Storage.view c.args.writable c.args.metadata c.new-storage.result.storage c.load.new.storage.storage c.new-storage.ensures.storage c.load.result c.load.ensures.reads c.in-Ok.header c.in-Ok.ensures.ok c.load_tables.new.file.storage.storage c.load_tables.new.file.storage.storage refl
+    c.load_tables.ensures.storage
+
+pub returns-in-Err-load_tables-clause-storage : goal.returns-in-Err-load_tables-clause-storage
+returns-in-Err-load_tables-clause-storage g c =
+    left_opened g.S.Storage.view c.args.writable c.args.metadata c.new-storage.result.storage c.load.new.storage.storage c.new-storage.ensures.storage c.load.result c.load.ensures.reads c.in-Ok.header c.in-Ok.ensures.ok c.load_tables.new.file.storage.storage c.into_storage.result c.into_storage.ensures
+    c.load_tables.ensures.storage

@@ -1,0 +1,52 @@
+-- A new image has no leaks: growing and flushing leave each surplus, and at the end nothing is pending.
+use Rattle.std.proofs.Common.{◌≡◌, inl, inr, ℕ, ◌+◌, ◌-◌, ◌<◌, ◌≤◌, List, [], Result, Ok, Err, ap, ◌∙◌, subst, arith}
+use Rattle.std.specs.Prelude.{IsTrue, OnOk}
+use Rattle.std.proofs.lemmas.Bool.{cases_lt}
+use Rattle.image_access.specs.Backing.{BackingView}
+use Rattle.image_access.specs.Moments.{StorageView}
+use Rattle.image_access.specs.declared.storage.PreallocateMode.{PreallocateMode}
+use Rattle.qcow2_metadata.specs.Bytes.{Bytes, byte_at}
+use Rattle.qcow2_metadata.specs.Entries.{count}
+use Rattle.qcow2_metadata.specs.Named.{named}
+use Rattle.qcow2_laws.specs.Opened.{HasNoLeaks, surplus_of}
+use Rattle.qcow2_alloc.specs.declared.clusters_to_free.ClustersToFreeEntry.{ClustersToFreeEntry}
+use Rattle.qcow2_alloc.specs.declared.error.ImageError.{ImageError}
+use Rattle.qcow2_alloc.specs.ImageFile.{known_in, view_in}
+use Rattle.qcow2_image.specs.Calls.{FlushesImage}
+use Rattle.qcow2_image.specs.declared.image.Qcow2.{Qcow2}
+use Rattle.qcow2_image.specs.Growing.{KeepsSurplus}
+use Rattle.qcow2_image.specs.Image.{HasNothingToFree, is_writable, size_of}
+use Rattle.qcow2_image.specs.ImageInvariant.{abstract_of, new_data_by, of_data, of_tables, over_all, surplus_in, to_free}
+use Rattle.qcow2_image.specs.Resizing.{GrowsTo, IsResized, size_after}
+
+module _ {S F : Type 0} (view : S → StorageView) (backing : F → BackingView) where
+  -- place is taken
+  pub surplus_taken : (old new : Qcow2 S F) (size : ℕ) (mode : PreallocateMode) (r : Result (Unit {0}) ImageError) → (abstract_of view backing old []).is_sound → (size ≤ size_of old → (r ≡ Ok tt) × (new ≡ old))
+      → (size_of old < size → IsResized (size_after r (size_of old) size) old new) → GrowsTo view backing old new size mode r → OnOk r (KeepsSurplus view backing old new)
+  surplus_taken old new size mode (Ok x) sound no_larger image sees =
+      let now = ((sees []).answer sound).0 in
+      record {
+        sound = now;
+        writable = elim (cases_lt (size_of old) size) [ inl lt ↦ (image lt).writable | inr le ↦ ap (λ (i : Qcow2 S F). is_writable i) (no_larger le).1 ];
+        surplus = ((sees []).acts.works sound).surplus now;
+      }
+  surplus_taken old new size mode (Err e) sound no_larger image sees = tt
+
+  -- what is counted more than named is the surplus, where nothing is prepared or to be freed
+  stored : (image : Qcow2 S F) (b : Bytes) (k : ℕ) → surplus_in view backing image [] k ≡ 0 → known_in view image.file ≡ b → HasNothingToFree image → surplus_of image.file.header.fields b k ≡ 0
+  stored image b k none clean empty =
+      let h = image.file.header.fields in
+      let at = subst (λ (b : Bytes). count h b k - (named h b k + over_all new_data_by [] k + to_free of_tables image.file.free_list k + to_free of_data image.file.free_list k) ≡ 0) clean none in
+      let bare : count h b k - (named h b k + 0 + 0 + 0) ≡ 0 = subst (λ (l : List ClustersToFreeEntry). count h b k - (named h b k + 0 + to_free of_tables l k + to_free of_data l k) ≡ 0) empty at in
+      omega (arith, bare)
+
+  -- it is flushed
+  pub no_leaks_flushed : (old mid new : Qcow2 S F) → KeepsSurplus view backing old mid → IsTrue (is_writable old) → ((k : ℕ) → (abstract_of view backing old []).surplus k ≡ 0) → (r : Result (Unit {0}) ImageError) → FlushesImage view backing mid new r
+      → (IsTrue (is_writable mid) → OnOk r (HasNothingToFree new)) → OnOk r (HasNoLeaks (byte_at (view_in view new.file).contents))
+  no_leaks_flushed old mid new grew writable none (Ok x) flushes emptied = λ k.
+      let done = flushes [] in
+      let answer = done.answer grew.sound in
+      let same = (done.acts.works grew.sound).surplus answer.0 in
+      ap (λ h. surplus_of h (byte_at (view_in view new.file).contents) k) answer.0.file.caches.kept.kept.guarded.top.header_is
+      ∙ stored new (byte_at (view_in view new.file).contents) k (ap (λ (f : ℕ → ℕ). f k) (same ∙ grew.surplus) ∙ none k) answer.1.0 (emptied (grew.writable ∙ writable))
+  no_leaks_flushed old mid new grew writable none (Err e) flushes emptied = tt
