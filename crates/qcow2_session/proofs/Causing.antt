@@ -8,6 +8,7 @@ use Rattle.std.proofs.lemmas.Grind.{common_steps}
 use Rattle.image_access.specs.Backing.{BackingView}
 use Rattle.image_access.specs.Moments.{StorageView}
 use Rattle.qcow2_disk.specs.Calls.{Clearing}
+use Rattle.qcow2_disk.specs.Runs.{Found}
 use Rattle.qcow2_alloc.specs.declared.error.ImageError.{ImageError}
 use Rattle.qcow2_alloc.specs.declared.error.ImageError.TheVariants as I
 use Rattle.qcow2_image.specs.Clearing.{IsUnderMapping, from_in, to_in}
@@ -55,12 +56,9 @@ not_failed false none = refl
 
 -- ---- what a reply is made of
 
-module _ {S F : Type 0} (view : S → StorageView) (backing : F → BackingView) (old new : Qcow2 S F) (before : List (Option Prepared)) (command : Command) where
-  abbrev IsSound : Type 0
-  IsSound = (abstract_of view backing old before).is_sound
-
+module _ {S F : Type 0} (view : S → StorageView) (backing : F → BackingView) (old new : Qcow2 S F) (before : List (Option Prepared)) {found : ℕ → Option Found} (command : Command) where
   -- nothing was called
-  pub is_misused : TellsMisuse before command R.Misuse → new ≡ old → HeedsPrepared view backing old new before command R.Misuse → IsRightlyRefused view backing old new before command R.Misuse
+  pub is_misused : TellsMisuse before found command R.Misuse → new ≡ old → HeedsPrepared view backing old new before command R.Misuse → IsRightlyRefused view backing old new before found command R.Misuse
   is_misused misuse same heeds = record {
     misuse = misuse;
     still = λ _. same;
@@ -71,30 +69,30 @@ module _ {S F : Type 0} (view : S → StorageView) (backing : F → BackingView)
   }
 
   -- it was answered, so nothing refused it at once
-  pub is_done : (reply : Reply) → (reply ≡ R.Misuse → ⊥) → TellsMisuse before command reply → refusal_in reply ≡ None → IfSome (first_cause old command) (λ e. ⊥)
-      → (first_cause old command ≡ None → IsSound → HeedsPrepared view backing old new before command reply) → IsRightlyRefused view backing old new before command reply
+  pub is_done : (reply : Reply) → (reply ≡ R.Misuse → ⊥) → TellsMisuse before found command reply → refusal_in reply ≡ None → IfSome (first_cause old command) (λ e. ⊥)
+      → (first_cause old command ≡ None → (abstract_of view backing old before).is_sound → HeedsPrepared view backing old new before command reply) → IsRightlyRefused view backing old new before found command reply
   is_done reply never misuse done early heeds = record {
     misuse = misuse;
     still = λ is. absurd (never is);
     early = if_some_to (first_cause old command) (λ e no. absurd no) early;
-    late = λ _. subst (λ o. IfSome o (MayMeet command reply)) (sym done) tt;
+    late = λ _. subst (λ o. IfSome o (MayMeet command)) (sym done) tt;
     idle = λ _ _. done;
     heeds = heeds;
   }
 
-  pub is_answered : {A : Type 0} (Same : Type 0) (a : A) (reply : Reply) → (reply ≡ R.Misuse → ⊥) → TellsMisuse before command reply → refusal_in reply ≡ None → IfSome (first_cause old command) (λ e. (◌≡◌ {A = Result A ImageError} (Ok a) (Err e)) × Same)
-      → (first_cause old command ≡ None → IsSound → HeedsPrepared view backing old new before command reply) → IsRightlyRefused view backing old new before command reply
+  pub is_answered : {A : Type 0} (Same : Type 0) (a : A) (reply : Reply) → (reply ≡ R.Misuse → ⊥) → TellsMisuse before found command reply → refusal_in reply ≡ None → IfSome (first_cause old command) (λ e. (◌≡◌ {A = Result A ImageError} (Ok a) (Err e)) × Same)
+      → (first_cause old command ≡ None → (abstract_of view backing old before).is_sound → HeedsPrepared view backing old new before command reply) → IsRightlyRefused view backing old new before found command reply
   is_answered Same a reply never misuse done early heeds = is_done reply never misuse done (if_some_to (first_cause old command) (λ e no. let is = no.0 in cc) early) heeds
 
   -- it was refused
-  pub is_refused : (e : ImageError) (reply : Reply) → (reply ≡ R.Misuse → ⊥) → TellsMisuse before command reply → refusal_in reply ≡ Some e → IfSome (first_cause old command) (λ x. (e ≡ x) × (new ≡ old))
-      → (first_cause old command ≡ None → MayMeet command reply e) → (first_cause old command ≡ None → HasNothingToDo view backing old new before command → ⊥)
-      → (first_cause old command ≡ None → IsSound → HeedsPrepared view backing old new before command reply) → IsRightlyRefused view backing old new before command reply
+  pub is_refused : (e : ImageError) (reply : Reply) → (reply ≡ R.Misuse → ⊥) → TellsMisuse before found command reply → refusal_in reply ≡ Some e → IfSome (first_cause old command) (λ x. (e ≡ x) × (new ≡ old))
+      → (first_cause old command ≡ None → MayMeet command e) → (first_cause old command ≡ None → HasNothingToDo view backing old new before command → ⊥)
+      → (first_cause old command ≡ None → (abstract_of view backing old before).is_sound → HeedsPrepared view backing old new before command reply) → IsRightlyRefused view backing old new before found command reply
   is_refused e reply never misuse is early late idle heeds = record {
     misuse = misuse;
     still = λ is. absurd (never is);
     early = if_some_to (first_cause old command) (λ x h. (inl (is ∙ ap Some h.0), h.1)) early;
-    late = λ none. subst (λ o. IfSome o (MayMeet command reply)) (sym is) (late none);
+    late = λ none. subst (λ o. IfSome o (MayMeet command)) (sym is) (late none);
     idle = λ none nothing. absurd (idle none nothing);
     heeds = heeds;
   }
@@ -112,26 +110,26 @@ fits_below size offset n fits some = elim (cases_lt offset size) [
 
 -- ---- reads and writes
 
-module _ {S F : Type 0} (view : S → StorageView) (backing : F → BackingView) (old new : Qcow2 S F) (before : List (Option Prepared)) where
-  pub read_answered : (Same : Type 0) (offset n : ℕ) (bytes : Vec ℕ Global) → IfSome (refuses_to_read old offset n) (λ x. (◌≡◌ {A = Result (Vec ℕ Global) ImageError} (Ok bytes) (Err x)) × Same) → IsRightlyRefused view backing old new before (C.Read offset n) (R.Bytes bytes)
+module _ {S F : Type 0} (view : S → StorageView) (backing : F → BackingView) (old new : Qcow2 S F) (before : List (Option Prepared)) {found : ℕ → Option Found} where
+  pub read_answered : (Same : Type 0) (offset n : ℕ) (bytes : Vec ℕ Global) → IfSome (refuses_to_read old offset n) (λ x. (◌≡◌ {A = Result (Vec ℕ Global) ImageError} (Ok bytes) (Err x)) × Same) → IsRightlyRefused view backing old new before found (C.Read offset n) (R.Bytes bytes)
   read_answered Same offset n bytes early = is_answered view backing old new before (C.Read offset n) Same bytes (R.Bytes bytes) (λ is. absurd cc) (λ is. absurd cc, λ is. absurd is) refl early (λ _ _. tt)
 
-  pub read_refused : (offset n : ℕ) (e : ImageError) → IfSome (refuses_to_read old offset n) (λ x. (◌≡◌ {A = Result (Vec ℕ Global) ImageError} (Err e) (Err x)) × (new ≡ old)) → (refuses_to_read old offset n ≡ None → IsMet e)
-      → IsRightlyRefused view backing old new before (C.Read offset n) (R.Refused e)
-  read_refused offset n e early late = is_refused view backing old new before (C.Read offset n) e (R.Refused e) (λ is. absurd cc) (λ is. absurd cc, λ is. absurd is) refl (begun_with (Vec ℕ Global) (new ≡ old) e (refuses_to_read old offset n) early) late (λ _ is. is) (λ _ _. tt)
+  pub read_refused : (offset n : ℕ) (e : ImageError) → IfSome (refuses_to_read old offset n) (λ x. (◌≡◌ {A = Result (Vec ℕ Global) ImageError} (Err e) (Err x)) × (new ≡ old)) → (refuses_to_read old offset n ≡ None → IsMet e × (0 < n))
+      → IsRightlyRefused view backing old new before found (C.Read offset n) (R.Refused e)
+  read_refused offset n e early late = is_refused view backing old new before (C.Read offset n) e (R.Refused e) (λ is. absurd cc) (λ is. absurd cc, λ is. absurd is) refl (begun_with (Vec ℕ Global) (new ≡ old) e (refuses_to_read old offset n) early) (λ none. (late none).0) (λ none empty. let some = (late none).1 in omega (arith, some, empty)) (λ _ _. tt)
 
-  pub write_answered : (Same : Type 0) (offset : ℕ) (bytes : Vec ℕ Global) → IfSome (refuses_to_prepare old offset (length bytes.items)) (λ x. (◌≡◌ {A = Result (Unit {0}) (ImageError × ℕ)} (Ok tt) (Err (x, 0))) × Same) → IsRightlyRefused view backing old new before (C.Write offset bytes) R.Done
+  pub write_answered : (Same : Type 0) (offset : ℕ) (bytes : Vec ℕ Global) → IfSome (refuses_to_prepare old offset (length bytes.items)) (λ x. (◌≡◌ {A = Result (Unit {0}) (ImageError × ℕ)} (Ok tt) (Err (x, 0))) × Same) → IsRightlyRefused view backing old new before found (C.Write offset bytes) R.Done
   write_answered Same offset bytes early = is_done view backing old new before (C.Write offset bytes) R.Done (λ is. absurd cc) (λ is. absurd cc, λ is. absurd is) refl
       (if_some_to (refuses_to_prepare old offset (length bytes.items)) (λ e no. let is = no.0 in cc) early) (λ _ _ is. absurd cc)
 
   pub write_refused_for : (offset : ℕ) (bytes : Vec ℕ Global) (e : ImageError) (n : ℕ) → IfSome (refuses_to_prepare old offset (length bytes.items)) (λ x. (◌≡◌ {A = Result (Unit {0}) (ImageError × ℕ)} (Err (e, n)) (Err (x, 0))) × (new ≡ old))
-      → (refuses_to_prepare old offset (length bytes.items) ≡ None → IsMetPreparing e ⊎ ((e ≡ I.Failed) × (0 < n)))
+      → (refuses_to_prepare old offset (length bytes.items) ≡ None → IsMetPreparing e × (0 < length bytes.items))
       → (refuses_to_prepare old offset (length bytes.items) ≡ None → (abstract_of view backing old before).is_sound → e ≡ I.TablePrepared → IsUnderMappingIn old.file.header.fields offset (offset + length bytes.items) before)
-      → IsRightlyRefused view backing old new before (C.Write offset bytes) (R.WriteRefused e n)
+      → IsRightlyRefused view backing old new before found (C.Write offset bytes) (R.WriteRefused e n)
   write_refused_for offset bytes e n early late taken = is_refused view backing old new before (C.Write offset bytes) e (R.WriteRefused e n) (λ is. absurd cc) (λ is. absurd cc, λ is. absurd is) refl
-      (if_some_to (refuses_to_prepare old offset (length bytes.items)) (λ x h. (let is = h.0 in let pair : (e, n) ≡ (x, 0) = same_error is in ap (λ (p : ImageError × ℕ). p.0) pair, h.1)) early) late (λ _ is. is) (λ none sound is. taken none sound (some_error is))
+      (if_some_to (refuses_to_prepare old offset (length bytes.items)) (λ x h. (let is = h.0 in let pair : (e, n) ≡ (x, 0) = same_error is in ap (λ (p : ImageError × ℕ). p.0) pair, h.1)) early) (λ none. (late none).0) (λ none empty. let some = (late none).1 in omega (arith, some, empty)) (λ none sound is. taken none sound (some_error is))
 
-  pub size_answered : (n : ℕ) → IsRightlyRefused view backing old new before C.Size (R.Size n)
+  pub size_answered : (n : ℕ) → IsRightlyRefused view backing old new before found C.Size (R.Size n)
   size_answered n = is_done view backing old new before C.Size (R.Size n) (λ is. absurd cc) (λ is. absurd cc, λ is. absurd is) refl tt (λ _ _. tt)
 
 -- ---- mappings of the image
@@ -222,28 +220,25 @@ grow_meets e old size takes none larger (inr mode) = absurd (elim (cases_lt old 
 
 -- ---- clearing a range
 
-module _ {S F : Type 0} (view : S → StorageView) (backing : F → BackingView) (old new : Qcow2 S F) (before : List (Option Prepared)) (offset n : ℕ) (how : Clearing) (command : Command)
+module _ {S F : Type 0} (view : S → StorageView) (backing : F → BackingView) (old new : Qcow2 S F) (before : List (Option Prepared)) {found : ℕ → Option Found} (offset n : ℕ) (how : Clearing) (command : Command)
     (cause : first_cause old command ≡ refuses_clearing old how offset n) (nothing : HasNothingToDo view backing old new before command → to_in old offset n ≤ from_in old offset n)
-    (may : (reply : Reply) (e : ImageError) → IsMetPreparing e → MayMeet command reply e) (heed : (reply : Reply) → IsUntouchedUnder view backing old new before offset n reply → HeedsPrepared view backing old new before command reply)
-    (misuse : (reply : Reply) → (reply ≡ R.Misuse → ⊥) → TellsMisuse before command reply) where
-  abbrev row : Type 0
-  row = IsUnderMapping old.file.header.fields (from_in old offset n) before
-
+    (may : (e : ImageError) → IsMetPreparing e → MayMeet command e) (heed : (reply : Reply) → IsUntouchedUnder view backing old new before offset n reply → HeedsPrepared view backing old new before command reply)
+    (misuse : (reply : Reply) → (reply ≡ R.Misuse → ⊥) → TellsMisuse before found command reply) where
   clears_as : (r : Result (ℕ × ℕ) ImageError) → IfSome (refuses_clearing old how offset n) (λ e. (r ≡ Err e) × (new ≡ old)) → (refuses_clearing old how offset n ≡ None → IfErr r IsMetPreparing)
       → (refuses_clearing old how offset n ≡ None → to_in old offset n ≤ from_in old offset n → (r ≡ Ok (from_in old offset n, 0)) × (new ≡ old))
-      → (refuses_clearing old how offset n ≡ None → from_in old offset n < to_in old offset n → (abstract_of view backing old before).is_sound → IfErr r (λ e. e ≡ I.TablePrepared → row) × IfOk r (λ range. row → ⊥))
-      → IsRightlyRefused view backing old new before command (reply_of_clearing r)
+      → (refuses_clearing old how offset n ≡ None → from_in old offset n < to_in old offset n → (abstract_of view backing old before).is_sound → IfErr r (λ e. e ≡ I.TablePrepared → IsUnderMapping old.file.header.fields (from_in old offset n) before) × IfOk r (λ range. ¬ IsUnderMapping old.file.header.fields (from_in old offset n) before))
+      → IsRightlyRefused view backing old new before found command (reply_of_clearing r)
   clears_as (Ok range) early late idle under =
       is_answered view backing old new before command (new ≡ old) range (R.Range range.0 range.1) (λ is. absurd cc) (misuse (R.Range range.0 range.1) (λ is. absurd cc)) refl (subst (λ o. IfSome o (λ e. (◌≡◌ {A = Result (ℕ × ℕ) ImageError} (Ok range) (Err e)) × (new ≡ old))) (sym cause) early)
       (λ none sound. heed (R.Range range.0 range.1) (λ some is. (under (sym cause ∙ none) some sound).1 is))
   clears_as (Err e) early late idle under =
       is_refused view backing old new before command e (R.Refused e) (λ is. absurd cc) (misuse (R.Refused e) (λ is. absurd cc)) refl (subst (λ o. IfSome o (λ x. (e ≡ x) × (new ≡ old))) (sym cause) (begun_with (ℕ × ℕ) (new ≡ old) e (refuses_clearing old how offset n) early))
-      (λ none. may (R.Refused e) e (late (sym cause ∙ none)))
+      (λ none. may e (late (sym cause ∙ none)))
       (λ none is. let no : (◌≡◌ {A = Result (ℕ × ℕ) ImageError} (Err e) (Ok (from_in old offset n, 0))) = (idle (sym cause ∙ none) (nothing is)).0 in absurd cc)
       (λ none sound. heed (R.Refused e) (λ some is. (under (sym cause ∙ none) some sound).0 (some_error is)))
 
   pub clears_rightly : (r : Result (ℕ × ℕ) ImageError) (reply : Reply) → reply ≡ reply_of_clearing r → IfSome (refuses_clearing old how offset n) (λ e. (r ≡ Err e) × (new ≡ old)) → (refuses_clearing old how offset n ≡ None → IfErr r IsMetPreparing)
       → (refuses_clearing old how offset n ≡ None → to_in old offset n ≤ from_in old offset n → (r ≡ Ok (from_in old offset n, 0)) × (new ≡ old))
-      → (refuses_clearing old how offset n ≡ None → from_in old offset n < to_in old offset n → (abstract_of view backing old before).is_sound → IfErr r (λ e. e ≡ I.TablePrepared → row) × IfOk r (λ range. row → ⊥))
-      → IsRightlyRefused view backing old new before command reply
-  clears_rightly r reply is early late idle under = subst (λ q. IsRightlyRefused view backing old new before command q) (sym is) (clears_as r early late idle under)
+      → (refuses_clearing old how offset n ≡ None → from_in old offset n < to_in old offset n → (abstract_of view backing old before).is_sound → IfErr r (λ e. e ≡ I.TablePrepared → IsUnderMapping old.file.header.fields (from_in old offset n) before) × IfOk r (λ range. ¬ IsUnderMapping old.file.header.fields (from_in old offset n) before))
+      → IsRightlyRefused view backing old new before found command reply
+  clears_rightly r reply is early late idle under = subst (λ q. IsRightlyRefused view backing old new before found command q) (sym is) (clears_as r early late idle under)

@@ -1,5 +1,5 @@
 -- What calls on prepared mappings do, as commands of a run.
-use Rattle.std.proofs.Common.{◌≡◌, inl, inr, ℕ, zero, suc, ◌+◌, ◌<◌, ◌≤◌, ◌≢◌, eqb, get_or, List, [], ◌∷◌, Bool, true, false, refl, sym, ap, ◌∙◌, subst, Option, Some, None, length, Bor}
+use Rattle.std.proofs.Common.{◌≡◌, inl, inr, ℕ, zero, suc, ◌+◌, ◌<◌, ◌≤◌, ◌≢◌, eqb, get_or, List, [], ◌∷◌, Bool, true, false, refl, sym, ap, ◌∙◌, subst, Option, Some, None, length, Bor, arith}
 use Rattle.std.specs.Prelude.{slice_get, slice_set, MatchOption, is_some, ◌==◌, if◌then◌else◌}
 use Rattle.std.proofs.lemmas.Bool.{cond-true, cond-false, cases_Bool, cases_eq, eq-eqb, ne_eqb}
 use Rattle.std.proofs.lemmas.Option.{slice_get-get_or, slice_get_read}
@@ -81,6 +81,10 @@ is_past at n e past = subst (λ (k : Option PreparedMapping). MatchOption k (Uni
 
 pub is_beyond : {m o : Option Found} (at n : ℕ) → o ≡ m → MatchOption m (Unit {0}) (λ f. f.length < at + n) → MatchOption o (Unit {0}) (λ f. f.length < at + n)
 is_beyond at n e past = subst (λ (k : Option Found). MatchOption k (Unit {0}) (λ f. f.length < at + n)) (sym e) past
+
+-- a range within what was found doesn't pass its end
+pub isnt_beyond : {o : Option Found} (f : Found) (at n : ℕ) → o ≡ Some f → at + n ≤ f.length → MatchOption o (Unit {0}) (λ f. f.length < at + n) → ⊥
+isnt_beyond f at n is within beyond = let past = subst (λ (k : Option Found). MatchOption k (Unit {0}) (λ f. f.length < at + n)) is beyond in omega (arith, past, within)
 
 -- ---- what was found
 

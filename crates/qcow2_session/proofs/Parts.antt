@@ -68,16 +68,6 @@ module _ {S F : Type 0} (old mid : Qcow2 S F) (same : IsSameImage old mid) where
         never true = refl
         never false = refl
 
-    -- a later part of a write was refused: for what the work meets, or the image failed on the way
-    pub later_refused : (X : Type 0) (e : ImageError) → IfSome (refuses_to_prepare mid at m) (λ x. (◌≡◌ {A = Result ℕ ImageError} (Err e) (Err x)) × X) → (refuses_to_prepare mid at m ≡ None → IsMetPreparing e) → 0 < n → refuses_to_prepare old offset n ≡ None → IsMetPreparing e ⊎ (e ≡ I.Failed)
-    later_refused X e early late some none = elim (cases_Bool (is_failed mid)) [
-      | inl failed ↦
-          let first : refuses_to_prepare mid at m ≡ Some I.Failed =
-          ap (λ b. option_or (option_or (refuse_if b I.Failed) (refuse_if (is_external mid) I.Dependency)) (option_or (refuse_if (passes (size_of mid) at m) I.BeyondSize) (refuse_if (nat_lt 0 m && not (is_writable mid)) I.ReadOnly))) failed in
-          inr (same_error (subst (λ o. IfSome o (λ x. (◌≡◌ {A = Result ℕ ImageError} (Err e) (Err x)) × X)) first early).0)
-      | inr works ↦ inl (late (part_prepares works some none))
-    ]
-
   -- its mapping may be written
   pub mapping_usable : (number : ℕ) → number ≡ number_of old → is_failed mid ≡ is_failed old → unusable old ≡ None → refuses_mapping mid number ≡ None
   mapping_usable number own works none = own_mapping mid number (own ∙ sym same.number) ∙ still_usable (works ∙ not_failed_yet none) none

@@ -1,5 +1,6 @@
 -- What a run tells of its image, one command after the other.
-use Rattle.std.proofs.Common.{◌≡◌, ℕ, List, [], ◌∷◌, ◌++◌, false, IsTrue, refl, sym, ap, ◌∙◌, subst, Option, Some, None}
+use Rattle.std.proofs.Common.{◌≡◌, ℕ, List, [], ◌∷◌, ◌++◌, false, refl, sym, ap, ◌∙◌, subst, Option, Some, None}
+use mathlib.Core.Path.{fun_ext}
 use Rattle.std.specs.Prelude.{replicate, IfSome, Ok, Err}
 use Rattle.image_access.specs.Backing.{BackingView}
 use Rattle.image_access.specs.Moments.{StorageView}
@@ -8,13 +9,12 @@ use Rattle.qcow2_disk.specs.Runs.{Found, State, RefinesState, RefinesCommand, be
 use Rattle.qcow2_image.specs.declared.image.Qcow2.{Qcow2}
 use Rattle.qcow2_image.specs.declared.mapping.Mapping.{Mapping}
 use Rattle.qcow2_image.specs.declared.prepared.Prepared.{Prepared}
-use Rattle.qcow2_image.specs.Image.{IsSameImage, is_failed, size_of}
+use Rattle.qcow2_image.specs.Image.{IsSameImage, is_external, is_writable, number_of}
 use Rattle.qcow2_image.specs.ImageInvariant.{abstract_of, image_abstraction}
 use Rattle.qcow2_image.proofs.Free.{free_places}
-use Rattle.qcow2_session.specs.Causes.{IsRightlyRefused}
 use Rattle.qcow2_session.specs.Commands.{command_of, reply_of}
 use Rattle.qcow2_session.specs.Sessions.{found_in}
-use Rattle.qcow2_session.specs.Told.{AreRightlyRefused, IsToldAlong, IsToldStep, LeavesUnwritten, TellsOfImage, free_slots}
+use Rattle.qcow2_session.specs.Told.{IsToldAlong, IsToldStep, KeepsItself, RunPoint, StepsAlong, abstract_at, first_point, free_slots}
 use Rattle.qcow2_session.specs.declared.session.Command.{Command}
 use Rattle.qcow2_session.specs.declared.session.Reply.{Reply}
 use Rattle.qcow2_session.proofs.Meanings.{step_found, found_same}
@@ -32,69 +32,87 @@ none_refused X (Some e) a early = absurd (let no : Ok a ≡ Err e = early.0 in c
 pub never_refused : {A E : Type 0} (X : Type 0) (P : E → Type 0) (o : Option E) (a : A) → IfSome o (λ e. (Ok a ≡ Err e) × X) → IfSome o P
 never_refused X P o a early = subst (λ q. IfSome q P) (sym (none_refused X o a early)) tt
 
+-- ---- an image keeps itself
+
+pub same_itself : {S F : Type 0} {old new : Qcow2 S F} → new ≡ old → KeepsItself old new
+same_itself same = record { number = ap number_of same; writable = ap is_writable same; external = ap is_external same }
+
+pub image_itself : {S F : Type 0} {old new : Qcow2 S F} → IsSameImage old new → KeepsItself old new
+image_itself same = record { number = same.number; writable = same.writable; external = same.external }
+
+pub itself_then : {S F : Type 0} {old mid new : Qcow2 S F} → KeepsItself old mid → KeepsItself mid new → KeepsItself old new
+itself_then first second = record { number = second.number ∙ first.number; writable = second.writable ∙ first.writable; external = second.external ∙ first.external }
+
+-- ---- a run so far
+
 module _ {S F : Type 0} (view : S → StorageView) (backing : F → BackingView) where
-  -- nothing was refused yet
-  pub first_refused : (image : Qcow2 S F) (out : List (Option Prepared)) (replies : List Reply) → out ≡ free_slots → replies ≡ [] → AreRightlyRefused view backing image free_slots [] replies image out
-  first_refused image out replies none unanswered = subst (λ (r : List Reply). AreRightlyRefused view backing image free_slots [] r image out) (sym unanswered) (refl, none)
-
   -- one command more
-  pub refused_push : (old : Qcow2 S F) (before : List (Option Prepared)) (commands : List Command) (replies : List Reply) (mid : Qcow2 S F) (left : List (Option Prepared)) (command : Command) (reply : Reply) (new : Qcow2 S F) (after : List (Option Prepared))
-      → AreRightlyRefused view backing old before commands replies mid left → IsRightlyRefused view backing mid new left command reply
-      → AreRightlyRefused view backing old before (commands ++ command ∷ []) (replies ++ reply ∷ []) new after
-  refused_push old before [] [] mid left command reply new after same step =
-      subst (λ (o : Qcow2 S F). AreRightlyRefused view backing o before (command ∷ []) (reply ∷ []) new after) same.0
-      (subst (λ (b : List (Option Prepared)). AreRightlyRefused view backing mid b (command ∷ []) (reply ∷ []) new after) same.1 (new, after, step, (refl, refl)))
-  refused_push old before (c ∷ commands) (r ∷ replies) mid left command reply new after along step = (along.0, along.1, along.2, refused_push along.0 along.1 commands replies mid left command reply new after along.3 step)
-  refused_push old before [] (r ∷ replies) mid left command reply new after along step = absurd along
-  refused_push old before (c ∷ commands) [] mid left command reply new after along step = absurd along
+  told_push : (first : RunPoint S F) (commands : List Command) (replies : List Reply) (points : List (RunPoint S F)) (last : RunPoint S F) (command : Command) (reply : Reply) (next : RunPoint S F)
+      → IsToldAlong view backing first commands replies points last → IsToldStep view backing last next command reply → IsToldAlong view backing first (commands ++ command ∷ []) (replies ++ reply ∷ []) (points ++ next ∷ []) next
+  told_push first [] [] [] last command reply next same step = (subst (λ (p : RunPoint S F). IsToldStep view backing p next command reply) same step, refl)
+  told_push first (c ∷ commands) (r ∷ replies) (p ∷ points) last command reply next along step = (along.0, told_push p commands replies points last command reply next along.1 step)
+  told_push first [] [] (p ∷ points) last command reply next along step = absurd along
+  told_push first [] (r ∷ replies) points last command reply next along step = absurd along
+  told_push first (c ∷ commands) [] points last command reply next along step = absurd along
+  told_push first (c ∷ commands) (r ∷ replies) [] last command reply next along step = absurd along
 
-module _ {S F : Type 0} (view : S → StorageView) (backing : F → BackingView) (x : Setting) where
-  -- one command more
-  told_push : (old : Qcow2 S F) (before : List (Option Prepared)) (s : State) (commands : List Command) (replies : List Reply) (mid : Qcow2 S F) (left : List (Option Prepared)) (t : State) (command : Command) (reply : Reply) (new : Qcow2 S F) (after : List (Option Prepared))
-      → IsToldAlong view backing x old before s commands replies mid left t → (told : IsToldStep view backing x mid left new after t command reply)
-      → IsToldAlong view backing x old before s (commands ++ command ∷ []) (replies ++ reply ∷ []) new after told.step.end
-  told_push old before s [] [] mid left t command reply new after same told =
-      subst (λ (o : Qcow2 S F). IsToldAlong view backing x o before s (command ∷ []) (reply ∷ []) new after told.step.end) same.0
-      (subst (λ (b : List (Option Prepared)). IsToldAlong view backing x mid b s (command ∷ []) (reply ∷ []) new after told.step.end) same.1
-      (subst (λ (r : State). IsToldAlong view backing x mid left r (command ∷ []) (reply ∷ []) new after told.step.end) same.2
-      (new, after, told, (refl, refl, refl))))
-  told_push old before s (c ∷ commands) (r ∷ replies) mid left t command reply new after along told =
-      (along.0, along.1, along.2, told_push along.0 along.1 along.2.step.end commands replies mid left t command reply new after along.3 told)
-  told_push old before s [] (r ∷ replies) mid left t command reply new after along told = absurd along
-  told_push old before s (c ∷ commands) [] mid left t command reply new after along told = absurd along
+  steps_push : (x : Setting) (first : RunPoint S F) (s : State) (commands : List Command) (replies : List Reply) (points : List (RunPoint S F)) (last : RunPoint S F) (t : State) (command : Command) (reply : Reply) (next : RunPoint S F)
+      → IsToldAlong view backing first commands replies points last → StepsAlong view backing x first s commands replies points t
+      → (step : RefinesCommand x (abstract_at view backing last) (abstract_at view backing next) t (command_of command) (reply_of reply))
+      → StepsAlong view backing x first s (commands ++ command ∷ []) (replies ++ reply ∷ []) (points ++ next ∷ []) step.end
+  steps_push x first s [] [] [] last t command reply next along same step =
+      subst (λ (p : RunPoint S F). StepsAlong view backing x p s (command ∷ []) (reply ∷ []) (next ∷ []) step.end) along
+      (subst (λ (r : State). StepsAlong view backing x last r (command ∷ []) (reply ∷ []) (next ∷ []) step.end) same (step, refl))
+  steps_push x first s (c ∷ commands) (r ∷ replies) (p ∷ points) last t command reply next along steps step = (steps.0, steps_push x p steps.0.end commands replies points last t command reply next along.1 steps.1 step)
+  steps_push x first s [] [] (p ∷ points) last t command reply next along steps step = absurd along
+  steps_push x first s [] (r ∷ replies) points last t command reply next along steps step = absurd along
+  steps_push x first s (c ∷ commands) [] points last t command reply next along steps step = absurd along
+  steps_push x first s (c ∷ commands) (r ∷ replies) [] last t command reply next along steps step = absurd along
 
-  -- what was told so far, and the place of the run at which the image stands
-  pub record IsToldSoFar (old new : Qcow2 S F) (out : List (Option Prepared)) (s : State) (commands : List Command) (replies : List Reply) (mappings : List (Option Mapping)) : Type 0 where
+  -- the steps so far, and the place of the run at which the last point stands
+  pub record StepsSoFar (x : Setting) (first last : RunPoint S F) (s : State) (commands : List Command) (replies : List Reply) (points : List (RunPoint S F)) : Type 0 where
     pub end : State
-    pub along : IsToldAlong view backing x old free_slots s commands replies new out end
-    pub stands : RefinesState x (abstract_of view backing new out) end
-    pub found : end.is_failed ≡ false → (k : ℕ) → end.found k ≡ found_in mappings k
+    pub steps : StepsAlong view backing x first s commands replies points end
+    pub stands : RefinesState x (abstract_at view backing last) end
+    pub found : end.is_failed ≡ false → (k : ℕ) → end.found k ≡ last.found k
 
-  pub first_told : (image : Qcow2 S F) (s : State) (out : List (Option Prepared)) (mappings : List (Option Mapping)) (replies : List Reply) → out ≡ free_slots → mappings ≡ replicate 256 None → replies ≡ []
-      → RefinesState x (abstract_of view backing image []) s → IsToldSoFar image image out (begun s) [] replies mappings
-  first_told image s out mappings replies none nothing unanswered stands =
-      subst (λ (o : List (Option Prepared)). IsToldSoFar image image o (begun s) [] replies mappings) (sym none)
-      (subst (λ (m : List (Option Mapping)). IsToldSoFar image image free_slots (begun s) [] replies m) (sym nothing)
-      (subst (λ (r : List Reply). IsToldSoFar image image free_slots (begun s) [] r (replicate 256 None)) (sym unanswered)
+  -- what was told so far
+  pub record IsToldSoFar (old : Qcow2 S F) (last : RunPoint S F) (commands : List Command) (replies : List Reply) : Type 0 where
+    pub points : List (RunPoint S F)
+    pub along : IsToldAlong view backing (first_point old) commands replies points last
+    pub so_far : (x : Setting) (s : State) → RefinesState x (abstract_of view backing old []) s → StepsSoFar x (first_point old) last (begun s) commands replies points
+
+  pub first_told : (image : Qcow2 S F) (out : List (Option Prepared)) (mappings : List (Option Mapping)) (replies : List Reply) → out ≡ free_slots → mappings ≡ replicate 256 None → replies ≡ []
+      → IsToldSoFar image (record { image = image; prepared = out; found = found_in mappings }) [] replies
+  first_told image out mappings replies none nothing unanswered =
+      subst (λ (o : List (Option Prepared)). IsToldSoFar image (record { image = image; prepared = o; found = found_in mappings }) [] replies) (sym none)
+      (subst (λ (m : List (Option Mapping)). IsToldSoFar image (record { image = image; prepared = free_slots; found = found_in m }) [] replies) (sym nothing)
+      (subst (λ (r : List Reply). IsToldSoFar image (record { image = image; prepared = free_slots; found = found_in (replicate 256 None) }) [] r) (sym unanswered)
       (record {
-        end = begun s;
-        along = (refl, refl, refl);
-        stands = free_stands (image_abstraction view backing) (free_places view backing) image 256 x s stands;
-        found = λ ok k. none_found 256 k;
+        points = [];
+        along = ap (λ (f : ℕ → Option Found). record { image = image; prepared = free_slots; found = f }) (fun_ext (λ k. sym (none_found 256 k)));
+        so_far = λ x s stands. record {
+          end = begun s;
+          steps = refl;
+          stands = free_stands (image_abstraction view backing) (free_places view backing) image 256 x s stands;
+          found = λ ok k. none_found 256 k;
+        };
       })))
 
-  pub told_more : (old mid new : Qcow2 S F) (out after : List (Option Prepared)) (s : State) (commands : List Command) (replies : List Reply) (mappings mappings' : List (Option Mapping)) (command : Command) (reply : Reply)
-      → IsToldSoFar old mid out s commands replies mappings
-      → ((s' : State) → RefinesState x (abstract_of view backing mid out) s' → (s'.is_failed ≡ false → (k : ℕ) → s'.found k ≡ found_in mappings k) → RefinesCommand x (abstract_of view backing mid out) (abstract_of view backing new after) s' (command_of command) (reply_of reply))
-      → TellsOfImage view backing mid new out after command reply → IsRightlyRefused view backing mid new out command reply → (IsTrue (is_failed mid) → size_of new ≡ size_of mid) → LeavesUnwritten view backing mid out new after
-      → ((k : ℕ) → found_in mappings' k ≡ found_after (found_in mappings) (command_of command) (reply_of reply) k)
-      → IsToldSoFar old new after s (commands ++ command ∷ []) (replies ++ reply ∷ []) mappings'
-  told_more old mid new out after s commands replies mappings mappings' command reply so_far steps tells causes size unwritten finds =
-      let step = steps so_far.end so_far.stands so_far.found in record {
-        end = step.end;
-        along = told_push old free_slots s commands replies mid out so_far.end command reply new after so_far.along (record { step = step; tells = tells; causes = causes; size = size; unwritten = unwritten });
-        stands = step.stands;
-        found = λ ok k.
-            let so = step_found x so_far.end step.end (command_of command) (reply_of reply) step.step ok in
-            ap (λ (f : ℕ → Option Found). f k) so.1 ∙ found_same so_far.end.found (found_in mappings) (command_of command) (reply_of reply) (so_far.found so.0) k ∙ sym (finds k);
-      }
+  pub told_more : (old : Qcow2 S F) (last next : RunPoint S F) (commands : List Command) (replies : List Reply) (command : Command) (reply : Reply) → IsToldSoFar old last commands replies → IsToldStep view backing last next command reply
+      → ((x : Setting) (s : State) → RefinesState x (abstract_at view backing last) s → (s.is_failed ≡ false → (k : ℕ) → s.found k ≡ last.found k) → RefinesCommand x (abstract_at view backing last) (abstract_at view backing next) s (command_of command) (reply_of reply))
+      → IsToldSoFar old next (commands ++ command ∷ []) (replies ++ reply ∷ [])
+  told_more old last next commands replies command reply told step goes = record {
+    points = told.points ++ next ∷ [];
+    along = told_push (first_point old) commands replies told.points last command reply next told.along step;
+    so_far = λ x s stands.
+        let before = told.so_far x s stands in
+        let now = goes x before.end before.stands before.found in record {
+          end = now.end;
+          steps = steps_push x (first_point old) (begun s) commands replies told.points last before.end command reply next told.along before.steps now;
+          stands = now.stands;
+          found = λ ok k.
+              let so = step_found x before.end now.end (command_of command) (reply_of reply) now.step ok in
+              ap (λ (f : ℕ → Option Found). f k) so.1 ∙ found_same before.end.found last.found (command_of command) (reply_of reply) (before.found so.0) k ∙ sym (step.finds k);
+        };
+  }

@@ -1,6 +1,6 @@
 -- Calls one after another, whatever they answer.
-use Rattle.std.proofs.Common.{◌≡◌, ◌⊎◌, ⊎_elim, inl, inr, ℕ, List, [], true, false, IsTrue, refl, sym, ap, ◌∙◌}
-use Rattle.std.specs.Prelude.{Option, Some, None, IfSome, Result, Ok, Err, IsErr, IsErrAnd}
+use Rattle.std.proofs.Common.{◌≡◌, ◌⊎◌, ⊎_elim, inl, inr, ℕ, zero, suc, ◌<◌, List, [], true, false, IsTrue, refl, sym, ap, ◌∙◌, arith}
+use Rattle.std.specs.Prelude.{Option, Some, None, IfErr, IfSome, Result, Ok, Err, IsErr, IsErrAnd}
 use Rattle.qcow2_metadata.specs.Guest.{Value}
 use Rattle.qcow2_disk.specs.Stops.{GivenBytes, IsGiven}
 use Rattle.qcow2_disk.specs.Disk.{disk}
@@ -12,6 +12,12 @@ use Rattle.qcow2_disk.proofs.Compose.{works_less, works_then, rests_then, stops_
 pub refused_is : {A E : Type 0} (r : Result A E) (e : E) → IsErr r × IsErrAnd r (λ x. x ≡ e) → r ≡ Err e
 refused_is (Ok a) e is = absurd (let no : false ≡ true = is.0 in cc)
 refused_is (Err x) e is = ap Err is.1
+
+-- what isn't refused of nothing is refused of some alone
+pub refused_some : {A E : Type 0} (P : E → Type 0) (n : ℕ) (r : Result A E) (a : A) → IfErr r P → (n ≡ 0 → r ≡ Ok a) → IfErr r (λ e. P e × (0 < n))
+refused_some P n (Ok b) a met done = tt
+refused_some P zero (Err e) a met done = absurd (let no : Err e ≡ Ok a = done refl in cc)
+refused_some P (suc n) (Err e) a met done = (met, omega arith)
 
 -- where a call that begins another one was answered, the other one had nothing to refuse before any work
 pub nothing_refused : {A E : Type 0} (S : Type 0) (X : E → Type 0) (o : Option E) (r : Result A E) (a : A) → IfSome o (λ x. (r ≡ Err x) × S) → r ≡ Ok a → IfSome o X

@@ -1,8 +1,8 @@
 -- An image that was opened for reading is never written: calls that write are refused before any work, and all others leave what stands on its storage.
-use Rattle.std.proofs.Common.{◌≡◌, ◌⊎◌, ⊎_elim, inl, inr, ℕ, zero, suc, ◌<◌, List, [], ◌∷◌, Bool, true, false, not, IsTrue, refl, sym, ap, ◌∙◌, subst, arith, Option, Some, None, Ok, Err}
+use Rattle.std.proofs.Common.{◌≡◌, ◌⊎◌, ⊎_elim, inl, inr, ℕ, zero, suc, ◌<◌, ◌≤◌, List, [], ◌∷◌, Bool, true, false, not, IsTrue, refl, sym, ap, ◌∙◌, subst, arith, Option, Some, None, Ok, Err}
 use Rattle.std.specs.Prelude.{IfSome, IsNone, IsSome, nat_lt, replicate, slice_get, slice_set, ◌&&◌}
 use Rattle.std.specs.Option.{option_or}
-use Rattle.std.proofs.lemmas.Bool.{cases_Bool, lt-ltb}
+use Rattle.std.proofs.lemmas.Bool.{cases_Bool, cases_lt, lt-ltb}
 use Rattle.image_access.specs.Backing.{BackingView}
 use Rattle.image_access.specs.Moments.{StorageView}
 use Rattle.qcow2_disk.specs.AbstractImages.{Setting}
@@ -20,13 +20,13 @@ use Rattle.qcow2_image.specs.Prepared.{table_of}
 use Rattle.qcow2_image.specs.Preparing.{IsOfNothing}
 use Rattle.qcow2_image.specs.Ranges.{LetsGo}
 use Rattle.qcow2_image.specs.Refusals.{passes, refuse_if, refuses_to_prepare, unusable}
-use Rattle.qcow2_image.specs.Resizing.{refuses_to_resize}
+use Rattle.qcow2_image.specs.Resizing.{IsResized, refuses_to_resize}
 use Rattle.qcow2_image.specs.Unwritten.{HoldsSame, IsOnlyRead, IsUnmodified}
 use Rattle.qcow2_image.proofs.Map.Unmodified.{holds_none, holds_then, read_known, read_same, holds_still}
-use Rattle.qcow2_session.specs.Told.{AreExisting, IsLeftUnwritten, IsToldAlong, free_slots}
+use Rattle.qcow2_session.specs.Told.{AreExisting, IsLeftUnwritten, IsToldAlong, KeepsItself, RunPoint, StepsAlong, abstract_at, free_slots}
 use Rattle.qcow2_session.specs.declared.session.Command.{Command}
 use Rattle.qcow2_session.specs.declared.session.Reply.{Reply}
-use Rattle.qcow2_session.proofs.Told.{none_refused}
+use Rattle.qcow2_session.proofs.Told.{none_refused, same_itself}
 
 -- ---- calls that are refused before any work
 
@@ -50,6 +50,14 @@ same_early Y (Some e) some early = early.1
 if_none_or : {E X : Type 0} (Y : E → Type 0) (o : Option E) → (o ≡ None → X) → IfSome o (λ e. Y e × X) → X
 if_none_or Y None nothing early = nothing refl
 if_none_or Y (Some e) nothing early = early.1
+
+-- an image of another size keeps itself
+pub resized_itself : {S F : Type 0} (old new : Qcow2 S F) (Y : ImageError → Type 0) (Z : Type 0) (size a b : ℕ) → IfSome (refuses_to_resize old) (λ e. Y e × (new ≡ old)) → (refuses_to_resize old ≡ None → b ≤ a → Z × (new ≡ old))
+    → (a < b → IsResized size old new) → KeepsItself old new
+resized_itself old new Y Z size a b early nothing resized = elim (cases_lt a b) [
+  | inl lt ↦ let is = resized lt in record { number = is.number; writable = is.writable; external = is.external }
+  | inr le ↦ same_itself (if_none_or Y (refuses_to_resize old) (λ none. (nothing none le).1) early)
+]
 
 module _ {S F : Type 0} (image : Qcow2 S F) where
   pub resizes_failed : IsTrue (is_failed image) → IsSome (refuses_to_resize image)
@@ -121,40 +129,42 @@ module _ {S F : Type 0} (view : S → StorageView) (backing : F → BackingView)
   rested : (old new : Qcow2 S F) (out : List (Option Prepared)) → EffectOnFailed (abstract_of view backing old out) (abstract_of view backing new []) → HoldsSame (view_in view old.file) (view_in view new.file)
   rested old new out rests = holds_still (view_in view old.file) (view_in view new.file) rests.moments rests.contents
 
-  along_unwritten : (old : Qcow2 S F) (before : List (Option Prepared)) (s : State) (commands : List Command) (replies : List Reply) (new : Qcow2 S F) (after : List (Option Prepared)) (end : State)
-      → IsToldAlong view backing x old before s commands replies new after end → RefinesState x (abstract_of view backing old before) s → (s.is_failed ≡ false → (is_writable old ≡ false) × IsUnmodified view old × AreExisting before)
-      → HoldsSame (view_in view old.file) (view_in view new.file) × (end.is_failed ≡ false → IsUnmodified view new)
-  along_unwritten old before s [] [] new after end along stands works = (
-    subst (λ (image : Qcow2 S F). HoldsSame (view_in view old.file) (view_in view image.file)) (sym along.0) (holds_none (view_in view old.file)),
-    λ ok. subst (IsUnmodified view) (sym along.0) (works (ap (λ (t : State). t.is_failed) (sym along.2) ∙ ok)).1,
+  along_unwritten : (first : RunPoint S F) (s : State) (commands : List Command) (replies : List Reply) (points : List (RunPoint S F)) (last : RunPoint S F) (end : State)
+      → IsToldAlong view backing first commands replies points last → StepsAlong view backing x first s commands replies points end
+      → RefinesState x (abstract_at view backing first) s → (s.is_failed ≡ false → (is_writable first.image ≡ false) × IsUnmodified view first.image × AreExisting first.prepared)
+      → HoldsSame (view_in view first.image.file) (view_in view last.image.file) × (end.is_failed ≡ false → IsUnmodified view last.image)
+  along_unwritten first s [] [] [] last end along steps stands works = (
+    subst (λ (p : RunPoint S F). HoldsSame (view_in view first.image.file) (view_in view p.image.file)) (sym along) (holds_none (view_in view first.image.file)),
+    λ ok. subst (λ (p : RunPoint S F). IsUnmodified view p.image) (sym along) (works (ap (λ (t : State). t.is_failed) (sym steps) ∙ ok)).1,
   )
-  along_unwritten old before s (command ∷ commands) (reply ∷ replies) new after end along stands works =
-      let mid = along.0 in
-      let told = along.2 in
-      let step = told.step in
+  along_unwritten first s (command ∷ commands) (reply ∷ replies) (next ∷ points) last end along steps stands works =
+      let step = steps.0 in
       elim (cases_Bool s.is_failed) [
         | inl failed ↦
-            let here : HoldsSame (view_in view old.file) (view_in view mid.file) =
-            holds_still (view_in view old.file) (view_in view mid.file) (step.interval.safe.silent failed) (step.interval.safe.unchanged failed) in
-            let rest = along_unwritten mid along.1 step.end commands replies new after end along.3 step.stands (λ ok. absurd (let no : true ≡ false = sym failed ∙ step.since ok in cc)) in
+            let here : HoldsSame (view_in view first.image.file) (view_in view next.image.file) =
+            holds_still (view_in view first.image.file) (view_in view next.image.file) (step.interval.safe.silent failed) (step.interval.safe.unchanged failed) in
+            let rest = along_unwritten next step.end commands replies points last end along.1 steps.1 step.stands (λ ok. absurd (let no : true ≡ false = sym failed ∙ step.since ok in cc)) in
             (holds_then here rest.0, rest.1)
         | inr ok ↦
             let w = works ok in
-            let left = told.unwritten w.0 (stands.works ok) w.1 w.2 in
-            let rest = along_unwritten mid along.1 step.end commands replies new after end along.3 step.stands (λ going. (left.reading, left.read.unmodified, left.existing)) in
+            let left = along.0.unwritten w.0 (stands.works ok) w.1 w.2 in
+            let rest = along_unwritten next step.end commands replies points last end along.1 steps.1 step.stands (λ going. (left.reading, left.read.unmodified, left.existing)) in
             (holds_then left.read.storage rest.0, rest.1)
       ]
-  along_unwritten old before s [] (reply ∷ replies) new after end along stands works = absurd along
-  along_unwritten old before s (command ∷ commands) [] new after end along stands works = absurd along
+  along_unwritten first s [] [] (next ∷ points) last end along steps stands works = absurd along
+  along_unwritten first s [] (reply ∷ replies) points last end along steps stands works = absurd along
+  along_unwritten first s (command ∷ commands) [] points last end along steps stands works = absurd along
+  along_unwritten first s (command ∷ commands) (reply ∷ replies) [] last end along steps stands works = absurd along
 
   -- and then the mappings that are left are let go
-  pub never_written : (old : Qcow2 S F) (before : List (Option Prepared)) (s : State) (commands : List Command) (replies : List Reply) (last : Qcow2 S F) (left : List (Option Prepared)) (end : State) (new : Qcow2 S F)
-      → IsToldAlong view backing x old before s commands replies last left end → RefinesState x (abstract_of view backing old before) s → is_writable old ≡ false → IsUnmodified view old → AreExisting before
-      → RefinesState x (abstract_of view backing last left) end → (IsTrue (is_failed last) → EffectOnFailed (abstract_of view backing last left) (abstract_of view backing new [])) → (IsUnmodified view last → IsOnlyRead view last new)
-      → HoldsSame (view_in view old.file) (view_in view new.file)
-  never_written old before s commands replies last left end new along stands reading clean existing stands-last rests reads =
-      let whole = along_unwritten old before s commands replies last left end along stands (λ ok. (reading, clean, existing)) in
+  pub never_written : (first : RunPoint S F) (s : State) (commands : List Command) (replies : List Reply) (points : List (RunPoint S F)) (last : RunPoint S F) (end : State) (new : Qcow2 S F)
+      → IsToldAlong view backing first commands replies points last → StepsAlong view backing x first s commands replies points end
+      → RefinesState x (abstract_at view backing first) s → is_writable first.image ≡ false → IsUnmodified view first.image → AreExisting first.prepared
+      → RefinesState x (abstract_at view backing last) end → (IsTrue (is_failed last.image) → EffectOnFailed (abstract_at view backing last) (abstract_of view backing new [])) → (IsUnmodified view last.image → IsOnlyRead view last.image new)
+      → HoldsSame (view_in view first.image.file) (view_in view new.file)
+  never_written first s commands replies points last end new along steps stands reading clean existing stands-last rests reads =
+      let whole = along_unwritten first s commands replies points last end along steps stands (λ ok. (reading, clean, existing)) in
       elim (cases_Bool end.is_failed) [
-        | inl failed ↦ holds_then whole.0 (rested last new left (rests (stands-last.failed failed)))
+        | inl failed ↦ holds_then whole.0 (rested last.image new last.prepared (rests (stands-last.failed failed)))
         | inr ok ↦ holds_then whole.0 (reads (whole.1 ok)).storage
       ]

@@ -1,5 +1,5 @@
 -- Why the commands of a run are refused: what is asked before any work, in order, and what the work meets.
-use Rattle.std.specs.Prelude.{ℕ, ◌+◌, ◌<◌, ◌≤◌, ◌≡◌, ◌↔◌, ◌⊎◌, ◌&&◌, not, nat_lt, true, length, List, Option, Some, None, IfSome, IsNone, slice_get}
+use Rattle.std.specs.Prelude.{ℕ, ◌+◌, ◌<◌, ◌≤◌, ◌≡◌, ◌↔◌, ◌⊎◌, ◌&&◌, not, nat_lt, true, length, List, Option, Some, None, IfSome, IsNone, MatchOption, slice_get}
 use Rattle.std.specs.Option.{option_or}
 use Rattle.image_access.specs.Backing.{BackingView}
 use Rattle.image_access.specs.Moments.{StorageView}
@@ -7,6 +7,7 @@ use Rattle.image_access.specs.declared.storage.PreallocateMode.{PreallocateMode}
 use Rattle.qcow2_metadata.specs.Header.{cluster_size}
 use Rattle.qcow2_disk.specs.Calls.{Clearing, to_backing, to_kept_zero, to_zero}
 use Rattle.qcow2_disk.specs.ClearedCovers.{needs_zeros, rounds_past}
+use Rattle.qcow2_disk.specs.Runs.{Found}
 use Rattle.qcow2_alloc.specs.ImageError.{IsFault}
 use Rattle.qcow2_alloc.specs.ImageFile.{known_in}
 use Rattle.qcow2_alloc.specs.declared.error.ImageError.{ImageError}
@@ -69,45 +70,43 @@ module _ {S F : Type 0} (image : Qcow2 S F) where
   first_cause (C.ResizeShrink size) = refuses_to_resize image
   first_cause C.Size = None
 
--- its slot is taken or empty, or the range passes the end of the mapping there
-abbrev pub IsMisused : List (Option Prepared) → Command → Type 0
-IsMisused before (C.PrepareDataMapping slot offset n overwrite) = (p : Prepared) × (slice_get before slot ≡ Some (Some p))
-IsMisused before (C.WriteMapped slot at bytes) = (slice_get before slot ≡ Some None) ⊎ ((p : Prepared) × (slice_get before slot ≡ Some (Some p)) × (length_of p < at + length bytes.items))
-IsMisused before (C.CommitDataMapping slot) = slice_get before slot ≡ Some None
-IsMisused before (C.DiscardDataMapping slot) = slice_get before slot ≡ Some None
-IsMisused before command = ⊥
+-- its slot is taken or empty, or the range passes the end of the mapping there, or of what was looked up there
+abbrev pub IsMisused : List (Option Prepared) → (found : ℕ → Option Found) → Command → Type 0
+IsMisused before found (C.ReadMapped slot at n) = MatchOption (found slot) (Unit {0}) (λ f. f.length < at + n)
+IsMisused before found (C.PrepareDataMapping slot offset n overwrite) = (p : Prepared) × (slice_get before slot ≡ Some (Some p))
+IsMisused before found (C.WriteMapped slot at bytes) = (slice_get before slot ≡ Some None) ⊎ ((p : Prepared) × (slice_get before slot ≡ Some (Some p)) × (length_of p < at + length bytes.items))
+IsMisused before found (C.CommitDataMapping slot) = slice_get before slot ≡ Some None
+IsMisused before found (C.DiscardDataMapping slot) = slice_get before slot ≡ Some None
+IsMisused before found command = ⊥
 
--- it is replied so exactly then; of a range that was looked up the run itself tells it
-abbrev pub TellsMisuse : List (Option Prepared) → Command → Reply → Type 0
-TellsMisuse before (C.ReadMapped slot at n) reply = Unit {0}
-TellsMisuse before command reply = (reply ≡ R.Misuse) ↔ IsMisused before command
+-- it is replied so exactly then
+abbrev pub TellsMisuse : List (Option Prepared) → (found : ℕ → Option Found) → Command → Reply → Type 0
+TellsMisuse before found command reply = (reply ≡ R.Misuse) ↔ IsMisused before found command
 
 -- ---- where the work meets it
 
--- some bytes of a refused write were written
-abbrev pub IsAfterSome : Reply → Type 0
-IsAfterSome (R.WriteRefused e n) = 0 < n
-IsAfterSome reply = ⊥
-
--- what a command may be refused for where nothing refused it at once; a write also where the image failed after some of its bytes
-abbrev pub MayMeet : Command → Reply → ImageError → Type 0
-MayMeet (C.Write offset bytes) reply e = IsMetPreparing e ⊎ ((e ≡ I.Failed) × IsAfterSome reply)
-MayMeet (C.PrepareDataMapping slot offset n overwrite) reply e = IsMetPreparing e
-MayMeet (C.DiscardDataMapping slot) reply e = ⊥
-MayMeet (C.EnsureZeroMapping offset n) reply e = IsMetPreparing e
-MayMeet (C.DiscardToZero offset n) reply e = IsMetPreparing e
-MayMeet (C.DiscardToAny offset n) reply e = IsMetPreparing e
-MayMeet (C.DiscardToBacking offset n) reply e = IsMetPreparing e
-MayMeet (C.ReadvSpecial offset n) reply e = IsMet e ⊎ (e ≡ I.NotCompressed offset)
-MayMeet (C.ResizeGrow size mode) reply e = IsMetPreparing e
-MayMeet (C.ResizeShrink size) reply e = IsFault e ⊎ (e ≡ I.MappingPrepared)
-MayMeet C.Size reply e = ⊥
-MayMeet command reply e = IsMet e
+-- what a command may be refused for where nothing refused it at once
+abbrev pub MayMeet : Command → ImageError → Type 0
+MayMeet (C.Write offset bytes) e = IsMetPreparing e
+MayMeet (C.PrepareDataMapping slot offset n overwrite) e = IsMetPreparing e
+MayMeet (C.DiscardDataMapping slot) e = ⊥
+MayMeet (C.EnsureZeroMapping offset n) e = IsMetPreparing e
+MayMeet (C.DiscardToZero offset n) e = IsMetPreparing e
+MayMeet (C.DiscardToAny offset n) e = IsMetPreparing e
+MayMeet (C.DiscardToBacking offset n) e = IsMetPreparing e
+MayMeet (C.ReadvSpecial offset n) e = IsMet e ⊎ (e ≡ I.NotCompressed offset)
+MayMeet (C.ResizeGrow size mode) e = IsMetPreparing e
+MayMeet (C.ResizeShrink size) e = IsFault e ⊎ (e ≡ I.MappingPrepared)
+MayMeet C.Size e = ⊥
+MayMeet command e = IsMet e
 
 module _ {S F : Type 0} (view : S → StorageView) (backing : F → BackingView) (old new : Qcow2 S F) (before : List (Option Prepared)) where
   -- there is nothing to do
   abbrev pub HasNothingToDo : Command → Type 0
+  HasNothingToDo (C.Read offset n) = n ≡ 0
+  HasNothingToDo (C.Write offset bytes) = length bytes.items ≡ 0
   HasNothingToDo (C.GetMapping slot offset max) = size_of old ≤ offset
+  HasNothingToDo (C.ReadMapped slot at n) = n ≡ 0
   HasNothingToDo (C.PrepareDataMapping slot offset n overwrite) = n ≡ 0
   HasNothingToDo (C.WriteMapped slot at bytes) = length bytes.items ≡ 0
   HasNothingToDo (C.CommitDataMapping slot) = (p : Prepared) × (slice_get before slot ≡ Some (Some p)) × IsNone (table_of p)
@@ -115,6 +114,8 @@ module _ {S F : Type 0} (view : S → StorageView) (backing : F → BackingView)
   HasNothingToDo (C.DiscardToZero offset n) = to_in old offset n ≤ from_in old offset n
   HasNothingToDo (C.DiscardToAny offset n) = to_in old offset n ≤ from_in old offset n
   HasNothingToDo (C.DiscardToBacking offset n) = to_in old offset n ≤ from_in old offset n
+  HasNothingToDo (C.ReadvSpecial offset n) = n ≡ 0
+  HasNothingToDo (C.TryReadvSpecial offset n) = n ≡ 0
   HasNothingToDo (C.ResizeGrow size mode) = size ≤ size_of old
   HasNothingToDo (C.ResizeShrink size) = size_of old ≤ size
   HasNothingToDo command = ⊥
@@ -138,11 +139,12 @@ module _ {S F : Type 0} (view : S → StorageView) (backing : F → BackingView)
     pub existing : table_of mapping ≡ None
     pub moved : ¬ IsFoundWhole view new (mapping.guest + at) (Raw Image (mapping.offset + at) true) n
 
-  -- What a prepared mapping refuses, and nothing else: a range of its L2 table (9), a smaller disk (17). What is put is refused as outdated (10) only where it is.
+  -- What a prepared mapping refuses, and nothing else: a range of its L2 table (9), a smaller disk (17). What is put is refused as outdated (10) only where it is. A commit is refused for a fault alone.
   abbrev pub HeedsPrepared : Command → Reply → Type 0
   HeedsPrepared (C.Write offset bytes) reply = refusal_in reply ≡ Some I.TablePrepared → IsUnderMappingIn old.file.header.fields offset (offset + length bytes.items) before
   HeedsPrepared (C.PrepareDataMapping slot offset n overwrite) reply = IsUntakenIn offset n reply
   HeedsPrepared (C.WriteMapped slot at bytes) reply = refusal_in reply ≡ Some I.OutdatedMapping → IsOutdatedAt slot at (length bytes.items)
+  HeedsPrepared (C.CommitDataMapping slot) reply = IfSome (refusal_in reply) IsFault
   HeedsPrepared (C.EnsureZeroMapping offset n) reply = IsUntouchedUnder offset n reply
   HeedsPrepared (C.DiscardToZero offset n) reply = IsUntouchedUnder offset n reply
   HeedsPrepared (C.DiscardToAny offset n) reply = IsUntouchedUnder offset n reply
@@ -155,10 +157,10 @@ module _ {S F : Type 0} (view : S → StorageView) (backing : F → BackingView)
 
   -- Where its slot or its range is misused, it is replied so, and nothing changes. Else the first cause that holds before any work is the reply, and nothing changes.
   -- Where none holds, it is refused for what the work meets alone. It isn't where there is nothing to do, and heeds what is prepared on a sound image.
-  pub record IsRightlyRefused (command : Command) (reply : Reply) : Type 0 where
-    pub misuse : TellsMisuse before command reply
+  pub record IsRightlyRefused (found : ℕ → Option Found) (command : Command) (reply : Reply) : Type 0 where
+    pub misuse : TellsMisuse before found command reply
     pub still : reply ≡ R.Misuse → new ≡ old
     pub early : IfSome (first_cause old command) (λ e. ((refusal_in reply ≡ Some e) ⊎ (reply ≡ R.Misuse)) × (new ≡ old))
-    pub late : first_cause old command ≡ None → IfSome (refusal_in reply) (MayMeet command reply)
+    pub late : first_cause old command ≡ None → IfSome (refusal_in reply) (MayMeet command)
     pub idle : first_cause old command ≡ None → HasNothingToDo command → refusal_in reply ≡ None
     pub heeds : first_cause old command ≡ None → (abstract_of view backing old before).is_sound → HeedsPrepared command reply

@@ -1,5 +1,5 @@
 -- The headline, of an image that is opened from the bytes of a storage.
-use Rattle.std.specs.Prelude.{ℕ, ◌≡◌, ◌⊎◌, IsTrue, List, [], map, Vec, Result, Ok, Err}
+use Rattle.std.specs.Prelude.{ℕ, ◌≡◌, ◌⊎◌, IsTrue, true, false, List, [], map, Vec, Result, Ok, Err}
 use Rattle.std.specs.Global.{Global}
 use Rattle.image_access.specs.Backing.{BackingView}
 use Rattle.image_access.specs.Moments.{StorageView, ContentsStay}
@@ -7,15 +7,17 @@ use Rattle.qcow2_metadata.specs.Bytes.{byte_at}
 use Rattle.qcow2_metadata.specs.Consistent.{IsConsistent}
 use Rattle.qcow2_disk.specs.AbstractImages.{guest_of}
 use Rattle.qcow2_disk.specs.Headline.{IsHeadline}
-use Rattle.qcow2_disk.specs.Runs.{started}
+use Rattle.qcow2_disk.specs.Runs.{RefinesState, started}
 use Rattle.qcow2_alloc.specs.declared.error.ImageError.{ImageError}
+use Rattle.qcow2_image.specs.CountedOpening.{OpeningCounts}
 use Rattle.qcow2_image.specs.declared.image.Qcow2.{Qcow2}
-use Rattle.qcow2_image.specs.Image.{is_writable, number_of, storage_of_image}
+use Rattle.qcow2_image.specs.Image.{is_failed, is_writable, number_of, storage_of_image}
 use Rattle.qcow2_image.specs.Opened.{IsKeptSince, IsOpenedFrom}
 use Rattle.qcow2_image.specs.ImageInvariant.{abstract_of, image_abstraction}
+use Rattle.qcow2_image.specs.Readable.{OpensRightly}
 use Rattle.qcow2_session.specs.Commands.{command_of, reply_of}
-use Rattle.qcow2_session.specs.Sessions.{IsUntouched}
-use Rattle.qcow2_session.specs.Told.{IsToldRun, RefusesRightly}
+use Rattle.qcow2_session.specs.CountedFaults.{RunCounts}
+use Rattle.qcow2_session.specs.Told.{TellsThrough}
 use Rattle.qcow2_session.specs.declared.session.Command.{Command}
 use Rattle.qcow2_session.specs.declared.session.Reply.{Reply}
 
@@ -35,22 +37,23 @@ module _ {S F : Type 0} (view : S → StorageView) (backing : F → BackingView)
       → HadNoRoom run.0 run.1.items ⊎ IsHeadline (image_abstraction view backing) before run.0 (map command_of commands) (map reply_of run.1.items)
   Headline commands (Err refused) = before.is_honest → IsConsistent (byte_at before.contents) → IsKeptSince before (view refused.0)
 
-  -- The image that was opened, whatever the contents were, has its number and is to be written. Each command on it is refused rightly.
-  pub record IsOpenedAndRun (number : ℕ) (commands : List Command) (replies : List Reply) : Type 0 where
-    pub opened : Qcow2 S F
-    pub number_is : number_of opened ≡ number
-    pub writable : IsTrue (is_writable opened)
-    pub causes : RefusesRightly view backing opened commands replies
-
-  -- The image that was opened is sound, and each surplus is as the contents had it. It has its number, and is to be written. The replies tell of it, from the disk that it showed on.
+  -- The image that was opened, whatever the contents were, has its number, is to be written and works. The replies tell of it.
+  -- From consistent contents it is sound, has each surplus as they had it, and stands at the begin of a run from the disk that it showed.
   pub record IsToldOfOpened (number : ℕ) (commands : List Command) (image : Qcow2 S F) (replies : List Reply) : Type 0 where
     pub opened : Qcow2 S F
-    pub is : IsOpenedFrom view backing (byte_at before.contents) opened
     pub number_is : number_of opened ≡ number
     pub writable : IsTrue (is_writable opened)
-    pub run : IsUntouched view backing opened image replies
-        ⊎ IsToldRun view backing opened image ((image_abstraction view backing).setting opened) (started (guest_of (abstract_of view backing opened []))) commands replies
+    pub works : is_failed opened ≡ false
+    pub run : TellsThrough view backing opened image commands replies
+    pub is : before.is_honest → IsConsistent (byte_at before.contents) → IsOpenedFrom view backing (byte_at before.contents) opened
+    pub begins : before.is_honest → IsConsistent (byte_at before.contents) → let v = abstract_of view backing opened [] in RefinesState v.setting v (started (guest_of v))
 
+  -- So it is where it opens. Where it doesn't, it is refused as opening alone for writing is: for one of the reasons of these contents.
   abbrev pub TellsOfOpened : ℕ → List Command → Result (Qcow2 S F × Vec Reply Global) (S × ImageError) → Type 0
-  TellsOfOpened number commands (Ok run) = before.is_honest → IsConsistent (byte_at before.contents) → IsToldOfOpened number commands run.0 run.1.items
-  TellsOfOpened number commands (Err refused) = Unit {0}
+  TellsOfOpened number commands (Ok run) = IsToldOfOpened number commands run.0 run.1.items
+  TellsOfOpened number commands (Err refused) = OpensRightly {S = S} {F = F} before true true (Err refused)
+
+  -- Opening counts the faults of the storage, refused or not, and each command those since.
+  abbrev pub CountsSinceBefore : Result (Qcow2 S F × Vec Reply Global) (S × ImageError) → Type 0
+  CountsSinceBefore (Ok run) = (opened : Qcow2 S F) × OpeningCounts view before.faults (Ok opened) × RunCounts view backing opened run.0 run.1.items
+  CountsSinceBefore (Err refused) = OpeningCounts {F = F} view before.faults (Err refused)

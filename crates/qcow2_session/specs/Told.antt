@@ -2,12 +2,12 @@
 use Rattle.std.specs.Prelude.{ℕ, ◌<◌, ◌≡◌, ◌⊎◌, false, IsTrue, IsNone, List, [], ◌∷◌, Option, Some, None, replicate, slice_get}
 use Rattle.image_access.specs.Backing.{BackingView}
 use Rattle.image_access.specs.Moments.{StorageView}
-use Rattle.qcow2_disk.specs.AbstractImages.{Setting, IsOpened}
-use Rattle.qcow2_disk.specs.Runs.{State, RefinesState, RefinesCommand, begun}
+use Rattle.qcow2_disk.specs.AbstractImages.{AbstractImage, Setting, IsOpened}
+use Rattle.qcow2_disk.specs.Runs.{Found, State, RefinesState, RefinesCommand, begun, found_after}
 use Rattle.qcow2_alloc.specs.ImageFile.{known_in}
 use Rattle.qcow2_image.specs.declared.image.Qcow2.{Qcow2}
 use Rattle.qcow2_image.specs.declared.prepared.Prepared.{Prepared}
-use Rattle.qcow2_image.specs.Image.{is_failed, is_writable, number_of, size_of, storage_of_image}
+use Rattle.qcow2_image.specs.Image.{is_external, is_failed, is_writable, number_of, size_of, storage_of_image}
 use Rattle.qcow2_image.specs.ImageInvariant.{abstract_of, meaning}
 use Rattle.qcow2_image.specs.Prepared.{table_of}
 use Rattle.qcow2_image.specs.Preparing.{IsAnswered, IsOfNothing}
@@ -27,6 +27,22 @@ free_slots = replicate 256 None
 -- no mapping is prepared but existing ones
 abbrev pub AreExisting : List (Option Prepared) → Type 0
 AreExisting out = (k : ℕ) (p : Prepared) → slice_get out k ≡ Some (Some p) → IsNone (table_of p)
+
+-- an image keeps its number, whether it is to be written, and whether its data stand in another file
+pub record KeepsItself {S F : Type 0} (old new : Qcow2 S F) : Type 0 where
+  pub number : number_of new ≡ number_of old
+  pub writable : is_writable new ≡ is_writable old
+  pub external : is_external new ≡ is_external old
+
+-- A point of a run, between two commands: the image, its prepared mappings by their slots, and the ranges that were looked up.
+pub record RunPoint (S F : Type 0) : Type 0 where
+  pub image : Qcow2 S F
+  pub prepared : List (Option Prepared)
+  pub found : ℕ → Option Found
+
+-- nothing is prepared, and nothing was looked up
+abbrev pub first_point : {S F : Type 0} → Qcow2 S F → RunPoint S F
+first_point image = record { image = image; prepared = free_slots; found = λ _. None }
 
 module _ {S F : Type 0} (view : S → StorageView) (backing : F → BackingView) where
   module _ (old new : Qcow2 S F) where
@@ -56,46 +72,45 @@ module _ {S F : Type 0} (view : S → StorageView) (backing : F → BackingView)
   abbrev pub LeavesUnwritten : (old : Qcow2 S F) (before : List (Option Prepared)) (new : Qcow2 S F) (after : List (Option Prepared)) → Type 0
   LeavesUnwritten old before new after = is_writable old ≡ false → (abstract_of view backing old before).is_sound → IsUnmodified view old → AreExisting before → IsLeftUnwritten old new after
 
-  -- One command of a run, from an image with its prepared mappings to another. What it tells of the image is so, and it is refused for its causes alone. The size of a failed image stays, and one that was opened for reading is left unwritten.
-  pub record IsToldStep (x : Setting) (old : Qcow2 S F) (before : List (Option Prepared)) (new : Qcow2 S F) (after : List (Option Prepared)) (s : State) (command : Command) (reply : Reply) : Type 0 where
-    pub step : RefinesCommand x (abstract_of view backing old before) (abstract_of view backing new after) s (command_of command) (reply_of reply)
-    pub tells : TellsOfImage old new before after command reply
-    pub causes : IsRightlyRefused view backing old new before command reply
-    pub size : IsTrue (is_failed old) → size_of new ≡ size_of old
-    pub unwritten : LeavesUnwritten old before new after
+  -- One command, whatever the image, from a point of a run to the next. What it tells of the image is so, and it is refused for its causes alone. The size of a failed image stays, and one that was opened for reading is left unwritten.
+  pub record IsToldStep (from to : RunPoint S F) (command : Command) (reply : Reply) : Type 0 where
+    pub keeps : KeepsItself from.image to.image
+    pub tells : TellsOfImage from.image to.image from.prepared to.prepared command reply
+    pub causes : IsRightlyRefused view backing from.image to.image from.prepared from.found command reply
+    pub finds : (slot : ℕ) → to.found slot ≡ found_after from.found (command_of command) (reply_of reply) slot
+    pub size : IsTrue (is_failed from.image) → size_of to.image ≡ size_of from.image
+    pub unwritten : LeavesUnwritten from.image from.prepared to.image to.prepared
 
-  -- Each command of a run is refused rightly, whatever the image: from where the one before it left the image with its mappings, up to an image with these.
-  abbrev pub AreRightlyRefused : (old : Qcow2 S F) (before : List (Option Prepared)) → List Command → List Reply → (new : Qcow2 S F) (after : List (Option Prepared)) → Type 0
-  AreRightlyRefused old before [] [] new after = (new ≡ old) × (after ≡ before)
-  AreRightlyRefused old before (command ∷ commands) (reply ∷ replies) new after =
-      (mid : Qcow2 S F) × (left : List (Option Prepared)) × IsRightlyRefused view backing old mid before command reply × AreRightlyRefused mid left commands replies new after
-  AreRightlyRefused old before [] (reply ∷ replies) new after = ⊥
-  AreRightlyRefused old before (command ∷ commands) [] new after = ⊥
+  -- so is each command, from one point to the next
+  abbrev pub IsToldAlong : (first : RunPoint S F) → List Command → List Reply → (points : List (RunPoint S F)) → (last : RunPoint S F) → Type 0
+  IsToldAlong first [] [] [] last = last ≡ first
+  IsToldAlong first (command ∷ commands) (reply ∷ replies) (next ∷ points) last = IsToldStep first next command reply × IsToldAlong next commands replies points last
+  IsToldAlong first commands replies points last = ⊥
 
-  -- nothing was answered, or so it is from free slots on
-  abbrev pub RefusesRightly : Qcow2 S F → List Command → List Reply → Type 0
-  RefusesRightly image commands replies = (replies ≡ []) ⊎ ((last : Qcow2 S F) × (left : List (Option Prepared)) × AreRightlyRefused image free_slots commands replies last left)
+  -- the image of a point with its prepared mappings, in words of a guest's disk
+  abbrev pub abstract_at : RunPoint S F → AbstractImage
+  abstract_at point = abstract_of view backing point.image point.prepared
 
-  -- so is each command, one after the other, up to an image with these mappings at this place of the run
-  abbrev pub IsToldAlong : (x : Setting) (old : Qcow2 S F) (before : List (Option Prepared)) (s : State) → List Command → List Reply → (new : Qcow2 S F) (after : List (Option Prepared)) (end : State) → Type 0
-  IsToldAlong x old before s [] [] new after end = (new ≡ old) × (after ≡ before) × (end ≡ s)
-  IsToldAlong x old before s (command ∷ commands) (reply ∷ replies) new after end =
-      (mid : Qcow2 S F) × (left : List (Option Prepared)) × (told : IsToldStep x old before mid left s command reply) × IsToldAlong x mid left told.step.end commands replies new after end
-  IsToldAlong x old before s [] (reply ∷ replies) new after end = ⊥
-  IsToldAlong x old before s (command ∷ commands) [] new after end = ⊥
+  -- each command is a step of the run that the first point stands at, between the same points
+  abbrev pub StepsAlong : (x : Setting) (first : RunPoint S F) (s : State) → List Command → List Reply → (points : List (RunPoint S F)) → (end : State) → Type 0
+  StepsAlong x first s [] [] [] end = end ≡ s
+  StepsAlong x first s (command ∷ commands) (reply ∷ replies) (next ∷ points) end =
+      (step : RefinesCommand x (abstract_at first) (abstract_at next) s (command_of command) (reply_of reply)) × StepsAlong x next step.end commands replies points end
+  StepsAlong x first s commands replies points end = ⊥
 
   module _ (old new : Qcow2 S F) where
-    -- so is a whole run, after which the mappings that are left are let go
-    pub record IsToldRun (x : Setting) (s : State) (commands : List Command) (replies : List Reply) : Type 0 where
-      pub end : State
-      pub last : Qcow2 S F
-      pub left : List (Option Prepared)
-      pub along : IsToldAlong x old free_slots s commands replies last left end
-      pub leaves : ReleasesMappings view backing last new left []
+    -- A whole run, through these points, after which the mappings that are left are let go. Its commands are steps of each run that the image stands at.
+    pub record IsToldRun (commands : List Command) (replies : List Reply) : Type 0 where
+      pub points : List (RunPoint S F)
+      pub last : RunPoint S F
+      pub along : IsToldAlong (first_point old) commands replies points last
+      pub steps : (x : Setting) (s : State) → RefinesState x (abstract_of view backing old []) s → (end : State) × StepsAlong x (first_point old) (begun s) commands replies points end
+      pub leaves : ReleasesMappings view backing last.image new last.prepared []
+      pub keeps : KeepsItself last.image new
 
-    -- so are the replies to commands on an image that stands at a place of a run
+    -- so it is, or nothing was called
     abbrev pub TellsThrough : List Command → List Reply → Type 0
-    TellsThrough commands replies = (x : Setting) (s : State) → RefinesState x (abstract_of view backing old []) s → IsUntouched view backing old new replies ⊎ IsToldRun x (begun s) commands replies
+    TellsThrough commands replies = IsUntouched view backing old new replies ⊎ IsToldRun commands replies
 
     -- an image that was opened for reading is never written: at each moment since, its storage has the same bytes
     abbrev pub IsNeverWritten : Type 0

@@ -1,5 +1,6 @@
 //! The commands that zero and discard ranges.
-ghost use Rattle.std.specs.Prelude.{◌≡◌, false, List, Option};
+ghost use Rattle.std.specs.Prelude.{ℕ, ◌≡◌, false, List, Option};
+ghost use Rattle.qcow2_disk.specs.Runs.{Found};
 ghost use Rattle.qcow2_image.specs.Image.{number_of, IsSameImage, is_writable};
 ghost use Rattle.qcow2_image.specs.declared.prepared.Prepared.{Prepared};
 ghost use Rattle.qcow2_session.specs.Causes.{IsRightlyRefused};
@@ -22,7 +23,7 @@ pub(crate) fn ensure_zero<S: Storage, F: WrappedFormat<S>>(
     ensures image { IsSameImage image.old image.new }
     ensures reading { is_writable image.old ≡ false → image.new ≡ image.old }
     ensures faults { CommandCounts S.view F.backing image.old image.new result }
-    ensures causes { (before : List (Option Prepared)) → IsRightlyRefused S.view F.backing image.old image.new before (EnsureZeroMapping offset length) result }
+    ensures causes { (before : List (Option Prepared)) (found : ℕ → Option Found) → IsRightlyRefused S.view F.backing image.old image.new before found (EnsureZeroMapping offset length) result }
     ensures goes { (slots : Slots) → CommandSteps S.view F.backing image.old image.new slots slots (EnsureZeroMapping offset length) result }
     ensures finds { (slots : Slots) → Finds slots slots (EnsureZeroMapping offset length) result }
 {
@@ -38,7 +39,7 @@ pub(crate) fn discard_to_zero<S: Storage, F: WrappedFormat<S>>(
     ensures image { IsSameImage image.old image.new }
     ensures reading { is_writable image.old ≡ false → image.new ≡ image.old }
     ensures faults { CommandCounts S.view F.backing image.old image.new result }
-    ensures causes { (before : List (Option Prepared)) → IsRightlyRefused S.view F.backing image.old image.new before (DiscardToZero offset length) result }
+    ensures causes { (before : List (Option Prepared)) (found : ℕ → Option Found) → IsRightlyRefused S.view F.backing image.old image.new before found (DiscardToZero offset length) result }
     ensures goes { (slots : Slots) → CommandSteps S.view F.backing image.old image.new slots slots (DiscardToZero offset length) result }
     ensures finds { (slots : Slots) → Finds slots slots (DiscardToZero offset length) result }
 {
@@ -54,7 +55,7 @@ pub(crate) fn discard_to_any<S: Storage, F: WrappedFormat<S>>(
     ensures image { IsSameImage image.old image.new }
     ensures reading { is_writable image.old ≡ false → image.new ≡ image.old }
     ensures faults { CommandCounts S.view F.backing image.old image.new result }
-    ensures causes { (before : List (Option Prepared)) → IsRightlyRefused S.view F.backing image.old image.new before (DiscardToAny offset length) result }
+    ensures causes { (before : List (Option Prepared)) (found : ℕ → Option Found) → IsRightlyRefused S.view F.backing image.old image.new before found (DiscardToAny offset length) result }
     ensures goes { (slots : Slots) → CommandSteps S.view F.backing image.old image.new slots slots (DiscardToAny offset length) result }
     ensures finds { (slots : Slots) → Finds slots slots (DiscardToAny offset length) result }
 {
@@ -70,7 +71,7 @@ pub(crate) fn discard_to_backing<S: Storage, F: WrappedFormat<S>>(
     ensures image { IsSameImage image.old image.new }
     ensures reading { is_writable image.old ≡ false → image.new ≡ image.old }
     ensures faults { CommandCounts S.view F.backing image.old image.new result }
-    ensures causes { (before : List (Option Prepared)) → IsRightlyRefused S.view F.backing image.old image.new before (DiscardToBacking offset length) result }
+    ensures causes { (before : List (Option Prepared)) (found : ℕ → Option Found) → IsRightlyRefused S.view F.backing image.old image.new before found (DiscardToBacking offset length) result }
     ensures goes { (slots : Slots) → CommandSteps S.view F.backing image.old image.new slots slots (DiscardToBacking offset length) result }
     ensures finds { (slots : Slots) → Finds slots slots (DiscardToBacking offset length) result }
 {

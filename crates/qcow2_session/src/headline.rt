@@ -1,9 +1,7 @@
 //! The headline: commands on an image that is opened from the bytes of a storage.
 ghost use Rattle.std.specs.Prelude.{◌≡◌, IfOk};
 ghost use Rattle.qcow2_image.specs.Image.{number_of};
-ghost use Rattle.qcow2_session.specs.Opening.{Headline, IsLeftAlone, IsOpenedAndRun, TellsOfOpened};
-ghost use Rattle.qcow2_image.specs.declared.image.Qcow2.{Qcow2};
-ghost use Rattle.qcow2_session.specs.CountedFaults.{RunCounts};
+ghost use Rattle.qcow2_session.specs.Opening.{CountsSinceBefore, Headline, IsLeftAlone, TellsOfOpened};
 ghost use Rattle.qcow2_image.specs.Opened.{NeedsAnother};
 
 use crate::session::{Command, Reply, run};
@@ -24,8 +22,7 @@ pub fn open_and_run<S: Storage, F: WrappedFormat<S>>(
 ) -> Result<(Qcow2<S, F>, Vec<Reply>), (S, ImageError)>
     ensures number { IfOk result (λ (image, replies). number_of image ≡ number) }
     ensures another { (S.view storage).is_honest → NeedsAnother (S.view storage).contents → IsLeftAlone (S.view storage) S.view result }
-    ensures faults { IfOk result (λ (image, replies). (opened : Qcow2 S F) × RunCounts S.view F.backing opened image replies.items) }
-    ensures causes { IfOk result (λ (image, replies). IsOpenedAndRun S.view F.backing (S.view storage) number commands.now replies.items) }
+    ensures faults { CountsSinceBefore S.view F.backing (S.view storage) result }
     ensures tells { TellsOfOpened S.view F.backing (S.view storage) number commands.now result }
     ensures headline { Headline S.view F.backing (S.view storage) commands.now result }
 {

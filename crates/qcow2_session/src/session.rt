@@ -1,6 +1,6 @@
 //! Commands, one after the other, on one image.
 ghost use Rattle.std.specs.Prelude.{◌≡◌, ◌+◌, ◌^◌, ◌≤◌, ◌⊎◌, ◌<◌, ◌++◌, ◌∷◌, ℕ, List, [], length, vec_len, IfSome, IfErr, IfOk, IsTrue, Option, None, Err, false};
-ghost use Rattle.qcow2_alloc.specs.declared.error.ImageError.TheVariants.{Failed, TablePrepared};
+ghost use Rattle.qcow2_alloc.specs.declared.error.ImageError.TheVariants.{Memory, TablePrepared};
 ghost use Rattle.qcow2_image.specs.Clearing.{IsUnderMapping};
 ghost use Rattle.qcow2_image.specs.Preallocation.{IsUnderMappingIn};
 ghost use Rattle.qcow2_image.specs.Image.{IsSameImage, is_failed, is_writable, number_of, size_of};
@@ -11,10 +11,11 @@ ghost use Rattle.qcow2_image.specs.Refusals.{IsMet, IsMetPreparing, unusable, re
 ghost use Rattle.qcow2_image.specs.Faults.{CountsImageFaults, NoFewerFaults, TellsFault};
 ghost use Rattle.qcow2_session.specs.Causes.{IsRightlyRefused};
 ghost use Rattle.qcow2_session.specs.CountedFaults.{CommandCounts, RunCounts};
-ghost use Rattle.qcow2_session.specs.Sessions.{IsRightlyBeyond, IsOfReading, IsOfWriting, EndsCluster, Reads, ReadsInto, ReadsFirst, Writes, WritesFirst, CommandSteps, Finds, ReleasesMappings, RunsThrough, RunRefinesDisk, LookupsFindContents};
+ghost use Rattle.qcow2_session.specs.Sessions.{IsRightlyBeyond, IsOfReading, IsOfWriting, EndsCluster, Reads, ReadsInto, ReadsFirst, Writes, WritesFirst, CommandSteps, Finds, ReleasesMappings, RunsThrough, RunRefinesDisk, LookupsFindContents, found_in};
+ghost use Rattle.qcow2_disk.specs.Runs.{Found};
 ghost use Rattle.qcow2_image.specs.Ranges.{LetsGo};
 ghost use Rattle.qcow2_image.specs.Unwritten.{IsOnlyRead, IsUnmodified};
-ghost use Rattle.qcow2_session.specs.Told.{IsNeverWritten, LeavesUnwritten, RefusesRightly, StaysUnwritten, TellsOfImage, TellsThrough};
+ghost use Rattle.qcow2_session.specs.Told.{IsNeverWritten, KeepsItself, LeavesUnwritten, StaysUnwritten, TellsOfImage, TellsThrough};
 ghost use Rattle.qcow2_image.specs.declared.prepared.Prepared.{Prepared};
 
 use crate::clearing::{discard_to_any, discard_to_backing, discard_to_zero, ensure_zero};
@@ -165,7 +166,7 @@ pub fn read<S: Storage, F: WrappedFormat<S>>(
     ensures unwritten { StaysUnwritten S.view F.backing image.old image.new }
     ensures faults { CountsImageFaults S.view F.backing image.old image.new result }
     ensures early { IfSome (refuses_to_read image.old offset length) (λ e. (result ≡ Err e) × (image.new ≡ image.old)) }
-    ensures late { refuses_to_read image.old offset length ≡ None → IfErr result IsMet }
+    ensures late { refuses_to_read image.old offset length ≡ None → IfErr result (λ e. IsMet e × (0 < length)) }
     ensures beyond { IfErr result (IsRightlyBeyond image.old offset length) }
     ensures cause { IfErr result IsOfReading }
     ensures sees { Reads S.view F.backing image.old image.new offset length result }
@@ -174,9 +175,20 @@ pub fn read<S: Storage, F: WrappedFormat<S>>(
     let Ok(count) = usize::try_from(length) else {
         return Err(ImageError::Memory);
     };
-    let mut bytes = vec![in alloc; 0; count]?;
+    let mut bytes = zeros(alloc, count)?;
     read_into(image, offset, &mut bytes)?;
     Ok(bytes)
+}
+
+// So many zeros. No bytes need no memory.
+pub(crate) fn zeros(alloc: Global, count: usize) -> Result<Vec<u8>, ImageError>
+    ensures len { IfOk result (λ bytes. vec_len bytes ≡ count) }
+    ensures cause { IfErr result (λ e. (e ≡ Memory) × (0 < count)) }
+{
+    if count == 0 {
+        return Ok(Vec::new(alloc));
+    }
+    Ok(vec![in alloc; 0; count]?)
 }
 
 /// Fills the buffer with the guest's bytes, from an offset in bytes on, whatever clusters and tables they lie in. After a refusal the
@@ -192,7 +204,7 @@ pub fn read_into<S: Storage, F: WrappedFormat<S>>(
     ensures unwritten { StaysUnwritten S.view F.backing image.old image.new }
     ensures faults { CountsImageFaults S.view F.backing image.old image.new result }
     ensures early { IfSome (refuses_to_read image.old offset (length bytes.old)) (λ e. (result ≡ Err e) × (image.new ≡ image.old)) }
-    ensures late { refuses_to_read image.old offset (length bytes.old) ≡ None → IfErr result IsMet }
+    ensures late { refuses_to_read image.old offset (length bytes.old) ≡ None → IfErr result (λ e. IsMet e × (0 < length bytes.old)) }
     ensures beyond { IfErr result (IsRightlyBeyond image.old offset (length bytes.old)) }
     ensures cause { IfErr result IsOfReading }
     ensures sees { ReadsInto S.view F.backing image.old image.new offset bytes.new result }
@@ -249,7 +261,7 @@ pub fn write<S: Storage, F: WrappedFormat<S>>(
     ensures unwritten { StaysUnwritten S.view F.backing image.old image.new }
     ensures faults { NoFewerFaults S.view F.backing image.old image.new × IfErr result (λ (e, n). TellsFault S.view F.backing image.old image.new e) }
     ensures early { IfSome (refuses_to_prepare image.old offset (length bytes.now)) (λ e. (result ≡ Err (e, 0)) × (image.new ≡ image.old)) }
-    ensures late { refuses_to_prepare image.old offset (length bytes.now) ≡ None → IfErr result (λ (e, n). IsMetPreparing e ⊎ ((e ≡ Failed) × (0 < n))) }
+    ensures late { refuses_to_prepare image.old offset (length bytes.now) ≡ None → IfErr result (λ (e, n). IsMetPreparing e × (0 < length bytes.now)) }
     ensures taken { refuses_to_prepare image.old offset (length bytes.now) ≡ None → (out : List (Option Prepared)) → (abstract_of S.view F.backing image.old out).is_sound
         → IfErr result (λ (e, n). e ≡ TablePrepared → IsUnderMappingIn image.old.file.header.fields offset (offset + length bytes.now) out) }
     ensures within { IfErr result (λ (e, n). n ≤ length bytes.now) }
@@ -284,14 +296,14 @@ fn write_some<S: Storage, F: WrappedFormat<S>>(
     ensures unwritten { StaysUnwritten S.view F.backing image.old image.new }
     ensures faults { CountsImageFaults S.view F.backing image.old image.new result }
     ensures early { IfSome (refuses_to_prepare image.old offset (length bytes.now)) (λ e. (result ≡ Err e) × (image.new ≡ image.old)) }
-    ensures late { refuses_to_prepare image.old offset (length bytes.now) ≡ None → IfErr result IsMetPreparing }
+    ensures late { refuses_to_prepare image.old offset (length bytes.now) ≡ None → IfErr result (λ e. IsMetPreparing e × (0 < length bytes.now)) }
     ensures taken { refuses_to_prepare image.old offset (length bytes.now) ≡ None → (out : List (Option Prepared)) → (abstract_of S.view F.backing image.old out).is_sound
         → IfErr result (λ e. e ≡ TablePrepared → (0 < length bytes.now) × IsUnderMapping image.old.file.header.fields offset out) }
     ensures some { IfOk result (λ n. 0 < length bytes.now → 0 < n) }
     ensures within { IfOk result (λ n. n ≤ length bytes.now) }
     ensures beyond { IfErr result (IsRightlyBeyond image.old offset (length bytes.now)) }
     ensures cause { IfErr result IsOfWriting }
-    ensures end { IfOk result (λ n. offset + length bytes.now < 2 ^ 64) }
+    ensures end { IfOk result (λ n. (is_failed image.new ≡ is_failed image.old) × (offset + length bytes.now < 2 ^ 64)) }
     ensures ends { (out : List (Option Prepared)) → (abstract_of S.view F.backing image.old out).is_sound → IfOk result (λ n. n < length bytes.now → EndsCluster image.old (offset + n)) }
     ensures sees { WritesFirst S.view F.backing image.old image.new offset bytes.now result }
 {
@@ -338,7 +350,6 @@ pub fn run<S: Storage, F: WrappedFormat<S>>(
     ensures runs { RunsThrough S.view F.backing image.old image.new commands.now result.items }
     ensures means { RunRefinesDisk S.view F.backing image.old image.new commands.now result.items }
     ensures tells { TellsThrough S.view F.backing image.old image.new commands.now result.items }
-    ensures causes { RefusesRightly S.view F.backing image.old commands.now result.items }
     ensures unwritten { IsNeverWritten S.view F.backing image.old image.new }
     ensures maps { LookupsFindContents S.view F.backing image.old image.new commands.now result.items }
 {
@@ -364,14 +375,14 @@ fn step<S: Storage, F: WrappedFormat<S>>(
     command: &Command,
 ) -> Reply
     requires { slots.old.image ≡ number_of image.old }
-    ensures number { number_of image.new ≡ number_of image.old }
+    ensures keeps { KeepsItself image.old image.new }
     ensures faults { CommandCounts S.view F.backing image.old image.new result }
     ensures slots { slots.new.image ≡ slots.old.image }
     ensures goes { CommandSteps S.view F.backing image.old image.new slots.old slots.new command.now result }
     ensures finds { Finds slots.old slots.new command.now result }
     ensures tells { TellsOfImage S.view F.backing image.old image.new slots.old.prepared.items slots.new.prepared.items command.now result }
     ensures size { IsTrue (is_failed image.old) → size_of image.new ≡ size_of image.old }
-    ensures causes { IsRightlyRefused S.view F.backing image.old image.new slots.old.prepared.items command.now result }
+    ensures causes { IsRightlyRefused S.view F.backing image.old image.new slots.old.prepared.items (found_in slots.old.mappings.items) command.now result }
     ensures unwritten { LeavesUnwritten S.view F.backing image.old slots.old.prepared.items image.new slots.new.prepared.items }
 {
     match command {
@@ -423,7 +434,7 @@ fn get_mapping<S: Storage, F: WrappedFormat<S>>(
     requires { slots.old.image ≡ number_of image.old }
     ensures image { IsSameImage image.old image.new }
     ensures faults { CommandCounts S.view F.backing image.old image.new result }
-    ensures causes { IsRightlyRefused S.view F.backing image.old image.new slots.old.prepared.items (Command.GetMapping slot offset max) result }
+    ensures causes { IsRightlyRefused S.view F.backing image.old image.new slots.old.prepared.items (found_in slots.old.mappings.items) (Command.GetMapping slot offset max) result }
     ensures slots { slots.new.image ≡ slots.old.image }
     ensures goes { CommandSteps S.view F.backing image.old image.new slots.old slots.new (Command.GetMapping slot offset max) result }
     ensures finds { Finds slots.old slots.new (Command.GetMapping slot offset max) result }
@@ -451,7 +462,7 @@ fn read_mapped<S: Storage, F: WrappedFormat<S>>(
     ensures image { IsSameImage image.old image.new }
     ensures unwritten { StaysUnwritten S.view F.backing image.old image.new }
     ensures faults { CommandCounts S.view F.backing image.old image.new result }
-    ensures causes { IsRightlyRefused S.view F.backing image.old image.new slots.now.prepared.items (Command.ReadMapped slot at length) result }
+    ensures causes { IsRightlyRefused S.view F.backing image.old image.new slots.now.prepared.items (found_in slots.now.mappings.items) (Command.ReadMapped slot at length) result }
     ensures goes { CommandSteps S.view F.backing image.old image.new slots.now slots.now (Command.ReadMapped slot at length) result }
     ensures finds { Finds slots.now slots.now (Command.ReadMapped slot at length) result }
 {
@@ -480,11 +491,11 @@ fn read_range<S: Storage, F: WrappedFormat<S>>(
     ensures unwritten { StaysUnwritten S.view F.backing image.old image.new }
     ensures faults { CountsImageFaults S.view F.backing image.old image.new result }
     ensures early { IfSome (unusable image.old) (λ e. (result ≡ Err e) × (image.new ≡ image.old)) }
-    ensures late { refuses_mapping image.old mapping.now.image ≡ None → IfErr result IsMet }
+    ensures late { refuses_mapping image.old mapping.now.image ≡ None → IfErr result (λ e. IsMet e × (0 < length)) }
     ensures sees { Reads S.view F.backing image.old image.new (mapping.now.offset + at) length result }
 {
     image.check_read(0, 0)?;
-    let mut bytes = vec![in alloc; 0; length as usize]?;
+    let mut bytes = zeros(alloc, length as usize)?;
     image.read_mapped(mapping, at, &mut bytes)?;
     Ok(bytes)
 }
@@ -500,7 +511,7 @@ fn prepare<S: Storage, F: WrappedFormat<S>>(
     requires { slots.old.image ≡ number_of image.old }
     ensures image { IsSameImage image.old image.new }
     ensures faults { CommandCounts S.view F.backing image.old image.new result }
-    ensures causes { IsRightlyRefused S.view F.backing image.old image.new slots.old.prepared.items (Command.PrepareDataMapping slot offset length overwrite) result }
+    ensures causes { IsRightlyRefused S.view F.backing image.old image.new slots.old.prepared.items (found_in slots.old.mappings.items) (Command.PrepareDataMapping slot offset length overwrite) result }
     ensures slots { slots.new.image ≡ slots.old.image }
     ensures goes { CommandSteps S.view F.backing image.old image.new slots.old slots.new (Command.PrepareDataMapping slot offset length overwrite) result }
     ensures finds { Finds slots.old slots.new (Command.PrepareDataMapping slot offset length overwrite) result }
@@ -535,7 +546,7 @@ fn write_mapped<S: Storage, F: WrappedFormat<S>>(
     ensures image { IsSameImage image.old image.new }
     ensures reading { is_writable image.old ≡ false → image.new ≡ image.old }
     ensures faults { CommandCounts S.view F.backing image.old image.new result }
-    ensures causes { IsRightlyRefused S.view F.backing image.old image.new slots.now.prepared.items (Command.WriteMapped slot at bytes.now) result }
+    ensures causes { IsRightlyRefused S.view F.backing image.old image.new slots.now.prepared.items (found_in slots.now.mappings.items) (Command.WriteMapped slot at bytes.now) result }
     ensures goes { CommandSteps S.view F.backing image.old image.new slots.now slots.now (Command.WriteMapped slot at bytes.now) result }
     ensures finds { Finds slots.now slots.now (Command.WriteMapped slot at bytes.now) result }
 {
@@ -560,7 +571,7 @@ fn commit<S: Storage, F: WrappedFormat<S>>(
     requires { slots.old.image ≡ number_of image.old }
     ensures image { IsSameImage image.old image.new }
     ensures faults { CommandCounts S.view F.backing image.old image.new result }
-    ensures causes { IsRightlyRefused S.view F.backing image.old image.new slots.old.prepared.items (Command.CommitDataMapping slot) result }
+    ensures causes { IsRightlyRefused S.view F.backing image.old image.new slots.old.prepared.items (found_in slots.old.mappings.items) (Command.CommitDataMapping slot) result }
     ensures slots { slots.new.image ≡ slots.old.image }
     ensures goes { CommandSteps S.view F.backing image.old image.new slots.old slots.new (Command.CommitDataMapping slot) result }
     ensures finds { Finds slots.old slots.new (Command.CommitDataMapping slot) result }
@@ -587,7 +598,7 @@ fn discard<S: Storage, F: WrappedFormat<S>>(
     requires { slots.old.image ≡ number_of image.old }
     ensures image { IsSameImage image.old image.new }
     ensures faults { CommandCounts S.view F.backing image.old image.new result }
-    ensures causes { IsRightlyRefused S.view F.backing image.old image.new slots.old.prepared.items (Command.DiscardDataMapping slot) result }
+    ensures causes { IsRightlyRefused S.view F.backing image.old image.new slots.old.prepared.items (found_in slots.old.mappings.items) (Command.DiscardDataMapping slot) result }
     ensures slots { slots.new.image ≡ slots.old.image }
     ensures goes { CommandSteps S.view F.backing image.old image.new slots.old slots.new (Command.DiscardDataMapping slot) result }
     ensures finds { Finds slots.old slots.new (Command.DiscardDataMapping slot) result }
@@ -606,7 +617,7 @@ fn flush<S: Storage, F: WrappedFormat<S>>(image: &mut Qcow2<S, F>) -> Reply
     ensures image { IsSameImage image.old image.new }
     ensures unwritten { StaysUnwritten S.view F.backing image.old image.new }
     ensures faults { CommandCounts S.view F.backing image.old image.new result }
-    ensures causes { (before : List (Option Prepared)) → IsRightlyRefused S.view F.backing image.old image.new before Command.Flush result }
+    ensures causes { (before : List (Option Prepared)) (found : ℕ → Option Found) → IsRightlyRefused S.view F.backing image.old image.new before found Command.Flush result }
     ensures goes { (slots : Slots) → CommandSteps S.view F.backing image.old image.new slots slots Command.Flush result }
     ensures finds { (slots : Slots) → Finds slots slots Command.Flush result }
 {
@@ -632,6 +643,7 @@ fn release_slot<S: Storage, F: WrappedFormat<S>>(image: &mut Qcow2<S, F>, slot: 
 // Discards what is left.
 fn discard_all<S: Storage, F: WrappedFormat<S>>(image: &mut Qcow2<S, F>, slots: Slots)
     requires { slots.image ≡ number_of image.old }
+    ensures image { IsSameImage image.old image.new }
     ensures sees { ReleasesMappings S.view F.backing image.old image.new slots.prepared.items [] }
     ensures unwritten { IsUnmodified S.view image.old → IsOnlyRead S.view image.old image.new }
     ensures faults { NoFewerFaults S.view F.backing image.old image.new }

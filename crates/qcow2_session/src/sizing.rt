@@ -1,10 +1,12 @@
 //! The commands that change the size of the disk.
-ghost use Rattle.std.specs.Prelude.{◌≡◌, IsTrue, false, List, Option};
-ghost use Rattle.qcow2_image.specs.Image.{number_of, is_failed, is_writable, size_of};
+ghost use Rattle.std.specs.Prelude.{ℕ, ◌≡◌, IsTrue, false, List, Option};
+ghost use Rattle.qcow2_disk.specs.Runs.{Found};
+ghost use Rattle.qcow2_image.specs.Image.{is_failed, is_writable, size_of};
 ghost use Rattle.qcow2_image.specs.declared.prepared.Prepared.{Prepared};
 ghost use Rattle.qcow2_session.specs.Causes.{IsRightlyRefused};
 ghost use Rattle.qcow2_session.specs.CountedFaults.{CommandCounts};
 ghost use Rattle.qcow2_session.specs.Sessions.{CommandSteps, Finds};
+ghost use Rattle.qcow2_session.specs.Told.{KeepsItself};
 ghost use Rattle.qcow2_session.specs.declared.session.Command.TheVariants.{ResizeGrow, ResizeShrink};
 ghost use Rattle.qcow2_session.specs.declared.slots.Slots.{Slots};
 
@@ -18,11 +20,11 @@ pub(crate) fn grow<S: Storage, F: WrappedFormat<S>>(
     size: u64,
     mode: PreallocateMode,
 ) -> Reply
-    ensures number { number_of image.new ≡ number_of image.old }
+    ensures keeps { KeepsItself image.old image.new }
     ensures reading { is_writable image.old ≡ false → image.new ≡ image.old }
     ensures size { IsTrue (is_failed image.old) → size_of image.new ≡ size_of image.old }
     ensures faults { CommandCounts S.view F.backing image.old image.new result }
-    ensures causes { (before : List (Option Prepared)) → IsRightlyRefused S.view F.backing image.old image.new before (ResizeGrow size mode) result }
+    ensures causes { (before : List (Option Prepared)) (found : ℕ → Option Found) → IsRightlyRefused S.view F.backing image.old image.new before found (ResizeGrow size mode) result }
     ensures goes { (slots : Slots) → CommandSteps S.view F.backing image.old image.new slots slots (ResizeGrow size mode) result }
     ensures finds { (slots : Slots) → Finds slots slots (ResizeGrow size mode) result }
 {
@@ -34,11 +36,11 @@ pub(crate) fn grow<S: Storage, F: WrappedFormat<S>>(
 
 // Makes the disk smaller. It is replied the offset up to which the clusters behind the new end were dropped.
 pub(crate) fn shrink<S: Storage, F: WrappedFormat<S>>(image: &mut Qcow2<S, F>, size: u64) -> Reply
-    ensures number { number_of image.new ≡ number_of image.old }
+    ensures keeps { KeepsItself image.old image.new }
     ensures reading { is_writable image.old ≡ false → image.new ≡ image.old }
     ensures size { IsTrue (is_failed image.old) → size_of image.new ≡ size_of image.old }
     ensures faults { CommandCounts S.view F.backing image.old image.new result }
-    ensures causes { (before : List (Option Prepared)) → IsRightlyRefused S.view F.backing image.old image.new before (ResizeShrink size) result }
+    ensures causes { (before : List (Option Prepared)) (found : ℕ → Option Found) → IsRightlyRefused S.view F.backing image.old image.new before found (ResizeShrink size) result }
     ensures goes { (slots : Slots) → CommandSteps S.view F.backing image.old image.new slots slots (ResizeShrink size) result }
     ensures finds { (slots : Slots) → Finds slots slots (ResizeShrink size) result }
 {

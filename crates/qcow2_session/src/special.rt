@@ -1,6 +1,7 @@
 //! The commands that read what isn't mapped plainly.
-ghost use Rattle.std.specs.Prelude.{◌≡◌, ◌⊎◌, [], List, Option, None, IfErr, IfOk, IfSome, MatchOption, Err};
+ghost use Rattle.std.specs.Prelude.{ℕ, ◌≡◌, ◌<◌, ◌⊎◌, [], List, Option, None, IfErr, IfOk, IfSome, MatchOption, Err};
 ghost use Rattle.qcow2_alloc.specs.ImageFile.{known_in};
+ghost use Rattle.qcow2_disk.specs.Runs.{Found};
 ghost use Rattle.qcow2_image.specs.Calls.{AnswersCall};
 ghost use Rattle.qcow2_image.specs.Image.{IsSameImage};
 ghost use Rattle.qcow2_image.specs.Refusals.{IsMet, unusable};
@@ -16,7 +17,7 @@ ghost use Rattle.qcow2_session.specs.Told.{StaysUnwritten};
 ghost use Rattle.qcow2_session.specs.declared.session.Command.TheVariants.{ReadvSpecial, TryReadvSpecial};
 ghost use Rattle.qcow2_session.specs.declared.slots.Slots.{Slots};
 
-use crate::session::Reply;
+use crate::session::{Reply, zeros};
 use image_access::{Storage, WrappedFormat};
 use qcow2_image::{ImageError, Qcow2};
 use std::alloc::Global;
@@ -31,7 +32,7 @@ pub(crate) fn readv_special<S: Storage, F: WrappedFormat<S>>(
     ensures image { IsSameImage image.old image.new }
     ensures unwritten { StaysUnwritten S.view F.backing image.old image.new }
     ensures faults { CommandCounts S.view F.backing image.old image.new result }
-    ensures causes { (before : List (Option Prepared)) → IsRightlyRefused S.view F.backing image.old image.new before (ReadvSpecial offset length) result }
+    ensures causes { (before : List (Option Prepared)) (found : ℕ → Option Found) → IsRightlyRefused S.view F.backing image.old image.new before found (ReadvSpecial offset length) result }
     ensures goes { (slots : Slots) → CommandSteps S.view F.backing image.old image.new slots slots (ReadvSpecial offset length) result }
     ensures finds { (slots : Slots) → Finds slots slots (ReadvSpecial offset length) result }
 {
@@ -51,7 +52,7 @@ pub(crate) fn try_readv_special<S: Storage, F: WrappedFormat<S>>(
     ensures image { IsSameImage image.old image.new }
     ensures unwritten { StaysUnwritten S.view F.backing image.old image.new }
     ensures faults { CommandCounts S.view F.backing image.old image.new result }
-    ensures causes { (before : List (Option Prepared)) → IsRightlyRefused S.view F.backing image.old image.new before (TryReadvSpecial offset length) result }
+    ensures causes { (before : List (Option Prepared)) (found : ℕ → Option Found) → IsRightlyRefused S.view F.backing image.old image.new before found (TryReadvSpecial offset length) result }
     ensures goes { (slots : Slots) → CommandSteps S.view F.backing image.old image.new slots slots (TryReadvSpecial offset length) result }
     ensures finds { (slots : Slots) → Finds slots slots (TryReadvSpecial offset length) result }
 {
@@ -71,14 +72,14 @@ fn read_range<S: Storage, F: WrappedFormat<S>>(
     ensures unwritten { StaysUnwritten S.view F.backing image.old image.new }
     ensures faults { CountsImageFaults S.view F.backing image.old image.new result }
     ensures early { IfSome (unusable image.old) (λ e. (result ≡ Err e) × (image.new ≡ image.old)) }
-    ensures late { unusable image.old ≡ None → IfErr result (λ e. IsMet e ⊎ (e ≡ NotCompressed offset)) }
+    ensures late { unusable image.old ≡ None → IfErr result (λ e. (IsMet e ⊎ (e ≡ NotCompressed offset)) × (0 < length)) }
     ensures empty { IfOk result (λ done. length ≡ 0) }
     ensures own { IfErr result (IsOwnOffset offset) }
     ensures tells { (out : List (Option Prepared)) → (abstract_of S.view F.backing image.old out).is_sound → TellsSpecial (known_in S.view image.old.file) offset length result }
     ensures sees { AnswersCall S.view F.backing image.old image.new [] (λ done was is. is ≡ was) result }
 {
     image.check_read(0, 0)?;
-    let mut bytes = vec![in alloc; 0; length as usize]?;
+    let mut bytes = zeros(alloc, length as usize)?;
     image.readv_special(&mut bytes, offset)
 }
 
@@ -92,12 +93,12 @@ fn try_range<S: Storage, F: WrappedFormat<S>>(
     ensures unwritten { StaysUnwritten S.view F.backing image.old image.new }
     ensures faults { CountsImageFaults S.view F.backing image.old image.new result }
     ensures early { IfSome (unusable image.old) (λ e. (result ≡ Err e) × (image.new ≡ image.old)) }
-    ensures late { unusable image.old ≡ None → IfErr result IsMet }
+    ensures late { unusable image.old ≡ None → IfErr result (λ e. IsMet e × (0 < length)) }
     ensures answer { IfOk result (λ plain. MatchOption plain (length ≡ 0) (λ at. at ≡ offset)) }
     ensures tells { (out : List (Option Prepared)) → (abstract_of S.view F.backing image.old out).is_sound → TellsPlain (known_in S.view image.old.file) offset length result }
     ensures sees { AnswersCall S.view F.backing image.old image.new [] (λ plain was is. is ≡ was) result }
 {
     image.check_read(0, 0)?;
-    let mut bytes = vec![in alloc; 0; length as usize]?;
+    let mut bytes = zeros(alloc, length as usize)?;
     image.try_readv_special(&mut bytes, offset)
 }

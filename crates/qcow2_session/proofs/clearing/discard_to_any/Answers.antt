@@ -15,6 +15,6 @@ pub returns-clause-reading : goal.returns-clause-reading
 returns-clause-reading g c = λ reading. clear_same c.args.image.now reading _ _ c.discard_to_any_unsafe.ensures.early
 
 pub returns-clause-causes : goal.returns-clause-causes
-returns-clause-causes g c = λ before.
-    clears_rightly g.S.Storage.view g.F.BackingDisk.backing c.args.image.now c.discard_to_any_unsafe.new.self before c.args.offset c.args.length to_zero (C.DiscardToAny c.args.offset c.args.length) refl (λ le. le) (λ _ e met. met) (λ _ heeds. heeds) (λ _ never. (λ is. absurd (never is), λ is. absurd is))
+returns-clause-causes g c = λ before found.
+    clears_rightly g.S.Storage.view g.F.BackingDisk.backing c.args.image.now c.discard_to_any_unsafe.new.self before c.args.offset c.args.length to_zero (C.DiscardToAny c.args.offset c.args.length) refl (λ le. le) (λ e met. met) (λ _ heeds. heeds) (λ _ never. (λ is. absurd (never is), λ is. absurd is))
     c.discard_to_any_unsafe.result c.range_reply.result c.range_reply.ensures c.discard_to_any_unsafe.ensures.early c.discard_to_any_unsafe.ensures.late c.discard_to_any_unsafe.ensures.nothing (λ none some sound. c.discard_to_any_unsafe.ensures.under none some before sound)

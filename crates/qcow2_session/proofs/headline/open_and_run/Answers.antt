@@ -49,16 +49,20 @@ returns-clause-headline g c = λ honest consistent.
     (c.run-replies.ensures.means is)
 
 pub returns-clause-tells : goal.returns-clause-tells
-returns-clause-tells g c = λ honest consistent.
+returns-clause-tells g c =
     let view = g.S.Storage.view in
     let below = g.F.BackingDisk.backing in
     let opened = c.in-Ok.image in
     let v = abstract_of view below opened [] in
-    let is = c.in-Ok.ensures.opens honest consistent in
-    record { opened = opened; is = is; number_is = c.in-Ok.ensures.ok.0; writable = c.in-Ok.ensures.ok.2; run = c.run-replies.ensures.tells v.setting (started (guest_of v)) (begins v is.opened.sound (whole view below opened [] is.opened.sound) is.opened.clean) }
+    record {
+      opened = opened;
+      number_is = c.in-Ok.ensures.ok.0;
+      writable = c.in-Ok.ensures.ok.2;
+      works = c.in-Ok.ensures.ok.1;
+      run = c.run-replies.ensures.tells;
+      is = λ honest consistent. c.in-Ok.ensures.opens honest consistent;
+      begins = λ honest consistent. let is = c.in-Ok.ensures.opens honest consistent in begins v is.opened.sound (whole view below opened [] is.opened.sound) is.opened.clean;
+    }
 
 pub returns-clause-faults : goal.returns-clause-faults
-returns-clause-faults g c = (c.in-Ok.image, c.run-replies.ensures.faults)
-
-pub returns-clause-causes : goal.returns-clause-causes
-returns-clause-causes g c = record { opened = c.in-Ok.image; number_is = c.in-Ok.ensures.ok.0; writable = c.in-Ok.ensures.ok.2; causes = c.run-replies.ensures.causes }
+returns-clause-faults g c = (c.in-Ok.image, c.in-Ok.ensures.faults, c.run-replies.ensures.faults)

@@ -3,6 +3,7 @@ use Rattle.std.specs.Prelude.{slice_get}
 use Rattle.qcow2_image.specs.ImageInvariant.{abstract_of}
 use Rattle.qcow2_session.specs.Sessions.{ReleasesMappings}
 use Rattle.qcow2_session.proofs.Places.{get_front}
+use Rattle.qcow2_session.proofs.Told.{same_then}
 use Rattle.qcow2_session.proofs.Turns.{none_within, does_if, does_then}
 use Rattle.qcow2_image.proofs.Map.Unmodified.{read_then}
 use Rattle.qcow2_image.proofs.Call.FaultCounts.{fewer_then}
@@ -16,6 +17,7 @@ loop-slot-preserved g c =
     record {
       faults = fewer_then g.S.Storage.view g.F.BackingDisk.backing c.args.image.now c.loop-slot.image c.release_slot.new.image c.loop-slot.invariant.faults c.release_slot.ensures.faults;
       own = λ k p e. c.loop-slot.invariant.own k p (subst (λ o. slice_get o k ≡ Some (Some p)) (sym c.in-Some.ensures.items) (get_front rest (c.in-Some.slot ∷ []) k (Some p) e)) ∙ sym c.release_slot.ensures.image.number;
+      image = same_then c.loop-slot.invariant.image c.release_slot.ensures.image;
       unwritten = λ clean. let so_far = c.loop-slot.invariant.unwritten clean in read_then view so_far (c.release_slot.ensures.unwritten so_far.unmodified);
       gone = does_if (λ h. h.1 ∙ h.0)
           (does_then (λ _. none_within (abstract_of view below c.loop-slot.image (rest ++ c.in-Some.slot ∷ [])) [])

@@ -22,10 +22,10 @@ pub returns-clause-unwritten : goal.returns-clause-unwritten
 returns-clause-unwritten g c = λ reading out sound clean. c.flush.ensures.unwritten reading _ out sound clean
 
 pub returns-in-Err-clause-causes : goal.returns-in-Err-clause-causes
-returns-in-Err-clause-causes g c = λ before.
+returns-in-Err-clause-causes g c = λ before found.
     is_refused g.S.Storage.view g.F.BackingDisk.backing c.args.image.now c.flush.new.self before C.Flush c.in-Err.refusal (R.Refused c.in-Err.refusal) (λ is. absurd cc) (λ is. absurd cc, λ is. absurd is) refl
     (where_failed _ (is_failed c.args.image.now) (λ f. (same_error (c.in-Err.ensures.early f).0, (c.in-Err.ensures.early f).1))) (λ none. c.in-Err.ensures.late (not_failed (is_failed c.args.image.now) none)) (λ _ is. is) (λ _ _. tt)
 
 pub returns-clause-causes : goal.returns-clause-causes
-returns-clause-causes g c = λ before.
+returns-clause-causes g c = λ before found.
     is_answered g.S.Storage.view g.F.BackingDisk.backing c.args.image.now c.flush.new.self before C.Flush _ tt R.Done (λ is. absurd cc) (λ is. absurd cc, λ is. absurd is) refl (where_failed _ (is_failed c.args.image.now) (λ f. c.in_default.ensures.early f)) (λ _ _. tt)

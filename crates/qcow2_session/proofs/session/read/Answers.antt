@@ -1,4 +1,4 @@
-use Rattle.std.proofs.Common.{◌≡◌, length, sym, subst, take, drop, ◌++◌, arith}
+use Rattle.std.proofs.Common.{◌≡◌, ◌<◌, length, sym, subst, take, drop, ◌++◌, arith}
 use Rattle.std.proofs.lemmas.Grind.{common_steps}
 use Rattle.qcow2_disk.specs.Calls.{Shows}
 use Rattle.qcow2_disk.specs.AbstractImages.{guest_of}
@@ -20,4 +20,6 @@ returns-clause-sees g c = λ out.
     does_if (λ h. (grind (arith, common_steps), subst (λ b. Shows (guest_of (abstract_of g.S.Storage.view g.F.BackingDisk.backing c.args.image.now out)).disk c.args.offset b) (sym whole) h.0, h.1)) (c.in_ok-read_into.ensures.sees out)
 
 pub returns-in_err-read_into-clause-late : goal.returns-in_err-read_into-clause-late
-returns-in_err-read_into-clause-late g c = λ none. subst (λ r. IfErr r IsMet) (sym (refused_is _ c.in_err-read_into.field-0.0 c.from_residual-in_err-read_into.ensures)) (c.in_err-read_into.ensures.late (grind (arith, common_steps)))
+returns-in_err-read_into-clause-late g c = λ none.
+    subst (λ r. IfErr r (λ e. IsMet e × (0 < c.args.length))) (sym (refused_is _ c.in_err-read_into.field-0.0 c.from_residual-in_err-read_into.ensures))
+    (let met = c.in_err-read_into.ensures.late (grind (arith, common_steps)) in (met.0, grind (arith, common_steps)))

@@ -1,4 +1,4 @@
-use Rattle.std.proofs.Common.{◌≡◌, ◌∙◌, ◌+◌, ◌-◌, refl, length, IfErr, sym, subst, ap, [], take, drop, arith}
+use Rattle.std.proofs.Common.{◌≡◌, ◌<◌, ◌∙◌, ◌+◌, ◌-◌, refl, length, IfErr, sym, subst, ap, [], take, drop, arith}
 use Rattle.std.proofs.lemmas.Grind.{common_steps}
 use Rattle.qcow2_disk.specs.Calls.{another, Shows}
 use Rattle.qcow2_disk.specs.AbstractImages.{Guest, guest_of}
@@ -75,10 +75,12 @@ returns-in_default-clause-late g c = λ none. absurd (c.in_default.ensures (omeg
 
 pub returns-in_err-done-clause-late : goal.returns-in_err-done-clause-late
 returns-in_err-done-clause-late g c = λ none.
-    subst (λ r. IfErr r IsMet) (sym (refused_is _ c.in_err-done.field-0.0 c.from_residual-in_err-done.ensures))
+    subst (λ r. IfErr r (λ e. IsMet e × (0 < length c.args.bytes.now))) (sym (refused_is _ c.in_err-done.field-0.0 c.from_residual-in_err-done.ensures))
     (let part = take (length c.loop-done.bytes - c.loop-done.done) (drop c.loop-done.done c.loop-done.bytes) in
-    let rest : length part ≡ length c.loop-done.bytes - c.loop-done.done = grind (arith, common_steps) in
-    c.in_err-done.ensures.late
-    (part_reads c.args.image.now c.loop-done.image c.loop-done.invariant.image c.args.offset (length c.args.bytes.now) c.in-Some.at (length part) (omega (arith, c.in-Some.ensures.1))
-    (omega (arith, rest, c.in-Some.ensures.1, c.loop-done.invariant.within, c.loop-done.auto.bytes)) c.loop-done.invariant.works none)
-    (omega (arith, rest, c.loop-done-test.true)))
+    let rest : length part ≡ length c.loop-done.bytes - c.loop-done.done = grind (arith, common_steps) in (
+      c.in_err-done.ensures.late
+          (part_reads c.args.image.now c.loop-done.image c.loop-done.invariant.image c.args.offset (length c.args.bytes.now) c.in-Some.at (length part) (omega (arith, c.in-Some.ensures.1))
+          (omega (arith, rest, c.in-Some.ensures.1, c.loop-done.invariant.within, c.loop-done.auto.bytes)) c.loop-done.invariant.works none)
+          (omega (arith, rest, c.loop-done-test.true)),
+      omega (arith, c.loop-done.auto.bytes, c.loop-done-test.true),
+    ))

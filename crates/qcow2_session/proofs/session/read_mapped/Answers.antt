@@ -1,17 +1,17 @@
-use Rattle.std.proofs.Common.{refl, ap, ◌∙◌, Some, arith}
+use Rattle.std.proofs.Common.{refl, ap, ◌∙◌, Some, None, arith}
 use Rattle.qcow2_disk.proofs.RunSteps.{done_as, refused_as, none_as}
 use Rattle.qcow2_session.proofs.Turns.{does_if, does_why}
 use Rattle.qcow2_session.specs.Sessions.{range_of}
 use Rattle.qcow2_session.proofs.session.read_mapped.Goals.{then-at-mapping-via-then-at-mapping, then-at-mapping-via-else-at-mapping+then-length-mapping}
-use Rattle.qcow2_session.proofs.Meanings.{found_here, live, is_beyond}
+use Rattle.qcow2_session.proofs.Meanings.{found_here, isnt_beyond, live, is_beyond}
 use Rattle.qcow2_session.proofs.Answering.{unusable_first, error_is, not_both}
 use Rattle.qcow2_disk.specs.Runs.{misuse}
 use Rattle.qcow2_session.specs.declared.session.Command.TheVariants as C
 use Rattle.qcow2_session.specs.declared.session.Reply.TheVariants as R
 use Rattle.std.specs.Prelude.{get_or, length}
-use Rattle.std.proofs.Common.{◌≡◌, subst}
+use Rattle.std.proofs.Common.{◌≡◌, ◌+◌, ◌<◌, ◌≤◌, subst}
 use Rattle.std.proofs.lemmas.Option.{slice_get_read}
-use Rattle.qcow2_image.specs.Refusals.{unusable}
+use Rattle.qcow2_image.specs.Refusals.{IsMet, unusable}
 use Rattle.qcow2_session.proofs.Causing.{begun_with, is_answered, is_misused, is_refused, own_mapping}
 use Rattle.qcow2_session.proofs.session.read_mapped.Goals as goal
 
@@ -43,19 +43,35 @@ pub returns-in-Err-clause-goes : goal.returns-in-Err-clause-goes
 returns-in-Err-clause-goes g c = λ x s stands founds. refused_as x _ _ s _ _ _ _ refl stands (record { sized = λ _. tt; failed = λ f. error_is (unusable_first c.args.image.now _ c.in-Err.ensures.early f); may = λ _. tt }) (c.in-Err.ensures.sees c.args.slots.now.prepared.items) (λ f. f) (λ _ _. refl) tt
 
 pub returns-in_default-clause-causes : goal.returns-in_default-clause-causes
-returns-in_default-clause-causes g c = is_misused g.S.Storage.view g.F.BackingDisk.backing c.args.image.now c.args.image.now c.args.slots.now.prepared.items (C.ReadMapped c.args.slot c.args.at c.args.length) tt refl tt
+returns-in_default-clause-causes g c =
+    let here = found_here c.args.slots.now.mappings.items c.args.slot c.from.result c.index.result.now c.from.ensures (omega (arith, c.args.slots.now.all_mappings, c.ranges.slot)) c.index.ensures in
+    is_misused g.S.Storage.view g.F.BackingDisk.backing c.args.image.now c.args.image.now c.args.slots.now.prepared.items (C.ReadMapped c.args.slot c.args.at c.args.length)
+    (λ _. is_beyond c.args.at c.args.length (here ∙ ap (λ m. range_of (Some m)) c.in_default.is) tt, λ _. refl) refl tt
 
 pub returns-then-at-mapping-clause-causes : goal.returns-then-at-mapping-clause-causes
-returns-then-at-mapping-clause-causes g c = is_misused g.S.Storage.view g.F.BackingDisk.backing c.args.image.now c.args.image.now c.args.slots.now.prepared.items (C.ReadMapped c.args.slot c.args.at c.args.length) tt refl tt
+returns-then-at-mapping-clause-causes g c =
+    let here = found_here c.args.slots.now.mappings.items c.args.slot c.from.result c.index.result.now c.from.ensures (omega (arith, c.args.slots.now.all_mappings, c.ranges.slot)) c.index.ensures in
+    let past : c.in-Some.mapping.length < c.args.at + c.args.length = elim c.then-at-mapping.branch [
+      | then-at-mapping-via-then-at-mapping w ↦ omega (arith, w.if-at-mapping.true)
+      | then-at-mapping-via-else-at-mapping+then-length-mapping w ↦ omega (arith, w.if-at-mapping.false, w.if-length-mapping.true)
+    ] in
+    is_misused g.S.Storage.view g.F.BackingDisk.backing c.args.image.now c.args.image.now c.args.slots.now.prepared.items (C.ReadMapped c.args.slot c.args.at c.args.length)
+    (λ _. is_beyond c.args.at c.args.length (here ∙ ap (λ m. range_of (Some m)) c.in-Some.is) past, λ _. refl) refl tt
 
 pub returns-in-Ok-clause-causes : goal.returns-in-Ok-clause-causes
 returns-in-Ok-clause-causes g c =
-    is_answered g.S.Storage.view g.F.BackingDisk.backing c.args.image.now c.read_range.new.image c.args.slots.now.prepared.items (C.ReadMapped c.args.slot c.args.at c.args.length) _ _ (R.Bytes c.in-Ok.bytes) (λ is. absurd cc) tt refl c.in-Ok.ensures.early (λ _ _. tt)
+    let here = found_here c.args.slots.now.mappings.items c.args.slot c.from.result c.index.result.now c.from.ensures (omega (arith, c.args.slots.now.all_mappings, c.ranges.slot)) c.index.ensures in
+    let within : c.args.at + c.args.length ≤ c.in-Some.mapping.length = omega (arith, c.if-at-mapping.false, c.if-length-mapping.false) in
+    is_answered g.S.Storage.view g.F.BackingDisk.backing c.args.image.now c.read_range.new.image c.args.slots.now.prepared.items (C.ReadMapped c.args.slot c.args.at c.args.length) _ _ (R.Bytes c.in-Ok.bytes) (λ is. absurd cc)
+    (λ is. absurd cc, λ is. absurd (isnt_beyond (record { from = c.in-Some.mapping.offset; length = c.in-Some.mapping.length }) c.args.at c.args.length (here ∙ ap (λ m. range_of (Some m)) c.in-Some.is) within is)) refl c.in-Ok.ensures.early (λ _ _. tt)
 
 pub returns-in-Err-clause-causes : goal.returns-in-Err-clause-causes
 returns-in-Err-clause-causes g c =
     let mappings = c.args.slots.now.mappings.items in
     let there = slice_get_read mappings (length mappings) c.args.slot c.index.result.now refl (omega (arith, c.args.slots.now.all_mappings, c.ranges.slot)) (subst (λ k. c.index.result.now ≡ get_or mappings k c.index.result.now) c.from.ensures c.index.ensures) in
     let own = c.args.slots.now.looked_up c.args.slot c.in-Some.mapping (there ∙ ap Some c.in-Some.is) ∙ c.requires in
-    is_refused g.S.Storage.view g.F.BackingDisk.backing c.args.image.now c.read_range.new.image c.args.slots.now.prepared.items (C.ReadMapped c.args.slot c.args.at c.args.length) c.in-Err.refusal (R.Refused c.in-Err.refusal) (λ is. absurd cc) tt refl
-    (begun_with _ _ _ (unusable c.args.image.now) c.in-Err.ensures.early) (λ none. c.in-Err.ensures.late (own_mapping c.args.image.now c.in-Some.mapping.image own ∙ none)) (λ _ is. is) (λ _ _. tt)
+    let within : c.args.at + c.args.length ≤ c.in-Some.mapping.length = omega (arith, c.if-at-mapping.false, c.if-length-mapping.false) in
+    let late : unusable c.args.image.now ≡ None → IsMet c.in-Err.refusal × (0 < c.args.length) = λ none. c.in-Err.ensures.late (own_mapping c.args.image.now c.in-Some.mapping.image own ∙ none) in
+    is_refused g.S.Storage.view g.F.BackingDisk.backing c.args.image.now c.read_range.new.image c.args.slots.now.prepared.items (C.ReadMapped c.args.slot c.args.at c.args.length) c.in-Err.refusal (R.Refused c.in-Err.refusal) (λ is. absurd cc)
+    (λ is. absurd cc, λ is. absurd (isnt_beyond (record { from = c.in-Some.mapping.offset; length = c.in-Some.mapping.length }) c.args.at c.args.length (ap range_of (there ∙ ap Some c.in-Some.is)) within is)) refl
+    (begun_with _ _ _ (unusable c.args.image.now) c.in-Err.ensures.early) (λ none. (late none).0) (λ none empty. let some = (late none).1 in omega (arith, some, empty)) (λ _ _. tt)

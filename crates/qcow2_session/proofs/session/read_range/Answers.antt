@@ -1,10 +1,10 @@
-use Rattle.std.proofs.Common.{◌≡◌, ◌+◌, ◌++◌, take, drop, length, sym, subst, arith}
+use Rattle.std.proofs.Common.{◌≡◌, ◌∙◌, ◌<◌, Err, ◌+◌, ◌++◌, take, drop, length, sym, subst, arith}
 use Rattle.std.proofs.lemmas.Grind.{common_steps}
 use Rattle.qcow2_disk.specs.Calls.{Shows}
 use Rattle.qcow2_disk.specs.AbstractImages.{guest_of}
 use Rattle.qcow2_image.specs.ImageInvariant.{abstract_of}
 use Rattle.qcow2_session.specs.Sessions.{Reads}
-use Rattle.qcow2_session.proofs.Turns.{refused_is, does_if}
+use Rattle.qcow2_session.proofs.Turns.{refused_is, refused_some, does_if}
 use Rattle.std.specs.Prelude.{IfErr}
 use Rattle.qcow2_image.specs.Refusals.{IsMet}
 use Rattle.qcow2_session.proofs.session.read_range.Goals as goal
@@ -27,4 +27,6 @@ returns-clause-unwritten g c = λ reading out sound clean. c.read_mapped.ensures
 
 pub returns-in_err-read_mapped-clause-late : goal.returns-in_err-read_mapped-clause-late
 returns-in_err-read_mapped-clause-late g c = λ none.
-    subst (λ r. IfErr r IsMet) (sym (refused_is _ c.in_err-read_mapped.field-0.0 c.from_residual-in_err-read_mapped.ensures)) (c.in_err-read_mapped.ensures.late none)
+    let long : length c.deref_mut.result.now ≡ c.args.length = grind (arith, common_steps) in
+    subst (λ r. IfErr r (λ e. IsMet e × (0 < c.args.length))) (sym (refused_is _ c.in_err-read_mapped.field-0.0 c.from_residual-in_err-read_mapped.ensures))
+    (refused_some IsMet c.args.length (Err c.in_err-read_mapped.field-0.0) tt (c.in_err-read_mapped.ensures.late none) (λ empty. (c.in_err-read_mapped.ensures.nothing none (long ∙ empty)).0))

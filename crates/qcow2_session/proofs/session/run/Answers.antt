@@ -12,8 +12,9 @@ use Rattle.qcow2_alloc.specs.ImageFile.{contents_in, view_in}
 use Rattle.qcow2_session.proofs.LookingUp.{looked_up, none_said}
 use Rattle.qcow2_session.proofs.Places.{surplus_none}
 use Rattle.qcow2_session.proofs.Runs.{GoesOn, first_of_all, free_stands, goes_on, map_more}
-use Rattle.qcow2_session.specs.Told.{AreRightlyRefused, IsToldRun, free_slots}
-use Rattle.qcow2_session.proofs.Told.{IsToldSoFar, first_refused, first_told, refused_push, told_more}
+use Rattle.qcow2_session.specs.Told.{IsToldRun, RunPoint, first_point}
+use Rattle.qcow2_session.proofs.Told.{IsToldSoFar, first_told, image_itself, itself_then, same_itself, told_more}
+use Rattle.qcow2_session.specs.Sessions.{found_in}
 use Rattle.qcow2_image.proofs.Map.Unmodified.{holds_none}
 use Rattle.qcow2_session.proofs.Unwritten.{existing_none, never_written}
 use Rattle.qcow2_session.specs.CountedFaults.{RunCounts}
@@ -24,33 +25,21 @@ pub loop-command-init : goal.loop-command-init
 loop-command-init g c = record {
   faults = subst (λ l. RunCounts g.S.Storage.view g.F.BackingDisk.backing c.args.image.now c.args.image.now l) (sym c.in-Ok.ensures.items) (none_counted g.S.Storage.view g.F.BackingDisk.backing c.args.image.now);
   own = grind (arith, common_steps);
-  number = refl;
-  causes = first_refused g.S.Storage.view g.F.BackingDisk.backing c.args.image.now _ _ c.in-Some.ensures.prepared c.in-Ok.ensures.items;
+  keeps = same_itself refl;
   answered = c.in-Ok.ensures.len;
   ran = λ x s stands.
       let view = g.S.Storage.view in
       let below = g.F.BackingDisk.backing in
       first_of_all (image_abstraction view below) (free_places view below) c.args.image.now 256 x s _ _ _ c.in-Some.ensures.prepared c.in-Some.ensures.mappings (ap (λ l. map reply_of l) c.in-Ok.ensures.items) stands;
-  told = λ x s stands. first_told g.S.Storage.view g.F.BackingDisk.backing x c.args.image.now s _ _ _ c.in-Some.ensures.prepared c.in-Some.ensures.mappings c.in-Ok.ensures.items stands;
+  told = first_told g.S.Storage.view g.F.BackingDisk.backing c.args.image.now _ _ _ c.in-Some.ensures.prepared c.in-Some.ensures.mappings c.in-Ok.ensures.items;
 }
 
 pub loop-command-preserved : goal.loop-command-preserved
 loop-command-preserved g c = record {
   faults = subst (λ l. RunCounts g.S.Storage.view g.F.BackingDisk.backing c.args.image.now c.step-reply.new.image l) (sym c.push_reserved.ensures.items)
       (run_counts_more g.S.Storage.view g.F.BackingDisk.backing c.args.image.now c.loop-command.image c.step-reply.new.image c.loop-command.replies.items c.step-reply.result c.loop-command.invariant.faults c.step-reply.ensures.faults);
-  own = c.step-reply.ensures.slots ∙ c.loop-command.invariant.own ∙ sym c.step-reply.ensures.number;
-  number = c.step-reply.ensures.number ∙ c.loop-command.invariant.number;
-  causes =
-      let view = g.S.Storage.view in
-      let below = g.F.BackingDisk.backing in
-      let done = c.loop-command.command-index in
-      let commands = c.args.commands.now in
-      let next = c.step-reply.new.image in
-      let out = c.step-reply.new.slots.prepared.items in
-      let split = take_more commands done c.command-item.result c.loop-command-test.true ∙ ap (λ q. take done commands ++ q ∷ []) (sym c.command-item.is) in
-      subst (λ l. AreRightlyRefused view below c.args.image.now free_slots (take (done + 1) commands) l next out) (sym c.push_reserved.ensures.items)
-      (subst (λ l. AreRightlyRefused view below c.args.image.now free_slots l (c.loop-command.replies.items ++ c.step-reply.result ∷ []) next out) (sym split)
-      (refused_push view below c.args.image.now free_slots (take done commands) c.loop-command.replies.items c.loop-command.image c.loop-command.slots.prepared.items c.command-item.result c.step-reply.result next out c.loop-command.invariant.causes c.step-reply.ensures.causes));
+  own = c.step-reply.ensures.slots ∙ c.loop-command.invariant.own ∙ sym c.step-reply.ensures.keeps.number;
+  keeps = itself_then c.loop-command.invariant.keeps c.step-reply.ensures.keeps;
   answered = c.push_reserved.ensures.len ∙ ap (λ n. n + 1) c.loop-command.invariant.answered;
   ran = λ x s stands.
       let spec = image_abstraction g.S.Storage.view g.F.BackingDisk.backing in
@@ -67,23 +56,23 @@ loop-command-preserved g c = record {
       (subst (λ k. GoesOn spec x first free next out (begun s) k (map reply_of replies ++ reply_of c.step-reply.result ∷ []) found) (sym (map_more command_of commands done c.command-item.result split))
       (goes_on spec x first c.loop-command.image next free c.loop-command.slots.prepared.items out (begun s) (map command_of (take done commands)) (map reply_of replies)
       c.loop-command.slots.mappings.items found (command_of c.command-item.result) (reply_of c.step-reply.result) (c.loop-command.invariant.ran x s stands) (c.step-reply.ensures.goes x) c.step-reply.ensures.finds));
-  told = λ x s stands.
+  told =
       let view = g.S.Storage.view in
       let below = g.F.BackingDisk.backing in
       let done = c.loop-command.command-index in
       let commands = c.args.commands.now in
-      let next = c.step-reply.new.image in
-      let out = c.step-reply.new.slots.prepared.items in
-      let found = c.step-reply.new.slots.mappings.items in
+      let before : RunPoint _ _ = record { image = c.loop-command.image; prepared = c.loop-command.slots.prepared.items; found = found_in c.loop-command.slots.mappings.items } in
+      let now : RunPoint _ _ = record { image = c.step-reply.new.image; prepared = c.step-reply.new.slots.prepared.items; found = found_in c.step-reply.new.slots.mappings.items } in
       let split = take_more commands done c.command-item.result c.loop-command-test.true ∙ ap (λ q. take done commands ++ q ∷ []) (sym c.command-item.is) in
-      subst (λ l. IsToldSoFar view below x c.args.image.now next out (begun s) (take (done + 1) commands) l found) (sym c.push_reserved.ensures.items)
-      (subst (λ l. IsToldSoFar view below x c.args.image.now next out (begun s) l (c.loop-command.replies.items ++ c.step-reply.result ∷ []) found) (sym split)
-      (told_more view below x c.args.image.now c.loop-command.image next c.loop-command.slots.prepared.items out (begun s) (take done commands) c.loop-command.replies.items
-      c.loop-command.slots.mappings.items found c.command-item.result c.step-reply.result (c.loop-command.invariant.told x s stands) (c.step-reply.ensures.goes x) c.step-reply.ensures.tells c.step-reply.ensures.causes c.step-reply.ensures.size c.step-reply.ensures.unwritten c.step-reply.ensures.finds));
+      subst (λ l. IsToldSoFar view below c.args.image.now now (take (done + 1) commands) l) (sym c.push_reserved.ensures.items)
+      (subst (λ l. IsToldSoFar view below c.args.image.now now l (c.loop-command.replies.items ++ c.step-reply.result ∷ [])) (sym split)
+      (told_more view below c.args.image.now before now (take done commands) c.loop-command.replies.items c.command-item.result c.step-reply.result c.loop-command.invariant.told
+      (record { keeps = c.step-reply.ensures.keeps; tells = c.step-reply.ensures.tells; causes = c.step-reply.ensures.causes; finds = c.step-reply.ensures.finds; size = c.step-reply.ensures.size; unwritten = c.step-reply.ensures.unwritten })
+      c.step-reply.ensures.goes));
 }
 
 pub returns-clause-number : goal.returns-clause-number
-returns-clause-number g c = c.discard_all.ensures.sees.acts.number ∙ c.loop-command.invariant.number
+returns-clause-number g c = c.discard_all.ensures.image.number ∙ c.loop-command.invariant.keeps.number
 
 pub returns-clause-runs : goal.returns-clause-runs
 returns-clause-runs g c = λ x s stands.
@@ -140,14 +129,19 @@ pub returns-clause-faults : goal.returns-clause-faults
 returns-clause-faults g c = run_counts_still g.S.Storage.view g.F.BackingDisk.backing c.args.image.now c.loop-command.image c.discard_all.new.image c.loop-command.replies.items c.loop-command.invariant.faults c.discard_all.ensures.faults
 
 pub returns-clause-tells : goal.returns-clause-tells
-returns-clause-tells g c = λ x s stands.
+returns-clause-tells g c =
     let view = g.S.Storage.view in
     let below = g.F.BackingDisk.backing in
-    let new = c.discard_all.new.image in
     let all : take c.loop-command.command-index c.args.commands.now ≡ c.args.commands.now = take_all c.loop-command.command-index c.args.commands.now c.loop-command-test.false in
-    let told = c.loop-command.invariant.told x s stands in
-    inr (subst (λ k. IsToldRun view below c.args.image.now new x (begun s) k c.loop-command.replies.items) all
-    (record { end = told.end; last = c.loop-command.image; left = c.loop-command.slots.prepared.items; along = told.along; leaves = c.discard_all.ensures.sees }))
+    let told = c.loop-command.invariant.told in
+    inr (subst (λ k. IsToldRun view below c.args.image.now c.discard_all.new.image k c.loop-command.replies.items) all (record {
+      points = told.points;
+      last = record { image = c.loop-command.image; prepared = c.loop-command.slots.prepared.items; found = found_in c.loop-command.slots.mappings.items };
+      along = told.along;
+      steps = λ x s stands. let so_far = told.so_far x s stands in (so_far.end, so_far.steps);
+      leaves = c.discard_all.ensures.sees;
+      keeps = image_itself c.discard_all.ensures.image;
+    }))
 
 pub returns-clause-unwritten : goal.returns-clause-unwritten
 returns-clause-unwritten g c = λ reading opened.
@@ -158,23 +152,13 @@ returns-clause-unwritten g c = λ reading opened.
     let x = before.setting in
     let s = started (guest_of before) in
     let stands = begins before opened.sound (whole view below old [] opened.sound) opened.clean in
-    let told = c.loop-command.invariant.told x s stands in
-    never_written view below x old free_slots (begun s) (take c.loop-command.command-index c.args.commands.now) c.loop-command.replies.items c.loop-command.image c.loop-command.slots.prepared.items told.end c.discard_all.new.image told.along
-    (free_stands (image_abstraction view below) (free_places view below) old 256 x s stands) reading opened.clean existing_none told.stands c.discard_all.ensures.sees.acts.rests c.discard_all.ensures.unwritten
+    let told = c.loop-command.invariant.told in
+    let so_far = told.so_far x s stands in
+    never_written view below x (first_point old) (begun s) (take c.loop-command.command-index c.args.commands.now) c.loop-command.replies.items told.points _ so_far.end c.discard_all.new.image told.along so_far.steps
+    (free_stands (image_abstraction view below) (free_places view below) old 256 x s stands) reading opened.clean existing_none so_far.stands c.discard_all.ensures.sees.acts.rests c.discard_all.ensures.unwritten
 
 pub returns-in_default-clause-unwritten : goal.returns-in_default-clause-unwritten
 returns-in_default-clause-unwritten g c = λ reading opened. holds_none (view_in g.S.Storage.view c.args.image.now.file)
 
 pub returns-in_default-new-clause-unwritten : goal.returns-in_default-new-clause-unwritten
 returns-in_default-new-clause-unwritten g c = λ reading opened. holds_none (view_in g.S.Storage.view c.args.image.now.file)
-
-pub returns-in_default-clause-causes : goal.returns-in_default-clause-causes
-returns-in_default-clause-causes g c = inl c.new.ensures.items
-
-pub returns-in_default-new-clause-causes : goal.returns-in_default-new-clause-causes
-returns-in_default-new-clause-causes g c = inl c.new-in_default-new.ensures.items
-
-pub returns-clause-causes : goal.returns-clause-causes
-returns-clause-causes g c =
-    let all : take c.loop-command.command-index c.args.commands.now ≡ c.args.commands.now = take_all c.loop-command.command-index c.args.commands.now c.loop-command-test.false in
-    inr (c.loop-command.image, c.loop-command.slots.prepared.items, subst (λ k. AreRightlyRefused g.S.Storage.view g.F.BackingDisk.backing c.args.image.now free_slots k c.loop-command.replies.items c.loop-command.image c.loop-command.slots.prepared.items) all c.loop-command.invariant.causes)

@@ -8,19 +8,18 @@ use Rattle.qcow2_session.specs.CountedFaults.{RunCounts}
 use Rattle.qcow2_session.specs.Commands.{command_of, reply_of}
 use Rattle.qcow2_session.proofs.Runs.{GoesOn}
 use Rattle.qcow2_session.proofs.Told.{IsToldSoFar}
-use Rattle.qcow2_session.specs.Told.{AreRightlyRefused, free_slots}
+use Rattle.qcow2_session.specs.Sessions.{found_in}
+use Rattle.qcow2_session.specs.Told.{KeepsItself}
 use Rattle.qcow2_session.proofs.session.run.Given as goal
 
 abbrev pub invariant-loop-command : goal.invariant-loop-command
 invariant-loop-command g l = record {
   faults : RunCounts g.S.Storage.view g.F.BackingDisk.backing l.fn.image l.image l.replies.items;
   own : l.slots.image ≡ number_of l.image;
-  number : number_of l.image ≡ number_of l.fn.image;
-  causes : AreRightlyRefused g.S.Storage.view g.F.BackingDisk.backing l.fn.image free_slots (take l.command-index l.commands) l.replies.items l.image l.slots.prepared.items;
+  keeps : KeepsItself l.fn.image l.image;
   answered : vec_len l.replies ≡ l.command-index;
   ran : (x : Setting) (s : State) → RefinesState x (abstract_of g.S.Storage.view g.F.BackingDisk.backing l.fn.image []) s
       → GoesOn (image_abstraction g.S.Storage.view g.F.BackingDisk.backing) x l.fn.image (replicate 256 None) l.image l.slots.prepared.items (begun s)
       (map command_of (take l.command-index l.commands)) (map reply_of l.replies.items) l.slots.mappings.items;
-  told : (x : Setting) (s : State) → RefinesState x (abstract_of g.S.Storage.view g.F.BackingDisk.backing l.fn.image []) s
-      → IsToldSoFar g.S.Storage.view g.F.BackingDisk.backing x l.fn.image l.image l.slots.prepared.items (begun s) (take l.command-index l.commands) l.replies.items l.slots.mappings.items;
+  told : IsToldSoFar g.S.Storage.view g.F.BackingDisk.backing l.fn.image (record { image = l.image; prepared = l.slots.prepared.items; found = found_in l.slots.mappings.items }) (take l.command-index l.commands) l.replies.items;
 }

@@ -1,7 +1,7 @@
 use Rattle.std.proofs.Common.{refl, ap, sym, subst, ◌∙◌}
 use Rattle.qcow2_disk.proofs.RunSteps.{done_as, refused_as, none_as}
 use Rattle.qcow2_session.specs.Commands.{command_of}
-use Rattle.qcow2_session.specs.Sessions.{CommandSteps}
+use Rattle.qcow2_session.specs.Sessions.{CommandSteps, found_in}
 use Rattle.qcow2_session.proofs.Answering.{reading_first, error_is, write_error_is, not_both, reads_answer, writes_answer, write_refused_answer}
 use Rattle.qcow2_session.specs.Told.{TellsOfImage}
 use Rattle.qcow2_session.specs.declared.session.Reply.TheVariants.{Bytes, Done, Refused, Size, WriteRefused}
@@ -192,62 +192,62 @@ pub returns-in-ResizeShrink-clause-unwritten : goal.returns-in-ResizeShrink-clau
 returns-in-ResizeShrink-clause-unwritten g c = λ reading sound clean existing. left_same g.S.Storage.view g.F.BackingDisk.backing c.args.image.now c.shrink.new.image c.args.slots.now.prepared.items (c.shrink.ensures.reading reading) reading clean existing
 
 pub returns-in-Ok-clause-causes : goal.returns-in-Ok-clause-causes
-returns-in-Ok-clause-causes g c = subst (λ q. IsRightlyRefused g.S.Storage.view g.F.BackingDisk.backing c.args.image.now c.read.new.image c.args.slots.now.prepared.items q (Bytes c.in-Ok.bytes)) (sym c.in-Read.is) (read_answered g.S.Storage.view g.F.BackingDisk.backing c.args.image.now c.read.new.image c.args.slots.now.prepared.items _ _ _ _ c.in-Ok.ensures.early)
+returns-in-Ok-clause-causes g c = subst (λ q. IsRightlyRefused g.S.Storage.view g.F.BackingDisk.backing c.args.image.now c.read.new.image c.args.slots.now.prepared.items (found_in c.args.slots.now.mappings.items) q (Bytes c.in-Ok.bytes)) (sym c.in-Read.is) (read_answered g.S.Storage.view g.F.BackingDisk.backing c.args.image.now c.read.new.image c.args.slots.now.prepared.items _ _ _ _ c.in-Ok.ensures.early)
 
 pub returns-in-Err-clause-causes : goal.returns-in-Err-clause-causes
-returns-in-Err-clause-causes g c = subst (λ q. IsRightlyRefused g.S.Storage.view g.F.BackingDisk.backing c.args.image.now c.read.new.image c.args.slots.now.prepared.items q (Refused c.in-Err.refusal)) (sym c.in-Read.is) (read_refused g.S.Storage.view g.F.BackingDisk.backing c.args.image.now c.read.new.image c.args.slots.now.prepared.items _ _ _ c.in-Err.ensures.early c.in-Err.ensures.late)
+returns-in-Err-clause-causes g c = subst (λ q. IsRightlyRefused g.S.Storage.view g.F.BackingDisk.backing c.args.image.now c.read.new.image c.args.slots.now.prepared.items (found_in c.args.slots.now.mappings.items) q (Refused c.in-Err.refusal)) (sym c.in-Read.is) (read_refused g.S.Storage.view g.F.BackingDisk.backing c.args.image.now c.read.new.image c.args.slots.now.prepared.items _ _ _ c.in-Err.ensures.early c.in-Err.ensures.late)
 
 pub returns-in-Ok-write-clause-causes : goal.returns-in-Ok-write-clause-causes
-returns-in-Ok-write-clause-causes g c = subst (λ q. IsRightlyRefused g.S.Storage.view g.F.BackingDisk.backing c.args.image.now c.write.new.image c.args.slots.now.prepared.items q Done) (sym c.in-Write.is) (write_answered g.S.Storage.view g.F.BackingDisk.backing c.args.image.now c.write.new.image c.args.slots.now.prepared.items _ _ _ (rw c.deref.ensures.value at c.in-Ok-write.ensures.early))
+returns-in-Ok-write-clause-causes g c = subst (λ q. IsRightlyRefused g.S.Storage.view g.F.BackingDisk.backing c.args.image.now c.write.new.image c.args.slots.now.prepared.items (found_in c.args.slots.now.mappings.items) q Done) (sym c.in-Write.is) (write_answered g.S.Storage.view g.F.BackingDisk.backing c.args.image.now c.write.new.image c.args.slots.now.prepared.items _ _ _ (rw c.deref.ensures.value at c.in-Ok-write.ensures.early))
 
 pub returns-in-Err-write-clause-causes : goal.returns-in-Err-write-clause-causes
-returns-in-Err-write-clause-causes g c = subst (λ q. IsRightlyRefused g.S.Storage.view g.F.BackingDisk.backing c.args.image.now c.write.new.image c.args.slots.now.prepared.items q (WriteRefused c.in-Err-write.refusal c.in-Err-write.done)) (sym c.in-Write.is)
+returns-in-Err-write-clause-causes g c = subst (λ q. IsRightlyRefused g.S.Storage.view g.F.BackingDisk.backing c.args.image.now c.write.new.image c.args.slots.now.prepared.items (found_in c.args.slots.now.mappings.items) q (WriteRefused c.in-Err-write.refusal c.in-Err-write.done)) (sym c.in-Write.is)
     (write_refused_for g.S.Storage.view g.F.BackingDisk.backing c.args.image.now c.write.new.image c.args.slots.now.prepared.items _ _ _ _ (rw c.deref.ensures.value at c.in-Err-write.ensures.early) (rw c.deref.ensures.value at c.in-Err-write.ensures.late) (λ none sound. (rw c.deref.ensures.value at c.in-Err-write.ensures.taken) none c.args.slots.now.prepared.items sound))
 
 pub returns-in-Size-clause-causes : goal.returns-in-Size-clause-causes
-returns-in-Size-clause-causes g c = subst (λ q. IsRightlyRefused g.S.Storage.view g.F.BackingDisk.backing c.args.image.now c.args.image.now c.args.slots.now.prepared.items q (Size c.size.result)) (sym c.in-Size.is) (size_answered g.S.Storage.view g.F.BackingDisk.backing c.args.image.now c.args.image.now c.args.slots.now.prepared.items c.size.result)
+returns-in-Size-clause-causes g c = subst (λ q. IsRightlyRefused g.S.Storage.view g.F.BackingDisk.backing c.args.image.now c.args.image.now c.args.slots.now.prepared.items (found_in c.args.slots.now.mappings.items) q (Size c.size.result)) (sym c.in-Size.is) (size_answered g.S.Storage.view g.F.BackingDisk.backing c.args.image.now c.args.image.now c.args.slots.now.prepared.items c.size.result)
 
 pub returns-in-GetMapping-clause-causes : goal.returns-in-GetMapping-clause-causes
-returns-in-GetMapping-clause-causes g c = subst (λ q. IsRightlyRefused g.S.Storage.view g.F.BackingDisk.backing c.args.image.now c.get_mapping.new.image c.args.slots.now.prepared.items q c.get_mapping.result) (sym c.in-GetMapping.is) c.get_mapping.ensures.causes
+returns-in-GetMapping-clause-causes g c = subst (λ q. IsRightlyRefused g.S.Storage.view g.F.BackingDisk.backing c.args.image.now c.get_mapping.new.image c.args.slots.now.prepared.items (found_in c.args.slots.now.mappings.items) q c.get_mapping.result) (sym c.in-GetMapping.is) c.get_mapping.ensures.causes
 
 pub returns-in-ReadMapped-clause-causes : goal.returns-in-ReadMapped-clause-causes
-returns-in-ReadMapped-clause-causes g c = subst (λ q. IsRightlyRefused g.S.Storage.view g.F.BackingDisk.backing c.args.image.now c.read_mapped.new.image c.args.slots.now.prepared.items q c.read_mapped.result) (sym c.in-ReadMapped.is) c.read_mapped.ensures.causes
+returns-in-ReadMapped-clause-causes g c = subst (λ q. IsRightlyRefused g.S.Storage.view g.F.BackingDisk.backing c.args.image.now c.read_mapped.new.image c.args.slots.now.prepared.items (found_in c.args.slots.now.mappings.items) q c.read_mapped.result) (sym c.in-ReadMapped.is) c.read_mapped.ensures.causes
 
 pub returns-in-PrepareDataMapping-clause-causes : goal.returns-in-PrepareDataMapping-clause-causes
-returns-in-PrepareDataMapping-clause-causes g c = subst (λ q. IsRightlyRefused g.S.Storage.view g.F.BackingDisk.backing c.args.image.now c.prepare.new.image c.args.slots.now.prepared.items q c.prepare.result) (sym c.in-PrepareDataMapping.is) c.prepare.ensures.causes
+returns-in-PrepareDataMapping-clause-causes g c = subst (λ q. IsRightlyRefused g.S.Storage.view g.F.BackingDisk.backing c.args.image.now c.prepare.new.image c.args.slots.now.prepared.items (found_in c.args.slots.now.mappings.items) q c.prepare.result) (sym c.in-PrepareDataMapping.is) c.prepare.ensures.causes
 
 pub returns-in-WriteMapped-clause-causes : goal.returns-in-WriteMapped-clause-causes
-returns-in-WriteMapped-clause-causes g c = subst (λ q. IsRightlyRefused g.S.Storage.view g.F.BackingDisk.backing c.args.image.now c.write_mapped.new.image c.args.slots.now.prepared.items q c.write_mapped.result) (sym c.in-WriteMapped.is) c.write_mapped.ensures.causes
+returns-in-WriteMapped-clause-causes g c = subst (λ q. IsRightlyRefused g.S.Storage.view g.F.BackingDisk.backing c.args.image.now c.write_mapped.new.image c.args.slots.now.prepared.items (found_in c.args.slots.now.mappings.items) q c.write_mapped.result) (sym c.in-WriteMapped.is) c.write_mapped.ensures.causes
 
 pub returns-in-CommitDataMapping-clause-causes : goal.returns-in-CommitDataMapping-clause-causes
-returns-in-CommitDataMapping-clause-causes g c = subst (λ q. IsRightlyRefused g.S.Storage.view g.F.BackingDisk.backing c.args.image.now c.commit.new.image c.args.slots.now.prepared.items q c.commit.result) (sym c.in-CommitDataMapping.is) c.commit.ensures.causes
+returns-in-CommitDataMapping-clause-causes g c = subst (λ q. IsRightlyRefused g.S.Storage.view g.F.BackingDisk.backing c.args.image.now c.commit.new.image c.args.slots.now.prepared.items (found_in c.args.slots.now.mappings.items) q c.commit.result) (sym c.in-CommitDataMapping.is) c.commit.ensures.causes
 
 pub returns-in-DiscardDataMapping-clause-causes : goal.returns-in-DiscardDataMapping-clause-causes
-returns-in-DiscardDataMapping-clause-causes g c = subst (λ q. IsRightlyRefused g.S.Storage.view g.F.BackingDisk.backing c.args.image.now c.discard.new.image c.args.slots.now.prepared.items q c.discard.result) (sym c.in-DiscardDataMapping.is) c.discard.ensures.causes
+returns-in-DiscardDataMapping-clause-causes g c = subst (λ q. IsRightlyRefused g.S.Storage.view g.F.BackingDisk.backing c.args.image.now c.discard.new.image c.args.slots.now.prepared.items (found_in c.args.slots.now.mappings.items) q c.discard.result) (sym c.in-DiscardDataMapping.is) c.discard.ensures.causes
 
 pub returns-in-EnsureZeroMapping-clause-causes : goal.returns-in-EnsureZeroMapping-clause-causes
-returns-in-EnsureZeroMapping-clause-causes g c = subst (λ q. IsRightlyRefused g.S.Storage.view g.F.BackingDisk.backing c.args.image.now c.ensure_zero.new.image c.args.slots.now.prepared.items q c.ensure_zero.result) (sym c.in-EnsureZeroMapping.is) (c.ensure_zero.ensures.causes c.args.slots.now.prepared.items)
+returns-in-EnsureZeroMapping-clause-causes g c = subst (λ q. IsRightlyRefused g.S.Storage.view g.F.BackingDisk.backing c.args.image.now c.ensure_zero.new.image c.args.slots.now.prepared.items (found_in c.args.slots.now.mappings.items) q c.ensure_zero.result) (sym c.in-EnsureZeroMapping.is) (c.ensure_zero.ensures.causes c.args.slots.now.prepared.items (found_in c.args.slots.now.mappings.items))
 
 pub returns-in-DiscardToZero-clause-causes : goal.returns-in-DiscardToZero-clause-causes
-returns-in-DiscardToZero-clause-causes g c = subst (λ q. IsRightlyRefused g.S.Storage.view g.F.BackingDisk.backing c.args.image.now c.discard_to_zero.new.image c.args.slots.now.prepared.items q c.discard_to_zero.result) (sym c.in-DiscardToZero.is) (c.discard_to_zero.ensures.causes c.args.slots.now.prepared.items)
+returns-in-DiscardToZero-clause-causes g c = subst (λ q. IsRightlyRefused g.S.Storage.view g.F.BackingDisk.backing c.args.image.now c.discard_to_zero.new.image c.args.slots.now.prepared.items (found_in c.args.slots.now.mappings.items) q c.discard_to_zero.result) (sym c.in-DiscardToZero.is) (c.discard_to_zero.ensures.causes c.args.slots.now.prepared.items (found_in c.args.slots.now.mappings.items))
 
 pub returns-in-DiscardToAny-clause-causes : goal.returns-in-DiscardToAny-clause-causes
-returns-in-DiscardToAny-clause-causes g c = subst (λ q. IsRightlyRefused g.S.Storage.view g.F.BackingDisk.backing c.args.image.now c.discard_to_any.new.image c.args.slots.now.prepared.items q c.discard_to_any.result) (sym c.in-DiscardToAny.is) (c.discard_to_any.ensures.causes c.args.slots.now.prepared.items)
+returns-in-DiscardToAny-clause-causes g c = subst (λ q. IsRightlyRefused g.S.Storage.view g.F.BackingDisk.backing c.args.image.now c.discard_to_any.new.image c.args.slots.now.prepared.items (found_in c.args.slots.now.mappings.items) q c.discard_to_any.result) (sym c.in-DiscardToAny.is) (c.discard_to_any.ensures.causes c.args.slots.now.prepared.items (found_in c.args.slots.now.mappings.items))
 
 pub returns-in-DiscardToBacking-clause-causes : goal.returns-in-DiscardToBacking-clause-causes
-returns-in-DiscardToBacking-clause-causes g c = subst (λ q. IsRightlyRefused g.S.Storage.view g.F.BackingDisk.backing c.args.image.now c.discard_to_backing.new.image c.args.slots.now.prepared.items q c.discard_to_backing.result) (sym c.in-DiscardToBacking.is) (c.discard_to_backing.ensures.causes c.args.slots.now.prepared.items)
+returns-in-DiscardToBacking-clause-causes g c = subst (λ q. IsRightlyRefused g.S.Storage.view g.F.BackingDisk.backing c.args.image.now c.discard_to_backing.new.image c.args.slots.now.prepared.items (found_in c.args.slots.now.mappings.items) q c.discard_to_backing.result) (sym c.in-DiscardToBacking.is) (c.discard_to_backing.ensures.causes c.args.slots.now.prepared.items (found_in c.args.slots.now.mappings.items))
 
 pub returns-in-ReadvSpecial-clause-causes : goal.returns-in-ReadvSpecial-clause-causes
-returns-in-ReadvSpecial-clause-causes g c = subst (λ q. IsRightlyRefused g.S.Storage.view g.F.BackingDisk.backing c.args.image.now c.readv_special.new.image c.args.slots.now.prepared.items q c.readv_special.result) (sym c.in-ReadvSpecial.is) (c.readv_special.ensures.causes c.args.slots.now.prepared.items)
+returns-in-ReadvSpecial-clause-causes g c = subst (λ q. IsRightlyRefused g.S.Storage.view g.F.BackingDisk.backing c.args.image.now c.readv_special.new.image c.args.slots.now.prepared.items (found_in c.args.slots.now.mappings.items) q c.readv_special.result) (sym c.in-ReadvSpecial.is) (c.readv_special.ensures.causes c.args.slots.now.prepared.items (found_in c.args.slots.now.mappings.items))
 
 pub returns-in-TryReadvSpecial-clause-causes : goal.returns-in-TryReadvSpecial-clause-causes
-returns-in-TryReadvSpecial-clause-causes g c = subst (λ q. IsRightlyRefused g.S.Storage.view g.F.BackingDisk.backing c.args.image.now c.try_readv_special.new.image c.args.slots.now.prepared.items q c.try_readv_special.result) (sym c.in-TryReadvSpecial.is) (c.try_readv_special.ensures.causes c.args.slots.now.prepared.items)
+returns-in-TryReadvSpecial-clause-causes g c = subst (λ q. IsRightlyRefused g.S.Storage.view g.F.BackingDisk.backing c.args.image.now c.try_readv_special.new.image c.args.slots.now.prepared.items (found_in c.args.slots.now.mappings.items) q c.try_readv_special.result) (sym c.in-TryReadvSpecial.is) (c.try_readv_special.ensures.causes c.args.slots.now.prepared.items (found_in c.args.slots.now.mappings.items))
 
 pub returns-in-Flush-clause-causes : goal.returns-in-Flush-clause-causes
-returns-in-Flush-clause-causes g c = subst (λ q. IsRightlyRefused g.S.Storage.view g.F.BackingDisk.backing c.args.image.now c.flush.new.image c.args.slots.now.prepared.items q c.flush.result) (sym c.in-Flush.is) (c.flush.ensures.causes c.args.slots.now.prepared.items)
+returns-in-Flush-clause-causes g c = subst (λ q. IsRightlyRefused g.S.Storage.view g.F.BackingDisk.backing c.args.image.now c.flush.new.image c.args.slots.now.prepared.items (found_in c.args.slots.now.mappings.items) q c.flush.result) (sym c.in-Flush.is) (c.flush.ensures.causes c.args.slots.now.prepared.items (found_in c.args.slots.now.mappings.items))
 
 pub returns-in-ResizeGrow-clause-causes : goal.returns-in-ResizeGrow-clause-causes
-returns-in-ResizeGrow-clause-causes g c = subst (λ q. IsRightlyRefused g.S.Storage.view g.F.BackingDisk.backing c.args.image.now c.grow.new.image c.args.slots.now.prepared.items q c.grow.result) (sym c.in-ResizeGrow.is) (c.grow.ensures.causes c.args.slots.now.prepared.items)
+returns-in-ResizeGrow-clause-causes g c = subst (λ q. IsRightlyRefused g.S.Storage.view g.F.BackingDisk.backing c.args.image.now c.grow.new.image c.args.slots.now.prepared.items (found_in c.args.slots.now.mappings.items) q c.grow.result) (sym c.in-ResizeGrow.is) (c.grow.ensures.causes c.args.slots.now.prepared.items (found_in c.args.slots.now.mappings.items))
 
 pub returns-in-ResizeShrink-clause-causes : goal.returns-in-ResizeShrink-clause-causes
-returns-in-ResizeShrink-clause-causes g c = subst (λ q. IsRightlyRefused g.S.Storage.view g.F.BackingDisk.backing c.args.image.now c.shrink.new.image c.args.slots.now.prepared.items q c.shrink.result) (sym c.in-ResizeShrink.is) (c.shrink.ensures.causes c.args.slots.now.prepared.items)
+returns-in-ResizeShrink-clause-causes g c = subst (λ q. IsRightlyRefused g.S.Storage.view g.F.BackingDisk.backing c.args.image.now c.shrink.new.image c.args.slots.now.prepared.items (found_in c.args.slots.now.mappings.items) q c.shrink.result) (sym c.in-ResizeShrink.is) (c.shrink.ensures.causes c.args.slots.now.prepared.items (found_in c.args.slots.now.mappings.items))

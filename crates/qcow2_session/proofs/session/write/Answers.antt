@@ -14,10 +14,8 @@ use Rattle.qcow2_image.specs.Refusals.{refuses_to_prepare}
 use Rattle.qcow2_session.proofs.Told.{same_then}
 use Rattle.qcow2_image.proofs.Map.Unmodified.{read_then}
 use Rattle.qcow2_image.proofs.Call.FaultCounts.{fewer_then}
-use Rattle.std.proofs.Common.{◌+◌, inl, inr, ⊎_elim, refl}
-use Rattle.qcow2_alloc.specs.declared.error.ImageError.TheVariants as I
-use Rattle.qcow2_image.specs.Refusals.{IsMetPreparing}
-use Rattle.qcow2_session.proofs.Parts.{later_refused, part_prepares, part_under}
+use Rattle.std.proofs.Common.{◌+◌, refl}
+use Rattle.qcow2_session.proofs.Parts.{not_failed_yet, part_prepares, part_under, prepares_usable}
 use Rattle.qcow2_session.proofs.session.write.Goals as goal
 
 pub returns-in_default-clause-sees : goal.returns-in_default-clause-sees
@@ -26,8 +24,8 @@ returns-in_default-clause-sees g c = λ out. refuses_if (λ same. (c.loop-done.i
 pub loop-done-preserved : goal.loop-done-preserved
 loop-done-preserved g c = record {
   faults = fewer_then g.S.Storage.view g.F.BackingDisk.backing c.args.image.now c.loop-done.image c.write_some-in-loop-done.new.image c.loop-done.invariant.faults c.write_some-in-loop-done.ensures.faults.no_fewer;
+  works = c.in-Ok-write_some.ensures.end.0 ∙ c.loop-done.invariant.works;
   within = grind (arith, common_steps);
-  some = λ any. let so_far = c.loop-done.invariant.some any in omega (arith, so_far);
   image = same_then c.loop-done.invariant.image c.write_some-in-loop-done.ensures.image;
   unwritten = λ reading out sound clean.
       let so_far = c.loop-done.invariant.unwritten reading out sound clean in
@@ -85,19 +83,20 @@ pub returns-in-Err-clause-early : goal.returns-in-Err-clause-early
 returns-in-Err-clause-early g c = refused_first ℕ (Unit {0}) _ (refuses_to_prepare c.args.image.now c.args.offset (length c.args.bytes.now)) c.in-Err.refusal 0 c.in-Err.ensures.early
 
 pub returns-in-Err-clause-late : goal.returns-in-Err-clause-late
-returns-in-Err-clause-late g c = λ none. inl (c.in-Err.ensures.late none)
+returns-in-Err-clause-late g c = λ none. c.in-Err.ensures.late none
 
 pub returns-in_default-clause-late : goal.returns-in_default-clause-late
 returns-in_default-clause-late g c = λ none. absurd (c.in_default.ensures (omega (arith, c.loop-done.invariant.end, c.loop-done-test.true)))
 
 pub returns-in-Err-write_some-clause-late : goal.returns-in-Err-write_some-clause-late
 returns-in-Err-write_some-clause-late g c = λ none.
+    let old = c.args.image.now in
     let n = length c.args.bytes.now in
-    let any : 0 < n = omega (arith, c.loop-done-test.true) in
-    let so_far = c.loop-done.invariant.some any in
-    ⊎_elim (λ (met : IsMetPreparing c.in-Err-write_some.refusal). inl met) (λ (failed : c.in-Err-write_some.refusal ≡ I.Failed). inr (failed, so_far))
-    (later_refused c.args.image.now c.loop-done.image c.loop-done.invariant.image c.args.offset n c.in-Some.at (length (drop c.loop-done.done c.args.bytes.now)) (grind (arith, common_steps)) (grind (arith, common_steps)) _ c.in-Err-write_some.refusal
-    (rw (take_rest c.args.bytes.now c.loop-done.done) at c.in-Err-write_some.ensures.early) (rw (take_rest c.args.bytes.now c.loop-done.done) at c.in-Err-write_some.ensures.late) any none)
+    let rest = length (drop c.loop-done.done c.args.bytes.now) in
+    let works = c.loop-done.invariant.works ∙ not_failed_yet old c.loop-done.image c.loop-done.invariant.image (prepares_usable old c.args.offset n none) in
+    let met = (rw (take_rest c.args.bytes.now c.loop-done.done) at c.in-Err-write_some.ensures.late)
+    (part_prepares old c.loop-done.image c.loop-done.invariant.image c.args.offset n c.in-Some.at rest (grind (arith, common_steps)) (grind (arith, common_steps)) works (omega (arith, c.loop-done-test.true)) none) in
+    (met.0, omega (arith, c.loop-done-test.true))
 
 pub returns-in-Err-clause-taken : goal.returns-in-Err-clause-taken
 returns-in-Err-clause-taken g c = λ none out sound is.

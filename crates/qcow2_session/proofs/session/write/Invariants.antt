@@ -4,7 +4,7 @@ use Rattle.qcow2_disk.specs.Calls.{AnsweredEffect, with_disk}
 use Rattle.qcow2_disk.specs.Disk.{with_bytes}
 use Rattle.qcow2_disk.specs.Mappings.{given_of}
 use Rattle.qcow2_disk.specs.AbstractImages.{guest_of}
-use Rattle.qcow2_image.specs.Image.{IsSameImage}
+use Rattle.qcow2_image.specs.Image.{IsSameImage, is_failed}
 use Rattle.qcow2_image.specs.ImageInvariant.{abstract_of}
 use Rattle.qcow2_image.specs.declared.prepared.Prepared.{Prepared}
 use Rattle.qcow2_session.specs.Sessions.{EndsCluster}
@@ -15,8 +15,8 @@ use Rattle.qcow2_session.proofs.session.write.Given as goal
 abbrev pub invariant-loop-done : goal.invariant-loop-done
 invariant-loop-done g l = record {
   faults : NoFewerFaults g.S.Storage.view g.F.BackingDisk.backing l.fn.image l.image;
+  works : is_failed l.image ≡ is_failed l.fn.image;
   within : l.done ≤ length l.bytes;
-  some : 0 < length l.bytes → 0 < l.done;
   image : IsSameImage l.fn.image l.image;
   ends : (out : List (Option Prepared)) → (abstract_of g.S.Storage.view g.F.BackingDisk.backing l.fn.image out).is_sound → l.done < length l.bytes → EndsCluster l.fn.image (l.fn.offset + l.done);
   end : l.fn.offset + length l.bytes < 2 ^ 64;

@@ -16,7 +16,7 @@ use Rattle.qcow2_session.proofs.Turns.{refused_is, none_within, refuses_if, refu
 use Rattle.qcow2_image.proofs.Map.Unmodified.{read_same, read_then}
 use Rattle.qcow2_session.proofs.Unwritten.{nothing_prepared, prepare_same, put_same, read_let_go}
 use Rattle.qcow2_image.specs.declared.image.Qcow2.{Qcow2}
-use Rattle.std.proofs.Common.{◌<◌, inl, inr, take}
+use Rattle.std.proofs.Common.{ℕ, ◌<◌, inl, inr, take}
 use Rattle.std.specs.Prelude.{IfErr}
 use Rattle.std.proofs.lemmas.Bool.{cases_lt}
 use Rattle.std.proofs.lemmas.Grind.{common_steps}
@@ -25,7 +25,7 @@ use Rattle.qcow2_alloc.specs.declared.error.ImageError.TheVariants.{TablePrepare
 use Rattle.qcow2_image.specs.Calls.{reason_of}
 use Rattle.qcow2_image.specs.Clearing.{IsUnderMapping}
 use Rattle.qcow2_image.specs.Refusals.{IsMet, IsMetPreparing}
-use Rattle.qcow2_session.proofs.Parts.{not_failed_yet, prepares_usable, put_met, under_taken}
+use Rattle.qcow2_session.proofs.Parts.{mapping_usable, not_failed_yet, prepares_usable, put_met, under_taken}
 use Rattle.qcow2_session.proofs.session.write_some.Goals as goal
 
 -- what refused a call that begins another one before any work refused that one
@@ -166,22 +166,58 @@ returns-in-Err-Kept-clause-unwritten g c = λ reading out sound clean.
     let second = read_then view first (read_let_go view put c.commit_data_mapping.new.self goes.1 first.unmodified) in
     read_then view second (read_let_go view c.commit_data_mapping.new.self c.release-in-Err-Kept.new.image c.release-in-Err-Kept.ensures.rest second.unmodified)
 
+-- more than none
+some_bytes : (n : ℕ) → (n ≡ 0 → ⊥) → 0 < n
+some_bytes n none = elim (cases_lt 0 n) [
+  | inl some ↦ some
+  | inr least ↦ absurd (none (omega (arith, least)))
+]
+
 pub returns-in_err-prepared-clause-late : goal.returns-in_err-prepared-clause-late
-returns-in_err-prepared-clause-late g c = λ none. subst (λ r. IfErr r IsMetPreparing) (sym (refused_is _ c.in_err-prepared.field-0.0 c.from_residual.ensures)) (c.in_err-prepared.ensures.late none)
+returns-in_err-prepared-clause-late g c = λ none.
+    let old = c.args.image.now in
+    let n = length c.args.bytes.now in
+    subst (λ r. IfErr r (λ e. IsMetPreparing e × (0 < n))) (sym (refused_is _ c.in_err-prepared.field-0.0 c.from_residual.ensures))
+    (c.in_err-prepared.ensures.late none, some_bytes n (λ empty. let no = (c.in_err-prepared.ensures.nothing (ap (λ k. refuses_to_prepare old c.args.offset k) (sym empty) ∙ none) empty).0 in absurd cc))
 
 pub returns-in-Err-clause-late : goal.returns-in-Err-clause-late
-returns-in-Err-clause-late g c = λ none. inl (put_met c.args.image.now c.prepare_data_mapping.new.self c.prepare_data_mapping.ensures.image (image_of c.in_ok-prepared.prepared) c.args.offset (length c.args.bytes.now) (length (take c.min-count.result c.args.bytes.now)) c.in-Err.refusal
-    c.in_ok-prepared.ensures.own c.in_ok-prepared.ensures.marks (λ empty. grind (arith, common_steps)) none c.in-Err.ensures.late (λ usable empty. let no = (c.in-Err.ensures.nothing usable empty).0 in absurd cc))
+returns-in-Err-clause-late g c = λ none.
+    let old = c.args.image.now in
+    let mid = c.prepare_data_mapping.new.self in
+    let p = c.in_ok-prepared.prepared in
+    let n = length c.args.bytes.now in (
+      inl (put_met old mid c.prepare_data_mapping.ensures.image (image_of p) c.args.offset n (length (take c.min-count.result c.args.bytes.now)) c.in-Err.refusal
+          c.in_ok-prepared.ensures.own c.in_ok-prepared.ensures.marks (λ empty. grind (arith, common_steps)) none c.in-Err.ensures.late (λ usable empty. let no = (c.in-Err.ensures.nothing usable empty).0 in absurd cc)),
+      some_bytes n (λ empty.
+          let usable = mapping_usable old mid c.prepare_data_mapping.ensures.image (image_of p) c.in_ok-prepared.ensures.own c.in_ok-prepared.ensures.marks (prepares_usable old c.args.offset n none) in
+          let no = (c.in-Err.ensures.nothing usable (grind (arith, common_steps))).0 in absurd cc),
+    )
 
 pub returns-in-Err-Spent-clause-late : goal.returns-in-Err-Spent-clause-late
-returns-in-Err-Spent-clause-late g c = λ none. inl (subst (λ r. IsMet (reason_of r)) c.in-Err-Spent.field-0-is
-    (c.in-Err-Spent.ensures.late (c.in_ok-prepared.ensures.own ∙ sym (c.write_mapped.ensures.image.number ∙ c.prepare_data_mapping.ensures.image.number))
-    (c.in_default.ensures.marks ∙ c.in_ok-prepared.ensures.marks ∙ not_failed_yet c.args.image.now c.prepare_data_mapping.new.self c.prepare_data_mapping.ensures.image (prepares_usable c.args.image.now c.args.offset (length c.args.bytes.now) none))))
+returns-in-Err-Spent-clause-late g c = λ none.
+    let old = c.args.image.now in
+    let mid = c.prepare_data_mapping.new.self in
+    let n = length c.args.bytes.now in
+    let own = c.in_ok-prepared.ensures.own ∙ sym (c.write_mapped.ensures.image.number ∙ c.prepare_data_mapping.ensures.image.number) in
+    let works = c.in_default.ensures.marks ∙ c.in_ok-prepared.ensures.marks ∙ not_failed_yet old mid c.prepare_data_mapping.ensures.image (prepares_usable old c.args.offset n none) in (
+      inl (subst (λ r. IsMet (reason_of r)) c.in-Err-Spent.field-0-is (c.in-Err-Spent.ensures.late own works)),
+      some_bytes n (λ empty.
+          let nothing = (c.in_ok-prepared.ensures.nothing (ap (λ k. refuses_to_prepare old c.args.offset k) (sym empty) ∙ none) empty).1 in
+          let no = (c.in-Err-Spent.ensures.existing own works nothing.0).0 in absurd cc),
+    )
 
 pub returns-in-Err-Kept-clause-late : goal.returns-in-Err-Kept-clause-late
-returns-in-Err-Kept-clause-late g c = λ none. inl (subst (λ r. IsMet (reason_of r)) c.in-Err-Kept.field-0-is
-    (c.in-Err-Kept.ensures.late (c.in_ok-prepared.ensures.own ∙ sym (c.write_mapped.ensures.image.number ∙ c.prepare_data_mapping.ensures.image.number))
-    (c.in_default.ensures.marks ∙ c.in_ok-prepared.ensures.marks ∙ not_failed_yet c.args.image.now c.prepare_data_mapping.new.self c.prepare_data_mapping.ensures.image (prepares_usable c.args.image.now c.args.offset (length c.args.bytes.now) none))))
+returns-in-Err-Kept-clause-late g c = λ none.
+    let old = c.args.image.now in
+    let mid = c.prepare_data_mapping.new.self in
+    let n = length c.args.bytes.now in
+    let own = c.in_ok-prepared.ensures.own ∙ sym (c.write_mapped.ensures.image.number ∙ c.prepare_data_mapping.ensures.image.number) in
+    let works = c.in_default.ensures.marks ∙ c.in_ok-prepared.ensures.marks ∙ not_failed_yet old mid c.prepare_data_mapping.ensures.image (prepares_usable old c.args.offset n none) in (
+      inl (subst (λ r. IsMet (reason_of r)) c.in-Err-Kept.field-0-is (c.in-Err-Kept.ensures.late own works)),
+      some_bytes n (λ empty.
+          let nothing = (c.in_ok-prepared.ensures.nothing (ap (λ k. refuses_to_prepare old c.args.offset k) (sym empty) ∙ none) empty).1 in
+          let no = (c.in-Err-Kept.ensures.existing own works nothing.0).0 in absurd cc),
+    )
 
 pub returns-in_err-prepared-clause-taken : goal.returns-in_err-prepared-clause-taken
 returns-in_err-prepared-clause-taken g c = λ none out sound.

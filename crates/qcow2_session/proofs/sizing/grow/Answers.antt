@@ -1,6 +1,6 @@
-use Rattle.std.proofs.Common.{[], ap}
+use Rattle.std.proofs.Common.{ap}
 use Rattle.qcow2_session.proofs.Resized.{none_early, grow_done, grow_refused}
-use Rattle.qcow2_session.proofs.Unwritten.{resizes_failed, resizes_reading, same_early}
+use Rattle.qcow2_session.proofs.Unwritten.{resizes_failed, resized_itself, resizes_reading, same_early}
 use Rattle.qcow2_image.specs.Image.{size_of}
 use Rattle.qcow2_image.specs.Resizing.{refuses_to_resize}
 use Rattle.qcow2_session.specs.declared.session.Command.TheVariants as C
@@ -21,11 +21,11 @@ pub returns-in-Err-clause-goes : goal.returns-in-Err-clause-goes
 returns-in-Err-clause-goes g c = λ slots x s stands founds.
     grow_refused g.S.Storage.view g.F.BackingDisk.backing c.args.image.now c.resize_grow.new.self c.args.size slots.prepared.items x s stands c.in-Err.ensures.last c.args.mode _ c.in-Err.ensures.early c.in-Err.ensures.no_larger c.in-Err.ensures.sees
 
-pub returns-in-Ok-clause-number : goal.returns-in-Ok-clause-number
-returns-in-Ok-clause-number g c = (c.in-Ok.ensures.sees []).acts.number
+pub returns-in-Ok-clause-keeps : goal.returns-in-Ok-clause-keeps
+returns-in-Ok-clause-keeps g c = resized_itself c.args.image.now c.resize_grow.new.self _ _ _ (size_of c.args.image.now) c.args.size c.in-Ok.ensures.early c.in-Ok.ensures.no_larger c.in-Ok.ensures.image
 
-pub returns-in-Err-clause-number : goal.returns-in-Err-clause-number
-returns-in-Err-clause-number g c = (c.in-Err.ensures.sees []).acts.number
+pub returns-in-Err-clause-keeps : goal.returns-in-Err-clause-keeps
+returns-in-Err-clause-keeps g c = resized_itself c.args.image.now c.resize_grow.new.self _ _ _ (size_of c.args.image.now) c.args.size c.in-Err.ensures.early c.in-Err.ensures.no_larger c.in-Err.ensures.image
 
 pub returns-in-Ok-clause-reading : goal.returns-in-Ok-clause-reading
 returns-in-Ok-clause-reading g c = λ reading. same_early _ (refuses_to_resize c.args.image.now) (resizes_reading c.args.image.now reading) c.resize_grow.ensures.early
@@ -40,13 +40,13 @@ pub returns-in-Err-clause-size : goal.returns-in-Err-clause-size
 returns-in-Err-clause-size g c = λ failed. ap size_of (same_early _ (refuses_to_resize c.args.image.now) (resizes_failed c.args.image.now failed) c.resize_grow.ensures.early)
 
 pub returns-in-Ok-clause-causes : goal.returns-in-Ok-clause-causes
-returns-in-Ok-clause-causes g c = λ before.
+returns-in-Ok-clause-causes g c = λ before found.
     is_answered g.S.Storage.view g.F.BackingDisk.backing c.args.image.now c.resize_grow.new.self before (C.ResizeGrow c.args.size c.args.mode) _ tt R.Done (λ is. absurd cc) (λ is. absurd cc, λ is. absurd is) refl
     (then_early (refuses_to_resize c.args.image.now) (nat_lt (size_of c.args.image.now) c.args.size && takes_over c.args.image.now c.args.mode) Preallocation _ c.in-Ok.ensures.early
     (λ none takes. let t = takes_larger (size_of c.args.image.now) c.args.size (takes_over c.args.image.now c.args.mode) takes in c.in-Ok.ensures.preallocation none t.0 t.1)) (λ _ _ larger is. absurd cc)
 
 pub returns-in-Err-clause-causes : goal.returns-in-Err-clause-causes
-returns-in-Err-clause-causes g c = λ before.
+returns-in-Err-clause-causes g c = λ before found.
     let old = c.args.image.now in
     let e = c.in-Err.refusal in
     let first = then_none (refuses_to_resize old) (nat_lt (size_of old) c.args.size && takes_over old c.args.mode) Preallocation in

@@ -1,6 +1,6 @@
-use Rattle.std.proofs.Common.{[], ap}
+use Rattle.std.proofs.Common.{ap}
 use Rattle.qcow2_session.proofs.Resized.{shrink_done, shrink_refused}
-use Rattle.qcow2_session.proofs.Unwritten.{resizes_failed, resizes_reading, same_early}
+use Rattle.qcow2_session.proofs.Unwritten.{resizes_failed, resized_itself, resizes_reading, same_early}
 use Rattle.qcow2_image.specs.Image.{size_of}
 use Rattle.qcow2_image.specs.Resizing.{refuses_to_resize}
 use Rattle.qcow2_session.specs.declared.session.Command.TheVariants as C
@@ -17,11 +17,11 @@ pub returns-in-Err-clause-goes : goal.returns-in-Err-clause-goes
 returns-in-Err-clause-goes g c = λ slots x s stands founds.
     shrink_refused g.S.Storage.view g.F.BackingDisk.backing c.args.image.now c.resize_shrink.new.self c.args.size slots.prepared.items x s stands c.in-Err.ensures.last _ c.in-Err.ensures.early c.in-Err.ensures.no_smaller c.in-Err.ensures.sees
 
-pub returns-in-Ok-clause-number : goal.returns-in-Ok-clause-number
-returns-in-Ok-clause-number g c = (c.in-Ok.ensures.sees []).acts.number
+pub returns-in-Ok-clause-keeps : goal.returns-in-Ok-clause-keeps
+returns-in-Ok-clause-keeps g c = resized_itself c.args.image.now c.resize_shrink.new.self _ _ _ c.args.size (size_of c.args.image.now) c.in-Ok.ensures.early c.in-Ok.ensures.no_smaller c.in-Ok.ensures.image
 
-pub returns-in-Err-clause-number : goal.returns-in-Err-clause-number
-returns-in-Err-clause-number g c = (c.in-Err.ensures.sees []).acts.number
+pub returns-in-Err-clause-keeps : goal.returns-in-Err-clause-keeps
+returns-in-Err-clause-keeps g c = resized_itself c.args.image.now c.resize_shrink.new.self _ _ _ c.args.size (size_of c.args.image.now) c.in-Err.ensures.early c.in-Err.ensures.no_smaller c.in-Err.ensures.image
 
 pub returns-in-Ok-clause-reading : goal.returns-in-Ok-clause-reading
 returns-in-Ok-clause-reading g c = λ reading. same_early _ (refuses_to_resize c.args.image.now) (resizes_reading c.args.image.now reading) c.resize_shrink.ensures.early
@@ -36,12 +36,12 @@ pub returns-in-Err-clause-size : goal.returns-in-Err-clause-size
 returns-in-Err-clause-size g c = λ failed. ap size_of (same_early _ (refuses_to_resize c.args.image.now) (resizes_failed c.args.image.now failed) c.resize_shrink.ensures.early)
 
 pub returns-in-Ok-clause-causes : goal.returns-in-Ok-clause-causes
-returns-in-Ok-clause-causes g c = λ before.
+returns-in-Ok-clause-causes g c = λ before found.
     is_answered g.S.Storage.view g.F.BackingDisk.backing c.args.image.now c.resize_shrink.new.self before (C.ResizeShrink c.args.size) _ _ (R.Shrunk c.in-Ok.offset) (λ is. absurd cc) (λ is. absurd cc, λ is. absurd is) refl c.in-Ok.ensures.early
     (λ none sound smaller. (λ is. absurd cc, λ prepared. let no = (c.in-Ok.ensures.prepared none smaller before sound prepared).0 in absurd cc))
 
 pub returns-in-Err-clause-causes : goal.returns-in-Err-clause-causes
-returns-in-Err-clause-causes g c = λ before.
+returns-in-Err-clause-causes g c = λ before found.
     let old = c.args.image.now in
     let e = c.in-Err.refusal in
     is_refused g.S.Storage.view g.F.BackingDisk.backing old c.resize_shrink.new.self before (C.ResizeShrink c.args.size) e (R.Refused e) (λ is. absurd cc) (λ is. absurd cc, λ is. absurd is) refl (begun_with _ _ _ (refuses_to_resize old) c.in-Err.ensures.early)

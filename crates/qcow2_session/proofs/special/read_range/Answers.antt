@@ -1,7 +1,10 @@
-use Rattle.std.proofs.Common.{◌≡◌, ◌<◌, length, sym, ◌∙◌, subst, arith}
+use Rattle.std.proofs.Common.{◌≡◌, ◌⊎◌, ◌<◌, length, sym, ◌∙◌, subst, arith}
 use Rattle.std.proofs.lemmas.Grind.{common_steps}
 use Rattle.qcow2_alloc.specs.ImageFile.{known_in}
 use Rattle.qcow2_image.proofs.Sizes.{sound_is_usable}
+use Rattle.qcow2_alloc.specs.declared.error.ImageError.TheVariants.{NotCompressed}
+use Rattle.qcow2_image.specs.Refusals.{IsMet}
+use Rattle.qcow2_session.proofs.Turns.{refused_some}
 use Rattle.qcow2_session.proofs.SpecialReads.{told_specially}
 use Rattle.qcow2_session.proofs.special.read_range.Goals as goal
 
@@ -17,4 +20,6 @@ pub returns-clause-unwritten : goal.returns-clause-unwritten
 returns-clause-unwritten g c = λ reading out sound clean. c.readv_special.ensures.unwritten _ out sound clean
 
 pub returns-clause-late : goal.returns-clause-late
-returns-clause-late g c = c.readv_special.ensures.late
+returns-clause-late g c = λ usable.
+    let long : length c.deref_mut.result.now ≡ c.args.length = grind (arith, common_steps) in
+    refused_some (λ e. IsMet e ⊎ (e ≡ NotCompressed c.args.offset)) c.args.length c.readv_special.result tt (c.readv_special.ensures.late usable) (λ none. (c.readv_special.ensures.nothing usable (long ∙ none)).0)

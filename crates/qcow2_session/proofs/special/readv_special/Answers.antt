@@ -1,4 +1,4 @@
-use Rattle.std.proofs.Common.{refl}
+use Rattle.std.proofs.Common.{refl, arith}
 use Rattle.qcow2_disk.proofs.RunSteps.{done_as, refused_told}
 use Rattle.qcow2_session.proofs.Answering.{unusable_first, error_is, not_both}
 use Rattle.qcow2_session.proofs.Turns.{does_if}
@@ -16,7 +16,7 @@ pub returns-in-Err-clause-goes : goal.returns-in-Err-clause-goes
 returns-in-Err-clause-goes g c = λ slots x s stands founds. refused_told x _ _ s _ _ _ _ refl stands (record { sized = λ _. tt; failed = λ f. error_is (unusable_first c.args.image.now _ c.in-Err.ensures.early f); may = λ _. tt }) (c.in-Err.ensures.sees slots.prepared.items) (λ f. f) (λ _ _. refl) (c.in-Err.ensures.tells slots.prepared.items)
 
 pub returns-in-Ok-clause-causes : goal.returns-in-Ok-clause-causes
-returns-in-Ok-clause-causes g c = λ before. is_answered g.S.Storage.view g.F.BackingDisk.backing c.args.image.now c.read_range.new.image before (C.ReadvSpecial c.args.offset c.args.length) _ _ R.Done (λ is. absurd cc) (λ is. absurd cc, λ is. absurd is) refl c.in-Ok.ensures.early (λ _ _. tt)
+returns-in-Ok-clause-causes g c = λ before found. is_answered g.S.Storage.view g.F.BackingDisk.backing c.args.image.now c.read_range.new.image before (C.ReadvSpecial c.args.offset c.args.length) _ _ R.Done (λ is. absurd cc) (λ is. absurd cc, λ is. absurd is) refl c.in-Ok.ensures.early (λ _ _. tt)
 
 pub returns-in-Err-clause-causes : goal.returns-in-Err-clause-causes
-returns-in-Err-clause-causes g c = λ before. is_refused g.S.Storage.view g.F.BackingDisk.backing c.args.image.now c.read_range.new.image before (C.ReadvSpecial c.args.offset c.args.length) c.in-Err.refusal (R.Refused c.in-Err.refusal) (λ is. absurd cc) (λ is. absurd cc, λ is. absurd is) refl (begun_with _ _ _ (unusable c.args.image.now) c.in-Err.ensures.early) c.in-Err.ensures.late (λ _ is. is) (λ _ _. tt)
+returns-in-Err-clause-causes g c = λ before found. is_refused g.S.Storage.view g.F.BackingDisk.backing c.args.image.now c.read_range.new.image before (C.ReadvSpecial c.args.offset c.args.length) c.in-Err.refusal (R.Refused c.in-Err.refusal) (λ is. absurd cc) (λ is. absurd cc, λ is. absurd is) refl (begun_with _ _ _ (unusable c.args.image.now) c.in-Err.ensures.early) (λ none. (c.in-Err.ensures.late none).0) (λ none empty. let some = (c.in-Err.ensures.late none).1 in omega (arith, some, empty)) (λ _ _. tt)
