@@ -34,7 +34,7 @@ use Rattle.qcow2_alloc.specs.ImageStorage.{storage_of}
 use Rattle.qcow2_alloc.proofs.KeptTables.Standing.{own_cluster}
 use Rattle.qcow2_alloc.proofs.KeptTables.Turning.{safe_none}
 use Rattle.qcow2_alloc.proofs.Runs.{new_data_more}
-use Rattle.qcow2_alloc.proofs.FileSteps.{one_here, moves_none, moves_then, moves_on, on_then, on_breaks, leaves_then, breaks_after, moves_cached, reftable_cached, reftable_counted, moves_raised, moves_lowered}
+use Rattle.qcow2_alloc.proofs.FileSteps.{one_here, file_step_none, file_step_then, file_step_on, on_then, on_interrupted, leaves_then, interrupted_after, file_step_cached, reftable_cached, reftable_counted, file_step_raised, file_step_lowered}
 
 -- what a `?` hands on
 pub handed_on : {A E : Type 0} (P : Result A E → Type 0) (r : Result A E) (e : E) → IsErr r × IsErrAnd r (λ x. x ≡ e) → P (Err e) → P r
@@ -123,92 +123,92 @@ other_range cluster end per per' k below same past is =
 module _ {S : Type 0} (view : S → StorageView) where
   -- ---- one step after another
   -- an allocator with the same reftable
-  pub becomes_as : (p r : Pending) (a b : ImageFile S) (t t' : Allocator) → t'.reftable ≡ t.reftable → UnseenAllocatorStep view p a t b r → UnseenAllocatorStep view p a t' b r
-  becomes_as p r a b t t' same first = record { moves = first.moves; reftable = subst (HasReftable view b) (sym same) first.reftable }
+  pub allocator_step_as : (p r : Pending) (a b : ImageFile S) (t t' : Allocator) → t'.reftable ≡ t.reftable → UnseenAllocatorStep view p a t b r → UnseenAllocatorStep view p a t' b r
+  allocator_step_as p r a b t t' same first = record { file_step = first.file_step; reftable = subst (HasReftable view b) (sym same) first.reftable }
 
-  pub becomes_none : (p : Pending) (file : ImageFile S) (t : Allocator) → AllocatorInvariant view t p file → UnseenAllocatorStep view p file t file p
-  becomes_none p file t sound = record { moves = moves_none view p file sound.sound; reftable = sound.reftable }
+  pub allocator_step_none : (p : Pending) (file : ImageFile S) (t : Allocator) → AllocatorInvariant view t p file → UnseenAllocatorStep view p file t file p
+  allocator_step_none p file t sound = record { file_step = file_step_none view p file sound.sound; reftable = sound.reftable }
 
-  pub becomes_then : (p r : Pending) (a b c : ImageFile S) (t t' : Allocator) → UnseenAllocatorStep view p a t b p → UnseenAllocatorStep view p b t' c r → UnseenAllocatorStep view p a t' c r
-  becomes_then p r a b c t t' first second = record { moves = moves_then view p p r a b c (λ k some. some) first.moves second.moves; reftable = second.reftable }
+  pub allocator_step_then : (p r : Pending) (a b c : ImageFile S) (t t' : Allocator) → UnseenAllocatorStep view p a t b p → UnseenAllocatorStep view p b t' c r → UnseenAllocatorStep view p a t' c r
+  allocator_step_then p r a b c t t' first second = record { file_step = file_step_then view p p r a b c (λ k some. some) first.file_step second.file_step; reftable = second.reftable }
 
   pub is_sound_now : (p q : Pending) (a b : ImageFile S) (t : Allocator) → UnseenAllocatorStep view p a t b q → AllocatorInvariant view t q b
-  is_sound_now p q a b t first = record { sound = first.moves.sound; reftable = first.reftable }
+  is_sound_now p q a b t first = record { sound = first.file_step.sound; reftable = first.reftable }
 
   -- the same where the reftable may move
   pub on_of : (p q : Pending) (a b : ImageFile S) (t : Allocator) → UnseenAllocatorStep view p a t b q → UnseenAllocatorGrowth view p a t b q
-  on_of p q a b t becomes = record { moves = moves_on view p q a b becomes.moves; reftable = becomes.reftable }
+  on_of p q a b t allocator_step = record { file_step = file_step_on view p q a b allocator_step.file_step; reftable = allocator_step.reftable }
 
   pub on_none : (p : Pending) (file : ImageFile S) (t : Allocator) → AllocatorInvariant view t p file → UnseenAllocatorGrowth view p file t file p
-  on_none p file t sound = on_of p p file file t (becomes_none p file t sound)
+  on_none p file t sound = on_of p p file file t (allocator_step_none p file t sound)
 
   -- what is held for guests is held still
-  pub becomes_on : (p q r : Pending) (a b c : ImageFile S) (t t' : Allocator) → ((k : ℕ) → 0 < p.new_data k → 0 < q.new_data k) → UnseenAllocatorGrowth view p a t b q → UnseenAllocatorGrowth view q b t' c r → UnseenAllocatorGrowth view p a t' c r
-  becomes_on p q r a b c t t' new_data first second = record { moves = on_then view p q r a b c new_data first.moves second.moves; reftable = second.reftable }
+  pub allocator_step_on : (p q r : Pending) (a b c : ImageFile S) (t t' : Allocator) → ((k : ℕ) → 0 < p.new_data k → 0 < q.new_data k) → UnseenAllocatorGrowth view p a t b q → UnseenAllocatorGrowth view q b t' c r → UnseenAllocatorGrowth view p a t' c r
+  allocator_step_on p q r a b c t t' new_data first second = record { file_step = on_then view p q r a b c new_data first.file_step second.file_step; reftable = second.reftable }
 
   pub is_sound_on : (p q : Pending) (a b : ImageFile S) (t : Allocator) → UnseenAllocatorGrowth view p a t b q → AllocatorInvariant view t q b
-  is_sound_on p q a b t first = record { sound = first.moves.sound; reftable = first.reftable }
+  is_sound_on p q a b t first = record { sound = first.file_step.sound; reftable = first.reftable }
 
   -- after clusters were taken
-  pub becomes_more : (d : Bool) (p : Pending) (n : ℕ → ℕ) (r : Pending) (a b c : ImageFile S) (t t' : Allocator) → UnseenAllocatorStep view p a t b (taken_as d p n) → UnseenAllocatorStep view (taken_as d p n) b t' c r → UnseenAllocatorStep view p a t' c r
-  becomes_more d p n r a b c t t' first second = record { moves = moves_then view p (taken_as d p n) r a b c (new_data_more d p n) first.moves second.moves; reftable = second.reftable }
+  pub allocator_step_more : (d : Bool) (p : Pending) (n : ℕ → ℕ) (r : Pending) (a b c : ImageFile S) (t t' : Allocator) → UnseenAllocatorStep view p a t b (taken_as d p n) → UnseenAllocatorStep view (taken_as d p n) b t' c r → UnseenAllocatorStep view p a t' c r
+  allocator_step_more d p n r a b c t t' first second = record { file_step = file_step_then view p (taken_as d p n) r a b c (new_data_more d p n) first.file_step second.file_step; reftable = second.reftable }
 
-  pub becomes_cached : (p : Pending) (file : ImageFile S) (t : Allocator) (storage : ImageStorage S) (caches : MetadataCaches S) → AllocatorInvariant view t p file
+  pub allocator_step_cached : (p : Pending) (file : ImageFile S) (t : Allocator) (storage : ImageStorage S) (caches : MetadataCaches S) → AllocatorInvariant view t p file
       → UnseenCacheStep file.header.fields p (view_in view file) file.caches (view (storage_of storage)) caches → KeepsPinsAndNotes file.caches caches → UnseenAllocatorStep view p file t (record file { storage = storage; caches = caches }) p
-  becomes_cached p file t storage caches sound stays marks = record { moves = moves_cached view p file storage caches sound.sound stays marks; reftable = reftable_cached view p file storage caches sound.sound stays t.reftable sound.reftable }
+  allocator_step_cached p file t storage caches sound stays marks = record { file_step = file_step_cached view p file storage caches sound.sound stays marks; reftable = reftable_cached view p file storage caches sound.sound stays t.reftable sound.reftable }
 
   -- nothing but marks of the caches changes
-  pub becomes_marked : (p : Pending) (file : ImageFile S) (t : Allocator) (caches : MetadataCaches S) → AllocatorInvariant view t p file → SameTables file.caches caches → KeepsPinsAndNotes file.caches caches → UnseenAllocatorStep view p file t (record file { caches = caches }) p
-  becomes_marked p file t caches sound tables marks =
+  pub allocator_step_marked : (p : Pending) (file : ImageFile S) (t : Allocator) (caches : MetadataCaches S) → AllocatorInvariant view t p file → SameTables file.caches caches → KeepsPinsAndNotes file.caches caches → UnseenAllocatorStep view p file t (record file { caches = caches }) p
+  allocator_step_marked p file t caches sound tables marks =
       let h = file.header.fields in
-      becomes_cached p file t file.storage caches sound (record {
+      allocator_step_cached p file t file.storage caches sound (record {
         honest = sound.sound.honest;
         sound = tables.sound h p (contents_in view file) sound.sound.caches;
         known = tables.known h (contents_in view file);
-        settled = λ settled. subst (λ ts. AreNamedBlocks h ts (contents_in view file)) (sym tables.refblocks) settled;
+        named_blocks = λ named_blocks. subst (λ ts. AreNamedBlocks h ts (contents_in view file)) (sym tables.refblocks) named_blocks;
         since = safe_none (view_in view file) (known_in view file);
       }) marks
 
   -- a refusal that is no fault left all sound
   pub still_sound : (p : Pending) (a b : ImageFile S) (t : Allocator) (e : ImageError) → (IsFault e → ⊥) → RefusedFileStep view p a t b e → UnseenAllocatorStep view p a t b p
-  still_sound p a b t e other leaves = elim leaves [ inl sound ↦ record { moves = sound.0; reftable = sound.1 } | inr breaks ↦ absurd (other breaks.fault) ]
+  still_sound p a b t e other leaves = elim leaves [ inl sound ↦ record { file_step = sound.0; reftable = sound.1 } | inr interrupted ↦ absurd (other interrupted.fault) ]
 
   -- a refusal that left the same pending, as both words say it
   pub leaves_as : (p : Pending) (a b : ImageFile S) (t : Allocator) (e : ImageError) → RefusedFileStep view p a t b e → RefusedGrowth view p a t b p e
-  leaves_as p a b t e leaves = elim leaves [ inl sound ↦ inl (on_of p p a b t (record { moves = sound.0; reftable = sound.1 })) | inr breaks ↦ inr breaks ]
+  leaves_as p a b t e leaves = elim leaves [ inl sound ↦ inl (on_of p p a b t (record { file_step = sound.0; reftable = sound.1 })) | inr interrupted ↦ inr interrupted ]
 
   -- a refusal after a step
   pub leaves_on : (p q r : Pending) (a b c : ImageFile S) (t t' : Allocator) (e : ImageError) → ((k : ℕ) → 0 < p.new_data k → 0 < q.new_data k) → UnseenAllocatorGrowth view p a t b q → RefusedGrowth view q b t' c r e → RefusedGrowth view p a t' c r e
   leaves_on p q r a b c t t' e new_data first second = elim second [
-    | inl sound ↦ inl (becomes_on p q r a b c t t' new_data first sound)
-    | inr breaks ↦ inr (on_breaks view p q a b c e first.moves breaks)
+    | inl sound ↦ inl (allocator_step_on p q r a b c t t' new_data first sound)
+    | inr interrupted ↦ inr (on_interrupted view p q a b c e first.file_step interrupted)
   ]
 
   -- one that is no fault
   pub still_as : (p q : Pending) (a b : ImageFile S) (t : Allocator) (e : ImageError) → (IsFault e → ⊥) → RefusedGrowth view p a t b q e → UnseenAllocatorGrowth view p a t b q
-  still_as p q a b t e other leaves = elim leaves [ inl sound ↦ sound | inr breaks ↦ absurd (other breaks.fault) ]
+  still_as p q a b t e other leaves = elim leaves [ inl sound ↦ sound | inr interrupted ↦ absurd (other interrupted.fault) ]
 
   -- another allocator with the same reftable
   pub on_as : (p q : Pending) (a b : ImageFile S) (t t' : Allocator) → t'.reftable ≡ t.reftable → UnseenAllocatorGrowth view p a t b q → UnseenAllocatorGrowth view p a t' b q
-  on_as p q a b t t' same becomes = record { moves = becomes.moves; reftable = subst (HasReftable view b) (sym same) becomes.reftable }
+  on_as p q a b t t' same allocator_step = record { file_step = allocator_step.file_step; reftable = subst (HasReftable view b) (sym same) allocator_step.reftable }
 
   -- a cluster that is taken, or is in use, after a step
   pub takes_on : (p q : Pending) (a b c : ImageFile S) (t t' t'' : Allocator) (d : Bool) (cluster : ℕ) (taken : Bool) → ((k : ℕ) → 0 < p.new_data k → 0 < q.new_data k) → t''.reftable ≡ t'.reftable
       → UnseenAllocatorGrowth view p a t b q → TakesOne view q b t' c d cluster (Ok taken) → TakesCluster view p a t'' c q d cluster (Ok taken)
   takes_on p q a b c t t' t'' d cluster true new_data same first second =
-      on_as p (taken_as d q (one_at cluster)) a c t' t'' same (becomes_on p q (taken_as d q (one_at cluster)) a b c t t' new_data first (on_of q (taken_as d q (one_at cluster)) b c t' second))
-  takes_on p q a b c t t' t'' d cluster false new_data same first second = on_as p q a c t' t'' same (becomes_on p q q a b c t t' new_data first (on_of q q b c t' second))
+      on_as p (taken_as d q (one_at cluster)) a c t' t'' same (allocator_step_on p q (taken_as d q (one_at cluster)) a b c t t' new_data first (on_of q (taken_as d q (one_at cluster)) b c t' second))
+  takes_on p q a b c t t' t'' d cluster false new_data same first second = on_as p q a c t' t'' same (allocator_step_on p q q a b c t t' new_data first (on_of q q b c t' second))
 
   -- an allocation after a step that left the same pending
   pub allocates_then : (p q : Pending) (a b c : ImageFile S) (t t' : Allocator) (kind : ClusterKind) (n : ℕ) (result : Result ClustersToFreeEntry ImageError) → UnseenAllocatorGrowth view p a t b p → Allocates view p b t' c q kind n result → Allocates view p a t' c q kind n result
-  allocates_then p q a b c t t' kind n (Ok run) first second = (second.0, second.1, becomes_on p p (taken_as (is_data kind) q (run_at run.first_cluster n)) a b c t t' (λ k some. some) first second.2)
+  allocates_then p q a b c t t' kind n (Ok run) first second = (second.0, second.1, allocator_step_on p p (taken_as (is_data kind) q (run_at run.first_cluster n)) a b c t t' (λ k some. some) first second.2)
   allocates_then p q a b c t t' kind n (Err e) first second = leaves_on p p q a b c t t' e (λ k some. some) first second
 
   -- a refblock that was placed in a cluster that was taken for it, and that was noted
   pub gets_taken : (p : Pending) (a b c : ImageFile S) (t t' : Allocator) (range at : ℕ) (result : Result (Unit {0}) ImageError) → UnseenAllocatorStep view p a t b (taken_as false p (one_at at)) → IsTrue c.caches.is_changed
       → PlacesBlock view (taken_as false p (one_at at)) b t' c p range at result → GetsBlock view p a t' c result
-  gets_taken p a b c t t' range at (Ok _) first noted placed = record { moves = moves_then view p (taken_as false p (one_at at)) p a b c (λ k some. some) first.moves placed.0.moves; reftable = placed.0.reftable }
-  gets_taken p a b c t t' range at (Err e) first noted placed = inr (breaks_after view p (taken_as false p (one_at at)) a b c t' e first.moves placed.0 noted placed.1)
+  gets_taken p a b c t t' range at (Ok _) first noted placed = record { file_step = file_step_then view p (taken_as false p (one_at at)) p a b c (λ k some. some) first.file_step placed.0.file_step; reftable = placed.0.reftable }
+  gets_taken p a b c t t' range at (Err e) first noted placed = inr (interrupted_after view p (taken_as false p (one_at at)) a b c t' e first.file_step placed.0 noted placed.1)
 
   -- a refblock that was placed
   pub gets_placed : (p : Pending) (old new : ImageFile S) (t : Allocator) (range at : ℕ) (result : Result (Unit {0}) ImageError) → PlacesBlock view p old t new p range at result → GetsBlock view p old t new result
@@ -217,15 +217,15 @@ module _ {S : Type 0} (view : S → StorageView) where
 
   -- a refusal after a step that left the same pending, as the errors of answers say it
   pub gets_then : (p : Pending) (a b c : ImageFile S) (t t' : Allocator) (result : Result (Unit {0}) ImageError) → UnseenAllocatorStep view p a t b p → GetsBlock view p b t' c result → GetsBlock view p a t' c result
-  gets_then p a b c t t' (Ok _) first second = becomes_then p p a b c t t' first second
-  gets_then p a b c t t' (Err e) first second = leaves_then view p a b c t' e first.moves second
+  gets_then p a b c t t' (Ok _) first second = allocator_step_then p p a b c t t' first second
+  gets_then p a b c t t' (Err e) first second = leaves_then view p a b c t' e first.file_step second
 
   -- ---- the refblock of a range
   pub stands : (p : Pending) (file : ImageFile S) (t : EntryTableView) → FileInvariant view p file → HasReftable view file t → (range offset cluster bits : ℕ) → offset ≡ block_offset (entry_at t.bytes range) → 0 < offset
       → cluster * 2 ^ bits ≡ offset → bits ≡ file.header.fields.cluster_bits → IsSome (rb_at file.caches cluster) → RefblockAt view file range (Some cluster)
   stands p file t sound has range offset cluster bits is some at same there =
       let known : offset ≡ block_offset (reftable_entry file.header.fields (known_in view file) range) =
-      is ∙ ap block_offset (has.entries range ∙ sound.caches.kept.kept.guarded.same_top.reftable range) in (
+      is ∙ ap block_offset (has.entries range ∙ sound.caches.kept.kept.crash_invariant.same_top.reftable range) in (
         (λ none. let zero : offset ≡ 0 = known ∙ none in omega arith),
         sym known ∙ sym at ∙ ap (λ n. cluster * 2 ^ n) same,
         there,
@@ -237,7 +237,7 @@ module _ {S : Type 0} (view : S → StorageView) where
 
   -- where it has none, the reftable in memory names none
   pub none_in_memory : (p : Pending) (file : ImageFile S) (t : EntryTableView) → FileInvariant view p file → HasReftable view file t → (range : ℕ) → RefblockAt view file range None → HasNone t range
-  none_in_memory p file t sound has range none = ap block_offset (has.entries range ∙ sound.caches.kept.kept.guarded.same_top.reftable range) ∙ none
+  none_in_memory p file t sound has range none = ap block_offset (has.entries range ∙ sound.caches.kept.kept.crash_invariant.same_top.reftable range) ∙ none
 
   -- 64 bits hold where it stands
   pub place_fits : (entry offset cluster bits header_bits : ℕ) → offset ≡ block_offset entry → cluster * 2 ^ bits ≡ offset → bits ≡ header_bits → HasPlace header_bits cluster
@@ -263,23 +263,23 @@ module _ {S : Type 0} (view : S → StorageView) where
     pub taken_one : (d : Bool) → MayTake d a → order_of b.caches ≡ order_of a.caches → count b.header.fields (known_in view b) cluster ≡ 0 → RaisesCount b.caches caches block index
         → UnseenAllocatorStep view p a t (record b { caches = caches }) (taken_as d p (one_at cluster))
     taken_one d may same free raises =
-        let made = raises b.header.fields p (contents_in view b) cluster first.moves.sound.caches at free in record {
-          moves = moves_then view p p (taken_as d p (one_at cluster)) a b (record b { caches = caches }) (λ k some. some) first.moves
-              (moves_raised view p b caches cluster first.moves.sound marks turned made d (may_still d a b same may));
-          reftable = reftable_counted view p b caches cluster first.moves.sound marks turned t.reftable first.reftable;
+        let made = raises b.header.fields p (contents_in view b) cluster first.file_step.sound.caches at free in record {
+          file_step = file_step_then view p p (taken_as d p (one_at cluster)) a b (record b { caches = caches }) (λ k some. some) first.file_step
+              (file_step_raised view p b caches cluster first.file_step.sound marks turned made d (may_still d a b same may));
+          reftable = reftable_counted view p b caches cluster first.file_step.sound marks turned t.reftable first.reftable;
         }
 
     pub given_one : (owed : Owed) (q : Pending) → MayLower owed b → p ≡ owed_as owed q (one_at cluster) → LowersCount b.caches caches block index → UnseenAllocatorStep view p a t (record b { caches = caches }) q
     given_one owed q may owes lowers =
-        let made = lowers b.header.fields p (contents_in view b) cluster first.moves.sound.caches at in record {
-          moves = moves_then view p p q a b (record b { caches = caches }) (λ k some. some) first.moves (moves_lowered view p b caches cluster first.moves.sound marks turned q made owed may owes);
-          reftable = reftable_counted view p b caches cluster first.moves.sound marks turned t.reftable first.reftable;
+        let made = lowers b.header.fields p (contents_in view b) cluster first.file_step.sound.caches at in record {
+          file_step = file_step_then view p p q a b (record b { caches = caches }) (λ k some. some) first.file_step (file_step_lowered view p b caches cluster first.file_step.sound marks turned q made owed may owes);
+          reftable = reftable_counted view p b caches cluster first.file_step.sound marks turned t.reftable first.reftable;
         }
 
   -- what is owed is counted
   pub owed_counted : (owed : Owed) (q : Pending) (cluster : ℕ) (p : Pending) (file : ImageFile S) → p ≡ owed_as owed q (one_at cluster) → FileInvariant view p file → count file.header.fields (known_in view file) cluster ≢ 0
   owed_counted owed q cluster p file owes sound none =
-      let tally = (sound.caches.kept.kept.guarded.each_cluster cluster).tally in
+      let tally = (sound.caches.kept.kept.crash_invariant.each_cluster cluster).tally in
       let some = some_owed owed owes in
       absurd (omega (arith, tally, none, some))
     where

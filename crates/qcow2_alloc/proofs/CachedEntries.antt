@@ -1,7 +1,7 @@
 -- Facts about the entries of a cache.
 pub mod FirstPinned
 pub mod Flushing
-pub mod Going
+pub mod Evictions
 pub mod Knowing
 pub mod Lists
 pub mod Pins

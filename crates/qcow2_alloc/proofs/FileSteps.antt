@@ -18,7 +18,7 @@ use Rattle.qcow2_laws.specs.Steps.{CountRises, CountFalls}
 use Rattle.qcow2_laws.specs.Unseen.{IsUnseen}
 use Rattle.qcow2_laws.proofs.Caches.{unnamed_free_l2, unnamed_free_rb}
 use Rattle.qcow2_laws.proofs.KeptSteps.{known_is_on_storage}
-use Rattle.qcow2_laws.proofs.SafeSteps.{endures_none, raise_endures, fall_endures}
+use Rattle.qcow2_laws.proofs.SafeSteps.{safe_throughout_none, raise_safe_throughout, fall_safe_throughout}
 use Rattle.qcow2_laws.proofs.Steps.{count_is_changed, pending_is_changed}
 use Rattle.qcow2_laws.proofs.Unseen.{unseen_none, unseen_then, unseen_known, unseen_count, l1_same_none, l1_same_then, l1_same_storage, l1_same_known}
 use Rattle.qcow2_alloc.specs.declared.allocation.Allocator.{Allocator}
@@ -34,7 +34,7 @@ use Rattle.qcow2_alloc.specs.ImageStorage.{storage_of}
 use Rattle.qcow2_alloc.specs.KeptTables.{IsSafeSince}
 use Rattle.qcow2_alloc.specs.MetadataCaches.{order_of, l2_tables, refblocks, known_of, UnseenCacheStep, Made}
 use Rattle.qcow2_alloc.proofs.CountsStay.{counts_follow}
-use Rattle.qcow2_alloc.proofs.KeptTables.Settled.{top_still}
+use Rattle.qcow2_alloc.proofs.KeptTables.BlocksNamed.{top_still}
 
 -- ---- what is pending
 
@@ -60,8 +60,8 @@ pub one_few : (c k : ℕ) → one_at c k ≤ 1
 one_few c k = elim (k == c) as (λ (b : Bool). cond b 1 0 ≤ 1) [ true ↦ omega arith | false ↦ omega arith ]
 
 -- a call of the caches
-pub cached_endures : (old new : StorageView) (known : Bytes) → IsSafeSince old new known → SafeThroughout old new known nothing_given []
-cached_endures old new known since = record { moments = since.moments; contents = since.contents }
+pub cached_safe_throughout : (old new : StorageView) (known : Bytes) → IsSafeSince old new known → SafeThroughout old new known nothing_given []
+cached_safe_throughout old new known since = record { moments = since.moments; contents = since.contents }
 
 module _ {S : Type 0} (view : S → StorageView) where
   abbrev Moved : Pending → Pending → ImageFile S → ImageFile S → Type 0
@@ -69,80 +69,80 @@ module _ {S : Type 0} (view : S → StorageView) where
 
   -- ---- one step after another
 
-  pub moves_none : (p : Pending) (file : ImageFile S) → FileInvariant view p file → Moved p p file file
-  moves_none p file sound = record {
+  pub file_step_none : (p : Pending) (file : ImageFile S) → FileInvariant view p file → Moved p p file file
+  file_step_none p file sound = record {
     sound = sound;
-    leads = record { sound = sound.caches.kept.kept.guarded; on_storage = λ backing m ok known_ok. ok; known = λ backing m ok known_ok. known_ok };
-    since = endures_none (view_in view file) (known_in view file);
+    safe_step = record { sound = sound.caches.kept.kept.crash_invariant; on_storage = λ backing m ok known_ok. ok; known = λ backing m ok known_ok. known_ok };
+    since = safe_throughout_none (view_in view file) (known_in view file);
     unseen = unseen_none (state_in view file p);
     l1_table = l1_same_none (state_in view file p);
     counts = λ k. omega arith;
   }
 
-  pub endures_then : (a b c : ImageFile S) → SafeThroughout (view_in view a) (view_in view b) (known_in view a) nothing_given []
+  pub safe_throughout_then : (a b c : ImageFile S) → SafeThroughout (view_in view a) (view_in view b) (known_in view a) nothing_given []
       → ((backing : Bytes) (m : Checkpoint) → StopOkEverywhere backing m (contents_in view a) → StopOkEverywhere backing m (known_in view a) → StopOkEverywhere backing m (known_in view b))
       → SafeThroughout (view_in view b) (view_in view c) (known_in view b) nothing_given [] → SafeThroughout (view_in view a) (view_in view c) (known_in view a) nothing_given []
-  endures_then a b c first known second = record {
+  safe_throughout_then a b c first known second = record {
     moments = passes_on _ first.moments second.moments (λ l q backing m ok known_ok. q backing m (first.contents backing m ok known_ok) (known backing m ok known_ok));
     contents = λ backing m ok known_ok. second.contents backing m (first.contents backing m ok known_ok) (known backing m ok known_ok);
   }
 
-  pub moves_then : (p q r : Pending) (a b c : ImageFile S) → ((k : ℕ) → 0 < p.new_data k → 0 < q.new_data k) → Moved p q a b → Moved q r b c → Moved p r a c
-  moves_then p q r a b c new_data first second = record {
+  pub file_step_then : (p q r : Pending) (a b c : ImageFile S) → ((k : ℕ) → 0 < p.new_data k → 0 < q.new_data k) → Moved p q a b → Moved q r b c → Moved p r a c
+  file_step_then p q r a b c new_data first second = record {
     sound = second.sound;
-    leads = record {
-      sound = second.leads.sound;
-      on_storage = λ backing m ok known_ok. second.leads.on_storage backing m (first.leads.on_storage backing m ok known_ok) (first.leads.known backing m ok known_ok);
-      known = λ backing m ok known_ok. second.leads.known backing m (first.leads.on_storage backing m ok known_ok) (first.leads.known backing m ok known_ok);
+    safe_step = record {
+      sound = second.safe_step.sound;
+      on_storage = λ backing m ok known_ok. second.safe_step.on_storage backing m (first.safe_step.on_storage backing m ok known_ok) (first.safe_step.known backing m ok known_ok);
+      known = λ backing m ok known_ok. second.safe_step.known backing m (first.safe_step.on_storage backing m ok known_ok) (first.safe_step.known backing m ok known_ok);
     };
-    since = endures_then a b c first.since first.leads.known second.since;
+    since = safe_throughout_then a b c first.since first.safe_step.known second.since;
     unseen = unseen_then (state_in view a p) (state_in view b q) (state_in view c r) first.unseen second.unseen new_data;
     l1_table = l1_same_then (state_in view a p) (state_in view b q) (state_in view c r) first.unseen.header first.l1_table second.l1_table;
     counts = λ k. let one = first.counts k in let two = second.counts k in omega arith;
   }
 
   -- the same where the reftable may move
-  pub moves_on : (p q : Pending) (a b : ImageFile S) → Moved p q a b → UnseenFileGrowth view p q a b
-  moves_on p q a b moves = record { sound = moves.sound; leads = moves.leads; since = moves.since; unseen = moves.unseen; l1_table = moves.l1_table }
+  pub file_step_on : (p q : Pending) (a b : ImageFile S) → Moved p q a b → UnseenFileGrowth view p q a b
+  file_step_on p q a b file_step = record { sound = file_step.sound; safe_step = file_step.safe_step; since = file_step.since; unseen = file_step.unseen; l1_table = file_step.l1_table }
 
   pub on_then : (p q r : Pending) (a b c : ImageFile S) → ((k : ℕ) → 0 < p.new_data k → 0 < q.new_data k) → UnseenFileGrowth view p q a b → UnseenFileGrowth view q r b c → UnseenFileGrowth view p r a c
   on_then p q r a b c new_data first second = record {
     sound = second.sound;
-    leads = record {
-      sound = second.leads.sound;
-      on_storage = λ backing m ok known_ok. second.leads.on_storage backing m (first.leads.on_storage backing m ok known_ok) (first.leads.known backing m ok known_ok);
-      known = λ backing m ok known_ok. second.leads.known backing m (first.leads.on_storage backing m ok known_ok) (first.leads.known backing m ok known_ok);
+    safe_step = record {
+      sound = second.safe_step.sound;
+      on_storage = λ backing m ok known_ok. second.safe_step.on_storage backing m (first.safe_step.on_storage backing m ok known_ok) (first.safe_step.known backing m ok known_ok);
+      known = λ backing m ok known_ok. second.safe_step.known backing m (first.safe_step.on_storage backing m ok known_ok) (first.safe_step.known backing m ok known_ok);
     };
-    since = endures_then a b c first.since first.leads.known second.since;
+    since = safe_throughout_then a b c first.since first.safe_step.known second.since;
     unseen = unseen_then (state_in view a p) (state_in view b q) (state_in view c r) first.unseen second.unseen new_data;
     l1_table = l1_same_then (state_in view a p) (state_in view b q) (state_in view c r) first.unseen.header first.l1_table second.l1_table;
   }
 
-  pub on_breaks : (p q : Pending) (a b c : ImageFile S) (e : ImageError) → UnseenFileGrowth view p q a b → InterruptedFileStep view b c e → InterruptedFileStep view a c e
-  on_breaks p q a b c e first second = record { fault = second.fault; noted = second.noted; since = endures_then a b c first.since first.leads.known second.since }
+  pub on_interrupted : (p q : Pending) (a b c : ImageFile S) (e : ImageError) → UnseenFileGrowth view p q a b → InterruptedFileStep view b c e → InterruptedFileStep view a c e
+  on_interrupted p q a b c e first second = record { fault = second.fault; noted = second.noted; since = safe_throughout_then a b c first.since first.safe_step.known second.since }
 
-  pub breaks_then : (p q : Pending) (a b c : ImageFile S) (e : ImageError) → Moved p q a b → InterruptedFileStep view b c e → InterruptedFileStep view a c e
-  breaks_then p q a b c e first second = record { fault = second.fault; noted = second.noted; since = endures_then a b c first.since first.leads.known second.since }
+  pub interrupted_then : (p q : Pending) (a b c : ImageFile S) (e : ImageError) → Moved p q a b → InterruptedFileStep view b c e → InterruptedFileStep view a c e
+  interrupted_then p q a b c e first second = record { fault = second.fault; noted = second.noted; since = safe_throughout_then a b c first.since first.safe_step.known second.since }
 
   -- a fault after a change that was noted breaks off
-  pub on_breaks_after : (p q : Pending) (a b c : ImageFile S) (t : Allocator) (e : ImageError) → UnseenFileGrowth view p q a b → IsFault e → IsTrue c.caches.is_changed → RefusedFileStep view q b t c e → InterruptedFileStep view a c e
-  on_breaks_after p q a b c t e first fault noted second = record {
+  pub on_interrupted_after : (p q : Pending) (a b c : ImageFile S) (t : Allocator) (e : ImageError) → UnseenFileGrowth view p q a b → IsFault e → IsTrue c.caches.is_changed → RefusedFileStep view q b t c e → InterruptedFileStep view a c e
+  on_interrupted_after p q a b c t e first fault noted second = record {
     fault = fault;
     noted = λ _. noted;
     since = elim second [
-      | inl sound ↦ endures_then a b c first.since first.leads.known sound.0.since
-      | inr breaks ↦ endures_then a b c first.since first.leads.known breaks.since
+      | inl sound ↦ safe_throughout_then a b c first.since first.safe_step.known sound.0.since
+      | inr interrupted ↦ safe_throughout_then a b c first.since first.safe_step.known interrupted.since
     ];
   }
 
-  pub breaks_after : (p q : Pending) (a b c : ImageFile S) (t : Allocator) (e : ImageError) → Moved p q a b → IsFault e → IsTrue c.caches.is_changed → RefusedFileStep view q b t c e → InterruptedFileStep view a c e
-  breaks_after p q a b c t e first fault noted second = on_breaks_after p q a b c t e (moves_on p q a b first) fault noted second
+  pub interrupted_after : (p q : Pending) (a b c : ImageFile S) (t : Allocator) (e : ImageError) → Moved p q a b → IsFault e → IsTrue c.caches.is_changed → RefusedFileStep view q b t c e → InterruptedFileStep view a c e
+  interrupted_after p q a b c t e first fault noted second = on_interrupted_after p q a b c t e (file_step_on p q a b first) fault noted second
 
   -- a refusal after a step that left the same pending
   pub leaves_then : (p : Pending) (a b c : ImageFile S) (t : Allocator) (e : ImageError) → Moved p p a b → RefusedFileStep view p b t c e → RefusedFileStep view p a t c e
   leaves_then p a b c t e first second = elim second [
-    | inl sound ↦ inl (moves_then p p p a b c (λ k some. some) first sound.0, sound.1)
-    | inr breaks ↦ inr (breaks_then p p a b c e first breaks)
+    | inl sound ↦ inl (file_step_then p p p a b c (λ k some. some) first sound.0, sound.1)
+    | inr interrupted ↦ inr (interrupted_then p p a b c e first interrupted)
   ]
 
   -- ---- a call of the caches
@@ -151,17 +151,17 @@ module _ {S : Type 0} (view : S → StorageView) where
     abbrev called : ImageFile S
     called = record file { storage = storage; caches = caches }
 
-    pub moves_cached : KeepsPinsAndNotes file.caches caches → Moved p p file called
-    moves_cached marks = record {
-      sound = record { honest = stays.honest; caches = stays.sound; settled = stays.settled sound.settled; room = marks.room sound.room };
-      leads = record {
-        sound = stays.sound.kept.kept.guarded;
+    pub file_step_cached : KeepsPinsAndNotes file.caches caches → Moved p p file called
+    file_step_cached marks = record {
+      sound = record { honest = stays.honest; caches = stays.sound; named_blocks = stays.named_blocks sound.named_blocks; room = marks.room sound.room };
+      safe_step = record {
+        sound = stays.sound.kept.kept.crash_invariant;
         on_storage = λ backing m ok known_ok. stays.since.contents backing m ok known_ok;
         known = λ backing m ok known_ok. subst (StopOkEverywhere backing m) (sym stays.known) known_ok;
       };
-      since = cached_endures (view_in view file) (view (storage_of storage)) (known_in view file) stays.since;
+      since = cached_safe_throughout (view_in view file) (view (storage_of storage)) (known_in view file) stays.since;
       unseen = unseen_known (state_in view file p) (state_in view called p) refl stays.known;
-      l1_table = l1_same_known (state_in view file p) (state_in view called p) sound.caches.kept.kept.guarded stays.sound.kept.kept.guarded refl (λ i. ap (λ (b : Bytes). l1_entry file.header.fields b i) stays.known);
+      l1_table = l1_same_known (state_in view file p) (state_in view called p) sound.caches.kept.kept.crash_invariant stays.sound.kept.kept.crash_invariant refl (λ i. ap (λ (b : Bytes). l1_entry file.header.fields b i) stays.known);
       counts = λ k. let same = ap (λ (b : Bytes). count file.header.fields b k) stays.known in omega arith;
     }
 
@@ -184,23 +184,23 @@ module _ {S : Type 0} (view : S → StorageView) where
     -- no entry of the storage changes
     same_storage_bytes : (q : Pending) → SafeStep (state_in view file p) (state_in view counted q) nothing_given [] → IsUnseen (state_in view file p) (state_in view counted q) → (k : ℕ) → q.surplus k ≡ p.surplus k
         → count file.header.fields (known_in view file) k + pending_at q k ≤ count file.header.fields now_known k + pending_at p k
-    same_storage_bytes q leads unseen k same =
-        counts_follow file.header.fields (order_of file.caches) (order_of caches) p q (contents_in view file) (contents_in view file) (known_in view file) now_known sound.caches.kept.kept.guarded leads.sound unseen.covers (λ i. omega arith) k same
+    same_storage_bytes q safe_step unseen k same =
+        counts_follow file.header.fields (order_of file.caches) (order_of caches) p q (contents_in view file) (contents_in view file) (known_in view file) now_known sound.caches.kept.kept.crash_invariant safe_step.sound unseen.covers (λ i. omega arith) k same
 
     pub reftable_counted : (t : EntryTableView) → HasReftable view file t → HasReftable view counted t
     reftable_counted t has = record { cluster = has.cluster; bits = has.bits; count = has.count; entries = has.entries }
 
     module _ (made : Made (CountRises file.header.fields (known_in view file) now_known c) file.header.fields file.caches caches (contents_in view file)) where
       raised_as : (q : Pending) → ((k : ℕ) → q.surplus k ≡ p.surplus k) → SafeStep (state_in view file p) (record (state_in view file p) { pending = q; known = now_known }) nothing_given [] → Moved p q file counted
-      raised_as q same leads =
-          let leads' : SafeStep (state_in view file p) (state_in view counted q) nothing_given [] =
-          subst (λ (d : Direction). SafeStep (state_in view file p) (record (state_in view file p) { direction = d; pending = q; known = now_known }) nothing_given []) (sym turned) leads in record {
-            sound = record { honest = sound.honest; caches = made.sound q leads'.sound; settled = made.settled sound.settled; room = marks.room sound.room };
-            leads = leads';
-            since = raise_endures (view_in view file) (state_in view file p) now_known c refl made.change;
-            unseen = unseen_count (state_in view file p) (state_in view counted q) sound.caches.kept.kept.guarded c refl made.change.real made.change.outside;
+      raised_as q same safe_step =
+          let safe_step' : SafeStep (state_in view file p) (state_in view counted q) nothing_given [] =
+          subst (λ (d : Direction). SafeStep (state_in view file p) (record (state_in view file p) { direction = d; pending = q; known = now_known }) nothing_given []) (sym turned) safe_step in record {
+            sound = record { honest = sound.honest; caches = made.sound q safe_step'.sound; named_blocks = made.named_blocks sound.named_blocks; room = marks.room sound.room };
+            safe_step = safe_step';
+            since = raise_safe_throughout (view_in view file) (state_in view file p) now_known c refl made.change;
+            unseen = unseen_count (state_in view file p) (state_in view counted q) sound.caches.kept.kept.crash_invariant c refl made.change.real made.change.outside;
             l1_table = l1_same_storage (state_in view file p) (state_in view counted q) refl;
-            counts = λ k. same_storage_bytes q leads' (unseen_count (state_in view file p) (state_in view counted q) sound.caches.kept.kept.guarded c refl made.change.real made.change.outside) k (same k);
+            counts = λ k. same_storage_bytes q safe_step' (unseen_count (state_in view file p) (state_in view counted q) sound.caches.kept.kept.crash_invariant c refl made.change.real made.change.outside) k (same k);
           }
 
       -- no table lies in a cluster that isn't counted
@@ -208,30 +208,30 @@ module _ {S : Type 0} (view : S → StorageView) where
       not_overlaid o in_c =
           let h = file.header.fields in
           let kept = sound.caches.kept.kept in
-          let tally = (kept.guarded.each_cluster c).tally in
+          let tally = (kept.crash_invariant.each_cluster c).tally in
           let free = made.change.free in
           let none : named_for_tables file.header.fields (contents_in view file) c ≡ 0 = omega (arith, tally, free) in
           sym (known_is_on_storage (cluster_size h) (l2_tables file.caches) (refblocks file.caches) (contents_in view file) o
           (unnamed_free_l2 h (order_of file.caches) p (l2_tables file.caches) (refblocks file.caches) (contents_in view file) kept c none o in_c)
-          (unnamed_free_rb h (order_of file.caches) p (l2_tables file.caches) (refblocks file.caches) (contents_in view file) kept sound.settled c none o in_c))
+          (unnamed_free_rb h (order_of file.caches) p (l2_tables file.caches) (refblocks file.caches) (contents_in view file) kept sound.named_blocks c none o in_c))
 
       -- a cluster is taken
-      pub moves_raised : (d : Bool) → MayTake d file → Moved p (taken_as d p (one_at c)) file counted
-      moves_raised true may = raised_as (with_new_data p (one_at c)) (λ k. refl) (count_is_changed.data_allocated (state_in view file p) now_known c sound.caches.kept.kept.guarded may made.change not_overlaid)
-      moves_raised false may = raised_as (with_new_tables p (one_at c)) (λ k. refl) (count_is_changed.table_allocated (state_in view file p) now_known c sound.caches.kept.kept.guarded made.change)
+      pub file_step_raised : (d : Bool) → MayTake d file → Moved p (taken_as d p (one_at c)) file counted
+      file_step_raised true may = raised_as (with_new_data p (one_at c)) (λ k. refl) (count_is_changed.data_allocated (state_in view file p) now_known c sound.caches.kept.kept.crash_invariant may made.change not_overlaid)
+      file_step_raised false may = raised_as (with_new_tables p (one_at c)) (λ k. refl) (count_is_changed.table_allocated (state_in view file p) now_known c sound.caches.kept.kept.crash_invariant made.change)
 
     -- a cluster that is owed is counted once less
     module _ (q : Pending) (made : Made (CountFalls file.header.fields (known_in view file) now_known c) file.header.fields file.caches caches (contents_in view file)) where
       lowered_as : ((k : ℕ) → q.surplus k ≡ p.surplus k) → SafeStep (state_in view file p) (record (state_in view file p) { pending = q; known = now_known }) nothing_given [] → Moved p q file counted
-      lowered_as same leads =
-          let leads' : SafeStep (state_in view file p) (state_in view counted q) nothing_given [] =
-          subst (λ (d : Direction). SafeStep (state_in view file p) (record (state_in view file p) { direction = d; pending = q; known = now_known }) nothing_given []) (sym turned) leads in record {
-            sound = record { honest = sound.honest; caches = made.sound q leads'.sound; settled = made.settled sound.settled; room = marks.room sound.room };
-            leads = leads';
-            since = fall_endures (view_in view file) (state_in view file p) now_known c refl made.change;
-            unseen = unseen_count (state_in view file p) (state_in view counted q) sound.caches.kept.kept.guarded c refl made.change.real made.change.outside;
+      lowered_as same safe_step =
+          let safe_step' : SafeStep (state_in view file p) (state_in view counted q) nothing_given [] =
+          subst (λ (d : Direction). SafeStep (state_in view file p) (record (state_in view file p) { direction = d; pending = q; known = now_known }) nothing_given []) (sym turned) safe_step in record {
+            sound = record { honest = sound.honest; caches = made.sound q safe_step'.sound; named_blocks = made.named_blocks sound.named_blocks; room = marks.room sound.room };
+            safe_step = safe_step';
+            since = fall_safe_throughout (view_in view file) (state_in view file p) now_known c refl made.change;
+            unseen = unseen_count (state_in view file p) (state_in view counted q) sound.caches.kept.kept.crash_invariant c refl made.change.real made.change.outside;
             l1_table = l1_same_storage (state_in view file p) (state_in view counted q) refl;
-            counts = λ k. same_storage_bytes q leads' (unseen_count (state_in view file p) (state_in view counted q) sound.caches.kept.kept.guarded c refl made.change.real made.change.outside) k (same k);
+            counts = λ k. same_storage_bytes q safe_step' (unseen_count (state_in view file p) (state_in view counted q) sound.caches.kept.kept.crash_invariant c refl made.change.real made.change.outside) k (same k);
           }
 
       -- it is spent first, and then no longer counted
@@ -246,32 +246,32 @@ module _ {S : Type 0} (view : S → StorageView) where
             known = λ backing m ok known_ok. second.known backing m (first.on_storage backing m ok known_ok) (first.known backing m ok known_ok);
           })
 
-      pub moves_lowered : (owed : Owed) → MayLower owed file → p ≡ owed_as owed q (one_at c) → Moved p q file counted
-      moves_lowered (Taken true) may taken =
+      pub file_step_lowered : (owed : Owed) → MayLower owed file → p ≡ owed_as owed q (one_at c) → Moved p q file counted
+      file_step_lowered (Taken true) may taken =
           let new_data : p.new_data c ≡ q.new_data c + one_at c c = ap (λ (r : Pending). r.new_data c) taken in
           let own = one_here c in
-          let first = pending_is_changed.undone (state_in view file p) (one_at c) sound.caches.kept.kept.guarded (one_few c) (λ k some. subst (λ n. 0 < p.new_data n) (sym (one_alone c k some)) (omega arith)) in
+          let first = pending_is_changed.undone (state_in view file p) (one_at c) sound.caches.kept.kept.crash_invariant (one_few c) (λ k some. subst (λ n. 0 < p.new_data n) (sym (one_alone c k some)) (omega arith)) in
           lowered_as (λ k. sym (ap (λ (r : Pending). r.surplus k) taken)) (freed (new_data_to_old_tables p (one_at c)) first (omega arith)
           (ap (λ (r : Pending). without_old_tables (new_data_to_old_tables r (one_at c)) (one_at c)) taken
           ∙ pending_same (without_old_tables (new_data_to_old_tables (with_new_data q (one_at c)) (one_at c)) (one_at c)) q (λ k. omega arith) (λ k. refl) (λ k. omega arith) (λ k. refl) (λ k. refl)))
-      moves_lowered (Taken false) may taken =
+      file_step_lowered (Taken false) may taken =
           let new_tables : p.new_tables c ≡ q.new_tables c + one_at c c = ap (λ (r : Pending). r.new_tables c) taken in
           let own = one_here c in
-          let first = pending_is_changed.abandoned (state_in view file p) (one_at c) sound.caches.kept.kept.guarded (one_few c) (λ k some. subst (λ n. 0 < p.new_tables n) (sym (one_alone c k some)) (omega arith)) in
+          let first = pending_is_changed.abandoned (state_in view file p) (one_at c) sound.caches.kept.kept.crash_invariant (one_few c) (λ k some. subst (λ n. 0 < p.new_tables n) (sym (one_alone c k some)) (omega arith)) in
           lowered_as (λ k. sym (ap (λ (r : Pending). r.surplus k) taken)) (freed (new_tables_to_old_tables p (one_at c)) first (omega arith)
           (ap (λ (r : Pending). without_old_tables (new_tables_to_old_tables r (one_at c)) (one_at c)) taken
           ∙ pending_same (without_old_tables (new_tables_to_old_tables (with_new_tables q (one_at c)) (one_at c)) (one_at c)) q (λ k. refl) (λ k. omega arith) (λ k. omega arith) (λ k. refl) (λ k. refl)))
-      moves_lowered (Listed Metadata) may listed =
+      file_step_lowered (Listed Metadata) may listed =
           let old_tables : p.old_tables c ≡ q.old_tables c + one_at c c = ap (λ (r : Pending). r.old_tables c) listed in
           let own = one_here c in
           let s : DriverState = state_in view file p in
           lowered_as (λ k. sym (ap (λ (r : Pending). r.surplus k) listed)) (subst (λ (r : Pending). SafeStep s (record s { pending = r; known = now_known }) nothing_given [])
           (ap (λ (r : Pending). without_old_tables r (one_at c)) listed ∙ pending_same (without_old_tables (listed_as Metadata q (one_at c)) (one_at c)) q (λ k. refl) (λ k. refl) (λ k. omega arith) (λ k. refl) (λ k. refl))
-          (count_is_changed.table_freed s now_known c sound.caches.kept.kept.guarded made.change (omega arith)))
-      moves_lowered (Listed Data) may listed =
+          (count_is_changed.table_freed s now_known c sound.caches.kept.kept.crash_invariant made.change (omega arith)))
+      file_step_lowered (Listed Data) may listed =
           let old_data : p.old_data c ≡ q.old_data c + one_at c c = ap (λ (r : Pending). r.old_data c) listed in
           let own = one_here c in
           let s : DriverState = state_in view file p in
           lowered_as (λ k. sym (ap (λ (r : Pending). r.surplus k) listed)) (subst (λ (r : Pending). SafeStep s (record s { pending = r; known = now_known }) nothing_given [])
           (ap (λ (r : Pending). without_old_data r (one_at c)) listed ∙ pending_same (without_old_data (listed_as Data q (one_at c)) (one_at c)) q (λ k. refl) (λ k. refl) (λ k. refl) (λ k. omega arith) (λ k. refl))
-          (count_is_changed.data_freed s now_known c sound.caches.kept.kept.guarded may made.change (omega arith)))
+          (count_is_changed.data_freed s now_known c sound.caches.kept.kept.crash_invariant may made.change (omega arith)))

@@ -9,7 +9,7 @@ use Rattle.qcow2_laws.specs.CrashInvariant.{Pending, SameIn}
 use Rattle.qcow2_laws.specs.SafeSteps.{SafeStep}
 use Rattle.qcow2_laws.specs.Writes.{IsUnnamed, IsWritten}
 use Rattle.qcow2_laws.proofs.Beside.{data_beside, same_beside, unnamed_free}
-use Rattle.qcow2_laws.proofs.SafeSteps.{done_endures}
+use Rattle.qcow2_laws.proofs.SafeSteps.{done_safe_throughout}
 use Rattle.qcow2_laws.proofs.Steps.{data_is_written}
 use Rattle.qcow2_laws.proofs.Unseen.{unseen_written}
 use Rattle.qcow2_alloc.specs.declared.image_file.ImageFile.{ImageFile}
@@ -18,7 +18,7 @@ use Rattle.qcow2_alloc.specs.ImageFile.{nothing_given, view_in, contents_in, kno
 use Rattle.qcow2_alloc.specs.ImageStorage.{storage_of}
 use Rattle.qcow2_alloc.specs.MetadataCaches.{order_of, l2_tables, refblocks}
 use Rattle.qcow2_alloc.proofs.CountsStay.{counts_follow, fixed_more}
-use Rattle.qcow2_alloc.proofs.KeptTables.Beside.{top_beside, settled_beside_write, sound_beside}
+use Rattle.qcow2_alloc.proofs.KeptTables.Beside.{top_beside, named_blocks_beside_write, sound_beside}
 
 module _ {S : Type 0} (view : S → StorageView) (p : Pending) (file : ImageFile S) (storage : ImageStorage S) (sound : FileInvariant view p file) (honest : (view (storage_of storage)).is_honest)
     (each : (c : ℕ) → SameIn (cluster_size file.header.fields) c (contents_in view file) (byte_at (view (storage_of storage)).contents)
@@ -39,15 +39,15 @@ module _ {S : Type 0} (view : S → StorageView) (p : Pending) (file : ImageFile
       data_beside h (order_of file.caches) p (l2_tables file.caches) (refblocks file.caches) (contents_in view file) (contents_in view written) kept []
       (λ c. elim (each c) [
         | inl same ↦ inl same
-        | inr free ↦ inr (unnamed_free h (order_of file.caches) p (l2_tables file.caches) (refblocks file.caches) (contents_in view file) (contents_in view written) kept sound.settled c free.0)
+        | inr free ↦ inr (unnamed_free h (order_of file.caches) p (l2_tables file.caches) (refblocks file.caches) (contents_in view file) (contents_in view written) kept sound.named_blocks c free.0)
       ])
       (λ c. elim (each c) [
         | inl same ↦ inl (same_beside h (order_of file.caches) p (l2_tables file.caches) (refblocks file.caches) (contents_in view file) (contents_in view written) kept c same)
         | inr free ↦ inr (inl free.0)
       ])
 
-  leads_written : SafeStep (state_in view file p) (state_in view written p) nothing_given []
-  leads_written = data_is_written.written (state_in view file p) (contents_in view written) (known_in view written) [] sound.caches.kept.kept.guarded is_written
+  safe_step_written : SafeStep (state_in view file p) (state_in view written p) nothing_given []
+  safe_step_written = data_is_written.written (state_in view file p) (contents_in view written) (known_in view written) [] sound.caches.kept.kept.crash_invariant is_written
 
   each_known : (c : ℕ) → (SameIn (cluster_size file.header.fields) c (contents_in view file) (contents_in view written) × SameIn (cluster_size file.header.fields) c (known_in view file) (known_in view written))
       ⊎ (IsUnnamed file.header.fields (contents_in view file) (known_in view file) c × (p.new_data c ≡ 0))
@@ -61,24 +61,24 @@ module _ {S : Type 0} (view : S → StorageView) (p : Pending) (file : ImageFile
     cluster = has.cluster;
     bits = has.bits;
     count = has.count;
-    entries = λ k. has.entries k ∙ (top_beside file.header.fields p p file.caches (contents_in view file) (contents_in view written) sound.caches sound.settled tables_stay).reftable k;
+    entries = λ k. has.entries k ∙ (top_beside file.header.fields p p file.caches (contents_in view file) (contents_in view written) sound.caches sound.named_blocks tables_stay).reftable k;
   }
 
   -- no guest sees it
-  pub moves_written : EachMomentSince (view_in view file) (view (storage_of storage)) (λ c. c ≡ (view (storage_of storage)).contents) → UnseenFileStep view p p file written
-  moves_written time =
+  pub file_step_written : EachMomentSince (view_in view file) (view (storage_of storage)) (λ c. c ≡ (view (storage_of storage)).contents) → UnseenFileStep view p p file written
+  file_step_written time =
       let h = file.header.fields in
-      let unseen = unseen_written (state_in view file p) (state_in view written p) sound.caches.kept.kept.guarded each_known refl in record {
+      let unseen = unseen_written (state_in view file p) (state_in view written p) sound.caches.kept.kept.crash_invariant each_known refl in record {
         sound = record {
           honest = honest;
-          caches = sound_beside file.header.fields p p file.caches (contents_in view file) (contents_in view written) sound.caches sound.settled tables_stay leads_written.sound;
-          settled = settled_beside_write file.header.fields p p file.caches (contents_in view file) (contents_in view written) sound.caches sound.settled tables_stay;
+          caches = sound_beside file.header.fields p p file.caches (contents_in view file) (contents_in view written) sound.caches sound.named_blocks tables_stay safe_step_written.sound;
+          named_blocks = named_blocks_beside_write file.header.fields p p file.caches (contents_in view file) (contents_in view written) sound.caches sound.named_blocks tables_stay;
           room = sound.room;
         };
-        leads = leads_written;
-        since = done_endures (view_in view file) (view (storage_of storage)) (state_in view file p) (state_in view written p) nothing_given [] time refl refl leads_written;
+        safe_step = safe_step_written;
+        since = done_safe_throughout (view_in view file) (view (storage_of storage)) (state_in view file p) (state_in view written p) nothing_given [] time refl refl safe_step_written;
         unseen = unseen.0;
         l1_table = unseen.1;
-        counts = λ k. counts_follow h (order_of file.caches) (order_of file.caches) p p (contents_in view file) (contents_in view written) (known_in view file) (known_in view written) sound.caches.kept.kept.guarded leads_written.sound unseen.0.covers
-            (fixed_more h (contents_in view file) (contents_in view written) (λ i some. sym ((top_beside h p p file.caches (contents_in view file) (contents_in view written) sound.caches sound.settled tables_stay).reftable i)) unseen.1) k refl;
+        counts = λ k. counts_follow h (order_of file.caches) (order_of file.caches) p p (contents_in view file) (contents_in view written) (known_in view file) (known_in view written) sound.caches.kept.kept.crash_invariant safe_step_written.sound unseen.0.covers
+            (fixed_more h (contents_in view file) (contents_in view written) (λ i some. sym ((top_beside h p p file.caches (contents_in view file) (contents_in view written) sound.caches sound.named_blocks tables_stay).reftable i)) unseen.1) k refl;
       }

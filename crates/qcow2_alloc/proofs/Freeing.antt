@@ -22,7 +22,7 @@ use Rattle.qcow2_alloc.specs.Allocation.{run_at, Listed, listed_as, owed_as, Uns
 use Rattle.qcow2_alloc.specs.FreeList.{run_of, of_data, of_tables, to_free, is_same, with_listed, but}
 use Rattle.qcow2_alloc.specs.ImageFile.{contents_in, known_in, FileInvariant, AllocatorInvariant, IsFault, HasReftable, RefusedFileStep}
 use Rattle.qcow2_alloc.proofs.AllocationSteps.{owed_counted}
-use Rattle.qcow2_alloc.proofs.FileSteps.{pending_same, moves_then, breaks_then}
+use Rattle.qcow2_alloc.proofs.FileSteps.{pending_same, file_step_then, interrupted_then}
 use Rattle.qcow2_alloc.proofs.Runs.{run_before, run_after, run_first}
 
 -- ---- what is listed
@@ -147,23 +147,23 @@ counted_small h b known c reads some = elim (cases_lt (c / counts_per_block h) (
 module _ {S : Type 0} (view : S → StorageView) where
   -- ---- one step after another
 
-  pub becomes_on : (p q r : Pending) (a b c : ImageFile S) (t t' : Allocator) → ((k : ℕ) → 0 < p.new_data k → 0 < q.new_data k) → UnseenAllocatorStep view p a t b q → UnseenAllocatorStep view q b t' c r → UnseenAllocatorStep view p a t' c r
-  becomes_on p q r a b c t t' new_data first second = record { moves = moves_then view p q r a b c new_data first.moves second.moves; reftable = second.reftable }
+  pub allocator_step_on : (p q r : Pending) (a b c : ImageFile S) (t t' : Allocator) → ((k : ℕ) → 0 < p.new_data k → 0 < q.new_data k) → UnseenAllocatorStep view p a t b q → UnseenAllocatorStep view q b t' c r → UnseenAllocatorStep view p a t' c r
+  allocator_step_on p q r a b c t t' new_data first second = record { file_step = file_step_then view p q r a b c new_data first.file_step second.file_step; reftable = second.reftable }
 
   -- a fault left it where it was, or it broke off
   pub frees_refused : (p q : Pending) (a b c : ImageFile S) (t t' : Allocator) (e : ImageError) → ((k : ℕ) → 0 < p.new_data k → 0 < q.new_data k) → UnseenAllocatorStep view p a t b q → IsFault e → RefusedFileStep view q b t' c e → Frees view p a t' c q (Err e)
   frees_refused p q a b c t t' e new_data first fault left = (
     fault,
     elim left [
-      | inl sound ↦ inl (record { moves = moves_then view p q q a b c new_data first.moves sound.0; reftable = sound.1 })
-      | inr breaks ↦ inr (breaks_then view p q a b c e first.moves breaks)
+      | inl sound ↦ inl (record { file_step = file_step_then view p q q a b c new_data first.file_step sound.0; reftable = sound.1 })
+      | inr interrupted ↦ inr (interrupted_then view p q a b c e first.file_step interrupted)
     ],
   )
 
   -- ---- another list
 
   sound_relisted : (p : Pending) (a : ImageFile S) (l : List ClustersToFreeEntry) → FileInvariant view p a → FileInvariant view p (record a { free_list = l })
-  sound_relisted p a l sound = record { honest = sound.honest; caches = sound.caches; settled = sound.settled; room = sound.room }
+  sound_relisted p a l sound = record { honest = sound.honest; caches = sound.caches; named_blocks = sound.named_blocks; room = sound.room }
 
   reftable_relisted : (a : ImageFile S) (l : List ClustersToFreeEntry) (t : EntryTableView) → HasReftable view a t → HasReftable view (record a { free_list = l }) t
   reftable_relisted a l t has = record { cluster = has.cluster; bits = has.bits; count = has.count; entries = has.entries }
@@ -171,15 +171,15 @@ module _ {S : Type 0} (view : S → StorageView) where
   pub with_relisted : (p : Pending) (a : ImageFile S) (t : Allocator) (l : List ClustersToFreeEntry) → AllocatorInvariant view t p a → AllocatorInvariant view t p (record a { free_list = l })
   with_relisted p a t l sound = record { sound = sound_relisted p a l sound.sound; reftable = reftable_relisted a l t.reftable sound.reftable }
 
-  pub becomes_to : (p q : Pending) (a b : ImageFile S) (t : Allocator) (l : List ClustersToFreeEntry) → UnseenAllocatorStep view p a t b q → UnseenAllocatorStep view p a t (record b { free_list = l }) q
-  becomes_to p q a b t l first = record {
-    moves = record { sound = sound_relisted q b l first.moves.sound; leads = first.moves.leads; since = first.moves.since; unseen = first.moves.unseen; l1_table = first.moves.l1_table; counts = first.moves.counts };
+  pub allocator_step_to : (p q : Pending) (a b : ImageFile S) (t : Allocator) (l : List ClustersToFreeEntry) → UnseenAllocatorStep view p a t b q → UnseenAllocatorStep view p a t (record b { free_list = l }) q
+  allocator_step_to p q a b t l first = record {
+    file_step = record { sound = sound_relisted q b l first.file_step.sound; safe_step = first.file_step.safe_step; since = first.file_step.since; unseen = first.file_step.unseen; l1_table = first.file_step.l1_table; counts = first.file_step.counts };
     reftable = reftable_relisted b l t.reftable first.reftable;
   }
 
-  pub becomes_from : (p q : Pending) (a b : ImageFile S) (t : Allocator) (l : List ClustersToFreeEntry) → UnseenAllocatorStep view p (record a { free_list = l }) t b q → UnseenAllocatorStep view p a t b q
-  becomes_from p q a b t l first = record {
-    moves = record { sound = first.moves.sound; leads = first.moves.leads; since = first.moves.since; unseen = first.moves.unseen; l1_table = first.moves.l1_table; counts = first.moves.counts };
+  pub allocator_step_from : (p q : Pending) (a b : ImageFile S) (t : Allocator) (l : List ClustersToFreeEntry) → UnseenAllocatorStep view p (record a { free_list = l }) t b q → UnseenAllocatorStep view p a t b q
+  allocator_step_from p q a b t l first = record {
+    file_step = record { sound = first.file_step.sound; safe_step = first.file_step.safe_step; since = first.file_step.since; unseen = first.file_step.unseen; l1_table = first.file_step.l1_table; counts = first.file_step.counts };
     reftable = first.reftable;
   }
 
@@ -187,22 +187,22 @@ module _ {S : Type 0} (view : S → StorageView) where
   pub frees_as : (p p' q q' : Pending) (a b : ImageFile S) (t : Allocator) (l m : List ClustersToFreeEntry) (result : Result (Unit {0}) ImageError) → p ≡ p' → q ≡ q' → Frees view p (record a { free_list = l }) t b q result
       → Frees view p' a t (record b { free_list = m }) q' result
   frees_as p p' q q' a b t l m (Ok _) before after frees =
-      subst (λ (r : Pending). UnseenAllocatorStep view r a t (record b { free_list = m }) q') before (subst (λ (r : Pending). UnseenAllocatorStep view p a t (record b { free_list = m }) r) after (becomes_to p q a b t m (becomes_from p q a b t l frees)))
+      subst (λ (r : Pending). UnseenAllocatorStep view r a t (record b { free_list = m }) q') before (subst (λ (r : Pending). UnseenAllocatorStep view p a t (record b { free_list = m }) r) after (allocator_step_to p q a b t m (allocator_step_from p q a b t l frees)))
   frees_as p p' q q' a b t l m (Err e) before after frees = (
     frees.0,
     elim frees.1 [
-      | inl left ↦ inl (subst (λ (r : Pending). UnseenAllocatorStep view r a t (record b { free_list = m }) q') before (subst (λ (r : Pending). UnseenAllocatorStep view p a t (record b { free_list = m }) r) after (becomes_to p q a b t m (becomes_from p q a b t l left))))
-      | inr breaks ↦ inr (record { fault = breaks.fault; noted = breaks.noted; since = breaks.since })
+      | inl left ↦ inl (subst (λ (r : Pending). UnseenAllocatorStep view r a t (record b { free_list = m }) q') before (subst (λ (r : Pending). UnseenAllocatorStep view p a t (record b { free_list = m }) r) after (allocator_step_to p q a b t m (allocator_step_from p q a b t l left))))
+      | inr interrupted ↦ inr (record { fault = interrupted.fault; noted = interrupted.noted; since = interrupted.since })
     ],
   )
 
   pub frees_then : (p q r : Pending) (a b c : ImageFile S) (t t' : Allocator) (result : Result (Unit {0}) ImageError) → ((k : ℕ) → 0 < p.new_data k → 0 < q.new_data k) → UnseenAllocatorStep view p a t b q → Frees view q b t' c r result → Frees view p a t' c r result
-  frees_then p q r a b c t t' (Ok _) new_data first second = becomes_on p q r a b c t t' new_data first second
+  frees_then p q r a b c t t' (Ok _) new_data first second = allocator_step_on p q r a b c t t' new_data first second
   frees_then p q r a b c t t' (Err e) new_data first second = (
     second.0,
     elim second.1 [
-      | inl left ↦ inl (becomes_on p q r a b c t t' new_data first left)
-      | inr breaks ↦ inr (breaks_then view p q a b c e first.moves breaks)
+      | inl left ↦ inl (allocator_step_on p q r a b c t t' new_data first left)
+      | inr interrupted ↦ inr (interrupted_then view p q a b c e first.file_step interrupted)
     ],
   )
 
@@ -211,9 +211,9 @@ module _ {S : Type 0} (view : S → StorageView) where
     pub entry_sound : (b : ImageFile S) (t : Allocator) → AllocatorInvariant view t (with_listed p (b.free_list ++ taken)) b → AllocatorInvariant view t (with_listed (with_listed p rest) (b.free_list ++ e ∷ [])) b
     entry_sound b t sound = subst (λ (r : Pending). AllocatorInvariant view t r b) (sym (with_first p b.free_list taken rest e is)) sound
 
-    pub entry_goes : (q : Pending) (a b c : ImageFile S) (t t' : Allocator) (result : Result (Unit {0}) ImageError) → ((k : ℕ) → 0 < q.new_data k → 0 < p.new_data k) → UnseenAllocatorStep view q a t b (with_listed p (b.free_list ++ taken))
+    pub entry_eviction : (q : Pending) (a b c : ImageFile S) (t t' : Allocator) (result : Result (Unit {0}) ImageError) → ((k : ℕ) → 0 < q.new_data k → 0 < p.new_data k) → UnseenAllocatorStep view q a t b (with_listed p (b.free_list ++ taken))
         → Frees view (with_listed (with_listed p rest) (b.free_list ++ e ∷ [])) b t' c (with_listed (with_listed p rest) c.free_list) result → Frees view q a t' c (with_listed p (c.free_list ++ rest)) result
-    entry_goes q a b c t t' result new_data first second =
+    entry_eviction q a b c t t' result new_data first second =
         frees_then q (with_listed p (b.free_list ++ taken)) (with_listed p (c.free_list ++ rest)) a b c t t' result new_data first
         (frees_as (with_listed (with_listed p rest) (b.free_list ++ e ∷ [])) (with_listed p (b.free_list ++ taken)) (with_listed (with_listed p rest) c.free_list) (with_listed p (c.free_list ++ rest))
         b c t' b.free_list c.free_list result (with_first p b.free_list taken rest e is) (with_both p c.free_list rest) second)
@@ -225,7 +225,7 @@ module _ {S : Type 0} (view : S → StorageView) where
 
     first_small : (file : ImageFile S) → FileInvariant view listed_run file → run.first_cluster + 1 < 2 ^ 64
     first_small file sound =
-        let small = counted_small file.header.fields (contents_in view file) (known_in view file) run.first_cluster sound.caches.kept.kept.guarded.top.header_reads
+        let small = counted_small file.header.fields (contents_in view file) (known_in view file) run.first_cluster sound.caches.kept.kept.crash_invariant.top.header_reads
         (owed_counted view (Listed kind) (behind_first run kind p) run.first_cluster listed_run file (sym (listed_first kind p run some)) sound) in
         omega arith
 
@@ -250,5 +250,5 @@ module _ {S : Type 0} (view : S → StorageView) where
             → UnseenAllocatorStep view q a t' c (listed_as kind p (run_of next))
         run_freed next first count low =
             let after = subst (λ (r : Pending). UnseenAllocatorStep view r b t' c (behind_first run kind p)) owed_is low in
-            becomes_on q listed_run (listed_as kind p (run_of next)) a b c t t' new_data before
-            (subst (λ (r : Pending). UnseenAllocatorStep view listed_run b t' c r) (listed_rest kind p run next (first (first_small b before.moves.sound)) count) after)
+            allocator_step_on q listed_run (listed_as kind p (run_of next)) a b c t t' new_data before
+            (subst (λ (r : Pending). UnseenAllocatorStep view listed_run b t' c r) (listed_rest kind p run next (first (first_small b before.file_step.sound)) count) after)

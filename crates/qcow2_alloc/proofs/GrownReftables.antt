@@ -27,8 +27,8 @@ use Rattle.qcow2_alloc.specs.ImageFile.{FileInvariant, HasReftable}
 use Rattle.qcow2_alloc.specs.Limits.{IsFaultOr}
 use Rattle.qcow2_alloc.specs.LowestRuns.{KeepsUsed}
 use Rattle.qcow2_alloc.specs.Rooms.{IsLonger}
-use Rattle.qcow2_alloc.proofs.AllocationSteps.{on_of, becomes_on}
-use Rattle.qcow2_alloc.proofs.FileSteps.{pending_same, breaks_then}
+use Rattle.qcow2_alloc.proofs.AllocationSteps.{on_of, allocator_step_on}
+use Rattle.qcow2_alloc.proofs.FileSteps.{pending_same, interrupted_then}
 use Rattle.qcow2_alloc.proofs.Freeing.{free_more}
 use Rattle.qcow2_alloc.proofs.GrownTables.{whole_clusters}
 use Rattle.qcow2_alloc.proofs.Hints.{used_stays, uses_then}
@@ -92,9 +92,9 @@ module _ {S : Type 0} (view : S → StorageView) (p : Pending) (a b c : ImageFil
   -- ---- there was room for it
   pub entered : (result : Result (Unit {0}) ImageError) → NamesReftable view (with_run p b.header.fields t first n) p b u' c result → EntersReftable view p a u' c result
   entered (Ok done) names =
-      becomes_on view p (with_run p b.header.fields t first n) (without_reftable p a.header.fields) a b c u u' (λ k some. some) (on_of view p (with_run p b.header.fields t first n) a b u room_now)
+      allocator_step_on view p (with_run p b.header.fields t first n) (without_reftable p a.header.fields) a b c u u' (λ k some. some) (on_of view p (with_run p b.header.fields t first n) a b u room_now)
       (subst (λ (h : HeaderFields). UnseenAllocatorGrowth view (with_run p b.header.fields t first n) b u' c (without_reftable p h)) fields names)
-  entered (Err e) names = inr (breaks_then view p (with_run p b.header.fields t first n) a b c e room_now.moves names)
+  entered (Err e) names = inr (interrupted_then view p (with_run p b.header.fields t first n) a b c e room_now.file_step names)
 
   pub uses_entered : (result : Result (Unit {0}) ImageError) → KeepsUsed view b c result → KeepsUsed view a c result
   uses_entered result uses = uses_then view a b c result (λ k used. used_stays view p (with_run p a.header.fields t first n) a b u k room (omega arith) used) uses
@@ -122,15 +122,15 @@ module _ {S : Type 0} (view : S → StorageView) (p : Pending) (old new : ImageF
       (λ k. refl)
 
   pub grown : UnseenAllocatorGrowth view p old allocator new (without_reftable p old.header.fields) → (l : List ClustersToFreeEntry) → UnseenAllocatorGrowth view p old allocator (record new { free_list = l ++ former ∷ [] }) (pending_then p l (l ++ former ∷ []))
-  grown becomes l =
+  grown allocator_step l =
       subst (λ (q : Pending). UnseenAllocatorGrowth view p old allocator (record new { free_list = l ++ former ∷ [] }) q) (listed l)
       (record {
-        moves = record {
-          sound = record { honest = becomes.moves.sound.honest; caches = becomes.moves.sound.caches; settled = becomes.moves.sound.settled; room = becomes.moves.sound.room };
-          leads = becomes.moves.leads;
-          since = becomes.moves.since;
-          unseen = becomes.moves.unseen;
-          l1_table = becomes.moves.l1_table;
+        file_step = record {
+          sound = record { honest = allocator_step.file_step.sound.honest; caches = allocator_step.file_step.sound.caches; named_blocks = allocator_step.file_step.sound.named_blocks; room = allocator_step.file_step.sound.room };
+          safe_step = allocator_step.file_step.safe_step;
+          since = allocator_step.file_step.since;
+          unseen = allocator_step.file_step.unseen;
+          l1_table = allocator_step.file_step.l1_table;
         };
-        reftable = record { cluster = becomes.reftable.cluster; bits = becomes.reftable.bits; count = becomes.reftable.count; entries = becomes.reftable.entries };
+        reftable = record { cluster = allocator_step.reftable.cluster; bits = allocator_step.reftable.bits; count = allocator_step.reftable.count; entries = allocator_step.reftable.entries };
       })

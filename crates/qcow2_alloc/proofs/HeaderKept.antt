@@ -44,7 +44,7 @@ same_block h h' b b' c size has same =
 -- Entries of the L1 table stay, and so does each refblock that is named; where one is named anew, no cached one is out of date.
 module _ {S : Type 0} (view : S → StorageView) (p p' : Pending) (file : ImageFile S) (sound : FileInvariant view p file) (a : Places) (on_storage' : Bytes)
     (writes : WritesHeader file.header.fields a (contents_in view file) (known_in view file) on_storage' (known_of file.header.fields file.caches on_storage'))
-    (guarded : CrashInvariant (with_places file.header.fields a) (order_of file.caches) p' on_storage' (known_of file.header.fields file.caches on_storage'))
+    (crash_invariant : CrashInvariant (with_places file.header.fields a) (order_of file.caches) p' on_storage' (known_of file.header.fields file.caches on_storage'))
     (l1_still : (i : ℕ) → l1_entry (with_places file.header.fields a) on_storage' i ≡ l1_entry file.header.fields (contents_in view file) i)
     (rb_still : (c : ℕ) → HasBlock file.header.fields (contents_in view file) c → HasBlock (with_places file.header.fields a) on_storage' c)
     (rb_now : (c : ℕ) → HasBlock (with_places file.header.fields a) on_storage' c → HasBlock file.header.fields (contents_in view file) c ⊎ AreCurrentIn (cluster_size file.header.fields) c (refblocks file.caches) on_storage') where
@@ -61,10 +61,10 @@ module _ {S : Type 0} (view : S → StorageView) (p p' : Pending) (file : ImageF
   kept = sound.caches.kept.kept
 
   once : named_for_tables h on_storage 0 ≡ 1
-  once = table_once h (order_of file.caches) p on_storage (known_in view file) kept.guarded 0 (header_fixed h a (order_of file.caches) p on_storage (known_in view file) on_storage' (known_of h file.caches on_storage') kept.guarded writes)
+  once = table_once h (order_of file.caches) p on_storage (known_in view file) kept.crash_invariant 0 (header_fixed h a (order_of file.caches) p on_storage (known_in view file) on_storage' (known_of h file.caches on_storage') kept.crash_invariant writes)
 
   same_there : (c : ℕ) → c ≢ 0 → SameIn (cluster_size h) c on_storage on_storage'
-  same_there = header_same h a (order_of file.caches) p on_storage (known_in view file) on_storage' (known_of h file.caches on_storage') kept.guarded writes
+  same_there = header_same h a (order_of file.caches) p on_storage (known_in view file) on_storage' (known_of h file.caches on_storage') kept.crash_invariant writes
 
   -- a cluster with a table is another one
   table_elsewhere : (c : ℕ) → 0 < named_by_l1_table h on_storage c + named_by_reftable h on_storage c → c ≢ 0
@@ -72,7 +72,7 @@ module _ {S : Type 0} (view : S → StorageView) (p p' : Pending) (file : ImageF
       let here : 0 < named_by_l1_table h on_storage 0 + named_by_reftable h on_storage 0 = subst (λ n. 0 < named_by_l1_table h on_storage n + named_by_reftable h on_storage n) e some in
       let s = shares h on_storage 0 in
       let only = once in
-      let sizes = header_sizes h a (order_of file.caches) p on_storage (known_in view file) on_storage' (known_of h file.caches on_storage') kept.guarded writes in
+      let sizes = header_sizes h a (order_of file.caches) p on_storage (known_in view file) on_storage' (known_of h file.caches on_storage') kept.crash_invariant writes in
       let zero : 0 / cluster_size h ≡ 0 = let some_size = sizes.some in omega arith in
       let one : in_cluster h 0 0 ≡ 1 = ap (λ n. in_cluster h n 0) (sym zero) ∙ in_own h 0 in
       absurd (omega arith)
@@ -80,8 +80,8 @@ module _ {S : Type 0} (view : S → StorageView) (p p' : Pending) (file : ImageF
   stays : (c : ℕ) → 0 < named_by_l1_table h on_storage c + named_by_reftable h on_storage c → SameIn (cluster_size h) c on_storage' on_storage
   stays c some o in_c = sym (same_there c (table_elsewhere c some) o in_c)
 
-  pub header_settled : AreNamedBlocks h' (refblocks file.caches) on_storage'
-  header_settled c = elim (sound.settled c) [ inl free ↦ inl free | inr has ↦ inr (rb_still c has) ]
+  pub header_named_blocks : AreNamedBlocks h' (refblocks file.caches) on_storage'
+  header_named_blocks c = elim (sound.named_blocks c) [ inl free ↦ inl free | inr has ↦ inr (rb_still c has) ]
 
   pub header_sound : CacheInvariant h' p' file.caches on_storage'
   header_sound = record {
@@ -91,9 +91,9 @@ module _ {S : Type 0} (view : S → StorageView) (p p' : Pending) (file : ImageF
     rb_fit = sound.caches.rb_fit;
     kept = record {
       kept =
-          kept_beside h h' (order_of file.caches) (order_of file.caches) p p' (l2_tables file.caches) (refblocks file.caches) on_storage on_storage' kept refl guarded
+          kept_beside h h' (order_of file.caches) (order_of file.caches) p p' (l2_tables file.caches) (refblocks file.caches) on_storage on_storage' kept refl crash_invariant
           (λ c has. inr (has_own_table h h' on_storage on_storage' c refl l1_still has))
-          (λ c either. elim (sound.settled c) [ inl free ↦ inl free | inr has ↦ inr (inl (rb_still c has)) ]);
+          (λ c either. elim (sound.named_blocks c) [ inl free ↦ inl free | inr has ↦ inr (inl (rb_still c has)) ]);
       l2_loaded = loaded_beside (cluster_size h) (HasL2 h on_storage) (HasL2 h' on_storage') on_storage on_storage' (l2_tables file.caches)
           (λ c has. let was = has_table h' h on_storage' on_storage c refl (λ i. sym (l1_still i)) has in (was, table_stays c was)) sound.caches.kept.l2_loaded;
       rb_loaded = loaded_named (cluster_size h) (HasBlock h on_storage) (HasBlock h' on_storage') on_storage on_storage' (refblocks file.caches)

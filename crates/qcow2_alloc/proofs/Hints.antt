@@ -61,24 +61,24 @@ owed_pending (Listed Metadata) p n k = omega arith
 
 -- a refusal that is no fault broke nothing off
 pub not_broken : {S : Type 0} {A : Type 0} (file : ImageFile S) (e : ImageError) → (IsFault e → ⊥) → A ⊎ BrokeOff file e → A
-not_broken file e other is = elim is [ inl so ↦ so | inr broke ↦ absurd (other broke.0) ]
+not_broken file e other is = elim is [ inl so ↦ so | inr interruption ↦ absurd (other interruption.0) ]
 
 module _ {S : Type 0} (view : S → StorageView) where
   -- a cluster stays in use while no less is pending
   pub used_stays : (p p' : Pending) (a b : ImageFile S) (t : Allocator) (k : ℕ) → UnseenAllocatorStep view p a t b p' → pending_at p k ≤ pending_at p' k → IsUsed view a k → IsUsed view b k
-  used_stays p p' a b t k becomes no_less used zero = used (let counts = becomes.moves.counts k in omega (arith, counts, no_less, zero))
+  used_stays p p' a b t k allocator_step no_less used zero = used (let counts = allocator_step.file_step.counts k in omega (arith, counts, no_less, zero))
 
   -- what is taken is in use
   pub taken_used : (p : Pending) (d : Bool) (n : ℕ → ℕ) (a b : ImageFile S) (t : Allocator) (k : ℕ) → UnseenAllocatorStep view p a t b (taken_as d p n) → 0 < n k → IsUsed view b k
-  taken_used p d n a b t k becomes some zero = let counts = becomes.moves.counts k in let more = taken_pending d p n k in absurd (omega (arith, counts, more, some, zero))
+  taken_used p d n a b t k allocator_step some zero = let counts = allocator_step.file_step.counts k in let more = taken_pending d p n k in absurd (omega (arith, counts, more, some, zero))
 
   pub hint_stays : (p : Pending) (a b : ImageFile S) (t t' : Allocator) → UnseenAllocatorStep view p a t' b p → t'.first_free_cluster ≡ t.first_free_cluster → NoFreeBelowHint view t a → NoFreeBelowHint view t' b
-  hint_stays p a b t t' becomes same hint k below = used_stays p p a b t' k becomes (omega arith) (hint k (subst (λ n. k < n) same below))
+  hint_stays p a b t t' allocator_step same hint k below = used_stays p p a b t' k allocator_step (omega arith) (hint k (subst (λ n. k < n) same below))
 
   -- after clusters were taken
   pub hint_taken : (p : Pending) (d : Bool) (n : ℕ → ℕ) (a b : ImageFile S) (t t' : Allocator) → UnseenAllocatorStep view p a t' b (taken_as d p n) → t'.first_free_cluster ≡ t.first_free_cluster → NoFreeBelowHint view t a → NoFreeBelowHint view t' b
-  hint_taken p d n a b t t' becomes same hint k below =
-      used_stays p (taken_as d p n) a b t' k becomes (let more = taken_pending d p n k in omega (arith, more)) (hint k (subst (λ m. k < m) same below))
+  hint_taken p d n a b t t' allocator_step same hint k below =
+      used_stays p (taken_as d p n) a b t' k allocator_step (let more = taken_pending d p n k in omega (arith, more)) (hint k (subst (λ m. k < m) same below))
 
   -- one cluster more is in use
   pub hint_more : (file : ImageFile S) (t t' : Allocator) (cluster : ℕ) → NoFreeBelowHint view t file → t.first_free_cluster ≡ cluster → t'.first_free_cluster ≡ cluster + 1 → IsUsed view file cluster → NoFreeBelowHint view t' file
@@ -94,15 +94,15 @@ module _ {S : Type 0} (view : S → StorageView) where
   -- after a refusal
   pub hint_refused : (p : Pending) (a b : ImageFile S) (t t' : Allocator) (e : ImageError) → t'.first_free_cluster ≡ t.first_free_cluster → RefusedFileStep view p a t' b e → NoFreeBelowHint view t a → NoFreeBelowHint view t' b ⊎ BrokeOff b e
   hint_refused p a b t t' e same leaves hint = elim leaves [
-    | inl sound ↦ inl (hint_stays p a b t t' (record { moves = sound.0; reftable = sound.1 }) same hint)
-    | inr breaks ↦ inr (breaks.fault, breaks.noted)
+    | inl sound ↦ inl (hint_stays p a b t t' (record { file_step = sound.0; reftable = sound.1 }) same hint)
+    | inr interrupted ↦ inr (interrupted.fault, interrupted.noted)
   ]
 
   -- ---- what was in use is in use
   pub uses_refused : (p : Pending) (a b : ImageFile S) (t : Allocator) (e : ImageError) → RefusedFileStep view p a t b e → ((k : ℕ) → IsUsed view a k → IsUsed view b k) ⊎ BrokeOff b e
   uses_refused p a b t e leaves = elim leaves [
-    | inl sound ↦ inl (λ k used. used_stays p p a b t k (record { moves = sound.0; reftable = sound.1 }) (omega arith) used)
-    | inr breaks ↦ inr (breaks.fault, breaks.noted)
+    | inl sound ↦ inl (λ k used. used_stays p p a b t k (record { file_step = sound.0; reftable = sound.1 }) (omega arith) used)
+    | inr interrupted ↦ inr (interrupted.fault, interrupted.noted)
   ]
 
   pub uses_got : (p : Pending) (a b : ImageFile S) (t : Allocator) (result : Result (Unit {0}) ImageError) → GetsBlock view p a t b result → KeepsUsed view a b result
@@ -111,7 +111,7 @@ module _ {S : Type 0} (view : S → StorageView) where
 
   pub uses_then : {A : Type 0} (a b c : ImageFile S) (result : Result A ImageError) → ((k : ℕ) → IsUsed view a k → IsUsed view b k) → KeepsUsed view b c result → KeepsUsed view a c result
   uses_then a b c (Ok done) first second = λ k used. second k (first k used)
-  uses_then a b c (Err e) first second = elim second [ inl kept ↦ inl (λ k used. kept k (first k used)) | inr broke ↦ inr broke ]
+  uses_then a b c (Err e) first second = elim second [ inl kept ↦ inl (λ k used. kept k (first k used)) | inr interruption ↦ inr interruption ]
 
   pub uses_raised : (p : Pending) (d : Bool) (cluster : ℕ) (a b : ImageFile S) (t : Allocator) (taken : Bool) → TakesOne view p a t b d cluster (Ok taken) → (k : ℕ) → IsUsed view a k → IsUsed view b k
   uses_raised p d cluster a b t true takes k used = used_stays p (taken_as d p (one_at cluster)) a b t k takes (let more = taken_pending d p (one_at cluster) k in omega (arith, more)) used
@@ -120,22 +120,22 @@ module _ {S : Type 0} (view : S → StorageView) where
   pub hint_used : (a b : ImageFile S) (t t' : Allocator) → t'.first_free_cluster ≡ t.first_free_cluster → ((k : ℕ) → IsUsed view a k → IsUsed view b k) → NoFreeBelowHint view t a → NoFreeBelowHint view t' b
   hint_used a b t t' same uses hint k below = uses k (hint k (subst (λ n. k < n) same below))
 
-  pub hint_or_broke : (a b : ImageFile S) (t t' : Allocator) (e : ImageError) → t'.first_free_cluster ≡ t.first_free_cluster → ((k : ℕ) → IsUsed view a k → IsUsed view b k) ⊎ BrokeOff b e → NoFreeBelowHint view t a → NoFreeBelowHint view t' b ⊎ BrokeOff b e
-  hint_or_broke a b t t' e same uses hint = elim uses [ inl kept ↦ inl (hint_used a b t t' same kept hint) | inr broke ↦ inr broke ]
+  pub hint_or_interruption : (a b : ImageFile S) (t t' : Allocator) (e : ImageError) → t'.first_free_cluster ≡ t.first_free_cluster → ((k : ℕ) → IsUsed view a k → IsUsed view b k) ⊎ BrokeOff b e → NoFreeBelowHint view t a → NoFreeBelowHint view t' b ⊎ BrokeOff b e
+  hint_or_interruption a b t t' e same uses hint = elim uses [ inl kept ↦ inl (hint_used a b t t' same kept hint) | inr interruption ↦ inr interruption ]
 
   -- clusters are given back that weren't in use at first
   pub kept_then : (n : ℕ → ℕ) (a b c : ImageFile S) (e : ImageError) → ((k : ℕ) → IsUsed view a k → n k ≡ 0) → ((k : ℕ) → IsUsed view a k → IsUsed view b k)
       → ((k : ℕ) → n k ≡ 0 → IsUsed view b k → IsUsed view c k) ⊎ BrokeOff c e → ((k : ℕ) → IsUsed view a k → IsUsed view c k) ⊎ BrokeOff c e
-  kept_then n a b c e free first second = elim second [ inl kept ↦ inl (λ k used. kept k (free k used) (first k used)) | inr broke ↦ inr broke ]
+  kept_then n a b c e free first second = elim second [ inl kept ↦ inl (λ k used. kept k (free k used) (first k used)) | inr interruption ↦ inr interruption ]
 
   -- so it is where one of what is given back couldn't be
   pub kept_refused : (n : ℕ → ℕ) (p : Pending) (a b c : ImageFile S) (t : Allocator) (e : ImageError) → RefusedFileStep view p b t c e → ((k : ℕ) → n k ≡ 0 → IsUsed view a k → IsUsed view b k)
       → ((k : ℕ) → n k ≡ 0 → IsUsed view a k → IsUsed view c k) ⊎ BrokeOff c e
-  kept_refused n p a b c t e leaves first = elim (uses_refused p b c t e leaves) [ inl uses ↦ inl (λ k none used. uses k (first k none used)) | inr broke ↦ inr broke ]
+  kept_refused n p a b c t e leaves first = elim (uses_refused p b c t e leaves) [ inl uses ↦ inl (λ k none used. uses k (first k none used)) | inr interruption ↦ inr interruption ]
 
   -- a range that has a refblock in the file has one in memory
   pub block_in_memory : (p : Pending) (file : ImageFile S) (t : EntryTableView) (range block : ℕ) → FileInvariant view p file → HasReftable view file t → RefblockAt view file range (Some block) → HasNone t range → ⊥
-  block_in_memory p file t range block sound has at none = at.0 (ap block_offset (sym (sound.caches.kept.kept.guarded.same_top.reftable range) ∙ sym (has.entries range)) ∙ none)
+  block_in_memory p file t range block sound has at none = at.0 (ap block_offset (sym (sound.caches.kept.kept.crash_invariant.same_top.reftable range) ∙ sym (has.entries range)) ∙ none)
 
   pub has_block : (p : Pending) (file : ImageFile S) (t : EntryTableView) (range : ℕ) (o : Option ℕ) → FileInvariant view p file → HasReftable view file t → is_some o ≡ true → RefblockAt view file range o → HasNone t range → ⊥
   has_block p file t range None sound has some at none = let bad : false ≡ true = some in cc
@@ -143,22 +143,22 @@ module _ {S : Type 0} (view : S → StorageView) where
 
   -- so has one where a refblock was placed
   pub placed_block : (p p' : Pending) (old new : ImageFile S) (t : Allocator) (range at : ℕ) (result : Result (Unit {0}) ImageError) → PlacesBlock view p old t new p' range at result → OnOk result (HasNone t.reftable range → ⊥)
-  placed_block p p' old new t range at (Ok done) placed = λ none. block_in_memory p' new t.reftable range at placed.0.moves.sound placed.0.reftable placed.1 none
+  placed_block p p' old new t range at (Ok done) placed = λ none. block_in_memory p' new t.reftable range at placed.0.file_step.sound placed.0.reftable placed.1 none
   placed_block p p' old new t range at (Err e) placed = tt
 
   -- the cluster of a refblock that is named is in use
   pub named_used : (p : Pending) (file : ImageFile S) (range at : ℕ) → FileInvariant view p file → RefblockAt view file range (Some at) → IsUsed view file at
   named_used p file range at sound stands zero =
       let h = file.header.fields in
-      let guarded = sound.caches.kept.kept.guarded in
-      let same = guarded.same_top.reftable range in
+      let crash_invariant = sound.caches.kept.kept.crash_invariant in
+      let same = crash_invariant.same_top.reftable range in
       let real : block_offset (reftable_entry h (contents_in view file) range) ≢ 0 = λ none. stands.0 (ap block_offset (sym same) ∙ none) in
       let place : block_offset (reftable_entry h (contents_in view file) range) ≡ at * cluster_size h = ap block_offset same ∙ stands.1 in
       let plus : at * cluster_size h ≡ at * cluster_size h + 0 = omega arith in
       let here : block_offset (reftable_entry h (contents_in view file) range) / cluster_size h ≡ at = ap (λ n. n / cluster_size h) place ∙ ap (λ n. n / cluster_size h) plus ∙ div-mul-add at (cluster_size h) 0 (pow_pos h.cluster_bits) in
       let one = subst (λ n. 1 ≤ named_by_reftable h (contents_in view file) n) here (block_has h (contents_in view file) range real) in
       let parts = shares h (contents_in view file) at in
-      let tally = (guarded.each_cluster at).tally in
+      let tally = (crash_invariant.each_cluster at).tally in
       absurd (omega (arith, one, parts, tally, zero))
 
   -- cluster 0 is the header's, so it is in use
@@ -167,7 +167,7 @@ module _ {S : Type 0} (view : S → StorageView) where
       let h = file.header.fields in
       let one : in_cluster h 0 0 ≡ 1 = subst (λ n. in_cluster h n 0 ≡ 1) (zero-div (cluster_size h)) (in_own h 0) in
       let parts = shares h (contents_in view file) 0 in
-      let tally = (sound.caches.kept.kept.guarded.each_cluster 0).tally in
+      let tally = (sound.caches.kept.kept.crash_invariant.each_cluster 0).tally in
       absurd (omega (arith, one, parts, tally, zero))
 
   -- a search may begin behind the header
@@ -191,7 +191,7 @@ module _ {S : Type 0} (view : S → StorageView) where
   pub hint_placed : (p : Pending) (mid new : ImageFile S) (t t' : Allocator) (range at : ℕ) (result : Result (Unit {0}) ImageError) → t'.first_free_cluster ≡ t.first_free_cluster
       → PlacesBlock view (taken_as false p (one_at at)) mid t' new p range at result → NoFreeBelowHint view t mid → KeepsNoFreeBelowHint view t' new result
   hint_placed p mid new t t' range at (Ok done) same placed hint = λ k below. elim (cases_eq k at) [
-    | inl here ↦ subst (IsUsed view new) (sym here) (named_used p new range at placed.0.moves.sound placed.1)
+    | inl here ↦ subst (IsUsed view new) (sym here) (named_used p new range at placed.0.file_step.sound placed.1)
     | inr other ↦
         let none = none_there at k other in
         used_stays (taken_as false p (one_at at)) p mid new t' k placed.0 (omega (arith, none)) (hint k (subst (λ n. k < n) same below))
@@ -222,17 +222,17 @@ module _ {S : Type 0} (view : S → StorageView) where
       → RefblockAt view file range (Some block) → RefblockAt view (record file { caches = caches }) range (Some block)
   stands_still p p' file caches range block sound sound' new_data at =
       let same : block_offset (reftable_entry file.header.fields (known_in view (record file { caches = caches })) range) ≡ block_offset (reftable_entry file.header.fields (known_in view file) range) =
-      ap block_offset (sym (sound'.caches.kept.kept.guarded.same_top.reftable range) ∙ sound.caches.kept.kept.guarded.same_top.reftable range) in ((λ none. at.0 (sym same ∙ none)), same ∙ at.1, new_data)
+      ap block_offset (sym (sound'.caches.kept.kept.crash_invariant.same_top.reftable range) ∙ sound.caches.kept.kept.crash_invariant.same_top.reftable range) in ((λ none. at.0 (sym same ∙ none)), same ∙ at.1, new_data)
 
   -- a count was lowered, which is noted where it came to 0
   pub hint_lowered : (owed : Owed) (p : Pending) (cluster : ℕ) (old new : ImageFile S) (t t' : Allocator) → UnseenAllocatorStep view (owed_as owed p (one_at cluster)) old t' new p → t'.first_free_cluster ≤ t.first_free_cluster
       → (count new.header.fields (known_in view new) cluster ≡ 0 → t'.first_free_cluster ≤ cluster) → NoFreeBelowHint view t old → NoFreeBelowHint view t' new
-  hint_lowered owed p cluster old new t t' becomes lower noted hint k below = elim (cases_eq k cluster) [
+  hint_lowered owed p cluster old new t t' allocator_step lower noted hint k below = elim (cases_eq k cluster) [
     | inl same ↦ λ zero. let le = noted (subst (λ n. count new.header.fields (known_in view new) n ≡ 0) same zero) in omega (arith, le, below, same)
     | inr other ↦
         let none = none_there cluster k other in
         let pending = owed_pending owed p (one_at cluster) k in
-        used_stays (owed_as owed p (one_at cluster)) p old new t' k becomes (omega (arith, none, pending)) (hint k (omega (arith, below, lower)))
+        used_stays (owed_as owed p (one_at cluster)) p old new t' k allocator_step (omega (arith, none, pending)) (hint k (omega (arith, below, lower)))
   ]
 
   -- ---- the search for the lowest run

@@ -27,11 +27,11 @@ module _ {S : Type 0} (view : S → StorageView) where
   -- a refused call left both as they are kept, or broke off
   pub refused_kept : (p q : Pending) (a b : ImageFile S) (t : Allocator) (e : ImageError) → RefusedGrowth view p a t b q e → NoFreeBelowHint view t b ⊎ BrokeOff b e → (UnseenFileGrowth view p q a b × IsAllocatorOf view b t) ⊎ InterruptedFileStep view a b e
   refused_kept p q a b t e leaves hint = elim hint [
-    | inl kept ↦ elim leaves [ inl grows ↦ inl (grows.moves, record { reftable = grows.reftable; hint = kept }) | inr breaks ↦ inr breaks ]
-    | inr broke ↦ inr (elim leaves [ inl grows ↦ record { fault = broke.0; noted = broke.1; since = grows.moves.since } | inr breaks ↦ breaks ])
+    | inl kept ↦ elim leaves [ inl grows ↦ inl (grows.file_step, record { reftable = grows.reftable; hint = kept }) | inr interrupted ↦ inr interrupted ]
+    | inr interruption ↦ inr (elim leaves [ inl grows ↦ record { fault = interruption.0; noted = interruption.1; since = grows.file_step.since } | inr interrupted ↦ interrupted ])
   ]
 
   -- so did one that frees
   pub freed_kept : (p q : Pending) (a b : ImageFile S) (t : Allocator) (e : ImageError) → UnseenAllocatorStep view p a t b q ⊎ InterruptedFileStep view a b e → NoFreeBelowHint view t b ⊎ BrokeOff b e
       → (UnseenFileGrowth view p q a b × IsAllocatorOf view b t) ⊎ InterruptedFileStep view a b e
-  freed_kept p q a b t e leaves hint = refused_kept p q a b t e (elim leaves [ inl step ↦ inl (on_of view p q a b t step) | inr breaks ↦ inr breaks ]) hint
+  freed_kept p q a b t e leaves hint = refused_kept p q a b t e (elim leaves [ inl step ↦ inl (on_of view p q a b t step) | inr interrupted ↦ inr interrupted ]) hint

@@ -15,7 +15,7 @@ pub mod Counting
 pub mod Mapping
 pub mod Turning
 pub mod Standing
-pub mod Settled
+pub mod BlocksNamed
 pub mod Causes
 pub mod Beside
 pub mod Named

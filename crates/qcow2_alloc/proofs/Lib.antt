@@ -16,7 +16,7 @@ pub mod CountsStay
 pub mod Hints
 pub mod KeptAllocators
 pub mod Freeing
-pub mod Following
+pub mod ListedAfter
 pub mod Leaks
 pub mod Lengths
 pub mod Rooms

@@ -18,7 +18,7 @@ use Rattle.qcow2_metadata.specs.EntryTable.{EntryTableView, entry_count}
 use Rattle.qcow2_alloc.specs.LowestRuns.{IsUsed, IsLowestRun}
 use Rattle.qcow2_alloc.specs.Growing.{IsLeastLength}
 use Rattle.qcow2_alloc.specs.Rooms.{opened}
-use Rattle.qcow2_alloc.proofs.Following.{header_counts}
+use Rattle.qcow2_alloc.proofs.ListedAfter.{header_counts}
 use Rattle.qcow2_alloc.specs.Limits.{IsFaultOr, nameable_clusters, IsFull, CantGrow, CantCount}
 
 -- another cause that follows from the one

@@ -32,7 +32,7 @@ use Rattle.qcow2_laws.proofs.Caches.{clean_counts}
 use Rattle.qcow2_laws.proofs.NewBlocks.{other_reftable}
 use Rattle.qcow2_laws.proofs.NewTables.{outside_eight}
 use Rattle.qcow2_laws.proofs.Places.{Sizes, block_count-moved}
-use Rattle.qcow2_laws.proofs.SafeSteps.{done_endures, write_endures}
+use Rattle.qcow2_laws.proofs.SafeSteps.{done_safe_throughout, write_safe_throughout}
 use Rattle.qcow2_laws.proofs.Shares.{shares, table_has, block_has, reftable_has}
 use Rattle.qcow2_laws.proofs.Steps.{table_is_named}
 use Rattle.qcow2_laws.proofs.Unseen.{unseen_refblock}
@@ -47,7 +47,7 @@ use Rattle.qcow2_alloc.specs.TableCaches.{IsBlockOf}
 use Rattle.qcow2_alloc.proofs.CountsStay.{counts_follow, fixed_more}
 use Rattle.qcow2_alloc.proofs.FileSteps.{one_here, pending_same}
 use Rattle.qcow2_alloc.proofs.KeptTables.Getting.{cluster_aligned}
-use Rattle.qcow2_alloc.proofs.KeptTables.Named.{AreCurrentIn, current_entry, settled_named, sound_named}
+use Rattle.qcow2_alloc.proofs.KeptTables.Named.{AreCurrentIn, current_entry, named_blocks_named, sound_named}
 use Rattle.qcow2_alloc.proofs.KeptTables.Standing.{own_cluster}
 use Rattle.qcow2_alloc.proofs.PlacedBlocks.{IsFree, is_free, file_sizes, has_none, covers_written, known_there, in_own, range_of_first}
 
@@ -152,7 +152,7 @@ module _ {S : Type 0} (view : S → StorageView) (d : Bool) (p : Pending) (range
     but = subst (λ (l : List ℕ). IsSameBut (h.reftable_offset + 8 * range) 8 on_storage (byte_at l)) (sym is) (overwritten_but (view_in view file).contents (h.reftable_offset + 8 * range) (to_be_bytes w64 entry))
 
     outside : IsSameOutside (cluster_size h) written_to on_storage on_storage'
-    outside = outside_eight (cluster_size h) h.reftable_offset range on_storage on_storage' sizes.whole sizes.some sound.caches.kept.kept.guarded.top.reftable_aligned but
+    outside = outside_eight (cluster_size h) h.reftable_offset range on_storage on_storage' sizes.whole sizes.some sound.caches.kept.kept.crash_invariant.top.reftable_aligned but
 
     table_now : IsRefTableOf h on_storage' t'
     table_now =
@@ -178,7 +178,7 @@ module _ {S : Type 0} (view : S → StorageView) (d : Bool) (p : Pending) (range
     new_with : (n : ℕ → ℕ) → ((c : ℕ) → c / counts_per_block h ≡ range → first_counts d (c % counts_per_block h) ≡ n c) → IsNewBlock h on_storage (known_in view file) range entry n
     new_with n says = record {
       none = (has_none view q file t sound has range place.none).0;
-      reads = let aligned = on_sector at h.cluster_bits sound.caches.kept.kept.guarded.top.header_reads.well_formed.in_range.cluster_bits.0 in let e = enters.entry_is in omega (arith, aligned, e);
+      reads = let aligned = on_sector at h.cluster_bits sound.caches.kept.kept.crash_invariant.top.header_reads.well_formed.in_range.cluster_bits.0 in let e = enters.entry_is in omega (arith, aligned, e);
       real = has_place;
       aligned = ap (λ n. n % cluster_size h) offset ∙ cluster_aligned at h.cluster_bits;
       says = λ c in_range.
@@ -197,18 +197,18 @@ module _ {S : Type 0} (view : S → StorageView) (d : Bool) (p : Pending) (range
         ap (λ b. named_now (placing b p at) (λ c. table_in h c (block_offset entry))) is
         ∙ pending_same (named_now (with_new_tables p (one_at at)) (λ c. table_in h c (block_offset entry))) p (λ k. refl) (λ k. let one = table_in-one h k (block_offset entry) at has_place in_at in omega (arith, one)) (λ k. refl) (λ k. refl) (λ k. refl)
 
-    pub leads : SafeStep (state_in view file q) (state_in view named p) nothing_given []
-    leads = elim (cases_Bool d) [
+    pub safe_step : SafeStep (state_in view file q) (state_in view named p) nothing_given []
+    safe_step = elim (cases_Bool d) [
       | inl is ↦
           subst (λ (r : Pending). SafeStep (state_in view file q) (state_in view named r) nothing_given []) (ap (λ b. placing b p at) is)
-          (table_is_named.itself (state_in view file q) on_storage' (known_in view named) range entry sound.caches.kept.kept.guarded writes
+          (table_is_named.itself (state_in view file q) on_storage' (known_in view named) range entry sound.caches.kept.kept.crash_invariant writes
           (new_with (λ c. table_in h c (block_offset entry)) (λ c in_range. first_says c in_range ∙ ap (λ b. new_counts b at c) is ∙ sym (table_in-one h c (block_offset entry) at has_place in_at)))
           (ap (λ n. n / counts_per_block h) in_at ∙ (range_of_first range (counts_per_block h) at sizes.counts (subst (λ b. StandsFirst b h range at) is place.first)).0))
       | inr is ↦
           let own = one_here at in
           let new_tables : q.new_tables (block_offset entry / cluster_size h) ≡ p.new_tables at + one_at at at = ap q.new_tables in_at ∙ ap (λ (b : Bool). (placing b p at).new_tables at) is in
           subst (λ (r : Pending). SafeStep (state_in view file q) (state_in view named r) nothing_given []) (named_pending is)
-          (table_is_named.refblock (state_in view file q) on_storage' (known_in view named) range entry sound.caches.kept.kept.guarded writes
+          (table_is_named.refblock (state_in view file q) on_storage' (known_in view named) range entry sound.caches.kept.kept.crash_invariant writes
           (new_with (λ c. 0) (λ c in_range. first_says c in_range ∙ ap (λ b. new_counts b at c) is)) (omega (arith, new_tables, own))
           (clean_counts h (order_of file.caches) q (l2_tables file.caches) (refblocks file.caches) on_storage sound.caches.kept.kept clean (block_offset entry / cluster_size h))
           (covers_written view q file sound may))
@@ -220,22 +220,22 @@ module _ {S : Type 0} (view : S → StorageView) (d : Bool) (p : Pending) (range
 
     -- ---- the caches
     abbrev unseen : IsUnseen (state_in view file q) (state_in view named p) × SameL1Table (state_in view file q) (state_in view named p)
-    unseen = unseen_refblock (state_in view file q) (state_in view named p) sound.caches.kept.kept.guarded range entry refl writes
+    unseen = unseen_refblock (state_in view file q) (state_in view named p) sound.caches.kept.kept.crash_invariant range entry refl writes
 
     -- tables stand in other clusters than the reftable
     apart : (c : ℕ) → 0 < named_by_l1_table h on_storage c + named_by_reftable h on_storage c → c ≢ written_to
     apart c some here =
-        let one = reftable_has h range sizes sound.caches.kept.kept.guarded.top.reftable_aligned within_table in
+        let one = reftable_has h range sizes sound.caches.kept.kept.crash_invariant.top.reftable_aligned within_table in
         let parts = shares h on_storage written_to in
         let some_here = subst (λ n. 0 < named_by_l1_table h on_storage n + named_by_reftable h on_storage n) here some in
-        absurd (omega (arith, table_once h (order_of file.caches) q on_storage (known_in view file) sound.caches.kept.kept.guarded written_to (omega (arith, parts, one)), parts, one, some_here))
+        absurd (omega (arith, table_once h (order_of file.caches) q on_storage (known_in view file) sound.caches.kept.kept.crash_invariant written_to (omega (arith, parts, one)), parts, one, some_here))
 
     stays_in : (c : ℕ) → c ≢ written_to → SameIn (cluster_size h) c on_storage' on_storage
     stays_in c other o in_c = sym (outside o (λ e. other (sym in_c ∙ e)))
 
     free_apart : at ≢ written_to
     free_apart here =
-        let one = reftable_has h range sizes sound.caches.kept.kept.guarded.top.reftable_aligned within_table in
+        let one = reftable_has h range sizes sound.caches.kept.kept.crash_invariant.top.reftable_aligned within_table in
         let parts = shares h on_storage written_to in
         let none : named_for_tables h on_storage written_to ≡ 0 = ap (named_for_tables h on_storage) (sym here) ∙ free.unnamed.no_table in
         absurd (omega (arith, parts, one, none))
@@ -290,28 +290,28 @@ module _ {S : Type 0} (view : S → StorageView) (d : Bool) (p : Pending) (range
       entries = table_now;
     }
 
-    pub moves_named : (view (storage_of storage)).is_honest → EachMomentSince (view_in view file) (view (storage_of storage)) (λ c. c ≡ (view (storage_of storage)).contents) → UnseenFileStep view q p file named
-    moves_named honest time = record {
+    pub file_step_named : (view (storage_of storage)).is_honest → EachMomentSince (view_in view file) (view (storage_of storage)) (λ c. c ≡ (view (storage_of storage)).contents) → UnseenFileStep view q p file named
+    file_step_named honest time = record {
       sound = record {
         honest = honest;
-        caches = sound_named h q p file.caches on_storage on_storage' sound.caches sound.settled l2_still rb_still l2_now rb_now leads.sound;
-        settled = settled_named h q p file.caches on_storage on_storage' sound.caches sound.settled l2_still rb_still l2_now rb_now;
+        caches = sound_named h q p file.caches on_storage on_storage' sound.caches sound.named_blocks l2_still rb_still l2_now rb_now safe_step.sound;
+        named_blocks = named_blocks_named h q p file.caches on_storage on_storage' sound.caches sound.named_blocks l2_still rb_still l2_now rb_now;
         room = sound.room;
       };
-      leads = leads;
-      since = done_endures (view_in view file) (view (storage_of storage)) (state_in view file q) (state_in view named p) nothing_given [] time refl refl leads;
+      safe_step = safe_step;
+      since = done_safe_throughout (view_in view file) (view (storage_of storage)) (state_in view file q) (state_in view named p) nothing_given [] time refl refl safe_step;
       unseen = unseen.0;
       l1_table = unseen.1;
-      counts = λ k. counts_follow h (order_of file.caches) (order_of file.caches) q p on_storage on_storage' (known_in view file) (known_in view named) sound.caches.kept.kept.guarded leads.sound unseen.0.covers (fixed_more h on_storage on_storage' still_named unseen.1) k (sym (surplus_placing d p at k));
+      counts = λ k. counts_follow h (order_of file.caches) (order_of file.caches) q p on_storage on_storage' (known_in view file) (known_in view named) sound.caches.kept.kept.crash_invariant safe_step.sound unseen.0.covers (fixed_more h on_storage on_storage' still_named unseen.1) k (sym (surplus_placing d p at k));
     }
 
   -- what is kept of the storage and of what is known is kept, whether the write is done or not; and where it is done, the refblock is named
   module _ (storage : ImageStorage S) (result : Result (Unit {0}) StorageError) (calls : Calls (view_in view file) (view (storage_of storage)) result)
       (changes : Changes (view_in view file) (view (storage_of storage)) result (overwritten (view_in view file).contents (h.reftable_offset + 8 * range) (to_be_bytes w64 entry))) where
-    pub endures_named : SafeThroughout (view_in view file) (view (storage_of storage)) (known_in view file) nothing_given []
-    endures_named =
-        write_endures {result = result} (view_in view file) (view (storage_of storage)) (state_in view file q) nothing_given [] (overwritten (view_in view file).contents (h.reftable_offset + 8 * range) (to_be_bytes w64 entry)) calls changes sound.honest refl
-        (λ is. (state_in view (record file { storage = storage }) p, refl, leads storage is))
+    pub safe_throughout_named : SafeThroughout (view_in view file) (view (storage_of storage)) (known_in view file) nothing_given []
+    safe_throughout_named =
+        write_safe_throughout {result = result} (view_in view file) (view (storage_of storage)) (state_in view file q) nothing_given [] (overwritten (view_in view file).contents (h.reftable_offset + 8 * range) (to_be_bytes w64 entry)) calls changes sound.honest refl
+        (λ is. (state_in view (record file { storage = storage }) p, refl, safe_step storage is))
 
     pub named_so : (x : Unit {0}) → result ≡ Ok x → UnseenFileStep view q p file (record file { storage = storage }) × HasReftable view (record file { storage = storage }) t'
-    named_so x done = let is = rw done at (changes sound.honest) in (moves_named storage is (calls.honest sound.honest) (calls.time sound.honest), reftable_named storage is)
+    named_so x done = let is = rw done at (changes sound.honest) in (file_step_named storage is (calls.honest sound.honest) (calls.time sound.honest), reftable_named storage is)

@@ -18,7 +18,7 @@ use Rattle.qcow2_disk.specs.Stops.{SafeThroughout}
 use Rattle.qcow2_laws.specs.Tops.{WritesHeader, with_reftable_at, IsNewReftable}
 use Rattle.qcow2_laws.specs.Unseen.{IsUnseen}
 use Rattle.qcow2_laws.proofs.Headers.{header_fixed, header_l1, header_known_covers}
-use Rattle.qcow2_laws.proofs.SafeSteps.{step_endures}
+use Rattle.qcow2_laws.proofs.SafeSteps.{step_safe_throughout}
 use Rattle.qcow2_laws.proofs.ReftableMoves.{now_l1, now_reftable, known_counts}
 use Rattle.qcow2_laws.proofs.Steps.{header_is_written}
 use Rattle.qcow2_laws.proofs.Unseen.{table_bytes}
@@ -35,10 +35,10 @@ use Rattle.qcow2_alloc.specs.ImageStorage.{storage_of}
 use Rattle.qcow2_alloc.specs.KeptTables.{AreLoaded}
 use Rattle.qcow2_alloc.specs.LowestRuns.{IsUsed}
 use Rattle.qcow2_alloc.specs.MetadataCaches.{order_of, l2_tables, refblocks, rb_at, known_of}
-use Rattle.qcow2_alloc.proofs.AllocationSteps.{becomes_marked}
-use Rattle.qcow2_alloc.proofs.FileSteps.{pending_same, endures_then, moves_on, on_then}
+use Rattle.qcow2_alloc.proofs.AllocationSteps.{allocator_step_marked}
+use Rattle.qcow2_alloc.proofs.FileSteps.{pending_same, safe_throughout_then, file_step_on, on_then}
 use Rattle.qcow2_alloc.proofs.GrownTables.{counted_anew, clusters_of_run, run_counted, whole_clusters, new_entries, few_entries, new_reftable}
-use Rattle.qcow2_alloc.proofs.HeaderKept.{same_block, header_settled, header_sound}
+use Rattle.qcow2_alloc.proofs.HeaderKept.{same_block, header_named_blocks, header_sound}
 use Rattle.qcow2_alloc.proofs.KeptTables.Named.{AreCurrentIn, current_none}
 use Rattle.qcow2_alloc.proofs.KeptTables.Standing.{own_cluster}
 use Rattle.qcow2_alloc.proofs.Numbers.{reftable_pointer_writes}
@@ -110,24 +110,24 @@ module _ {S : Type 0} (view : S → StorageView) (p : Pending) (first blocks clu
   writes : WritesHeader h (with_reftable_at h place clusters) on_storage known (byte_at written) (known_of h file.caches (byte_at written))
   writes = reftable_pointer_writes view q file sound place clusters few limit near
 
-  leads_at : (b : Bytes) → WritesHeader h (with_reftable_at h place clusters) on_storage known b (known_of h file.caches b)
+  safe_step_at : (b : Bytes) → WritesHeader h (with_reftable_at h place clusters) on_storage known b (known_of h file.caches b)
       → SafeStep (state_in view file q) (record (state_in view file q) { header = h'; pending = without_reftable p h; on_storage = b; known = known_of h file.caches b }) nothing_given []
-  leads_at b so =
-      let leads = header_is_written.reftable (state_in view file q) b (known_of h file.caches b) place clusters (run_at first blocks) anew sound.caches.kept.kept.guarded so new in
+  safe_step_at b so =
+      let safe_step = header_is_written.reftable (state_in view file q) b (known_of h file.caches b) place clusters (run_at first blocks) anew sound.caches.kept.kept.crash_invariant so new in
       subst (λ (r : Pending). SafeStep (state_in view file q) (record (state_in view file q) { header = h'; pending = r; on_storage = b; known = known_of h file.caches b }) nothing_given [])
       (pending_same _ (without_reftable p h) (λ k. refl)
       (λ k.
       let all = clusters_of_run view p first blocks clusters file old t sound has ready is_table k in
       let split = run_counted h old first (blocks + clusters) k in
       omega (arith, all, split))
-      (λ k. refl) (λ k. refl) (λ k. refl)) leads
+      (λ k. refl) (λ k. refl) (λ k. refl)) safe_step
 
   -- whatever the storage answers
   pub lasts_named : (result : Result (Unit {0}) StorageError) (after : S) → Changes (view_in view file) (view after) result written → Calls (view_in view file) (view after) result
       → SafeThroughout (view_in view file) (view after) known nothing_given []
   lasts_named result after wrote called =
-      step_endures {result = result} (view_in view file) (view after) (state_in view file q) (record (state_in view file q) { header = h'; pending = without_reftable p h; on_storage = byte_at written; known = known_of h file.caches (byte_at written) })
-      nothing_given [] written called wrote sound.honest refl refl (leads_at (byte_at written) writes)
+      step_safe_throughout {result = result} (view_in view file) (view after) (state_in view file q) (record (state_in view file q) { header = h'; pending = without_reftable p h; on_storage = byte_at written; known = known_of h file.caches (byte_at written) })
+      nothing_given [] written called wrote sound.honest refl refl (safe_step_at (byte_at written) writes)
 
   module _ (storage : ImageStorage S) (is : (view (storage_of storage)).contents ≡ written) (honest : (view (storage_of storage)).is_honest) where
     abbrev named : ImageFile S
@@ -142,14 +142,14 @@ module _ {S : Type 0} (view : S → StorageView) (p : Pending) (first blocks clu
     writes_now : WritesHeader h (with_reftable_at h place clusters) on_storage known on_storage' known'
     writes_now = subst (λ (c : List ℕ). WritesHeader h (with_reftable_at h place clusters) on_storage known (byte_at c) (known_of h file.caches (byte_at c))) (sym is) writes
 
-    leads_now : SafeStep (state_in view file q) (state_in view named (without_reftable p h)) nothing_given []
-    leads_now = leads_at on_storage' writes_now
+    safe_step_now : SafeStep (state_in view file q) (state_in view named (without_reftable p h)) nothing_given []
+    safe_step_now = safe_step_at on_storage' writes_now
 
     l1_now : (i : ℕ) → l1_entry h' on_storage' i ≡ l1_entry h on_storage i
-    l1_now i = sym (now_l1 h place clusters (run_at first blocks) anew (order_of file.caches) q on_storage known on_storage' known' sound.caches.kept.kept.guarded writes_now new i)
+    l1_now i = sym (now_l1 h place clusters (run_at first blocks) anew (order_of file.caches) q on_storage known on_storage' known' sound.caches.kept.kept.crash_invariant writes_now new i)
 
     entry_now : (k : ℕ) → reftable_entry h' on_storage k ≡ reftable_entry h' on_storage' k
-    entry_now = now_reftable h place clusters (run_at first blocks) anew (order_of file.caches) q on_storage known on_storage' known' sound.caches.kept.kept.guarded writes_now new
+    entry_now = now_reftable h place clusters (run_at first blocks) anew (order_of file.caches) q on_storage known on_storage' known' sound.caches.kept.kept.crash_invariant writes_now new
 
     entries_now : (k : ℕ) → entry_at t.bytes k ≡ reftable_entry h' on_storage' k
     entries_now k = new_entries view p first blocks clusters file old t sound has ready is_table k ∙ entry_now k
@@ -179,10 +179,10 @@ module _ {S : Type 0} (view : S → StorageView) (p : Pending) (first blocks clu
 
     unseen_now : IsUnseen (state_in view file q) (state_in view named (without_reftable p h))
     unseen_now =
-        let guarded = sound.caches.kept.kept.guarded in record {
+        let crash_invariant = sound.caches.kept.kept.crash_invariant in record {
           header = refl;
-          covers = header_known_covers h (with_reftable_at h place clusters) (order_of file.caches) q on_storage known on_storage' known' guarded writes_now;
-          bytes = table_bytes (state_in view file q) (state_in view named (without_reftable p h)) guarded 0 (header_fixed h (with_reftable_at h place clusters) (order_of file.caches) q on_storage known on_storage' known' guarded writes_now)
+          covers = header_known_covers h (with_reftable_at h place clusters) (order_of file.caches) q on_storage known on_storage' known' crash_invariant writes_now;
+          bytes = table_bytes (state_in view file q) (state_in view named (without_reftable p h)) crash_invariant 0 (header_fixed h (with_reftable_at h place clusters) (order_of file.caches) q on_storage known on_storage' known' crash_invariant writes_now)
               writes_now.known_others;
         }
 
@@ -190,14 +190,14 @@ module _ {S : Type 0} (view : S → StorageView) (p : Pending) (first blocks clu
     on_named since = record {
       sound = record {
         honest = honest;
-        caches = header_sound view q (without_reftable p h) file sound (with_reftable_at h place clusters) on_storage' writes_now leads_now.sound l1_now rb_still rb_now;
-        settled = header_settled view q (without_reftable p h) file sound (with_reftable_at h place clusters) on_storage' writes_now leads_now.sound l1_now rb_still rb_now;
+        caches = header_sound view q (without_reftable p h) file sound (with_reftable_at h place clusters) on_storage' writes_now safe_step_now.sound l1_now rb_still rb_now;
+        named_blocks = header_named_blocks view q (without_reftable p h) file sound (with_reftable_at h place clusters) on_storage' writes_now safe_step_now.sound l1_now rb_still rb_now;
         room = sound.room;
       };
-      leads = leads_now;
+      safe_step = safe_step_now;
       since = since;
       unseen = unseen_now;
-      l1_table = λ i. sym (header_l1 h (with_reftable_at h place clusters) (order_of file.caches) q on_storage known on_storage' known' sound.caches.kept.kept.guarded writes_now i);
+      l1_table = λ i. sym (header_l1 h (with_reftable_at h place clusters) (order_of file.caches) q on_storage known on_storage' known' sound.caches.kept.kept.crash_invariant writes_now i);
     }
 
     pub reftable_named : HasReftable view named t
@@ -218,7 +218,7 @@ module _ {S : Type 0} (view : S → StorageView) (p : Pending) (first blocks clu
     -- no count falls
     pub uses_named : (k : ℕ) → IsUsed view file k → IsUsed view named k
     uses_named k used zero =
-        let counts = known_counts h place clusters (run_at first blocks) anew (order_of file.caches) q on_storage known on_storage' known' sound.caches.kept.kept.guarded writes_now new k in
+        let counts = known_counts h place clusters (run_at first blocks) anew (order_of file.caches) q on_storage known on_storage' known' sound.caches.kept.kept.crash_invariant writes_now new k in
         used (omega (arith, counts, zero))
 
 -- ---- as the calls say it
@@ -270,7 +270,7 @@ module _ {S : Type 0} (view : S → StorageView) (p : Pending) (first blocks clu
         ∙ ap (λ n. with_fields file.header (with_reftable file.header.fields ((first + blocks) * cluster_size file.header.fields) n)) count_is
 
     now : UnseenAllocatorStep view taken file allocator marked taken
-    now = becomes_marked view taken file allocator caches sound tables marks
+    now = allocator_step_marked view taken file allocator caches sound tables marks
 
     ready_now : StandsGrown view marked allocator.reftable t first blocks clusters
     ready_now = record {
@@ -291,10 +291,10 @@ module _ {S : Type 0} (view : S → StorageView) (p : Pending) (first blocks clu
     calls_now = subst (λ (s : S). Calls (view s) (view (storage_of storage)) result) same calls
 
     lasts : SafeThroughout (view_in view marked) (view (storage_of storage)) (known_in view marked) nothing_given []
-    lasts = lasts_named view p first blocks clusters marked allocator.reftable t now.moves.sound now.reftable ready_now is_table result (storage_of storage) changes calls_now
+    lasts = lasts_named view p first blocks clusters marked allocator.reftable t now.file_step.sound now.reftable ready_now is_table result (storage_of storage) changes calls_now
 
-    pub breaks_named : IsTrue caches.is_changed → (e : ImageError) → IsFault e → InterruptedFileStep view file written_file e
-    breaks_named changed e fault = record { fault = fault; noted = λ _. changed; since = endures_then view file marked written_file now.moves.since now.moves.leads.known lasts }
+    pub interrupted_named : IsTrue caches.is_changed → (e : ImageError) → IsFault e → InterruptedFileStep view file written_file e
+    interrupted_named changed e fault = record { fault = fault; noted = λ _. changed; since = safe_throughout_then view file marked written_file now.file_step.since now.file_step.safe_step.known lasts }
 
     module _ (x : Unit {0}) (done : result ≡ Ok x) where
       abbrev after : ImageFile S
@@ -303,18 +303,18 @@ module _ {S : Type 0} (view : S → StorageView) (p : Pending) (first blocks clu
       is_written : (view (storage_of storage)).contents ≡ reftable_pointer_written new_fields (view_in view marked).contents
       is_written = rw done at (changes sound.sound.honest)
 
-      becomes_after : UnseenAllocatorGrowth view taken file (record allocator { reftable = t }) after (without_reftable p file.header.fields)
-      becomes_after = record {
-        moves = on_then view taken taken (without_reftable p file.header.fields) file marked after (λ k new_data. new_data) (moves_on view taken taken file marked now.moves)
-            (on_named view p first blocks clusters marked allocator.reftable t now.moves.sound now.reftable ready_now is_table storage is_written (calls_now.honest sound.sound.honest) lasts);
-        reftable = reftable_named view p first blocks clusters marked allocator.reftable t now.moves.sound now.reftable ready_now is_table storage is_written (calls_now.honest sound.sound.honest);
+      allocator_step_after : UnseenAllocatorGrowth view taken file (record allocator { reftable = t }) after (without_reftable p file.header.fields)
+      allocator_step_after = record {
+        file_step = on_then view taken taken (without_reftable p file.header.fields) file marked after (λ k new_data. new_data) (file_step_on view taken taken file marked now.file_step)
+            (on_named view p first blocks clusters marked allocator.reftable t now.file_step.sound now.reftable ready_now is_table storage is_written (calls_now.honest sound.sound.honest) lasts);
+        reftable = reftable_named view p first blocks clusters marked allocator.reftable t now.file_step.sound now.reftable ready_now is_table storage is_written (calls_now.honest sound.sound.honest);
       }
 
-      pub becomes_named : UnseenAllocatorGrowth view taken file (record allocator { reftable = t }) written_file (without_reftable p file.header.fields)
-      becomes_named = subst (λ (v : HeaderView). UnseenAllocatorGrowth view taken file (record allocator { reftable = t }) (record marked { storage = storage; header = v }) (without_reftable p file.header.fields)) (sym header_now) becomes_after
+      pub allocator_step_named : UnseenAllocatorGrowth view taken file (record allocator { reftable = t }) written_file (without_reftable p file.header.fields)
+      allocator_step_named = subst (λ (v : HeaderView). UnseenAllocatorGrowth view taken file (record allocator { reftable = t }) (record marked { storage = storage; header = v }) (without_reftable p file.header.fields)) (sym header_now) allocator_step_after
 
       pub keeps_used : (k : ℕ) → IsUsed view file k → IsUsed view written_file k
       keeps_used k used =
-          let still : IsUsed view marked k = λ zero. used (let counts = now.moves.counts k in omega (arith, counts, zero)) in
+          let still : IsUsed view marked k = λ zero. used (let counts = now.file_step.counts k in omega (arith, counts, zero)) in
           subst (λ (v : HeaderView). IsUsed view (record marked { storage = storage; header = v }) k) (sym header_now)
-          (uses_named view p first blocks clusters marked allocator.reftable t now.moves.sound now.reftable ready_now is_table storage is_written (calls_now.honest sound.sound.honest) k still)
+          (uses_named view p first blocks clusters marked allocator.reftable t now.file_step.sound now.reftable ready_now is_table storage is_written (calls_now.honest sound.sound.honest) k still)

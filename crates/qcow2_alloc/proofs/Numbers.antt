@@ -23,7 +23,7 @@ module _ {S : Type 0} (view : S → StorageView) (p : Pending) (file : ImageFile
   contents = (view_in view file).contents
 
   reads : HeaderReads (header (byte_at contents)) (byte_at contents)
-  reads = let top = sound.caches.kept.kept.guarded.top in subst (λ (k : HeaderFields). HeaderReads k (byte_at contents)) (sym top.header_is) top.header_reads
+  reads = let top = sound.caches.kept.kept.crash_invariant.top in subst (λ (k : HeaderFields). HeaderReads k (byte_at contents)) (sym top.header_is) top.header_reads
 
   -- the header with the names that stand there
   abbrev there : HeaderView
@@ -35,12 +35,12 @@ module _ {S : Type 0} (view : S → StorageView) (p : Pending) (file : ImageFile
   }
 
   stands : IsHeaderIn there contents
-  stands = record { fields = sym sound.caches.kept.kept.guarded.top.header_is; reads = reads; backing_name = refl; backing_format = refl; data_file_name = refl }
+  stands = record { fields = sym sound.caches.kept.kept.crash_invariant.top.header_is; reads = reads; backing_name = refl; backing_format = refl; data_file_name = refl }
 
   pub size_writes : (size : ℕ) → size < 2 ^ 64
       → WritesHeader h (resized_places h size h.autoclear) (byte_at contents) (known_in view file) (byte_at (size_written (with_size h size) contents)) (known_of h file.caches (byte_at (size_written (with_size h size) contents)))
   size_writes size fits =
-      let limits = sound.caches.kept.kept.guarded.top.header_reads.within_limits in
+      let limits = sound.caches.kept.kept.crash_invariant.top.header_reads.within_limits in
       let v : HeaderView = record there { fields = with_size file.header.fields size } in
       size_beside h (order_of file.caches) p (l2_tables file.caches) (refblocks file.caches) contents sound.caches.kept.kept v (size_after contents size fits)
       (size_still contents v h.size fits (record { few_l1_entries = limits.few_l1_entries; few_reftable_entries = limits.few_reftable_entries }) stands)
@@ -49,7 +49,7 @@ module _ {S : Type 0} (view : S → StorageView) (p : Pending) (file : ImageFile
       → WritesHeader h (with_l1_at h offset entries) (byte_at contents) (known_in view file) (byte_at (l1_table_pointer_written (with_l1_table h offset entries) contents))
       (known_of h file.caches (byte_at (l1_table_pointer_written (with_l1_table h offset entries) contents)))
   l1_pointer_writes offset entries few fits =
-      let limits = sound.caches.kept.kept.guarded.top.header_reads.within_limits in
+      let limits = sound.caches.kept.kept.crash_invariant.top.header_reads.within_limits in
       let v : HeaderView = record there { fields = with_l1_table file.header.fields offset entries } in
       l1_pointer_beside h (order_of file.caches) p (l2_tables file.caches) (refblocks file.caches) contents sound.caches.kept.kept v (l1_table_after contents entries offset (omega (arith, few)) fits)
       (l1_table_still contents v h.l1_offset h.l1_entries (omega (arith, few)) fits (record { few_l1_entries = few; few_reftable_entries = limits.few_reftable_entries }) stands)
@@ -58,7 +58,7 @@ module _ {S : Type 0} (view : S → StorageView) (p : Pending) (file : ImageFile
       → WritesHeader h (with_reftable_at h offset clusters) (byte_at contents) (known_in view file) (byte_at (reftable_pointer_written (with_reftable h offset clusters) contents))
       (known_of h file.caches (byte_at (reftable_pointer_written (with_reftable h offset clusters) contents)))
   reftable_pointer_writes offset clusters small few fits =
-      let limits = sound.caches.kept.kept.guarded.top.header_reads.within_limits in
+      let limits = sound.caches.kept.kept.crash_invariant.top.header_reads.within_limits in
       let v : HeaderView = record there { fields = with_reftable file.header.fields offset clusters } in
       reftable_pointer_beside h (order_of file.caches) p (l2_tables file.caches) (refblocks file.caches) contents sound.caches.kept.kept v (reftable_after contents offset clusters fits small)
       (reftable_still contents v h.reftable_offset h.reftable_clusters fits small (record { few_l1_entries = limits.few_l1_entries; few_reftable_entries = few }) stands)

@@ -32,8 +32,8 @@ use Rattle.qcow2_alloc.specs.ImageStorage.{storage_of}
 use Rattle.qcow2_alloc.specs.MetadataCaches.{order_of, l2_tables, refblocks, HoldsKnown, UnseenCacheStep}
 use Rattle.qcow2_alloc.specs.CachePins.{KeepsPinsAndNotes}
 use Rattle.qcow2_alloc.specs.TableCaches.{IsBlockOf}
-use Rattle.qcow2_alloc.proofs.FileSteps.{one_here, moves_cached, reftable_cached}
-use Rattle.qcow2_alloc.proofs.FileWrites.{moves_written, reftable_written}
+use Rattle.qcow2_alloc.proofs.FileSteps.{one_here, file_step_cached, reftable_cached}
+use Rattle.qcow2_alloc.proofs.FileWrites.{file_step_written, reftable_written}
 use Rattle.qcow2_alloc.proofs.KeptTables.Getting.{cluster_aligned}
 use Rattle.qcow2_alloc.proofs.KeptTables.Standing.{own_cluster}
 
@@ -61,7 +61,7 @@ range_of_first range per at some is =
 
 module _ {S : Type 0} (view : S → StorageView) where
   pub file_sizes : (q : Pending) (file : ImageFile S) → FileInvariant view q file → Sizes file.header.fields
-  file_sizes q file sound = Sizes-from file.header.fields (contents_in view file) sound.caches.kept.kept.guarded.top.header_reads
+  file_sizes q file sound = Sizes-from file.header.fields (contents_in view file) sound.caches.kept.kept.crash_invariant.top.header_reads
 
   -- nothing names the cluster, and no guest's data are to stand in it
   pub record IsFree (q : Pending) (file : ImageFile S) (at : ℕ) : Type 0 where
@@ -78,7 +78,7 @@ module _ {S : Type 0} (view : S → StorageView) where
       → (block_offset (reftable_entry file.header.fields (contents_in view file) range) ≡ 0) × (block_offset (reftable_entry file.header.fields (known_in view file) range) ≡ 0)
   has_none q file t sound has range none =
       let on_storage = ap block_offset (sym (has.entries range)) ∙ none in
-      (on_storage, ap block_offset (sym (sound.caches.kept.kept.guarded.same_top.reftable range)) ∙ on_storage)
+      (on_storage, ap block_offset (sym (sound.caches.kept.kept.crash_invariant.same_top.reftable range)) ∙ on_storage)
 
   -- so may its refblock's cluster be written
   pub is_free : (d : Bool) (p : Pending) (range at : ℕ) (file : ImageFile S) (t : EntryTableView) → FileInvariant view (placing d p at) file → HasReftable view file t
@@ -89,19 +89,19 @@ module _ {S : Type 0} (view : S → StorageView) where
       let in_range = (range_of_first range (counts_per_block file.header.fields) at (file_sizes p file sound).counts place.first).0 in
       let known_none : count file.header.fields (known_in view file) at ≡ 0 = count_none h (known_in view file) at (ap (λ k. block_offset (reftable_entry file.header.fields (known_in view file) k)) in_range ∙ none.1) in
       let storage_none : count file.header.fields (contents_in view file) at ≡ 0 = count_none h (contents_in view file) at (ap (λ k. block_offset (reftable_entry file.header.fields (contents_in view file) k)) in_range ∙ none.0) in
-      let tally = (sound.caches.kept.kept.guarded.each_cluster at).tally in
+      let tally = (sound.caches.kept.kept.crash_invariant.each_cluster at).tally in
       record {
-        unnamed = data_is_written.unused (state_in view file p) at sound.caches.kept.kept.guarded known_none storage_none;
+        unnamed = data_is_written.unused (state_in view file p) at sound.caches.kept.kept.crash_invariant known_none storage_none;
         unheld = omega (arith, tally, known_none);
       }
   is_free false p range at file t sound has may place =
       let own = one_here at in
-      let guarded = sound.caches.kept.kept.guarded in
-      let tally = (guarded.each_cluster at).tally in
+      let crash_invariant = sound.caches.kept.kept.crash_invariant in
+      let tally = (crash_invariant.each_cluster at).tally in
       let some : 0 < p.new_tables at + one_at at at = omega arith in
-      let few = (guarded.each_cluster at).pending (omega (arith, some)) in
+      let few = (crash_invariant.each_cluster at).pending (omega (arith, some)) in
       record {
-        unnamed = data_is_written.new_tables (state_in view file (with_new_tables p (one_at at))) at guarded some (covers_written (with_new_tables p (one_at at)) file sound may);
+        unnamed = data_is_written.new_tables (state_in view file (with_new_tables p (one_at at))) at crash_invariant some (covers_written (with_new_tables p (one_at at)) file sound may);
         unheld = omega (arith, tally, few, some);
       }
 
@@ -109,7 +109,7 @@ module _ {S : Type 0} (view : S → StorageView) where
   pub known_there : (q : Pending) (file : ImageFile S) (at : ℕ) → FileInvariant view q file → IsFree q file at → SameIn (cluster_size file.header.fields) at (known_in view file) (contents_in view file)
   known_there q file at sound free o in_it =
       let h = file.header.fields in
-      let beside = unnamed_free h (order_of file.caches) q (l2_tables file.caches) (refblocks file.caches) (contents_in view file) (contents_in view file) sound.caches.kept.kept sound.settled at free.unnamed in
+      let beside = unnamed_free h (order_of file.caches) q (l2_tables file.caches) (refblocks file.caches) (contents_in view file) (contents_in view file) sound.caches.kept.kept sound.named_blocks at free.unnamed in
       known_is_on_storage (cluster_size h) (l2_tables file.caches) (refblocks file.caches) (contents_in view file) o (beside.0 o in_it) (beside.1 o in_it)
 
   -- ---- bytes are written to it
@@ -133,8 +133,8 @@ module _ {S : Type 0} (view : S → StorageView) where
       ]
     ]
 
-    pub moves_rewritten : UnseenFileStep view q q file rewritten
-    moves_rewritten = moves_written view q file storage sound (calls.honest sound.honest) each (calls.time sound.honest)
+    pub file_step_rewritten : UnseenFileStep view q q file rewritten
+    file_step_rewritten = file_step_written view q file storage sound (calls.honest sound.honest) each (calls.time sound.honest)
 
     pub reftable_rewritten : (t : EntryTableView) → HasReftable view file t → HasReftable view rewritten t
     reftable_rewritten = reftable_written view q file storage sound (calls.honest sound.honest) each
@@ -163,10 +163,10 @@ module _ {S : Type 0} (view : S → StorageView) where
       pub still_stands : BlocksMayGo (order_of caches) (l2_tables caches) → StandAt (contents_in view put) (at * cluster_size file.header.fields) block.bytes
       still_stands may' i lt =
           let h = file.header.fields in
-          let moves = moves_cached view (placing d p at) file storage caches sound stays marks in
+          let file_step = file_step_cached view (placing d p at) file storage caches sound stays marks in
           let has' = reftable_cached view (placing d p at) file storage caches sound stays t has in
           let place' : HasPlaceFor d put.header.fields t range at = record { none = place.none; first = place.first } in
-          let free = is_free d p range at put t moves.sound has' may' place' in
+          let free = is_free d p range at put t file_step.sound has' may' place' in
           holds_known i (subst (λ n. i < n) long lt)
           ∙ ap (λ (b : Bytes). b (at * cluster_size file.header.fields + i)) (sym stays.known)
-          ∙ known_there (placing d p at) put at moves.sound free (at * cluster_size file.header.fields + i) (in_own file.header.fields.cluster_bits at i (subst (λ n. i < n) long lt))
+          ∙ known_there (placing d p at) put at file_step.sound free (at * cluster_size file.header.fields + i) (in_own file.header.fields.cluster_bits at i (subst (λ n. i < n) long lt))

@@ -43,7 +43,7 @@ pub entries_aligned : {S : Type 0} (view : S → StorageView) (q : Pending) (fil
 entries_aligned view q file t sound has k =
     let h = file.header.fields in
     elim (cases_lt k (reftable_entries h)) [
-      | inl within ↦ subst (λ e. IsAligned h (block_offset e)) (sym (has.entries k)) (sound.caches.kept.kept.guarded.top.refblocks_aligned k within)
+      | inl within ↦ subst (λ e. IsAligned h (block_offset e)) (sym (has.entries k)) (sound.caches.kept.kept.crash_invariant.top.refblocks_aligned k within)
       | inr past ↦ subst (λ e. IsAligned h (block_offset e)) (sym (has.entries k ∙ reftable_past h (contents_in view file) k past)) (none_aligned h)
     ]
 
@@ -81,7 +81,7 @@ module _ {S : Type 0} (view : S → StorageView) (p : Pending) (first n : ℕ) (
     wrote_ok x clause sound fits =
         subst (λ (k : HeaderFields). AllocatorInvariant view a (with_run p k a.reftable first n) f
         → UnseenAllocatorStep view (with_run p k a.reftable first n) f a f' (with_run p k a.reftable first n) × StandAt (contents_in view f') (cluster * cluster_size k) block.bytes × IsSameOutside (cluster_size k) cluster (contents_in view f) (contents_in view f')
-        × (rb_at f'.caches cluster ≡ None)) same (λ s. let w = clause s fits in (w.becomes, w.stands, w.outside, w.gone)) sound
+        × (rb_at f'.caches cluster ≡ None)) same (λ s. let w = clause s fits in (w.allocator_step, w.stands, w.outside, w.gone)) sound
 
 -- what may be written still may
 pub may_go : {S : Type 0} (old new : ImageFile S) → order_of new.caches ≡ order_of old.caches → l2_tables new.caches ≡ l2_tables old.caches → BlocksMayGo (order_of old.caches) (l2_tables old.caches) → BlocksMayGo (order_of new.caches) (l2_tables new.caches)

@@ -18,8 +18,8 @@ use Rattle.qcow2_alloc.specs.Allocation.{run_at, StandAt, UnseenAllocatorStep, U
 use Rattle.qcow2_alloc.specs.GrownTables.{with_run, without_reftable, IsGrown, StandsGrown, NamesReftable}
 use Rattle.qcow2_alloc.specs.LowestRuns.{KeepsUsed}
 use Rattle.qcow2_alloc.proofs.Hints.{used_stays}
-use Rattle.qcow2_alloc.proofs.AllocationSteps.{on_of, becomes_on}
-use Rattle.qcow2_alloc.proofs.FileSteps.{breaks_then}
+use Rattle.qcow2_alloc.proofs.AllocationSteps.{on_of, allocator_step_on}
+use Rattle.qcow2_alloc.proofs.FileSteps.{interrupted_then}
 use Rattle.qcow2_alloc.specs.ImageFile.{contents_in, IsFault, AllocatorInvariant, RefusedFileStep}
 use Rattle.qcow2_alloc.specs.MetadataCaches.{order_of, l2_tables, refblocks, rb_at}
 use Rattle.qcow2_alloc.specs.Rooms.{WritesTable}
@@ -51,7 +51,7 @@ module _ {S : Type 0} (view : S → StorageView) (p : Pending) (first n : ℕ) (
   table_ok x clause sound =
       subst (λ (k : HeaderFields). AllocatorInvariant view a (with_run p k a.reftable first n) f
       → UnseenAllocatorStep view (with_run p k a.reftable first n) f a f' (with_run p k a.reftable first n) × StandAt (contents_in view f') (cluster * cluster_size k) bytes
-      × ((c : ℕ) → run_at cluster clusters c ≡ 0 → SameIn (cluster_size k) c (contents_in view f) (contents_in view f'))) same (λ s. let w = clause s in (w.becomes, w.stands, w.outside)) sound
+      × ((c : ℕ) → run_at cluster clusters c ≡ 0 → SameIn (cluster_size k) c (contents_in view f) (contents_in view f'))) same (λ s. let w = clause s in (w.allocator_step, w.stands, w.outside)) sound
 
 -- all of it stands ready
 pub stands_ready : {S : Type 0} (view : S → StorageView) (file : ImageFile S) (h : HeaderFields) (old t : EntryTableView) (first blocks clusters : ℕ) → h ≡ file.header.fields → IsGrown h old t first blocks clusters
@@ -69,13 +69,13 @@ stands_ready view file h old t first blocks clusters same grown stands counts cl
 -- after steps that leave the same pending
 pub uses_after : {S : Type 0} (view : S → StorageView) (q : Pending) (a b c : ImageFile S) (t : Allocator) (result : Result (Unit {0}) ImageError) → UnseenAllocatorStep view q a t b q → KeepsUsed view b c result → KeepsUsed view a c result
 uses_after view q a b c t (Ok x) first uses = λ k used. uses k (used_stays view q q a b t k first (omega arith) used)
-uses_after view q a b c t (Err e) first uses = elim uses [ inl kept ↦ inl (λ k used. kept k (used_stays view q q a b t k first (omega arith) used)) | inr broke ↦ inr broke ]
+uses_after view q a b c t (Err e) first uses = elim uses [ inl kept ↦ inl (λ k used. kept k (used_stays view q q a b t k first (omega arith) used)) | inr interruption ↦ inr interruption ]
 
 -- the pointer is written after those
 pub names_then : {S : Type 0} (view : S → StorageView) (p : Pending) (a b c : ImageFile S) (u u' : Allocator) (t : EntryTableView) (first n : ℕ) → b.header.fields ≡ a.header.fields → (result : Result (Unit {0}) ImageError)
     → UnseenAllocatorStep view (with_run p a.header.fields t first n) a u b (with_run p a.header.fields t first n) → NamesReftable view (with_run p b.header.fields t first n) p b u' c result → NamesReftable view (with_run p a.header.fields t first n) p a u' c result
 names_then view p a b c u u' t first n same (Ok x) before names =
     let q : Pending = with_run p a.header.fields t first n in
-    becomes_on view q q (without_reftable p a.header.fields) a b c u u' (λ k some. some) (on_of view q q a b u before)
+    allocator_step_on view q q (without_reftable p a.header.fields) a b c u u' (λ k some. some) (on_of view q q a b u before)
     (subst (λ (k : HeaderFields). UnseenAllocatorGrowth view (with_run p k t first n) b u' c (without_reftable p k)) same names)
-names_then view p a b c u u' t first n same (Err e) before names = breaks_then view (with_run p a.header.fields t first n) (with_run p a.header.fields t first n) a b c e before.moves names
+names_then view p a b c u u' t first n same (Err e) before names = interrupted_then view (with_run p a.header.fields t first n) (with_run p a.header.fields t first n) a b c e before.file_step names

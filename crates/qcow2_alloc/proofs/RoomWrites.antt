@@ -39,11 +39,11 @@ use Rattle.qcow2_alloc.specs.MetadataCaches.{order_of, l2_tables, rb_at, known_o
 use Rattle.qcow2_alloc.specs.ImageError.{of_storage}
 use Rattle.qcow2_alloc.specs.Rooms.{WritesTo, WritesTable}
 use Rattle.qcow2_alloc.specs.TableCaches.{IsBlockOf}
-use Rattle.qcow2_alloc.proofs.AllocationSteps.{fault_of_storage, becomes_cached, becomes_then, is_sound_now}
-use Rattle.qcow2_alloc.proofs.FileWrites.{moves_written, reftable_written}
+use Rattle.qcow2_alloc.proofs.AllocationSteps.{fault_of_storage, allocator_step_cached, allocator_step_then, is_sound_now}
+use Rattle.qcow2_alloc.proofs.FileWrites.{file_step_written, reftable_written}
 use Rattle.qcow2_alloc.proofs.KeptTables.Turning.{safe_none, stay_none}
 use Rattle.qcow2_alloc.proofs.Runs.{run_in, run_before, run_after}
-use Rattle.qcow2_alloc.proofs.PlacedBlocks.{IsFree, has_none, covers_written, known_there, moves_rewritten, reftable_rewritten, write_as, outside_cluster}
+use Rattle.qcow2_alloc.proofs.PlacedBlocks.{IsFree, has_none, covers_written, known_there, file_step_rewritten, reftable_rewritten, write_as, outside_cluster}
 
 module _ {S : Type 0} (view : S → StorageView) where
   -- nothing names a cluster of a run whose counted clusters are fresh
@@ -52,18 +52,18 @@ module _ {S : Type 0} (view : S → StorageView) where
   free_in_run p first n file t sound has may c some =
       let h = file.header.fields in
       let q : Pending = with_run p file.header.fields t first n in
-      let guarded = sound.caches.kept.kept.guarded in
-      let tally = (guarded.each_cluster c).tally in
+      let crash_invariant = sound.caches.kept.kept.crash_invariant in
+      let tally = (crash_invariant.each_cluster c).tally in
       elim (cases_eq (block_offset (entry_at t.bytes (c / counts_per_block file.header.fields))) 0) [
         | inl none ↦
             let none_there = has_none view q file t sound has (c / counts_per_block file.header.fields) none in
             let known_none = count_none h (known_in view file) c none_there.1 in
-            record { unnamed = data_is_written.unused (state_in view file q) c guarded known_none (count_none h (contents_in view file) c none_there.0); unheld = omega (arith, tally, known_none) }
+            record { unnamed = data_is_written.unused (state_in view file q) c crash_invariant known_none (count_none h (contents_in view file) c none_there.0); unheld = omega (arith, tally, known_none) }
         | inr real ↦
             let is : counted_run h t first n c ≡ run_at first n c = cond-false {A = ℕ} _ 0 (run_at first n c) (ne_eqb _ 0 real) in
             let new_tables : 0 < p.new_tables c + counted_run h t first n c = omega (arith, is, some) in
-            let few = (guarded.each_cluster c).pending (omega (arith, new_tables)) in
-            record { unnamed = data_is_written.new_tables (state_in view file q) c guarded new_tables (covers_written view q file sound may); unheld = omega (arith, tally, few, new_tables) }
+            let few = (crash_invariant.each_cluster c).pending (omega (arith, new_tables)) in
+            record { unnamed = data_is_written.new_tables (state_in view file q) c crash_invariant new_tables (covers_written view q file sound may); unheld = omega (arith, tally, few, new_tables) }
       ]
 
   -- ---- a refblock is forgotten where nothing names its cluster
@@ -77,12 +77,12 @@ module _ {S : Type 0} (view : S → StorageView) where
     stays_as : (known : known_of h caches on_storage ≡ known_in view file) → TakesBlock file.caches caches cluster → UnseenCacheStep h q (view_in view file) file.caches (view_in view file) caches
     stays_as known takes =
         let off = takes h q on_storage sound.caches in
-        let guarded = subst (λ (d : Direction). CrashInvariant h d q on_storage (known_in view file)) (sym order) sound.caches.kept.kept.guarded in
+        let crash_invariant = subst (λ (d : Direction). CrashInvariant h d q on_storage (known_in view file)) (sym order) sound.caches.kept.kept.crash_invariant in
         record {
           honest = sound.honest;
-          sound = off.off.sound q (subst (λ (b : Bytes). CrashInvariant h (order_of caches) q on_storage b) (sym known) guarded);
+          sound = off.off.sound q (subst (λ (b : Bytes). CrashInvariant h (order_of caches) q on_storage b) (sym known) crash_invariant);
           known = known;
-          settled = off.off.settled;
+          named_blocks = off.off.named_blocks;
           since = safe_none (view_in view file) (known_in view file);
         }
 
@@ -97,9 +97,9 @@ module _ {S : Type 0} (view : S → StorageView) where
     removed_stays false same takes =
         subst (λ (c : MetadataCaches S). UnseenCacheStep h q (view_in view file) file.caches (view_in view file) c) (sym (same refl)) (stay_none view h q file.storage file.caches sound.honest sound.caches)
 
-    pub becomes_removed : (a : Allocator) → HasReftable view file a.reftable → (taken : Bool) → (IsFalse taken → caches ≡ file.caches) → (IsTrue taken → TakesBlock file.caches caches cluster) → KeepsPinsAndNotes file.caches caches
+    pub allocator_step_removed : (a : Allocator) → HasReftable view file a.reftable → (taken : Bool) → (IsFalse taken → caches ≡ file.caches) → (IsTrue taken → TakesBlock file.caches caches cluster) → KeepsPinsAndNotes file.caches caches
         → UnseenAllocatorStep view q file a (record file { caches = caches }) q
-    becomes_removed a has taken same takes marks = becomes_cached view q file a file.storage caches (record { sound = sound; reftable = has }) (removed_stays taken same takes) marks
+    allocator_step_removed a has taken same takes marks = allocator_step_cached view q file a file.storage caches (record { sound = sound; reftable = has }) (removed_stays taken same takes) marks
 
   -- ---- the bytes of a refblock are written to its cluster
   module _ (q : Pending) (file : ImageFile S) (a : Allocator) (storage : ImageStorage S) (at : ℕ) (bytes : List ℕ) (result : Result (Unit {0}) StorageError) (sound : AllocatorInvariant view a q file) (free : IsFree view q file at)
@@ -109,8 +109,8 @@ module _ {S : Type 0} (view : S → StorageView) where
     abbrev written : ImageFile S
     written = record file { storage = storage }
 
-    pub becomes_rewritten : UnseenAllocatorStep view q file a written q
-    becomes_rewritten = record { moves = moves_rewritten view q file storage at bytes result sound.sound free long writes calls; reftable = reftable_rewritten view q file storage at bytes result sound.sound free long writes calls a.reftable sound.reftable }
+    pub allocator_step_rewritten : UnseenAllocatorStep view q file a written q
+    allocator_step_rewritten = record { file_step = file_step_rewritten view q file storage at bytes result sound.sound free long writes calls; reftable = reftable_rewritten view q file storage at bytes result sound.sound free long writes calls a.reftable sound.reftable }
 
     pub stands_written : (x : Unit {0}) → result ≡ Ok x → StandAt (contents_in view written) (at * cluster_size file.header.fields) bytes
     stands_written x ok i lt =
@@ -141,13 +141,13 @@ module _ {S : Type 0} (view : S → StorageView) where
     block_written = record forgot { storage = after }
 
     one : UnseenAllocatorStep view run_pending file a forgot run_pending
-    one = becomes_removed run_pending file caches cluster sound.sound (free_in_run p first n file a.reftable sound.sound sound.reftable may cluster some) order a sound.reftable taken same takes marks
+    one = allocator_step_removed run_pending file caches cluster sound.sound (free_in_run p first n file a.reftable sound.sound sound.reftable may cluster some) order a sound.reftable taken same takes marks
 
     may_still : BlocksMayGo (order_of caches) (l2_tables caches)
     may_still = subst (λ (ts : List CachedTable). BlocksMayGo (order_of caches) ts) (sym tables) (subst (λ (d : Direction). BlocksMayGo d (l2_tables file.caches)) (sym order) may)
 
     free_still : IsFree view run_pending forgot cluster
-    free_still = free_in_run p first n forgot a.reftable one.moves.sound one.reftable may_still cluster some
+    free_still = free_in_run p first n forgot a.reftable one.file_step.sound one.reftable may_still cluster some
 
     long : length block.bytes ≡ cluster_size file.header.fields
     long = whole ∙ ap (λ b. 2 ^ b) fits.bits
@@ -161,15 +161,15 @@ module _ {S : Type 0} (view : S → StorageView) where
     now : AllocatorInvariant view a run_pending forgot
     now = is_sound_now view run_pending run_pending file forgot a one
 
-    pub becomes_block : UnseenAllocatorStep view run_pending file a block_written run_pending
-    becomes_block = becomes_then view run_pending run_pending file forgot block_written a a one (becomes_rewritten run_pending forgot a after cluster block.bytes result now free_still long writes calls_now)
+    pub allocator_step_block : UnseenAllocatorStep view run_pending file a block_written run_pending
+    allocator_step_block = allocator_step_then view run_pending run_pending file forgot block_written a a one (allocator_step_rewritten run_pending forgot a after cluster block.bytes result now free_still long writes calls_now)
 
     pub block_refused : (e : StorageError) → WritesTo view run_pending file a block_written cluster block.bytes (Err (of_storage e))
-    block_refused e = (fault_of_storage e, inl (becomes_block.moves, becomes_block.reftable))
+    block_refused e = (fault_of_storage e, inl (allocator_step_block.file_step, allocator_step_block.reftable))
 
     pub block_stands : (x : Unit {0}) → result ≡ Ok x → rb_at caches cluster ≡ None → WritesTo view run_pending file a block_written cluster block.bytes (Ok x)
     block_stands x ok gone = record {
-      becomes = becomes_block;
+      allocator_step = allocator_step_block;
       stands = stands_written run_pending forgot a after cluster block.bytes result now free_still long writes calls_now x ok;
       outside = outside_written run_pending forgot a after cluster block.bytes result now free_still long writes calls_now x ok;
       gone = gone;
@@ -236,20 +236,20 @@ module _ {S : Type 0} (view : S → StorageView) where
       ]
     ]
 
-    becomes_table : UnseenAllocatorStep view table_pending file a table_written table_pending
-    becomes_table = record {
-      moves = moves_written view table_pending file after sound.sound (table_calls.honest sound.sound.honest) each (table_calls.time sound.sound.honest);
+    allocator_step_table : UnseenAllocatorStep view table_pending file a table_written table_pending
+    allocator_step_table = record {
+      file_step = file_step_written view table_pending file after sound.sound (table_calls.honest sound.sound.honest) each (table_calls.time sound.sound.honest);
       reftable = reftable_written view table_pending file after sound.sound (table_calls.honest sound.sound.honest) each a.reftable sound.reftable;
     }
 
     pub table_refused : (e : StorageError) → WritesTable view table_pending file a table_written at m t.bytes (Err (of_storage e))
-    table_refused e = (fault_of_storage e, inl (becomes_table.moves, becomes_table.reftable))
+    table_refused e = (fault_of_storage e, inl (allocator_step_table.file_step, allocator_step_table.reftable))
 
     pub table_stands : (x : Unit {0}) → result ≡ Ok x → WritesTable view table_pending file a table_written at m t.bytes (Ok x)
     table_stands x ok =
         let now = rw ok at (table_writes sound.sound.honest) in
         record {
-          becomes = becomes_table;
+          allocator_step = allocator_step_table;
           stands = λ i lt. sym (ap (λ (l : List ℕ). byte_at l (at * cluster_size file.header.fields + i)) now ∙ byte_at-overwritten (view_in view file).contents (at * cluster_size file.header.fields) t.bytes i lt);
           outside = λ c none o in_c. elim (in_or_out c) [
             | inl inside ↦ absurd (omega (arith, inside, none))

@@ -16,8 +16,8 @@ use Rattle.qcow2_alloc.specs.Allocation.{run_at, UnseenAllocatorStep, TakesOne}
 use Rattle.qcow2_alloc.specs.GrownTables.{counted_run, with_run}
 use Rattle.qcow2_alloc.specs.ImageFile.{IsFault, AllocatorInvariant, RefusedFileStep}
 use Rattle.qcow2_alloc.specs.Rooms.{lacks, counted_one, opens, opened, TakesFree}
-use Rattle.qcow2_alloc.proofs.FileSteps.{pending_same, moves_then, leaves_then, breaks_after}
-use Rattle.qcow2_alloc.proofs.AllocationSteps.{becomes_more, is_sound_now}
+use Rattle.qcow2_alloc.proofs.FileSteps.{pending_same, file_step_then, leaves_then, interrupted_after}
+use Rattle.qcow2_alloc.proofs.AllocationSteps.{allocator_step_more, is_sound_now}
 use Rattle.qcow2_alloc.proofs.Runs.{run_in, run_before, run_after, run_first, run_last, none_there}
 
 pub empty_run : (first n k : ℕ) → n ≡ 0 → run_at first n k ≡ 0
@@ -169,8 +169,8 @@ module _ {S : Type 0} (view : S → StorageView) where
   ends_room p t first n a b c u u' e before noted fault leaves = elim noted [
     | inl none ↦
         let same = run_none a.header.fields t p first n none in
-        leaves_then view p a b c u' e (subst (λ (r : Pending). UnseenAllocatorStep view p a u b r) same before).moves (subst (λ (r : Pending). RefusedFileStep view r b u' c e) same leaves)
-    | inr changed ↦ inr (breaks_after view p (with_run p a.header.fields t first n) a b c u' e before.moves fault changed leaves)
+        leaves_then view p a b c u' e (subst (λ (r : Pending). UnseenAllocatorStep view p a u b r) same before).file_step (subst (λ (r : Pending). RefusedFileStep view r b u' c e) same leaves)
+    | inr changed ↦ inr (interrupted_after view p (with_run p a.header.fields t first n) a b c u' e before.file_step fault changed leaves)
   ]
 
   -- one cluster more of a run is taken
@@ -181,13 +181,13 @@ module _ {S : Type 0} (view : S → StorageView) where
       let h = a.header.fields in
       let q : Pending = with_run p a.header.fields t first n in
       let now = subst (λ (x : EntryTableView). UnseenAllocatorStep view q b u' c (with_new_tables q (counted_one h x (first + n)))) same (subst (λ (k : HeaderFields). UnseenAllocatorStep view q b u' c (with_new_tables q (counted_one k t' (first + n)))) same_header takes) in
-      becomes_more view false p (counted_run h t first n) (with_run p h t first (n + 1)) a b c u u' before (subst (λ (r : Pending). UnseenAllocatorStep view q b u' c r) (run_more h t p first n) now)
+      allocator_step_more view false p (counted_run h t first n) (with_run p h t first (n + 1)) a b c u u' before (subst (λ (r : Pending). UnseenAllocatorStep view q b u' c r) (run_more h t p first n) now)
 
   -- so it isn't
   pub run_not_taken : (p : Pending) (t : EntryTableView) (first n cluster : ℕ) (a b c : ImageFile S) (u u' : Allocator) (t' : EntryTableView) (taken : Bool) → UnseenAllocatorStep view p a u b (with_run p a.header.fields t first n) → taken ≡ false
       → TakesFree view (with_run p a.header.fields t first n) b u' c t' cluster (Ok taken) → UnseenAllocatorStep view p a u' c (with_run p a.header.fields t first n)
   run_not_taken p t first n cluster a b c u u' t' true before is takes = absurd (let bad : true ≡ false = is in cc)
-  run_not_taken p t first n cluster a b c u u' t' false before is takes = becomes_more view false p (counted_run a.header.fields t first n) (with_run p a.header.fields t first n) a b c u u' before takes
+  run_not_taken p t first n cluster a b c u u' t' false before is takes = allocator_step_more view false p (counted_run a.header.fields t first n) (with_run p a.header.fields t first n) a b c u u' before takes
 
   -- ---- the first cluster of a run is given back
   module _ (p : Pending) (t : EntryTableView) (at end : ℕ) (start b f : ImageFile S) (u u' : Allocator) (within : at < end) (has : lacks t (at / counts_per_block start.header.fields) ≡ false)
@@ -205,13 +205,13 @@ module _ {S : Type 0} (view : S → StorageView) where
     owed_now = is_sound_now view p (with_new_tables rest (one_at at)) start b u owing
 
     pub left_one : UnseenAllocatorStep view (with_new_tables rest (one_at at)) b u' f rest → UnseenAllocatorStep view p start u' f rest
-    left_one back = record { moves = moves_then view p (with_new_tables rest (one_at at)) rest start b f (λ k some. some) owing.moves back.moves; reftable = back.reftable }
+    left_one back = record { file_step = file_step_then view p (with_new_tables rest (one_at at)) rest start b f (λ k some. some) owing.file_step back.file_step; reftable = back.reftable }
 
     pub left_fault : (first n : ℕ) (e : ImageError) → first ≤ at → at < first + n → ((k : ℕ) → counted_run start.header.fields t first n k ≡ 0) ⊎ IsTrue f.caches.is_changed
         → IsFault e × RefusedFileStep view (with_new_tables rest (one_at at)) b u' f e → IsFault e × RefusedFileStep view p start u' f e
     left_fault first n e low high noted back = elim noted [
       | inl none ↦ let one = counted_in start.header.fields t first n at has in let in_run = run_in first n at low high in let zero = none at in absurd (omega (arith, one, in_run, zero))
-      | inr changed ↦ (back.0, inr (breaks_after view p (with_new_tables rest (one_at at)) start b f u' e owing.moves back.0 changed back.1))
+      | inr changed ↦ (back.0, inr (interrupted_after view p (with_new_tables rest (one_at at)) start b f u' e owing.file_step back.0 changed back.1))
     ]
 
   -- the first one isn't counted

@@ -130,12 +130,12 @@ module _ {S : Type 0} where
     module _ (p : Pending) (old : ImageFile S) (allocator' : Allocator) (new : ImageFile S) where
       -- all is sound again, while this is pending
       pub record UnseenAllocatorStep (p' : Pending) : Type 0 where
-        pub moves : UnseenFileStep view p p' old new
+        pub file_step : UnseenFileStep view p p' old new
         pub reftable : HasReftable view new allocator'.reftable
 
       -- so it is where the reftable may have moved
       pub record UnseenAllocatorGrowth (p' : Pending) : Type 0 where
-        pub moves : UnseenFileGrowth view p p' old new
+        pub file_step : UnseenFileGrowth view p p' old new
         pub reftable : HasReftable view new allocator'.reftable
 
       -- the refblock of a range is loaded

@@ -69,7 +69,7 @@ module _ {S K V E : Type 0} (steps : Steps S K V E) where
     pub record Evicts (s : S) (es : List (K × Slot V)) (t : S) (fs : List (K × Slot V)) : Type 0 where
       pub must : MustEvict es
       pub entry : K × Slot V
-      pub goes : oldest_free es ≡ Some entry
+      pub eviction : oldest_free es ≡ Some entry
       pub clean : V
       pub flushed : steps.flushed s entry.0 entry.1.value clean t
       pub rest : fs ≡ remove_entry (eq entry.0) es
@@ -78,7 +78,7 @@ module _ {S K V E : Type 0} (steps : Steps S K V E) where
     pub record FailsToEvict (s : S) (es : List (K × Slot V)) (x : E) (t : S) (fs : List (K × Slot V)) : Type 0 where
       pub must : MustEvict es
       pub entry : K × Slot V
-      pub goes : oldest_free es ≡ Some entry
+      pub eviction : oldest_free es ≡ Some entry
       pub failed : steps.flush_failed s entry.0 entry.1.value x t
       pub same : fs ≡ es
 

@@ -50,7 +50,7 @@ module _ {S : Type 0} where
     pub record FileInvariant (p : Pending) (file : ImageFile S) : Type 0 where
       pub honest : (view_in file).is_honest
       pub caches : CacheInvariant file.header.fields p file.caches (contents_in file)
-      pub settled : AreNamedBlocks file.header.fields (refblocks file.caches) (contents_in file)
+      pub named_blocks : AreNamedBlocks file.header.fields (refblocks file.caches) (contents_in file)
       pub room : CachesHaveRoom file.caches
 
     -- the allocator's reftable is the one on the storage
@@ -68,7 +68,7 @@ module _ {S : Type 0} where
     -- A step that no guest sees, from what was pending to what is: all is sound again, and at each moment what was kept is kept.
     pub record UnseenFileStep (p p' : Pending) (old new : ImageFile S) : Type 0 where
       pub sound : FileInvariant p' new
-      pub leads : SafeStep (state_in old p) (state_in new p') nothing_given []
+      pub safe_step : SafeStep (state_in old p) (state_in new p') nothing_given []
       pub since : SafeThroughout (view_in old) (view_in new) (known_in old) nothing_given []
       pub unseen : IsUnseen (state_in old p) (state_in new p')
       pub l1_table : SameL1Table (state_in old p) (state_in new p')
@@ -78,7 +78,7 @@ module _ {S : Type 0} where
     -- The same where the reftable may move: its former clusters are named no longer, and counted still.
     pub record UnseenFileGrowth (p p' : Pending) (old new : ImageFile S) : Type 0 where
       pub sound : FileInvariant p' new
-      pub leads : SafeStep (state_in old p) (state_in new p') nothing_given []
+      pub safe_step : SafeStep (state_in old p) (state_in new p') nothing_given []
       pub since : SafeThroughout (view_in old) (view_in new) (known_in old) nothing_given []
       pub unseen : IsUnseen (state_in old p) (state_in new p')
       pub l1_table : SameL1Table (state_in old p) (state_in new p')

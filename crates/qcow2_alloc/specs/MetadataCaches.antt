@@ -106,7 +106,7 @@ module _ {S : Type 0} where
     pub honest : new.is_honest
     pub sound : CacheInvariant h p caches' (byte_at new.contents)
     pub known : known_of h caches' (byte_at new.contents) ≡ known_of h caches (byte_at old.contents)
-    pub settled : AreNamedBlocks h (refblocks caches) (byte_at old.contents) → AreNamedBlocks h (refblocks caches') (byte_at new.contents)
+    pub named_blocks : AreNamedBlocks h (refblocks caches) (byte_at old.contents) → AreNamedBlocks h (refblocks caches') (byte_at new.contents)
     pub since : IsSafeSince old new (known_of h caches (byte_at old.contents))
 
   -- a table holds what is known in the cluster
@@ -150,7 +150,7 @@ module _ {S : Type 0} where
   -- the change was made, and the caches are sound again, whatever is pending, where the order of writes is kept
   pub record Made (Change : Type 0) (h : HeaderFields) (caches caches' : MetadataCaches S) (on_storage : Bytes) : Type 0 where
     pub change : Change
-    pub settled : AreNamedBlocks h (refblocks caches) on_storage → AreNamedBlocks h (refblocks caches') on_storage
+    pub named_blocks : AreNamedBlocks h (refblocks caches) on_storage → AreNamedBlocks h (refblocks caches') on_storage
     pub sound : (p : Pending) → CrashInvariant h (order_of caches') p on_storage (known_of h caches' on_storage) → CacheInvariant h p caches' on_storage
 
   -- the count at this place of the refblock of a cluster rises from 0
@@ -189,7 +189,7 @@ module _ {S : Type 0} where
   -- pending, where the order of writes is kept and each modified refblock is named.
   pub record MadeEntry (h : HeaderFields) (caches caches' : MetadataCaches S) (on_storage : Bytes) (i j entry : ℕ) (answer : Option (ℕ × ℕ)) : Type 0 where
     pub change : ChangesKnownEntry h (known_of h caches on_storage) (known_of h caches' on_storage) i j entry
-    pub settled : AreNamedBlocks h (refblocks caches) on_storage → AreNamedBlocks h (refblocks caches') on_storage
+    pub named_blocks : AreNamedBlocks h (refblocks caches) on_storage → AreNamedBlocks h (refblocks caches') on_storage
     pub answered : answer ≡ old_data_run h.cluster_bits (entry_cover h (l2_entry (known_of h caches on_storage) (table_at h (known_of h caches on_storage) i) j)) (entry_cover h entry)
     pub sound : (p : Pending) → AreNamedBlocks h (refblocks caches) on_storage → CrashInvariant h (order_of caches') p on_storage (known_of h caches' on_storage) → CacheInvariant h p caches' on_storage
 
@@ -234,7 +234,7 @@ module _ {S : Type 0} where
   pub record TakenOff (Unmodified : Type 0) (h : HeaderFields) (caches caches' : MetadataCaches S) (on_storage : Bytes) : Type 0 where
     pub known : IsPartly (cluster_size h) on_storage (known_of h caches on_storage) (known_of h caches' on_storage)
     pub same : Unmodified → known_of h caches' on_storage ≡ known_of h caches on_storage
-    pub settled : AreNamedBlocks h (refblocks caches) on_storage → AreNamedBlocks h (refblocks caches') on_storage
+    pub named_blocks : AreNamedBlocks h (refblocks caches) on_storage → AreNamedBlocks h (refblocks caches') on_storage
     pub sound : (p : Pending) → CrashInvariant h (order_of caches') p on_storage (known_of h caches' on_storage) → CacheInvariant h p caches' on_storage
 
   -- so on sound caches
@@ -258,7 +258,7 @@ module _ {S : Type 0} where
     pub honest : new.is_honest
     pub known : known_of h caches' (byte_at new.contents) ≡ known (cluster_size h) (t ∷ []) (known_of h caches (byte_at old.contents))
     pub since : IsSafeSince old new (known_of h caches (byte_at old.contents))
-    pub settled : IsNamed (byte_at new.contents) → AreNamedBlocks h (refblocks caches) (byte_at old.contents) → AreNamedBlocks h (refblocks caches') (byte_at new.contents)
+    pub named_blocks : IsNamed (byte_at new.contents) → AreNamedBlocks h (refblocks caches) (byte_at old.contents) → AreNamedBlocks h (refblocks caches') (byte_at new.contents)
     pub sound : (p : Pending) → Stands (byte_at new.contents) (known_of h caches' (byte_at new.contents)) → CrashInvariant h (order_of caches') p (byte_at new.contents) (known_of h caches' (byte_at new.contents))
         → CacheInvariant h p caches' (byte_at new.contents)
 

@@ -84,7 +84,7 @@ module _ {S : Type 0} (view : S → StorageView) where
   module _ (q : Pending) (old : ImageFile S) (allocator : Allocator) (new : ImageFile S) where
     -- bytes stand in a cluster, which no cached refblock has; nothing else changes on the storage
     pub record StandsIn (cluster : ℕ) (bytes : List ℕ) : Type 0 where
-      pub becomes : UnseenAllocatorStep view q old allocator new q
+      pub allocator_step : UnseenAllocatorStep view q old allocator new q
       pub stands : StandAt (contents_in view new) (cluster * cluster_size old.header.fields) bytes
       pub outside : IsSameOutside (cluster_size old.header.fields) cluster (contents_in view old) (contents_in view new)
       pub gone : rb_at new.caches cluster ≡ None
@@ -95,7 +95,7 @@ module _ {S : Type 0} (view : S → StorageView) where
 
     -- the refblocks that a reftable lacks stand in the first clusters of a room, and a longer one names them
     pub record HasPlaced (before after : EntryTableView) (room : Room) : Type 0 where
-      pub becomes : UnseenAllocatorStep view q old allocator new q
+      pub allocator_step : UnseenAllocatorStep view q old allocator new q
       pub grown : IsGrown old.header.fields before (placed_at after (room.first + room.blocks)) room.first room.blocks room.clusters
       pub counts : StandCounting new before after room.first (room_length room)
       pub uncached : (c : ℕ) → 0 < run_at room.first room.blocks c → rb_at new.caches c ≡ None
@@ -106,7 +106,7 @@ module _ {S : Type 0} (view : S → StorageView) where
 
     -- a table stands in so many clusters, and on the storage nothing else changes
     pub record StandsFrom (cluster clusters : ℕ) (bytes : List ℕ) : Type 0 where
-      pub becomes : UnseenAllocatorStep view q old allocator new q
+      pub allocator_step : UnseenAllocatorStep view q old allocator new q
       pub stands : StandAt (contents_in view new) (cluster * cluster_size old.header.fields) bytes
       pub outside : (c : ℕ) → run_at cluster clusters c ≡ 0 → SameIn (cluster_size old.header.fields) c (contents_in view old) (contents_in view new)
 

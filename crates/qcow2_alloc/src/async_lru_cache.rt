@@ -85,7 +85,7 @@ impl<B: AsyncLruCacheBackend> AsyncLruCache<B> {
 
         // What is got is in front. Only the least recently used entry with no pin goes, after its flush succeeded.
         ensures front { result ≡ Ok true → IsInFront (B.Key.eq key) self.new.entries }
-        ensures goes { OnlyOldestGoes B.Key.eq (λ e. (w : B.Value) × (t : B.Store) × (B.steps self.old.backend).flushed store.old e.0 e.1.value w t)
+        ensures eviction { OnlyOldestGoes B.Key.eq (λ e. (w : B.Value) × (t : B.Store) × (B.steps self.old.backend).flushed store.old e.0 e.1.value w t)
             self.old.entries self.new.entries }
         ensures stays { OthersStay B.Key.eq key self.old.entries self.new.entries }
 

@@ -60,7 +60,7 @@ impl<S: Storage> MetadataCaches<S> {
     ) -> Result<Self, AllocError>
         ensures sound { IfOk result (λ caches. (p : Pending) (on_storage : Bytes) → CrashInvariant header.now.fields Neither p on_storage on_storage → CacheInvariant header.now.fields p caches on_storage) }
         ensures known { IfOk result (λ caches. (on_storage : Bytes) → known_of header.now.fields caches on_storage ≡ on_storage) }
-        ensures settled { IfOk result (λ caches. (on_storage : Bytes) → AreNamedBlocks header.now.fields (refblocks caches) on_storage) }
+        ensures named_blocks { IfOk result (λ caches. (on_storage : Bytes) → AreNamedBlocks header.now.fields (refblocks caches) on_storage) }
         ensures order { IfOk result (λ caches. order_of caches ≡ Neither) }
         ensures sizes { IfOk result (λ caches. (caches.l2.size ≡ l2_entries) × (caches.rb.size ≡ rb_entries)) }
         ensures room { IfOk result (λ caches. 0 < l2_entries → 0 < rb_entries → CachesHaveRoom caches) }

@@ -165,7 +165,7 @@ module _ (x : Setting) (old new : AbstractImage) (s : State) (command : Command)
         going ok may sized worked done.0
         (subst (λ y. CommandMeaning y s.found s.guest command reply (guest_of new)) stands.setting (subst (λ h. CommandMeaning old.setting s.found h command reply (guest_of new)) (stands.guest ok) done.1))
         ((ends sound).finds done.0) ((ends sound).checkpoint x s stands ok done.0))
-        (λ (broke : IsFaultReply reply × IsTrue new.is_failed). failing ok may sized worked broke.0 broke.1)
+        (λ (interruption : IsFaultReply reply × IsTrue new.is_failed). failing ok may sized worked interruption.0 interruption.1)
         (ends sound).ends
   ]
 
@@ -375,13 +375,13 @@ module _ {D P : Type 0} (spec : Abstraction D P) where
   pub ran_more : (x : Setting) (old mid new : D) (before out out' : List (Option P)) (s : State) (commands : List Command) (replies : List Reply) (command : Command) (reply : Reply)
       → (ran : RefinesRun spec x old before mid out s commands replies) → RefinesCommand x (abstract_image spec mid out) (abstract_image spec new out') ran.end command reply
       → RefinesRun spec x old before new out' s (commands ++ command ∷ []) (replies ++ reply ∷ [])
-  ran_more x old mid new before out out' s commands replies command reply ran goes = record {
-    end = goes.end;
-    run = Run-push x s ran.end goes.end commands replies command reply ran.run goes.step;
-    along = along_push spec x (spec.surplus old before) old mid new out' s ran.end goes.end commands replies command reply ran.run goes.step ran.along
-        (said_at (spec.surplus old before) goes.stands (λ e. goes.surplus e ∙ ran.surplus (goes.since e))) goes.interval;
-    stands = goes.stands;
-    surplus = λ e. goes.surplus e ∙ ran.surplus (goes.since e);
+  ran_more x old mid new before out out' s commands replies command reply ran command_step = record {
+    end = command_step.end;
+    run = Run-push x s ran.end command_step.end commands replies command reply ran.run command_step.step;
+    along = along_push spec x (spec.surplus old before) old mid new out' s ran.end command_step.end commands replies command reply ran.run command_step.step ran.along
+        (said_at (spec.surplus old before) command_step.stands (λ e. command_step.surplus e ∙ ran.surplus (command_step.since e))) command_step.interval;
+    stands = command_step.stands;
+    surplus = λ e. command_step.surplus e ∙ ran.surplus (command_step.since e);
   }
 
   -- a run whose mappings are let go at its end
@@ -438,10 +438,10 @@ module _ {D P : Type 0} (spec : Abstraction D P) where
     }
 
   -- a whole run of an image that was just opened
-  pub means_the_disk : (old new : D) (commands : List Command) (replies : List Reply) → ((c : List ℕ) → (spec.storage old).had_since (spec.storage old).moment c → c ≡ (spec.storage old).contents)
+  pub refines_the_disk : (old new : D) (commands : List Command) (replies : List Reply) → ((c : List ℕ) → (spec.storage old).had_since (spec.storage old).moment c → c ≡ (spec.storage old).contents)
       → RefinesState (spec.setting old) (abstract_image spec old []) (started (guest_of (abstract_image spec old [])))
       → RefinesWholeRun spec (spec.setting old) old new (started (guest_of (abstract_image spec old []))) commands replies → RefinesDisk spec old new commands replies
-  means_the_disk old new commands replies only stands all = record {
+  refines_the_disk old new commands replies only stands all = record {
     end = all.end;
     run = all.run;
     at_start = stands.at_rest;

@@ -5,6 +5,6 @@ pub mod Answered
 pub mod MetErrors
 pub mod Marked
 pub mod Stepped
-pub mod Settled
+pub mod CallOutcomes
 pub mod Refused
 pub mod Slots

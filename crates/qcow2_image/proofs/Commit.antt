@@ -1,4 +1,4 @@
 pub mod Committing
 pub mod Entered
 pub mod CommitCalls
-pub mod LetGo
+pub mod Released

@@ -73,9 +73,9 @@ module _ {S F : Type 0} (view : S → StorageView) (backing : F → BackingView)
   whole image out sound =
       let stand = state_in view image.file (pending_in view backing image out) in
       record {
-        consistent = sound_is_consistent.known stand sound.file.caches.kept.kept.guarded;
+        consistent = sound_is_consistent.known stand sound.file.caches.kept.kept.crash_invariant;
         in_image = refl;
-        cluster_size = ap (λ (h : HeaderFields). cluster_size h) (sym (known_header stand sound.file.caches.kept.kept.guarded));
+        cluster_size = ap (λ (h : HeaderFields). cluster_size h) (sym (known_header stand sound.file.caches.kept.kept.crash_invariant));
       }
 
   -- the premise is the trait's `only_now`

@@ -25,7 +25,7 @@ module _ {S F : Type 0} (view : S → StorageView) (backing : F → BackingView)
 
   -- the header is that of the known bytes
   pub header_is : header (known_in view image.file) ≡ image.file.header.fields
-  header_is = known_header s sound.file.caches.kept.kept.guarded
+  header_is = known_header s sound.file.caches.kept.kept.crash_invariant
 
   module _ (k : ℕ) (q : Prepared) (placed : slice_get out k ≡ Some (Some q)) (o : ℕ) where
     abbrev IsHere : Type 0

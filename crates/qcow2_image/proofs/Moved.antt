@@ -21,15 +21,15 @@ use Rattle.qcow2_image.specs.MovedTables.{MovesTables, CoversStay}
 
 -- ---- the header
 
-pub moves_then : (a b c : HeaderFields) → MovesTables a b → MovesTables b c → MovesTables a c
-moves_then a b c first then = then ∙ ap (λ (k : HeaderFields). with_tables_of k c) first
+pub file_step_then : (a b c : HeaderFields) → MovesTables a b → MovesTables b c → MovesTables a c
+file_step_then a b c first then = then ∙ ap (λ (k : HeaderFields). with_tables_of k c) first
 
 -- where only the reftable may have moved
-pub format_moves : (h h' : HeaderFields) → KeepsFormat h h' → MovesTables h h'
-format_moves h h' format = subst (λ (k : HeaderFields). k ≡ with_tables_of h k) (sym format) refl
+pub format_file_step : (h h' : HeaderFields) → KeepsFormat h h' → MovesTables h h'
+format_file_step h h' format = subst (λ (k : HeaderFields). k ≡ with_tables_of h k) (sym format) refl
 
-pub moves_format : (h h' : HeaderFields) → MovesTables h h' → SameFormat h h'
-moves_format h h' moves = subst (λ (k : HeaderFields). k ≡ with_places h (places_of k)) (sym moves) refl
+pub file_step_format : (h h' : HeaderFields) → MovesTables h h' → SameFormat h h'
+file_step_format h h' file_step = subst (λ (k : HeaderFields). k ≡ with_places h (places_of k)) (sym file_step) refl
 
 -- ---- what stands for guest clusters
 pub stay_then : (a b c : HeaderFields) (known known' known'' : Bytes) → CoversStay a known b known' → CoversStay b known' c known'' → CoversStay a known c known''

@@ -13,7 +13,7 @@ use Rattle.qcow2_alloc.specs.CachePins.{l2_pins}
 use Rattle.qcow2_alloc.specs.declared.allocation.Allocator.{Allocator}
 use Rattle.qcow2_alloc.specs.declared.image_file.ImageFile.{ImageFile}
 use Rattle.qcow2_alloc.specs.ImageFile.{contents_in, known_in, UnseenFileStep, UnseenFileGrowth}
-use Rattle.qcow2_alloc.proofs.FileSteps.{moves_on}
+use Rattle.qcow2_alloc.proofs.FileSteps.{file_step_on}
 use Rattle.qcow2_alloc.specs.KeptAllocators.{IsAllocatorOf}
 use Rattle.qcow2_image.specs.declared.image.Qcow2.{Qcow2}
 use Rattle.qcow2_image.specs.declared.prepared.Prepared.{Prepared}
@@ -23,33 +23,33 @@ use Rattle.qcow2_image.proofs.Formats.{l1_shared, ready_format}
 use Rattle.qcow2_image.proofs.Ready.{still_ready}
 
 module _ {S F : Type 0} (view : S → StorageView) (backing : F → BackingView) (old : Qcow2 S F) (out : List (Option Prepared)) (p p' : Pending) (sound : ImageInvariant view backing p old out)
-    (file : ImageFile S) (allocator : Option Allocator) (moves : UnseenFileGrowth view p p' old.file file) (reftable : IfSome allocator (IsAllocatorOf view file))
+    (file : ImageFile S) (allocator : Option Allocator) (file_step : UnseenFileGrowth view p p' old.file file) (reftable : IfSome allocator (IsAllocatorOf view file))
     (pins : (table : ℕ) → l2_pins file.caches table ≡ l2_pins old.file.caches table) where
   abbrev h : HeaderFields
   h = old.file.header.fields
 
   header : KeepsFormat h file.header.fields
-  header = moves.unseen.header
+  header = file_step.unseen.header
 
   l1_moved : HasL1Table view backing file old.l1_table
   l1_moved = record {
     cluster = λ some. sound.l1_table.cluster (subst (λ (x : HeaderFields). 0 < x.l1_entries) header some) ∙ ap (λ (x : HeaderFields). Some (x.l1_offset / cluster_size x)) (sym header);
     bits = sound.l1_table.bits ∙ ap (λ (x : HeaderFields). x.cluster_bits) (sym header);
     count = sound.l1_table.count ∙ ap (λ (x : HeaderFields). x.l1_entries) (sym header);
-    entries = λ i. sound.l1_table.entries i ∙ sym (moves.l1_table i) ∙ sym (l1_format h file.header.fields header (contents_in view file) i);
+    entries = λ i. sound.l1_table.entries i ∙ sym (file_step.l1_table i) ∙ sym (l1_format h file.header.fields header (contents_in view file) i);
   }
 
   ready_moved : (k : ℕ) (q : Prepared) → IsReadyWith h (known_in view old.file) (contents_in view old.file) q q.table → IsReadyWith file.header.fields (known_in view file) (contents_in view file) q q.table
   ready_moved k q ready =
       ready_format h file.header.fields header (known_in view file) (contents_in view file) q q.table
-      (still_ready h (known_in view old.file) (contents_in view old.file) (known_in view file) (contents_in view file) q sound.file.caches.kept.kept.guarded.same_top.l1
-      (λ i. l1_shared h file.header.fields header (contents_in view file) (known_in view file) i (moves.sound.caches.kept.kept.guarded.same_top.l1 i)) (λ i copied. moves.l1_table i) (λ i. moves.unseen.covers (cluster_of h q + i)) q.table ready)
+      (still_ready h (known_in view old.file) (contents_in view old.file) (known_in view file) (contents_in view file) q sound.file.caches.kept.kept.crash_invariant.same_top.l1
+      (λ i. l1_shared h file.header.fields header (contents_in view file) (known_in view file) i (file_step.sound.caches.kept.kept.crash_invariant.same_top.l1 i)) (λ i copied. file_step.l1_table i) (λ i. file_step.unseen.covers (cluster_of h q + i)) q.table ready)
 
   pub file_tidied : UnseenFreeingStep view backing p p' old (record old { file = file; allocator = allocator }) out
   file_tidied = record {
     sound = record {
       works = sound.works;
-      file = moves.sound;
+      file = file_step.sound;
       l1_table = l1_moved;
       reftable = reftable;
       below = sound.below;
@@ -57,17 +57,17 @@ module _ {S F : Type 0} (view : S → StorageView) (backing : F → BackingView)
       pinned = λ table. pins table ∙ sound.pinned table;
       once = sound.once;
     };
-    leads = moves.leads;
-    since = moves.since;
-    unseen = moves.unseen;
-    copied = λ i copied. moves.l1_table i;
+    safe_step = file_step.safe_step;
+    since = file_step.since;
+    unseen = file_step.unseen;
+    copied = λ i copied. file_step.l1_table i;
     below = refl;
   }
 
   pub file_moved_on : ListGrows old (record old { file = file; allocator = allocator }) → UnseenStep view backing p p' old (record old { file = file; allocator = allocator }) out
   file_moved_on list = record {
     sound = file_tidied.sound;
-    leads = file_tidied.leads;
+    safe_step = file_tidied.safe_step;
     since = file_tidied.since;
     unseen = file_tidied.unseen;
     copied = file_tidied.copied;
@@ -77,7 +77,7 @@ module _ {S F : Type 0} (view : S → StorageView) (backing : F → BackingView)
 
 -- the reftable stays, and so does the list
 module _ {S F : Type 0} (view : S → StorageView) (backing : F → BackingView) (old : Qcow2 S F) (out : List (Option Prepared)) (p p' : Pending) (sound : ImageInvariant view backing p old out)
-    (file : ImageFile S) (allocator : Option Allocator) (moves : UnseenFileStep view p p' old.file file) (reftable : IfSome allocator (IsAllocatorOf view file))
+    (file : ImageFile S) (allocator : Option Allocator) (file_step : UnseenFileStep view p p' old.file file) (reftable : IfSome allocator (IsAllocatorOf view file))
     (pins : (table : ℕ) → l2_pins file.caches table ≡ l2_pins old.file.caches table) where
   pub file_moved : file.free_list ≡ old.file.free_list → UnseenStep view backing p p' old (record old { file = file; allocator = allocator }) out
-  file_moved list = file_moved_on view backing old out p p' sound file allocator (moves_on view p p' old.file file moves) reftable pins (record { more = []; is = list ∙ sym (append-nil old.file.free_list) })
+  file_moved list = file_moved_on view backing old out p p' sound file allocator (file_step_on view p p' old.file file file_step) reftable pins (record { more = []; is = list ∙ sym (append-nil old.file.free_list) })

@@ -289,4 +289,4 @@ module _ {S F : Type 0} (view : S → StorageView) (backing : F → BackingView)
       let place = place_of image.file.header.fields q o / cluster_size image.file.header.fields in
       let all = over_all_at new_data_by out k q at (place_of image.file.header.fields q o / cluster_size image.file.header.fields) in
       let new_data = holds (place_of image.file.header.fields q o / cluster_size image.file.header.fields) in
-      standing_used (state_in view image.file p) sound.file.caches.kept.kept.guarded q o (omega arith) (private_stands k q at o private)
+      standing_used (state_in view image.file p) sound.file.caches.kept.kept.crash_invariant q o (omega arith) (private_stands k q at o private)

@@ -16,10 +16,10 @@ use Rattle.qcow2_image.specs.Refusals.{refuse_if, unusable}
 
 module _ {S F : Type 0} (view : S → StorageView) (backing : F → BackingView) (image : Qcow2 S F) (out : List (Option Prepared)) (sound : (abstract_of view backing image out).is_sound) where
   pub disk_size : size_of image ≡ (guest_of (abstract_of view backing image out)).disk.size
-  disk_size = sym (shown_size (state_in view image.file (pending_in view backing image out)) sound.file.caches.kept.kept.guarded (backing_bytes view backing image.backing))
+  disk_size = sym (shown_size (state_in view image.file (pending_in view backing image out)) sound.file.caches.kept.kept.crash_invariant (backing_bytes view backing image.backing))
 
   has_no_data_file : is_external image ≡ false
-  has_no_data_file = ap (λ bits. has_data_file (record image.file.header.fields { incompatible = bits })) sound.file.caches.kept.kept.guarded.top.no_data_file
+  has_no_data_file = ap (λ bits. has_data_file (record image.file.header.fields { incompatible = bits })) sound.file.caches.kept.kept.crash_invariant.top.no_data_file
 
   pub sound_is_usable : unusable image ≡ None
   sound_is_usable =

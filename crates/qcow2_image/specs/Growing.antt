@@ -36,7 +36,7 @@ module _ {S F : Type 0} (view : S → StorageView) where
     -- All is sound again, from what was pending to what is, with a header of the same format.
     pub record Extends (p p' : Pending) (old new : Qcow2 S F) (asked : List ℕ) : Type 0 where
       pub sound : ImageInvariant view backing p' new []
-      pub leads : SafeStep (state_in view old.file p) (state_in view new.file p') nothing_given asked
+      pub safe_step : SafeStep (state_in view old.file p) (state_in view new.file p') nothing_given asked
       pub since : Lasts old new asked
       pub format : SameFormat old.file.header.fields new.file.header.fields
       pub autoclear : new.file.header.fields.autoclear ≡ old.file.header.fields.autoclear

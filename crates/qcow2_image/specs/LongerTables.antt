@@ -73,7 +73,7 @@ module _ {S F : Type 0} where
       -- No guest sees it, though the L1 table may move: all is sound again, from what was pending to what is. At each moment what was kept is kept.
       pub record UnseenMove (p p' : Pending) (old new : Qcow2 S F) (out : List (Option Prepared)) : Type 0 where
         pub sound : ImageInvariant view backing p' new out
-        pub leads : SafeStep (state_in view old.file p) (state_in view new.file p') nothing_given []
+        pub safe_step : SafeStep (state_in view old.file p) (state_in view new.file p') nothing_given []
         pub since : SafeThroughout (view_in view old.file) (view_in view new.file) (known_in view old.file) nothing_given []
         pub header : MovesTables old.file.header.fields new.file.header.fields
         pub covers : CoversStay old.file.header.fields (known_in view old.file) new.file.header.fields (known_in view new.file)
@@ -85,7 +85,7 @@ module _ {S F : Type 0} where
 
       -- it broke off while the header was written
       pub record InterruptedMove (old new : Qcow2 S F) (e : ImageError) : Type 0 where
-        pub breaks : InterruptedFileStep view old.file new.file e
+        pub interrupted : InterruptedFileStep view old.file new.file e
         pub header : MovesTables old.file.header.fields new.file.header.fields
         pub below : below_of view backing new.backing ≡ below_of view backing old.backing
 

@@ -87,7 +87,7 @@ module _ {S F : Type 0} (view : S → StorageView) where
   Ends image p = EndsAt image.file.header.fields (known_in view image.file) (p.guest + p.length) (p.offset + p.length)
 
   -- A mapping was let go: of caches no table changed.
-  pub record LetsGo (old new : Qcow2 S F) : Type 0 where
+  pub record ReleasesOneMapping (old new : Qcow2 S F) : Type 0 where
     pub rest : new ≡ record old { file = record old.file { caches = new.file.caches; free_list = new.file.free_list } }
     pub known : known_in view new.file ≡ known_in view old.file
     pub changed : new.file.caches.is_changed ≡ old.file.caches.is_changed
@@ -134,7 +134,7 @@ module _ {S F : Type 0} (view : S → StorageView) where
     -- A share for the guest cluster behind a mapping that is out stands ready. Where it isn't in place, its cluster has what the guest sees, but where that is announced as overwritten.
     pub record StandsBehind (old new : Qcow2 S F) (out : List (Option Prepared)) (n : ℕ) (overwrite : Bool) (p : Prepared) (share : Share) : Type 0 where
       pub pending : Pending
-      pub goes : UnseenFillingStep view backing (pending_in view backing old out) pending old new out
+      pub image_step : UnseenFillingStep view backing (pending_in view backing old out) pending old new out
       pub new_data : (c : ℕ) → pending.new_data c ≡ over_all new_data_by out c + new_data_in (share ∷ []) c
       pub new_tables : (c : ℕ) → pending.new_tables c ≡ 0
       pub old_tables : (c : ℕ) → pending.old_tables c ≡ to_free of_tables new.file.free_list c

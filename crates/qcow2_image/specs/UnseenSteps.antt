@@ -114,7 +114,7 @@ module _ {S F : Type 0} where
     -- Nothing changes that a guest sees, and all is sound again, from what was pending to what is. At each moment what was kept is kept.
     pub record UnseenStep (p p' : Pending) (old new : Qcow2 S F) (out : List (Option Prepared)) : Type 0 where
       pub sound : ImageInvariant view backing p' new out
-      pub leads : SafeStep (state_in view old.file p) (state_in view new.file p') nothing_given []
+      pub safe_step : SafeStep (state_in view old.file p) (state_in view new.file p') nothing_given []
       pub since : SafeThroughout (view_in view old.file) (view_in view new.file) (known_in view old.file) nothing_given []
       pub unseen : IsUnseen (state_in view old.file p) (state_in view new.file p')
       pub copied : KeepsCopied (state_in view old.file p) (state_in view new.file p')
@@ -124,7 +124,7 @@ module _ {S F : Type 0} where
     -- The same, whatever becomes of the list of clusters that are to be freed.
     pub record UnseenFreeingStep (p p' : Pending) (old new : Qcow2 S F) (out : List (Option Prepared)) : Type 0 where
       pub sound : ImageInvariant view backing p' new out
-      pub leads : SafeStep (state_in view old.file p) (state_in view new.file p') nothing_given []
+      pub safe_step : SafeStep (state_in view old.file p) (state_in view new.file p') nothing_given []
       pub since : SafeThroughout (view_in view old.file) (view_in view new.file) (known_in view old.file) nothing_given []
       pub unseen : IsUnseen (state_in view old.file p) (state_in view new.file p')
       pub copied : KeepsCopied (state_in view old.file p) (state_in view new.file p')
@@ -148,7 +148,7 @@ module _ {S F : Type 0} where
     -- A part that the guest doesn't see, who may see clusters written that none of these mappings has. All is sound again, from what was pending to what is.
     pub record UnseenFillingStep (p p' : Pending) (old new : Qcow2 S F) (out : List (Option Prepared)) : Type 0 where
       pub sound : ImageInvariant view backing p' new out
-      pub leads : SafeStep (state_in view old.file p) (state_in view new.file p') nothing_given []
+      pub safe_step : SafeStep (state_in view old.file p) (state_in view new.file p') nothing_given []
       pub since : SafeThroughout (view_in view old.file) (view_in view new.file) (known_in view old.file) nothing_given []
       pub header : KeepsFormat old.file.header.fields new.file.header.fields
       pub covers : SameCovers old.file.header.fields (known_in view old.file) (known_in view new.file)
@@ -159,7 +159,7 @@ module _ {S F : Type 0} where
 
     -- it broke off: the image keeps its header, but perhaps for where the reftable stands, and its backing disk, and at each moment what was kept is kept
     pub record InterruptedStep (old new : Qcow2 S F) (e : ImageError) : Type 0 where
-      pub breaks : InterruptedFileStep view old.file new.file e
+      pub interrupted : InterruptedFileStep view old.file new.file e
       pub header : KeepsFormat old.file.header.fields new.file.header.fields
       pub below : below_of view backing new.backing ≡ below_of view backing old.backing
 
@@ -211,7 +211,7 @@ module _ {S F : Type 0} where
       pub one : n.count ≡ 1
       pub kind : n.kind ≡ Kind.Data
       pub unused : over_all new_data_by out n.first_cluster ≡ 0
-      pub goes : UnseenFillingStep p (with_new_data (pending_with_listed p old new) (run_of n)) old new out
+      pub image_step : UnseenFillingStep p (with_new_data (pending_with_listed p old new) (run_of n)) old new out
       pub filled : cover old.file.header.fields (known_in view old.file) (offset / cluster_size old.file.header.fields) ≡ mapping → IsFilled old new n.first_cluster offset length overwrite
 
     abbrev pub Gains : Pending → Qcow2 S F → Qcow2 S F → List (Option Prepared) → ℕ → ℕ → Bool → L2Mapping → Result ClustersToFreeEntry ImageError → Type 0

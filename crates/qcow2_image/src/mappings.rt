@@ -5,7 +5,7 @@ ghost use Rattle.qcow2_disk.specs.Mappings.{is_copied_data};
 ghost use Rattle.qcow2_image.specs.Image.{HasNothingToFree, ImageStays, IsSameImage, is_failed, is_writable, number_of, size_of};
 ghost use Rattle.qcow2_image.specs.Prepared.{image_of, length_of, offset_of, table_of, IsHandedBackBy};
 ghost use Rattle.qcow2_image.specs.Preparing.{IsAnswered, IsOfNothing, IsPlaceOf, IsTaken};
-ghost use Rattle.qcow2_image.specs.Ranges.{LetsGo, Reaches};
+ghost use Rattle.qcow2_image.specs.Ranges.{ReleasesOneMapping, Reaches};
 ghost use Rattle.qcow2_image.specs.Unwritten.{OnlyReadsImage};
 ghost use Rattle.qcow2_laws.specs.CrashInvariant.{Pending};
 ghost use Rattle.qcow2_alloc.specs.MetadataCaches.{IsEntryAt, l2_at};
@@ -529,7 +529,7 @@ impl<S: Storage, F: WrappedFormat<S>> Qcow2<S, F> {
         match self.prepare_rest(&mut prepared, table, length, overwrite) {
             Ok(()) => Ok(prepared),
             Err(refusal) => {
-                self.let_go(prepared);
+                self.release_prepared(prepared);
                 Err(refusal)
             }
         }
@@ -587,7 +587,7 @@ impl<S: Storage, F: WrappedFormat<S>> Qcow2<S, F> {
         ensures kept { IfErr result (IsHandedBackBy prepared) }
         ensures late { image_of prepared ≡ number_of self.old → is_failed self.old ≡ false → IfErr result (λ r. IsMet (reason_of r)) }
         ensures marks { MatchResult result (λ done. is_failed self.new ≡ is_failed self.old) (λ r. MarksRefused self.old self.new (reason_of r)) }
-        ensures existing { image_of prepared ≡ number_of self.old → is_failed self.old ≡ false → IsNone (table_of prepared) → (result ≡ Ok tt) × LetsGo S.view self.old self.new }
+        ensures existing { image_of prepared ≡ number_of self.old → is_failed self.old ≡ false → IsNone (table_of prepared) → (result ≡ Ok tt) × ReleasesOneMapping S.view self.old self.new }
         ensures image { IsSameImage self.old self.new }
         ensures sees { Commits S.view F.backing self.old self.new prepared result }
         ensures emptied { image_of prepared ≡ number_of self.old → IsSome (table_of prepared) → IsTrue (is_writable self.old) → OnOk result (HasNothingToFree self.new) }
@@ -601,14 +601,14 @@ impl<S: Storage, F: WrappedFormat<S>> Qcow2<S, F> {
             return Err(CommitRefused::Kept(ImageError::Failed, prepared));
         }
         if prepared.table.is_none() {
-            self.let_go(prepared);
+            self.release_prepared(prepared);
             return Ok(());
         }
         self.begin();
         let entered = self.enter_shares(&mut prepared);
         match self.end_freeing() {
             Ok(()) => {
-                self.let_go(prepared);
+                self.release_prepared(prepared);
                 Ok(())
             }
             Err(refusal) => Err(refused_commit(refusal, prepared, entered || self.is_failed)),
@@ -684,21 +684,21 @@ impl<S: Storage, F: WrappedFormat<S>> Qcow2<S, F> {
         ensures foreign { IfErr result (λ (e, p). (image_of prepared ≢ number_of self.old) × (e ≡ ForeignState) × (p ≡ prepared) × (self.new ≡ self.old)) }
         ensures stays { ImageStays self.old self.new }
         ensures sees { IfOk result (λ done. Discards S.view F.backing self.old self.new prepared) }
-        ensures rest { IfOk result (λ done. LetsGo S.view self.old self.new) }
+        ensures rest { IfOk result (λ done. ReleasesOneMapping S.view self.old self.new) }
         ensures faults { NoFewerFaults S.view F.backing self.old self.new }
     {
         if prepared.image != self.number {
             return Err((ImageError::ForeignState, prepared));
         }
-        self.let_go(prepared);
+        self.release_prepared(prepared);
         Ok(())
     }
 
     // A mapping is let go: its new clusters are to be freed.
-    pub(crate) fn let_go(&mut self, prepared: Prepared)
+    pub(crate) fn release_prepared(&mut self, prepared: Prepared)
         ensures stays { ImageStays self.old self.new }
         ensures list { self.new.file.free_list ≡ self.old.file.free_list ++ freed_by prepared.shares.items }
-        ensures rest { LetsGo S.view self.old self.new }
+        ensures rest { ReleasesOneMapping S.view self.old self.new }
         ensures sees { Discards S.view F.backing self.old self.new prepared }
         ensures faults { NoFewerFaults S.view F.backing self.old self.new }
     {

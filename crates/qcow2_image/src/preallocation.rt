@@ -236,7 +236,7 @@ impl<S: Storage, F: WrappedFormat<S>> Qcow2<S, F> {
         let next = to.min(from.saturating_add(prepared.length));
         let count = prepared.length.min(writes.most());
         if let Err(refusal) = self.put_zeros(prepared.offset, count, writes) {
-            self.let_go(prepared);
+            self.release_prepared(prepared);
             return Err(self.free_after(refusal));
         }
         self.commit_filled(prepared);
@@ -266,10 +266,10 @@ impl<S: Storage, F: WrappedFormat<S>> Qcow2<S, F> {
         ensures faults { NoFewerFaults S.view F.backing self.old self.new }
     {
         if prepared.table.is_none() {
-            self.let_go(prepared);
+            self.release_prepared(prepared);
             return;
         }
         let _entered = self.enter_shares(&mut prepared);
-        self.let_go(prepared);
+        self.release_prepared(prepared);
     }
 }

@@ -51,7 +51,7 @@ impl<S: Storage, F: WrappedFormat<S>> Qcow2<S, F> {
         ensures header { KeepsHeader self.old.file.header self.new.file.header }
         ensures cause { IfErr result IsMet }
         ensures longer { IsLongerMapping self.old.file.header.fields length prepared.old prepared.new }
-        ensures goes { (start : Qcow2 S F) (out : List (Option Prepared)) (k : ℕ) → slice_get out k ≡ Some None → prepared.old.table ≡ Some table
+        ensures image_step { (start : Qcow2 S F) (out : List (Option Prepared)) (k : ℕ) → slice_get out k ≡ Some None → prepared.old.table ≡ Some table
             → IsReadied S.view F.backing start self.old out k prepared.old.guest length overwrite prepared.old → GoesOn S.view F.backing start self.new out k length overwrite prepared.new result }
         ensures faults { CountsImageFaults S.view F.backing self.old self.new result }
     {
@@ -80,7 +80,7 @@ impl<S: Storage, F: WrappedFormat<S>> Qcow2<S, F> {
         ensures same { result ≢ Ok true → prepared.new ≡ prepared.old }
         ensures room { vec_capacity prepared.new.shares ≡ vec_capacity prepared.old.shares }
         ensures next { result ≡ Ok true → IsNext self.old.file.header.fields length prepared.old prepared.new }
-        ensures goes { (out : List (Option Prepared)) (k : ℕ) → slice_get out k ≡ Some (Some prepared.old) → MayGoOn self.old.file.header.fields length table prepared.old
+        ensures image_step { (out : List (Option Prepared)) (k : ℕ) → slice_get out k ≡ Some (Some prepared.old) → MayGoOn self.old.file.header.fields length table prepared.old
             → ImageInvariant S.view F.backing (pending_in S.view F.backing self.old out) self.old out → GoesNext S.view F.backing self.old self.new out k length overwrite prepared.old prepared.new result }
         ensures faults { CountsImageFaults S.view F.backing self.old self.new result }
     {

@@ -55,7 +55,7 @@ module _ (h : HeaderFields) (d : Direction) (p : Pending) (l2s rbs : List Cached
     known_others = but_known (h.l1_offset + 8 * i) 8 but;
     is = is;
     known_is =
-        let aligned = kept.guarded.top.l1_aligned in
+        let aligned = kept.crash_invariant.top.l1_aligned in
         l1-same h (known_bytes (cluster_size h) l2s rbs on_storage') on_storage' i sizes aligned (λ _.
         free_in ((h.l1_offset + 8 * i) / cluster_size h) (first_free ((h.l1_offset + 8 * i) / cluster_size h) (let one = l1_has h i sizes aligned lt in omega arith))) ∙ is;
   }
@@ -68,7 +68,7 @@ module _ (h : HeaderFields) (d : Direction) (p : Pending) (l2s rbs : List Cached
     known_others = but_known (h.reftable_offset + 8 * k) 8 but;
     is = is;
     known_is =
-        let aligned = kept.guarded.top.reftable_aligned in
+        let aligned = kept.crash_invariant.top.reftable_aligned in
         reftable-same h (known_bytes (cluster_size h) l2s rbs on_storage') on_storage' k sizes aligned (λ _.
         free_in ((h.reftable_offset + 8 * k) / cluster_size h) (first_free ((h.reftable_offset + 8 * k) / cluster_size h) (let one = reftable_has h k sizes aligned lt in omega arith))) ∙ is;
   }
@@ -77,7 +77,7 @@ module _ (h : HeaderFields) (d : Direction) (p : Pending) (l2s rbs : List Cached
   pub header_beside : (a : Places) (place n : ℕ) → place + n ≤ 104 → IsSameBut place n on_storage on_storage' → header on_storage' ≡ with_places h a → HeaderReads (with_places h a) on_storage'
       → WritesHeader h a on_storage (known_bytes (cluster_size h) l2s rbs on_storage) on_storage' (known_bytes (cluster_size h) l2s rbs on_storage')
   header_beside a place n small but is reads =
-      writes_header h d p on_storage (known_bytes (cluster_size h) l2s rbs on_storage) on_storage' (known_bytes (cluster_size h) l2s rbs on_storage') kept.guarded a place n
+      writes_header h d p on_storage (known_bytes (cluster_size h) l2s rbs on_storage) on_storage' (known_bytes (cluster_size h) l2s rbs on_storage') kept.crash_invariant a place n
       (record {
         others = but;
         known_others = but_known place n but;
@@ -111,13 +111,13 @@ module _ (h : HeaderFields) (d : Direction) (p : Pending) (l2s rbs : List Cached
   same_beside c same = (same, (λ o in_c. known_beside (cluster_size h) l2s rbs on_storage on_storage' o (same o in_c)))
 
   pub unnamed_free : AreNamedBlocks h rbs on_storage → (c : ℕ) → IsUnnamed h on_storage (known_bytes (cluster_size h) l2s rbs on_storage) c → IsFreeOf (cluster_size h) l2s c × IsFreeOf (cluster_size h) rbs c
-  unnamed_free settled c unnamed = (unnamed_free_l2 h d p l2s rbs on_storage kept c unnamed.no_table, unnamed_free_rb h d p l2s rbs on_storage kept settled c unnamed.no_table)
+  unnamed_free named_blocks c unnamed = (unnamed_free_l2 h d p l2s rbs on_storage kept c unnamed.no_table, unnamed_free_rb h d p l2s rbs on_storage kept named_blocks c unnamed.no_table)
 
   -- nor does one lie in a cluster that a guest cluster is known to have to itself
   pub in_place_free : AreNamedBlocks h rbs on_storage → (c g : ℕ) → 0 < marks h (known_bytes (cluster_size h) l2s rbs on_storage) c g → IsFreeOf (cluster_size h) l2s c × IsFreeOf (cluster_size h) rbs c
-  in_place_free settled c g marked =
-      let alone = marked_alone h d p on_storage (known_bytes (cluster_size h) l2s rbs on_storage) kept.guarded c g marked in
-      (unnamed_free_l2 h d p l2s rbs on_storage kept c alone.0, unnamed_free_rb h d p l2s rbs on_storage kept settled c alone.0)
+  in_place_free named_blocks c g marked =
+      let alone = marked_alone h d p on_storage (known_bytes (cluster_size h) l2s rbs on_storage) kept.crash_invariant c g marked in
+      (unnamed_free_l2 h d p l2s rbs on_storage kept c alone.0, unnamed_free_rb h d p l2s rbs on_storage kept named_blocks c alone.0)
 
 -- ---- what a new L2 table says
 

@@ -24,20 +24,20 @@ use Rattle.qcow2_laws.proofs.Changes.{one_at-le, at_one, data_counted, table_cou
 use Rattle.qcow2_laws.proofs.Shares.{shares, block_has, table_has, block_top, block_covers, block_others, table_top, table_counts, table_others}
 
 -- a cluster that a table stands in is neither named by entries nor held, and is counted
-module _ (h : HeaderFields) (d : Direction) (p : Pending) (on_storage known : Bytes) (guarded : CrashInvariant h d p on_storage known) (c : ℕ) (table_refs : 0 < named_for_tables h on_storage c) where
+module _ (h : HeaderFields) (d : Direction) (p : Pending) (on_storage known : Bytes) (crash_invariant : CrashInvariant h d p on_storage known) (c : ℕ) (table_refs : 0 < named_for_tables h on_storage c) where
   pub table_apart : named_in_either h on_storage known c + p.new_data c ≡ 0
   table_apart =
-      let table = (guarded.each_cluster c).table table_refs in
+      let table = (crash_invariant.each_cluster c).table table_refs in
       elim (cases_lt 0 (p.new_data c)) [
-        | inl new_data ↦ absurd (let none = new_data_unnamed d (cluster h p on_storage known c) (p.surplus c) (tied h p on_storage known c) new_data (good h d p on_storage known guarded c) in omega (arith, none.1))
+        | inl new_data ↦ absurd (let none = new_data_unnamed d (cluster h p on_storage known c) (p.surplus c) (tied h p on_storage known c) new_data (good h d p on_storage known crash_invariant c) in omega (arith, none.1))
         | inr none ↦ omega arith
       ]
 
   pub table_once : named_for_tables h on_storage c ≡ 1
-  table_once = let table = (guarded.each_cluster c).table table_refs in omega arith
+  table_once = let table = (crash_invariant.each_cluster c).table table_refs in omega arith
 
   pub table_is_counted : 0 < count h known c
-  table_is_counted = let tally = (guarded.each_cluster c).tally in omega arith
+  table_is_counted = let tally = (crash_invariant.each_cluster c).tally in omega arith
 
 -- the number of a cluster within its refblock tells it from the others there
 one_in_block : (per c0 c : ℕ) → 0 < per → c / per ≡ c0 / per → one_at (c0 % per) (c % per) ≡ one_at c0 c
@@ -54,14 +54,14 @@ not_at : (per c0 c : ℕ) → c / per ≢ c0 / per → one_at c0 c ≡ 0
 not_at per c0 c other = cond-false {A = ℕ} _ 1 0 (ne_eqb c c0 (λ e. other (ap (λ n. n / per) e)))
 
 -- ---- one count of a refblock changes
-module _ (h : HeaderFields) (d : Direction) (p : Pending) (on_storage known known' : Bytes) (guarded : CrashInvariant h d p on_storage known) (c0 : ℕ)
+module _ (h : HeaderFields) (d : Direction) (p : Pending) (on_storage known known' : Bytes) (crash_invariant : CrashInvariant h d p on_storage known) (c0 : ℕ)
     (real : block_offset (reftable_entry h known (c0 / counts_per_block h)) ≢ 0)
     (outside : IsSameOutside (cluster_size h) (block_offset (reftable_entry h known (c0 / counts_per_block h)) / cluster_size h) known known') where
   place : ℕ
   place = block_offset (reftable_entry h known (c0 / counts_per_block h))
 
   known_top : IsTop h known
-  known_top = IsTop-top h on_storage known guarded.same_top guarded.top
+  known_top = IsTop-top h on_storage known crash_invariant.same_top crash_invariant.top
 
   sizes : Sizes h
   sizes = Sizes-from h known known_top.header_reads
@@ -76,12 +76,12 @@ module _ (h : HeaderFields) (d : Direction) (p : Pending) (on_storage known know
       omega arith
 
   storage_fixed : 0 < named_for_tables h on_storage (block_offset (reftable_entry h known (c0 / counts_per_block h)) / cluster_size h)
-  storage_fixed = let e = for_tables-top h on_storage known (block_offset (reftable_entry h known (c0 / counts_per_block h)) / cluster_size h) guarded.same_top in let f = table_refs in omega arith
+  storage_fixed = let e = for_tables-top h on_storage known (block_offset (reftable_entry h known (c0 / counts_per_block h)) / cluster_size h) crash_invariant.same_top in let f = table_refs in omega arith
 
   once : named_for_tables h known (block_offset (reftable_entry h known (c0 / counts_per_block h)) / cluster_size h) ≤ 1
   once =
-      let e = for_tables-top h on_storage known (block_offset (reftable_entry h known (c0 / counts_per_block h)) / cluster_size h) guarded.same_top in
-      let t = table_once h d p on_storage known guarded (block_offset (reftable_entry h known (c0 / counts_per_block h)) / cluster_size h) storage_fixed in
+      let e = for_tables-top h on_storage known (block_offset (reftable_entry h known (c0 / counts_per_block h)) / cluster_size h) crash_invariant.same_top in
+      let t = table_once h d p on_storage known crash_invariant (block_offset (reftable_entry h known (c0 / counts_per_block h)) / cluster_size h) storage_fixed in
       omega arith
 
   pub counted_top : SameTop h known known'
@@ -93,12 +93,12 @@ module _ (h : HeaderFields) (d : Direction) (p : Pending) (on_storage known know
   -- what entries name, and what is held, isn't where the refblock stands
   stays : (o : ℕ) → 0 < named_in_either h on_storage known (o / cluster_size h) + p.new_data (o / cluster_size h) → known o ≡ known' o
   stays o some = outside o (λ e.
-      let apart = table_apart h d p on_storage known guarded (block_offset (reftable_entry h known (c0 / counts_per_block h)) / cluster_size h) storage_fixed in
+      let apart = table_apart h d p on_storage known crash_invariant (block_offset (reftable_entry h known (c0 / counts_per_block h)) / cluster_size h) storage_fixed in
       let here = subst (λ n. 0 < named_in_either h on_storage known n + p.new_data n) e some in
       absurd (omega arith))
 
   bytes : (o : ℕ) → 0 < named_in_either h on_storage known (o / cluster_size h) + p.new_data (o / cluster_size h) → on_storage o ≡ known' o
-  bytes o some = guarded.not_overlaid o some ∙ stays o some
+  bytes o some = crash_invariant.not_overlaid o some ∙ stays o some
 
   -- a count in this refblock, before and after
   count_here : (c : ℕ) → c / counts_per_block h ≡ c0 / counts_per_block h → (count h known c ≡ block_count known (count_width h) (block_offset (reftable_entry h known (c0 / counts_per_block h))) (c % counts_per_block h))
@@ -130,18 +130,18 @@ module _ (h : HeaderFields) (d : Direction) (p : Pending) (on_storage known know
     table_counted_free c some = at_one c0 c (count h known) 0 free some
 
     pub table_allocated : CrashInvariant h d (with_new_tables p (one_at c0)) on_storage known'
-    table_allocated = table_counted h p on_storage known known' (one_at c0) counted_top counted_covers (one_at-le c0) d guarded bytes table_counted_free counts_more
+    table_allocated = table_counted h p on_storage known known' (one_at c0) counted_top counted_covers (one_at-le c0) d crash_invariant bytes table_counted_free counts_more
 
     -- the new cluster holds what it holds on the storage
     pub data_allocated : d ≡ L2DependsOnRb → ((o : ℕ) → o / cluster_size h ≡ c0 → on_storage o ≡ known o) → CrashInvariant h L2DependsOnRb (with_new_data p (one_at c0)) on_storage known'
     data_allocated is not_overlaid =
-        data_counted h p on_storage known known' (one_at c0) counted_top counted_covers (one_at-le c0) (subst (λ e. CrashInvariant h e p on_storage known) is guarded)
+        data_counted h p on_storage known known' (one_at c0) counted_top counted_covers (one_at-le c0) (subst (λ e. CrashInvariant h e p on_storage known) is crash_invariant)
         (λ o some. elim (cases_lt 0 (named_in_either h on_storage known (o / cluster_size h) + p.new_data (o / cluster_size h))) [
           | inl before ↦ bytes o before
           | inr none ↦
               let here : o / cluster_size h ≡ c0 = elim (cases_eq (o / cluster_size h) c0) [ inl e ↦ e | inr ne ↦ absurd (let z : one_at c0 (o / cluster_size h) ≡ 0 = cond-false {A = ℕ} _ 1 0 (ne_eqb (o / cluster_size h) c0 ne) in omega arith) ] in
               not_overlaid o here ∙ outside o (λ e.
-              let used = table_is_counted h d p on_storage known guarded (block_offset (reftable_entry h known (c0 / counts_per_block h)) / cluster_size h) storage_fixed in
+              let used = table_is_counted h d p on_storage known crash_invariant (block_offset (reftable_entry h known (c0 / counts_per_block h)) / cluster_size h) storage_fixed in
               let zero : count h known (block_offset (reftable_entry h known (c0 / counts_per_block h)) / cluster_size h) ≡ 0 = ap (count h known) (sym e ∙ here) ∙ free in
               absurd (omega arith))
         ])
@@ -165,29 +165,29 @@ module _ (h : HeaderFields) (d : Direction) (p : Pending) (on_storage known know
 
     pub table_released : 0 < p.old_tables c0 → CrashInvariant h d (without_old_tables p (one_at c0)) on_storage known'
     table_released some =
-        table_freed h p on_storage known known' (one_at c0) counted_top counted_covers (one_at-le c0) d guarded bytes (λ c at. old_tables_at c at) counts_less
+        table_freed h p on_storage known known' (one_at c0) counted_top counted_covers (one_at-le c0) d crash_invariant bytes (λ c at. old_tables_at c at) counts_less
       where
         old_tables_at : (c : ℕ) → 0 < one_at c0 c → 0 < p.old_tables c
         old_tables_at c at = let e = at_one c0 c p.old_tables (p.old_tables c0) refl at in omega arith
 
     pub data_released : d ≡ RbDependsOnL2 → 0 < p.old_data c0 → CrashInvariant h RbDependsOnL2 (without_old_data p (one_at c0)) on_storage known'
     data_released is some =
-        data_freed h p on_storage known known' (one_at c0) counted_top counted_covers (one_at-le c0) (subst (λ e. CrashInvariant h e p on_storage known) is guarded) bytes (λ c at. old_data_at c at) counts_less
+        data_freed h p on_storage known known' (one_at c0) counted_top counted_covers (one_at-le c0) (subst (λ e. CrashInvariant h e p on_storage known) is crash_invariant) bytes (λ c at. old_data_at c at) counts_less
       where
         old_data_at : (c : ℕ) → 0 < one_at c0 c → 0 < p.old_data c
         old_data_at c at = let e = at_one c0 c p.old_data (p.old_data c0) refl at in omega arith
 
   -- whatever the counts are, guests see what they saw
   pub counts_kept : (e : Direction) (p' : Pending) → CrashInvariant h e p' on_storage known' → (backing : Bytes) (m : Checkpoint) → StopOkEverywhere backing m known → StopOkEverywhere backing m known'
-  counts_kept e p' guarded' backing m kept = covers_kept h d e p p' on_storage known known' guarded guarded' counted_covers (λ o some. stays o (omega arith)) backing m kept
+  counts_kept e p' crash_invariant' backing m kept = covers_kept h d e p p' on_storage known known' crash_invariant crash_invariant' counted_covers (λ o some. stays o (omega arith)) backing m kept
 
 -- ---- one entry of an L2 table changes
-module _ (h : HeaderFields) (d : Direction) (p : Pending) (on_storage known known' : Bytes) (guarded : CrashInvariant h d p on_storage known) (i0 j0 : ℕ)
+module _ (h : HeaderFields) (d : Direction) (p : Pending) (on_storage known known' : Bytes) (crash_invariant : CrashInvariant h d p on_storage known) (i0 j0 : ℕ)
     (real : table_at h known i0 ≢ 0) (within : j0 < entries_per_cluster h)
     (outside : IsSameOutside (cluster_size h) (table_at h known i0 / cluster_size h) known known')
     (entries : (j : ℕ) → j < entries_per_cluster h → j ≢ j0 → l2_entry known (table_at h known i0) j ≡ l2_entry known' (table_at h known i0) j) where
   l2_known_top : IsTop h known
-  l2_known_top = IsTop-top h on_storage known guarded.same_top guarded.top
+  l2_known_top = IsTop-top h on_storage known crash_invariant.same_top crash_invariant.top
 
   l2_sizes : Sizes h
   l2_sizes = Sizes-from h known l2_known_top.header_reads
@@ -197,15 +197,15 @@ module _ (h : HeaderFields) (d : Direction) (p : Pending) (on_storage known know
 
   l2_fixed : 0 < named_for_tables h on_storage (table_at h known i0 / cluster_size h)
   l2_fixed =
-      let e = for_tables-top h on_storage known (table_at h known i0 / cluster_size h) guarded.same_top in
+      let e = for_tables-top h on_storage known (table_at h known i0 / cluster_size h) crash_invariant.same_top in
       let s = shares h known (table_at h known i0 / cluster_size h) in
       let one = table_has h known i0 real in
       omega arith
 
   l2_once : named_for_tables h known (table_at h known i0 / cluster_size h) ≤ 1
   l2_once =
-      let e = for_tables-top h on_storage known (table_at h known i0 / cluster_size h) guarded.same_top in
-      let t = table_once h d p on_storage known guarded (table_at h known i0 / cluster_size h) l2_fixed in
+      let e = for_tables-top h on_storage known (table_at h known i0 / cluster_size h) crash_invariant.same_top in
+      let t = table_once h d p on_storage known crash_invariant (table_at h known i0 / cluster_size h) l2_fixed in
       omega arith
 
   pub entry_top : SameTop h known known'
@@ -251,7 +251,7 @@ module _ (h : HeaderFields) (d : Direction) (p : Pending) (on_storage known know
 
   entry_stays : (o : ℕ) → 0 < named_in_either h on_storage known (o / cluster_size h) + p.new_data (o / cluster_size h) → known o ≡ known' o
   entry_stays o some = outside o (λ e.
-      let apart = table_apart h d p on_storage known guarded (table_at h known i0 / cluster_size h) l2_fixed in
+      let apart = table_apart h d p on_storage known crash_invariant (table_at h known i0 / cluster_size h) l2_fixed in
       let here = subst (λ n. 0 < named_in_either h on_storage known n + p.new_data n) e some in
       absurd (omega arith))
 
@@ -259,10 +259,10 @@ module _ (h : HeaderFields) (d : Direction) (p : Pending) (on_storage known know
       (marked : (c : ℕ) → marks h known' c (i0 * entries_per_cluster h + j0) ≤ marks h known c (i0 * entries_per_cluster h + j0) + (names h known' c (i0 * entries_per_cluster h + j0) - names h known c (i0 * entries_per_cluster h + j0)))
       (aligned : CoverIsAligned h (cover h known' (i0 * entries_per_cluster h + j0))) where
     pub entry_set : CrashInvariant h d (remapped p (λ c. names h known c (i0 * entries_per_cluster h + j0)) (λ c. names h known' c (i0 * entries_per_cluster h + j0))) on_storage known'
-    entry_set = entry_mapped h d p on_storage known known' guarded (i0 * entries_per_cluster h + j0) guest_within entry_top entry_others entry_counts new_data marked aligned entry_stays
+    entry_set = entry_mapped h d p on_storage known known' crash_invariant (i0 * entries_per_cluster h + j0) guest_within entry_top entry_others entry_counts new_data marked aligned entry_stays
 
     pub entry_kept : (backing : Bytes) (m : Checkpoint) (given : List GivenBytes)
         → ((o : ℕ) → o / cluster_size h ≡ i0 * entries_per_cluster h + j0 → (guest_value h known' known' backing o ≡ guest_value h known known backing o) ⊎ IsGiven given o (guest_value h known' known' backing o))
         → StopOkEverywhere backing m known → StopOkEverywhere backing (checkpoint_with given [] m) known'
     entry_kept backing m given there kept =
-        mapping_kept h d p on_storage known known' guarded (i0 * entries_per_cluster h + j0) guest_within entry_top entry_others entry_counts new_data marked aligned entry_stays backing m given there kept
+        mapping_kept h d p on_storage known known' crash_invariant (i0 * entries_per_cluster h + j0) guest_within entry_top entry_others entry_counts new_data marked aligned entry_stays backing m given there kept

@@ -17,7 +17,7 @@ use Rattle.qcow2_laws.specs.Writes.{IsUnnamed}
 use Rattle.qcow2_laws.specs.Caches.{known_bytes, IsFreeAt, IsFreeOf, AreApart, AreClean, HasOwnL2, HasBlock, CacheInvariantOver, BlocksMayGo, TablesMayGo, IsWrittenSo, UnseenTableWrite, AreNamedBlocks}
 use Rattle.qcow2_laws.proofs.Places.{Sizes, Sizes-from}
 use Rattle.qcow2_laws.proofs.Tops.{for_tables-top}
-use Rattle.qcow2_laws.proofs.Mixes.{top_kept, mixed_guarded, mixed_either, turned_guarded}
+use Rattle.qcow2_laws.proofs.Mixes.{top_kept, mixed_crash_invariant, mixed_either, turned_crash_invariant}
 use Rattle.qcow2_laws.proofs.Values.{mixed_kept}
 use Rattle.qcow2_laws.proofs.Blocks.{table_once}
 use Rattle.qcow2_laws.proofs.Shares.{shares, in_l1, in_reftable, two_tables, table_has, block_has, cover_stays, count_stays}
@@ -28,7 +28,7 @@ module _ (h : HeaderFields) (d : Direction) (p : Pending) (l2s rbs : List Cached
   all_known = known_bytes (cluster_size h) l2s rbs on_storage
 
   pub kept_sizes : Sizes h
-  kept_sizes = Sizes-from h on_storage kept.guarded.top.header_reads
+  kept_sizes = Sizes-from h on_storage kept.crash_invariant.top.header_reads
 
   -- ---- which clusters no modified table lies in
 
@@ -40,7 +40,7 @@ module _ (h : HeaderFields) (d : Direction) (p : Pending) (l2s rbs : List Cached
   block_share c has = subst (λ n. 1 ≤ named_by_reftable h on_storage n) has.2 (block_has h on_storage has.0 has.1)
 
   once_at : (c : ℕ) → 0 < named_for_tables h on_storage c → named_for_tables h on_storage c ≡ 1
-  once_at c table_refs = table_once h d p on_storage (known_bytes (cluster_size h) l2s rbs on_storage) kept.guarded c table_refs
+  once_at c table_refs = table_once h d p on_storage (known_bytes (cluster_size h) l2s rbs on_storage) kept.crash_invariant c table_refs
 
   pub rbs_free : (c : ℕ) → 0 < in_cluster h c 0 + in_l1 h c + in_reftable h c + named_by_l1_table h on_storage c → IsFreeOf (cluster_size h) rbs c
   rbs_free c some =
@@ -71,7 +71,7 @@ module _ (h : HeaderFields) (d : Direction) (p : Pending) (l2s rbs : List Cached
   ]
 
   pub unnamed_free_rb : AreNamedBlocks h rbs on_storage → (c : ℕ) → named_for_tables h on_storage c ≡ 0 → IsFreeOf (cluster_size h) rbs c
-  unnamed_free_rb settled c none = elim (settled c) [
+  unnamed_free_rb named_blocks c none = elim (named_blocks c) [
     | inl free ↦ free
     | inr has ↦ absurd (let s = shares h on_storage c in let t = block_share c has in omega arith)
   ]
@@ -110,7 +110,7 @@ module _ (h : HeaderFields) (d : Direction) (p : Pending) (l2s rbs : List Cached
   ]
 
   top_of : (b : Bytes) → IsPartly (cluster_size h) on_storage (known_bytes (cluster_size h) l2s rbs on_storage) b → SameTop h on_storage b
-  top_of b partly = top_kept h on_storage (known_bytes (cluster_size h) l2s rbs on_storage) b kept.guarded.top kept.guarded.same_top partly
+  top_of b partly = top_kept h on_storage (known_bytes (cluster_size h) l2s rbs on_storage) b kept.crash_invariant.top kept.crash_invariant.same_top partly
 
   flipped : (c : ℕ) (b : Bytes) → SameIn (cluster_size h) c b on_storage → SameIn (cluster_size h) c on_storage b
   flipped c b same o in_c = sym (same o in_c)
@@ -118,14 +118,14 @@ module _ (h : HeaderFields) (d : Direction) (p : Pending) (l2s rbs : List Cached
   blocks_covers : (b : Bytes) → IsPartly (cluster_size h) on_storage (known (cluster_size h) rbs on_storage) b → SameCovers h on_storage b
   blocks_covers b partly g =
       let top = top_of b (blocks_partly b partly) in
-      cover_stays h on_storage b kept.guarded.top g (top.l1 (g / entries_per_cluster h)) (λ real.
+      cover_stays h on_storage b kept.crash_invariant.top g (top.l1 (g / entries_per_cluster h)) (λ real.
       let c = table_at h on_storage (g / entries_per_cluster h) / cluster_size h in
       flipped c b (stays_in rbs b c partly (rbs_free c (let t = table_has h on_storage (g / entries_per_cluster h) real in omega arith))))
 
   tables_counts : (b : Bytes) → IsPartly (cluster_size h) on_storage (known (cluster_size h) l2s on_storage) b → SameCounts h on_storage b
   tables_counts b partly x =
       let top = top_of b (tables_partly b partly) in
-      count_stays h on_storage b kept.guarded.top x (top.reftable (x / counts_per_block h)) (λ real.
+      count_stays h on_storage b kept.crash_invariant.top x (top.reftable (x / counts_per_block h)) (λ real.
       let c = block_offset (reftable_entry h on_storage (x / counts_per_block h)) / cluster_size h in
       flipped c b (stays_in l2s b c partly (l2s_free c (let t = block_has h on_storage (x / counts_per_block h) real in omega arith))))
 
@@ -156,7 +156,7 @@ module _ (h : HeaderFields) (d : Direction) (p : Pending) (l2s rbs : List Cached
 
   pub shared_covers : (i : ℕ) → (is_copied (l1_entry h on_storage i) ≡ true → ⊥) → (g : ℕ) → g / entries_per_cluster h ≡ i → cover h on_storage g ≡ cover h (known_bytes (cluster_size h) l2s rbs on_storage) g
   shared_covers i shared g here =
-      cover_stays h on_storage (known_bytes (cluster_size h) l2s rbs on_storage) kept.guarded.top g (kept.guarded.same_top.l1 (g / entries_per_cluster h)) (λ real o in_c.
+      cover_stays h on_storage (known_bytes (cluster_size h) l2s rbs on_storage) kept.crash_invariant.top g (kept.crash_invariant.same_top.l1 (g / entries_per_cluster h)) (λ real o in_c.
       let c = table_at h on_storage (g / entries_per_cluster h) / cluster_size h in
       let l2_free : IsFreeOf (cluster_size h) l2s (table_at h on_storage (g / entries_per_cluster h) / cluster_size h) =
       shared_free (g / entries_per_cluster h) (λ copied. shared (ap (λ k. is_copied (l1_entry h on_storage k)) (sym here) ∙ copied)) real in
@@ -189,7 +189,7 @@ module _ (h : HeaderFields) (d : Direction) (p : Pending) (l2s rbs : List Cached
   still_unnamed b mixed top c unnamed = record {
     no_table = sym (for_tables-top h on_storage b c top) ∙ unnamed.no_table;
     no_entry =
-        let le = mixed_either h d p on_storage (known_bytes (cluster_size h) l2s rbs on_storage) b kept.guarded mixed c in
+        let le = mixed_either h d p on_storage (known_bytes (cluster_size h) l2s rbs on_storage) b kept.crash_invariant mixed c in
         let none = unnamed.no_entry in
         omega arith;
   }
@@ -212,10 +212,10 @@ module _ (h : HeaderFields) (d : Direction) (p : Pending) (l2s rbs : List Cached
     pub block_written : UnseenTableWrite h d p l2s rbs on_storage l2s (front ++ t' ∷ back) on_storage'
     block_written =
         let top = top_of on_storage' (blocks_partly on_storage' rb_partly) in
-        let now = mixed_guarded h d p on_storage (known_bytes (cluster_size h) l2s rbs on_storage) on_storage' kept.guarded rb_mixed in
+        let now = mixed_crash_invariant h d p on_storage (known_bytes (cluster_size h) l2s rbs on_storage) on_storage' kept.crash_invariant rb_mixed in
         record {
           kept = record {
-            guarded = subst (CrashInvariant h d p on_storage') (sym rb_known) now;
+            crash_invariant = subst (CrashInvariant h d p on_storage') (sym rb_known) now;
             l2_apart = kept.l2_apart;
             rb_apart = apart_too (cluster_size h) t t' on_storage on_storage' so front back rb_apart_at;
             l2_stand = λ c. elim (kept.l2_stand c) [ inl free ↦ inl free | inr has ↦ inr (l2_stands on_storage' top c has) ];
@@ -228,7 +228,7 @@ module _ (h : HeaderFields) (d : Direction) (p : Pending) (l2s rbs : List Cached
             ];
           };
           known = rb_known;
-          safe = λ backing m ok known_ok. mixed_kept h d p on_storage (known_bytes (cluster_size h) l2s rbs on_storage) on_storage' kept.guarded rb_mixed backing m ok known_ok;
+          safe = λ backing m ok known_ok. mixed_kept h d p on_storage (known_bytes (cluster_size h) l2s rbs on_storage) on_storage' kept.crash_invariant rb_mixed backing m ok known_ok;
         }
 
   -- ---- one L2 table is written
@@ -261,10 +261,10 @@ module _ (h : HeaderFields) (d : Direction) (p : Pending) (l2s rbs : List Cached
     pub table_written : UnseenTableWrite h d p l2s rbs on_storage (front ++ t' ∷ back) rbs on_storage'
     table_written =
         let top = top_of on_storage' (tables_partly on_storage' l2_partly) in
-        let now = mixed_guarded h d p on_storage (known_bytes (cluster_size h) l2s rbs on_storage) on_storage' kept.guarded l2_mixed in
+        let now = mixed_crash_invariant h d p on_storage (known_bytes (cluster_size h) l2s rbs on_storage) on_storage' kept.crash_invariant l2_mixed in
         record {
           kept = record {
-            guarded = subst (CrashInvariant h d p on_storage') (sym l2_known) now;
+            crash_invariant = subst (CrashInvariant h d p on_storage') (sym l2_known) now;
             l2_apart = apart_too (cluster_size h) t t' on_storage on_storage' so front back l2_apart_at;
             rb_apart = kept.rb_apart;
             l2_stand = λ c. elim (kept.l2_stand c) [
@@ -280,13 +280,13 @@ module _ (h : HeaderFields) (d : Direction) (p : Pending) (l2s rbs : List Cached
             ];
           };
           known = l2_known;
-          safe = λ backing m ok known_ok. mixed_kept h d p on_storage (known_bytes (cluster_size h) l2s rbs on_storage) on_storage' kept.guarded l2_mixed backing m ok known_ok;
+          safe = λ backing m ok known_ok. mixed_kept h d p on_storage (known_bytes (cluster_size h) l2s rbs on_storage) on_storage' kept.crash_invariant l2_mixed backing m ok known_ok;
         }
 
   -- ---- turns
   pub kept_turned : (to : Direction) → MayTurn d to h on_storage (known_bytes (cluster_size h) l2s rbs on_storage) → CacheInvariantOver h to p l2s rbs on_storage
   kept_turned to may = record {
-    guarded = turned_guarded h d to p on_storage (known_bytes (cluster_size h) l2s rbs on_storage) may kept.guarded;
+    crash_invariant = turned_crash_invariant h d to p on_storage (known_bytes (cluster_size h) l2s rbs on_storage) may kept.crash_invariant;
     l2_apart = kept.l2_apart;
     rb_apart = kept.rb_apart;
     l2_stand = kept.l2_stand;

@@ -33,7 +33,7 @@ at_one c k f n is some = elim (cases_eq k c) [
 ]
 
 -- ---- counts and what is pending change, and covers stay
-module _ (h : HeaderFields) (d : Direction) (p p' : Pending) (on_storage known known' : Bytes) (guarded : CrashInvariant h d p on_storage known)
+module _ (h : HeaderFields) (d : Direction) (p p' : Pending) (on_storage known known' : Bytes) (crash_invariant : CrashInvariant h d p on_storage known)
     (top : SameTop h known known') (covers : SameCovers h known known')
     (bytes : (o : ℕ) → 0 < named_in_either h on_storage known (o / cluster_size h) + p'.new_data (o / cluster_size h) → on_storage o ≡ known' o) where
   sum_same : (f : L2Mapping → ℕ) → over_guests h (λ g. f (cover h known' g)) ≡ over_guests h (λ g. f (cover h known g))
@@ -52,27 +52,27 @@ module _ (h : HeaderFields) (d : Direction) (p p' : Pending) (on_storage known k
       let marks_either = sym (max_same (marked_by_cover h c)) in
       subst (λ k. Good d k (p'.surplus c)) (λ j. record (cluster h p' on_storage known' c) { in_known = in_known j; in_either = in_either j; marks_known = marks_known j; marks_either = marks_either j }) (numbers c) in
       record {
-        top = guarded.top;
-        same_top = SameTop-trans h on_storage known known' guarded.same_top top;
+        top = crash_invariant.top;
+        same_top = SameTop-trans h on_storage known known' crash_invariant.same_top top;
         each_cluster = λ c. (now c).each_cluster;
         ordered = λ c. (now c).ordered;
-        aligned = guarded.aligned;
-        known_aligned = λ g. subst (CoverIsAligned h) (covers g) (guarded.known_aligned g);
-        own = λ g c marked. guarded.own g c (subst (λ v. 0 < marked_by_cover h c v) (sym (covers g)) marked);
+        aligned = crash_invariant.aligned;
+        known_aligned = λ g. subst (CoverIsAligned h) (covers g) (crash_invariant.known_aligned g);
+        own = λ g c marked. crash_invariant.own g c (subst (λ v. 0 < marked_by_cover h c v) (sym (covers g)) marked);
         not_overlaid = λ o some. let same = max_same (named_by_cover h (o / cluster_size h)) in bytes o (omega arith);
       }
 
 -- the guest sees what it saw
-module _ (h : HeaderFields) (d d' : Direction) (p p' : Pending) (on_storage known known' : Bytes) (guarded : CrashInvariant h d p on_storage known) (guarded' : CrashInvariant h d' p' on_storage known')
+module _ (h : HeaderFields) (d d' : Direction) (p p' : Pending) (on_storage known known' : Bytes) (crash_invariant : CrashInvariant h d p on_storage known) (crash_invariant' : CrashInvariant h d' p' on_storage known')
     (covers : SameCovers h known known')
     (bytes : (o : ℕ) → 0 < named_in_either h on_storage known (o / cluster_size h) → known o ≡ known' o) where
   pub covers_kept : (backing : Bytes) (m : Checkpoint) → StopOkEverywhere backing m known → StopOkEverywhere backing m known'
   covers_kept backing m kept =
-      kept_shown h backing m [] known known' (IsTop-top h on_storage known guarded.same_top guarded.top).header_is (IsTop-top h on_storage known' guarded'.same_top guarded'.top).header_is
-      (known_consistent h d' p' on_storage known' guarded')
-      (λ o. inl (sym (guest_value-same h known known' backing o (covers (o / cluster_size h)) (guarded.known_aligned (o / cluster_size h)) (λ place some.
+      kept_shown h backing m [] known known' (IsTop-top h on_storage known crash_invariant.same_top crash_invariant.top).header_is (IsTop-top h on_storage known' crash_invariant'.same_top crash_invariant'.top).header_is
+      (known_consistent h d' p' on_storage known' crash_invariant')
+      (λ o. inl (sym (guest_value-same h known known' backing o (covers (o / cluster_size h)) (crash_invariant.known_aligned (o / cluster_size h)) (λ place some.
       bytes place (
-      let within = names_within h known (place / cluster_size h) (o / cluster_size h) (Sizes-from h on_storage guarded.top.header_reads) some in
+      let within = names_within h known (place / cluster_size h) (o / cluster_size h) (Sizes-from h on_storage crash_invariant.top.header_reads) some in
       let le = guest_le h (λ k. max (names h on_storage (place / cluster_size h) k) (names h known (place / cluster_size h) k)) (o / cluster_size h) within in
       omega arith))))) kept
 
@@ -82,9 +82,9 @@ module _ (h : HeaderFields) (p : Pending) (on_storage known known' : Bytes) (n :
       → ((o : ℕ) → 0 < named_in_either h on_storage known (o / cluster_size h) + (with_new_data p n).new_data (o / cluster_size h) → on_storage o ≡ known' o)
       → ((c : ℕ) → 0 < n c → count h known c ≡ 0) → ((c : ℕ) → count h known' c ≡ count h known c + n c)
       → CrashInvariant h L2DependsOnRb (with_new_data p n) on_storage known'
-  data_counted guarded bytes free checkpoint_with =
-      counts_changed h L2DependsOnRb p (with_new_data p n) on_storage known known' guarded top covers bytes (λ c.
-      let next = allocate_data (cluster h p on_storage known c) (p.surplus c) (n c) (tied h p on_storage known c) (few c) (free c) (good h L2DependsOnRb p on_storage known guarded c) in
+  data_counted crash_invariant bytes free checkpoint_with =
+      counts_changed h L2DependsOnRb p (with_new_data p n) on_storage known known' crash_invariant top covers bytes (λ c.
+      let next = allocate_data (cluster h p on_storage known c) (p.surplus c) (n c) (tied h p on_storage known c) (few c) (free c) (good h L2DependsOnRb p on_storage known crash_invariant c) in
       let e : count h known c + n c ≡ count h known' c = sym (checkpoint_with c) in
       subst (λ k. Good L2DependsOnRb k (p.surplus c)) (λ j. record (cluster h p on_storage known c) { known_count = e j; new_data = p.new_data c + n c }) next)
 
@@ -92,9 +92,9 @@ module _ (h : HeaderFields) (p : Pending) (on_storage known known' : Bytes) (n :
       → ((o : ℕ) → 0 < named_in_either h on_storage known (o / cluster_size h) + p.new_data (o / cluster_size h) → on_storage o ≡ known' o)
       → ((c : ℕ) → 0 < n c → count h known c ≡ 0) → ((c : ℕ) → count h known' c ≡ count h known c + n c)
       → CrashInvariant h d (with_new_tables p n) on_storage known'
-  table_counted d guarded bytes free checkpoint_with =
-      counts_changed h d p (with_new_tables p n) on_storage known known' guarded top covers bytes (λ c.
-      let next = allocate_table d (cluster h p on_storage known c) (p.surplus c) (n c) (tied h p on_storage known c) (few c) (free c) (good h d p on_storage known guarded c) in
+  table_counted d crash_invariant bytes free checkpoint_with =
+      counts_changed h d p (with_new_tables p n) on_storage known known' crash_invariant top covers bytes (λ c.
+      let next = allocate_table d (cluster h p on_storage known c) (p.surplus c) (n c) (tied h p on_storage known c) (few c) (free c) (good h d p on_storage known crash_invariant c) in
       let e : count h known c + n c ≡ count h known' c = sym (checkpoint_with c) in
       subst (λ k. Good d k (p.surplus c)) (λ j. record (cluster h p on_storage known c) { known_count = e j; new_tables = p.new_tables c + n c }) next)
 
@@ -102,9 +102,9 @@ module _ (h : HeaderFields) (p : Pending) (on_storage known known' : Bytes) (n :
       → ((o : ℕ) → 0 < named_in_either h on_storage known (o / cluster_size h) + p.new_data (o / cluster_size h) → on_storage o ≡ known' o)
       → ((c : ℕ) → 0 < n c → 0 < p.old_tables c) → ((c : ℕ) → count h known' c + n c ≡ count h known c)
       → CrashInvariant h d (without_old_tables p n) on_storage known'
-  table_freed d guarded bytes some less =
-      counts_changed h d p (without_old_tables p n) on_storage known known' guarded top covers bytes (λ c.
-      let next = free_table d (cluster h p on_storage known c) (p.surplus c) (n c) (tied h p on_storage known c) (few c) (some c) (good h d p on_storage known guarded c) in
+  table_freed d crash_invariant bytes some less =
+      counts_changed h d p (without_old_tables p n) on_storage known known' crash_invariant top covers bytes (λ c.
+      let next = free_table d (cluster h p on_storage known c) (p.surplus c) (n c) (tied h p on_storage known c) (few c) (some c) (good h d p on_storage known crash_invariant c) in
       let e : count h known c - n c ≡ count h known' c = let l = less c in omega arith in
       subst (λ k. Good d k (p.surplus c)) (λ j. record (cluster h p on_storage known c) { known_count = e j; old_tables = p.old_tables c - n c }) next)
 
@@ -112,31 +112,31 @@ module _ (h : HeaderFields) (p : Pending) (on_storage known known' : Bytes) (n :
       → ((o : ℕ) → 0 < named_in_either h on_storage known (o / cluster_size h) + p.new_data (o / cluster_size h) → on_storage o ≡ known' o)
       → ((c : ℕ) → 0 < n c → 0 < p.old_data c) → ((c : ℕ) → count h known' c + n c ≡ count h known c)
       → CrashInvariant h RbDependsOnL2 (without_old_data p n) on_storage known'
-  data_freed guarded bytes some less =
-      counts_changed h RbDependsOnL2 p (without_old_data p n) on_storage known known' guarded top covers bytes (λ c.
-      let next = free_data (cluster h p on_storage known c) (p.surplus c) (n c) (tied h p on_storage known c) (few c) (some c) (good h RbDependsOnL2 p on_storage known guarded c) in
+  data_freed crash_invariant bytes some less =
+      counts_changed h RbDependsOnL2 p (without_old_data p n) on_storage known known' crash_invariant top covers bytes (λ c.
+      let next = free_data (cluster h p on_storage known c) (p.surplus c) (n c) (tied h p on_storage known c) (few c) (some c) (good h RbDependsOnL2 p on_storage known crash_invariant c) in
       let e : count h known c - n c ≡ count h known' c = let l = less c in omega arith in
       subst (λ k. Good RbDependsOnL2 k (p.surplus c)) (λ j. record (cluster h p on_storage known c) { known_count = e j; old_data = p.old_data c - n c }) next)
 
 -- ---- what is pending changes alone
-module _ (h : HeaderFields) (d : Direction) (p : Pending) (on_storage known : Bytes) (guarded : CrashInvariant h d p on_storage known) (n : ℕ → ℕ) (few : (c : ℕ) → n c ≤ 1) where
+module _ (h : HeaderFields) (d : Direction) (p : Pending) (on_storage known : Bytes) (crash_invariant : CrashInvariant h d p on_storage known) (n : ℕ → ℕ) (few : (c : ℕ) → n c ≤ 1) where
   pub old_data_instead : ((c : ℕ) → 0 < n c → 0 < p.new_data c) → CrashInvariant h d (new_data_to_old_data p n) on_storage known
   old_data_instead some =
-      counts_changed h d p (new_data_to_old_data p n) on_storage known known guarded (SameTop-refl h known) (λ g. refl) (λ o any. guarded.not_overlaid o (omega arith))
-      (λ c. drop_new_data d (cluster h p on_storage known c) (p.surplus c) (n c) (tied h p on_storage known c) (few c) (some c) (good h d p on_storage known guarded c))
+      counts_changed h d p (new_data_to_old_data p n) on_storage known known crash_invariant (SameTop-refl h known) (λ g. refl) (λ o any. crash_invariant.not_overlaid o (omega arith))
+      (λ c. drop_new_data d (cluster h p on_storage known c) (p.surplus c) (n c) (tied h p on_storage known c) (few c) (some c) (good h d p on_storage known crash_invariant c))
 
   pub old_tables_instead : ((c : ℕ) → 0 < n c → 0 < p.new_data c) → CrashInvariant h d (new_data_to_old_tables p n) on_storage known
   old_tables_instead some =
-      counts_changed h d p (new_data_to_old_tables p n) on_storage known known guarded (SameTop-refl h known) (λ g. refl) (λ o any. guarded.not_overlaid o (omega arith))
-      (λ c. undo d (cluster h p on_storage known c) (p.surplus c) (n c) (tied h p on_storage known c) (few c) (some c) (good h d p on_storage known guarded c))
+      counts_changed h d p (new_data_to_old_tables p n) on_storage known known crash_invariant (SameTop-refl h known) (λ g. refl) (λ o any. crash_invariant.not_overlaid o (omega arith))
+      (λ c. undo d (cluster h p on_storage known c) (p.surplus c) (n c) (tied h p on_storage known c) (few c) (some c) (good h d p on_storage known crash_invariant c))
 
   pub never_named : ((c : ℕ) → 0 < n c → 0 < p.new_tables c) → CrashInvariant h d (new_tables_to_old_tables p n) on_storage known
   never_named some =
-      counts_changed h d p (new_tables_to_old_tables p n) on_storage known known guarded (SameTop-refl h known) (λ g. refl) (λ o any. guarded.not_overlaid o (omega arith))
-      (λ c. abandon d (cluster h p on_storage known c) (p.surplus c) (n c) (tied h p on_storage known c) (few c) (some c) (good h d p on_storage known guarded c))
+      counts_changed h d p (new_tables_to_old_tables p n) on_storage known known crash_invariant (SameTop-refl h known) (λ g. refl) (λ o any. crash_invariant.not_overlaid o (omega arith))
+      (λ c. abandon d (cluster h p on_storage known c) (p.surplus c) (n c) (tied h p on_storage known c) (few c) (some c) (good h d p on_storage known crash_invariant c))
 
 -- ---- one guest cluster is mapped anew: what it names beside the old is taken from what is held
-module _ (h : HeaderFields) (d : Direction) (p : Pending) (on_storage known known' : Bytes) (guarded : CrashInvariant h d p on_storage known) (g0 : ℕ) (within : g0 < guests h)
+module _ (h : HeaderFields) (d : Direction) (p : Pending) (on_storage known known' : Bytes) (crash_invariant : CrashInvariant h d p on_storage known) (g0 : ℕ) (within : g0 < guests h)
     (top : SameTop h known known') (others : (g : ℕ) → g ≢ g0 → cover h known g ≡ cover h known' g) (counts : SameCounts h known known')
     (new_data : (c : ℕ) → names h known' c g0 - names h known c g0 ≤ p.new_data c)
     (marked : (c : ℕ) → marks h known' c g0 ≤ marks h known c g0 + (names h known' c g0 - names h known c g0))
@@ -161,17 +161,17 @@ module _ (h : HeaderFields) (d : Direction) (p : Pending) (on_storage known know
       let next = remap d (cluster h p on_storage known c) (p.surplus c) (names h known c g0) (names h known' c g0)
       (over_guests h (names h known' c)) (named_in_either h on_storage known' c)
       (over_guests h (marks h known' c)) (over_guests h (λ g. max (marks h on_storage c g) (marks h known' c g)))
-      (tied h p on_storage known c) (omega arith) (omega arith) (omega arith) (omega arith) (omega arith) (good h d p on_storage known guarded c) in
+      (tied h p on_storage known c) (omega arith) (omega arith) (omega arith) (omega arith) (omega arith) (good h d p on_storage known crash_invariant c) in
       subst (λ k. Good d k (p.surplus c)) (λ j. record (cluster h (remapped p (λ c. names h known c g0) (λ c. names h known' c g0)) on_storage known' c) { known_count = counts c j }) next
 
   own_there : (c : ℕ) → 0 < marks h known' c g0 → names h on_storage c g0 ≤ marks h on_storage c g0
   own_there c some = elim (cases_lt 0 (marks h known c g0)) [
-    | inl before ↦ guarded.own g0 c before
+    | inl before ↦ crash_invariant.own g0 c before
     | inr not ↦
         let taken = new_data c in
         let checkpoint = marked c in
         let from : 0 < p.new_data c = omega arith in
-        let none = new_data_unnamed d (cluster h p on_storage known c) (p.surplus c) (tied h p on_storage known c) from (good h d p on_storage known guarded c) in
+        let none = new_data_unnamed d (cluster h p on_storage known c) (p.surplus c) (tied h p on_storage known c) from (good h d p on_storage known crash_invariant c) in
         let le = guest_le h (λ g. max (names h on_storage c g) (names h known c g)) g0 within in
         let zero_sum : named_in_either h on_storage known c ≡ 0 = none.0 in
         omega arith
@@ -179,24 +179,24 @@ module _ (h : HeaderFields) (d : Direction) (p : Pending) (on_storage known know
 
   pub entry_mapped : CrashInvariant h d (remapped p (λ c. names h known c g0) (λ c. names h known' c g0)) on_storage known'
   entry_mapped = record {
-    top = guarded.top;
-    same_top = SameTop-trans h on_storage known known' guarded.same_top top;
+    top = crash_invariant.top;
+    same_top = SameTop-trans h on_storage known known' crash_invariant.same_top top;
     each_cluster = λ c. (now c).each_cluster;
     ordered = λ c. (now c).ordered;
-    aligned = guarded.aligned;
+    aligned = crash_invariant.aligned;
     known_aligned = λ g. elim (cases_eq g g0) [
       | inl e ↦ subst (λ n. CoverIsAligned h (cover h known' n)) (sym e) aligned
-      | inr ne ↦ subst (CoverIsAligned h) (others g ne) (guarded.known_aligned g)
+      | inr ne ↦ subst (CoverIsAligned h) (others g ne) (crash_invariant.known_aligned g)
     ];
     own = λ g c some. elim (cases_eq g g0) [
       | inl e ↦ subst (λ n. names h on_storage c n ≤ marks h on_storage c n) (sym e) (own_there c (subst (λ n. 0 < marks h known' c n) e some))
-      | inr ne ↦ guarded.own g c (subst (λ v. 0 < marked_by_cover h c v) (sym (others g ne)) some)
+      | inr ne ↦ crash_invariant.own g c (subst (λ v. 0 < marked_by_cover h c v) (sym (others g ne)) some)
     ];
     not_overlaid = λ o some.
         let changed = max_changed (named_by_cover h (o / cluster_size h)) in
         let taken = new_data (o / cluster_size h) in
         let as_before : 0 < named_in_either h on_storage known (o / cluster_size h) + p.new_data (o / cluster_size h) = omega arith in
-        guarded.not_overlaid o as_before ∙ bytes o as_before;
+        crash_invariant.not_overlaid o as_before ∙ bytes o as_before;
   }
 
   -- the other guest clusters show what they showed
@@ -204,13 +204,13 @@ module _ (h : HeaderFields) (d : Direction) (p : Pending) (on_storage known know
       → ((o : ℕ) → o / cluster_size h ≡ g0 → (guest_value h known' known' backing o ≡ guest_value h known known backing o) ⊎ IsGiven given o (guest_value h known' known' backing o))
       → StopOkEverywhere backing m known → StopOkEverywhere backing (checkpoint_with given [] m) known'
   mapping_kept backing m given there kept =
-      kept_shown h backing m given known known' (IsTop-top h on_storage known guarded.same_top guarded.top).header_is (IsTop-top h on_storage known' entry_mapped.same_top guarded.top).header_is
+      kept_shown h backing m given known known' (IsTop-top h on_storage known crash_invariant.same_top crash_invariant.top).header_is (IsTop-top h on_storage known' entry_mapped.same_top crash_invariant.top).header_is
       (known_consistent h d (remapped p (λ c. names h known c g0) (λ c. names h known' c g0)) on_storage known' entry_mapped)
       (λ o. elim (cases_eq (o / cluster_size h) g0) [
         | inl here ↦ there o here
-        | inr other ↦ inl (sym (guest_value-same h known known' backing o (others (o / cluster_size h) other) (guarded.known_aligned (o / cluster_size h)) (λ place some.
+        | inr other ↦ inl (sym (guest_value-same h known known' backing o (others (o / cluster_size h) other) (crash_invariant.known_aligned (o / cluster_size h)) (λ place some.
             bytes place (
-            let inside = names_within h known (place / cluster_size h) (o / cluster_size h) (Sizes-from h on_storage guarded.top.header_reads) some in
+            let inside = names_within h known (place / cluster_size h) (o / cluster_size h) (Sizes-from h on_storage crash_invariant.top.header_reads) some in
             let le = guest_le h (λ k. max (names h on_storage (place / cluster_size h) k) (names h known (place / cluster_size h) k)) (o / cluster_size h) inside in
             omega arith))))
       ]) kept

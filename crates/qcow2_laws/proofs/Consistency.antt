@@ -18,7 +18,7 @@ use Rattle.qcow2_laws.proofs.Sums.{term_le-sum_below}
 use Rattle.qcow2_laws.proofs.Places.{Sizes, Sizes-from, cover_at}
 use Rattle.qcow2_laws.proofs.Clusters.{Fine, fine}
 use Rattle.qcow2_laws.proofs.Guests.{named-is, guest_le, names_within, marks-le}
-use Rattle.qcow2_laws.proofs.Mixes.{tied, good, known_guarded}
+use Rattle.qcow2_laws.proofs.Mixes.{tied, good, known_crash_invariant}
 
 pub in_own : (h : HeaderFields) (place : ℕ) → in_cluster h (place / cluster_size h) place ≡ 1
 in_own h place = cond-true {A = ℕ} _ 1 0 (eq-eqb _ _ refl)
@@ -55,28 +55,28 @@ l1_marked h b i lt real copied =
 each_entry : (h : HeaderFields) (b : Bytes) (P : L2Mapping → Type 0) → Sizes h → ((g : ℕ) → P (cover h b g)) → EachCover h b P
 each_entry h b P sizes each i j lt real within = subst P (cover_at h b i j sizes real within) (each (i * entries_per_cluster h + j))
 
-module _ (h : HeaderFields) (d : Direction) (p : Pending) (on_storage known : Bytes) (guarded : CrashInvariant h d p on_storage known) where
+module _ (h : HeaderFields) (d : Direction) (p : Pending) (on_storage known : Bytes) (crash_invariant : CrashInvariant h d p on_storage known) where
   sizes : Sizes h
-  sizes = Sizes-from h on_storage guarded.top.header_reads
+  sizes = Sizes-from h on_storage crash_invariant.top.header_reads
 
   fine_at : (c : ℕ) → Fine (cluster h p on_storage known c)
-  fine_at c = fine d (cluster h p on_storage known c) (p.surplus c) (tied h p on_storage known c) (good h d p on_storage known guarded c)
+  fine_at c = fine d (cluster h p on_storage known c) (p.surplus c) (tied h p on_storage known c) (good h d p on_storage known crash_invariant c)
 
   owned : (c : ℕ) → 0 < marked_by_l1_table h on_storage c + over_guests h (marks h on_storage c) → Owned h on_storage c
   owned c some = let f = (fine_at c).copied some in (named-is h on_storage c sizes ∙ f.0, f.1)
 
   pub consistent : Consistent h on_storage
   consistent = record {
-    header_reads = guarded.top.header_reads;
-    l1_reads = guarded.top.l1_reads;
-    reftable_reads = guarded.top.reftable_reads;
-    no_snapshots = guarded.top.no_snapshots;
-    no_data_file = guarded.top.no_data_file;
-    l1_aligned = guarded.top.l1_aligned;
-    reftable_aligned = guarded.top.reftable_aligned;
-    l2_tables_aligned = guarded.top.l2_tables_aligned;
-    refblocks_aligned = guarded.top.refblocks_aligned;
-    data_aligned = each_entry h on_storage (CoverIsAligned h) sizes guarded.aligned;
+    header_reads = crash_invariant.top.header_reads;
+    l1_reads = crash_invariant.top.l1_reads;
+    reftable_reads = crash_invariant.top.reftable_reads;
+    no_snapshots = crash_invariant.top.no_snapshots;
+    no_data_file = crash_invariant.top.no_data_file;
+    l1_aligned = crash_invariant.top.l1_aligned;
+    reftable_aligned = crash_invariant.top.reftable_aligned;
+    l2_tables_aligned = crash_invariant.top.l2_tables_aligned;
+    refblocks_aligned = crash_invariant.top.refblocks_aligned;
+    data_aligned = each_entry h on_storage (CoverIsAligned h) sizes crash_invariant.aligned;
     counted = λ c. let e = named-is h on_storage c sizes in let f = (fine_at c).counted in omega arith;
     tables_once = λ c some. named-is h on_storage c sizes ∙ (fine_at c).tables (omega (arith, some));
     copied_tables = λ i lt real copied. owned (table_at h on_storage i / cluster_size h) (let s = l1_marked h on_storage i lt real copied in omega arith);
@@ -84,8 +84,8 @@ module _ (h : HeaderFields) (d : Direction) (p : Pending) (on_storage known : By
         (λ c some. owned c (let le = guest_le h (marks h on_storage c) g (names_within h on_storage c g sizes (let m = marks-le h c (cover h on_storage g) in omega arith)) in omega arith)));
   }
 
-  pub guarded_consistent : IsConsistent on_storage
-  guarded_consistent = subst (λ t. Consistent t on_storage) (sym guarded.top.header_is) consistent
+  pub crash_invariant_consistent : IsConsistent on_storage
+  crash_invariant_consistent = subst (λ t. Consistent t on_storage) (sym crash_invariant.top.header_is) consistent
 
 pub known_consistent : (h : HeaderFields) (d : Direction) (p : Pending) (on_storage known : Bytes) → CrashInvariant h d p on_storage known → IsConsistent known
-known_consistent h d p on_storage known guarded = guarded_consistent h d p known known (known_guarded h d p on_storage known guarded)
+known_consistent h d p on_storage known crash_invariant = crash_invariant_consistent h d p known known (known_crash_invariant h d p on_storage known crash_invariant)

@@ -17,7 +17,7 @@ use Rattle.qcow2_disk.specs.Calls.{EffectOnSound, StartsAt}
 use Rattle.qcow2_laws.specs.GuestLaws.{LongerL1TableKeepsGuests, SizeStaysUnlessAsked, HasSizeSince}
 use Rattle.qcow2_laws.proofs.Places.{Sizes-from}
 use Rattle.qcow2_laws.proofs.Guests.{past_guests}
-use Rattle.qcow2_laws.proofs.Consistency.{guarded_consistent, known_consistent}
+use Rattle.qcow2_laws.proofs.Consistency.{crash_invariant_consistent, known_consistent}
 use Rattle.qcow2_laws.proofs.Values.{value_is, size_is}
 use Rattle.qcow2_laws.proofs.Unseen.{known_header}
 use Rattle.qcow2_laws.proofs.L1Moves.{guests_kept}
@@ -44,7 +44,7 @@ module _ (s : DriverState) (backing : Bytes) (sound : StateInvariant s) where
 
   pub storage_kept : StopOkEverywhere backing checkpoint s.on_storage
   unfolding disk_with
-  storage_kept = record { consistent = guarded_consistent s.header s.direction s.pending s.on_storage s.known sound; size = inl refl; values = λ o. inl refl }
+  storage_kept = record { consistent = crash_invariant_consistent s.header s.direction s.pending s.on_storage s.known sound; size = inl refl; values = λ o. inl refl }
 
   pub known_kept : StopOkEverywhere backing checkpoint s.known
   unfolding disk_with
@@ -70,9 +70,9 @@ size_stays_unless_asked s backing image given sound kept =
 
 -- at each moment of steps, and of calls
 pub size_stays_in_steps : (s : DriverState) (old new : StorageView) (given : Bytes → List GivenBytes) → StateInvariant s → byte_at old.contents ≡ s.on_storage → SafeThroughout old new s.known given [] → HasSizeSince old new s.header.size
-size_stays_in_steps s old new given sound is endures =
+size_stays_in_steps s old new given sound is safe_throughout =
     passes_if (λ c. (header (byte_at c)).size ≡ s.header.size) (λ c kept.
-    size_stays_unless_asked s (λ _. 0) (byte_at c) (given (λ _. 0)) sound (λ m ok known_ok. kept (λ _. 0) m (subst (StopOkEverywhere (λ _. 0) m) (sym is) ok) known_ok)) endures.moments
+    size_stays_unless_asked s (λ _. 0) (byte_at c) (given (λ _. 0)) sound (λ m ok known_ok. kept (λ _. 0) m (subst (StopOkEverywhere (λ _. 0) m) (sym is) ok) known_ok)) safe_throughout.moments
 
 pub size_stays_in_calls : (s : DriverState) (old new : AbstractImage) (given : List GivenBytes) → StateInvariant s → stored_bytes old ≡ s.on_storage → old.known ≡ s.known → EffectOnSound old new given [] → HasSizeSince old.storage new.storage s.header.size
 size_stays_in_calls s old new given sound is known works =

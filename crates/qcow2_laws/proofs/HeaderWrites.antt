@@ -27,7 +27,7 @@ module _ (h : HeaderFields) (d : Direction) (p : Pending) (l2s rbs : List Cached
   known c = known_bytes (cluster_size h) l2s rbs (byte_at c)
 
   header_is : header (byte_at contents) ≡ h
-  header_is = kept.guarded.top.header_is
+  header_is = kept.crash_invariant.top.header_is
 
   -- what the header of the contents reads as, the same header reads
   reads_as : (a : Places) (v : HeaderView) (c : List ℕ) → header (byte_at c) ≡ with_places h a → IsHeaderIn v c → HeaderReads (with_places h a) (byte_at c)

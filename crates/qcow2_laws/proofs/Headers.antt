@@ -24,10 +24,10 @@ use Rattle.qcow2_laws.proofs.Renaming.{tables_renamed, moved_kept, moved_known_k
 -- bytes among the header's own numbers are written, and it reads
 pub writes_header : (h : HeaderFields) (d : Direction) (p : Pending) (on_storage known on_storage' known' : Bytes) → CrashInvariant h d p on_storage known → (a : Places) (place n : ℕ) → WritesAt place n on_storage known on_storage' known' → place + n ≤ 104
     → header on_storage' ≡ with_places h a → HeaderReads (with_places h a) on_storage' → WritesHeader h a on_storage known on_storage' known'
-writes_header h d p on_storage known on_storage' known' guarded a place n writes small is reads = record {
+writes_header h d p on_storage known on_storage' known' crash_invariant a place n writes small is reads = record {
   others = outside on_storage on_storage' writes.others;
   known_others = outside known known' writes.known_others;
-  same_first = λ i lt. writes.agree (0 + i) (guarded.same_top.first_cluster i lt);
+  same_first = λ i lt. writes.agree (0 + i) (crash_invariant.same_top.first_cluster i lt);
   is = is;
   reads = reads;
 }
@@ -35,19 +35,19 @@ writes_header h d p on_storage known on_storage' known' guarded a place n writes
     outside : (b b' : Bytes) → IsSameBut place n b b' → IsSameOutside (cluster_size h) 0 b b'
     outside b b' but o other = but o (elim (cases_lt o (place + n)) [
       | inl lt ↦ absurd (other (
-          let l = (Sizes-from h on_storage guarded.top.header_reads).large in
+          let l = (Sizes-from h on_storage crash_invariant.top.header_reads).large in
           let e : o ≡ 0 * cluster_size h + o = omega arith in
           ap (λ k. k / cluster_size h) e ∙ div-mul-add 0 (cluster_size h) o (omega arith)))
       | inr past ↦ inr past
     ])
 
 -- ---- what stays where the first cluster alone changes
-module _ (h : HeaderFields) (a : Places) (d : Direction) (p : Pending) (on_storage known on_storage' known' : Bytes) (guarded : CrashInvariant h d p on_storage known) (writes : WritesHeader h a on_storage known on_storage' known') where
+module _ (h : HeaderFields) (a : Places) (d : Direction) (p : Pending) (on_storage known on_storage' known' : Bytes) (crash_invariant : CrashInvariant h d p on_storage known) (writes : WritesHeader h a on_storage known on_storage' known') where
   pub header_sizes : Sizes h
-  header_sizes = Sizes-from h on_storage guarded.top.header_reads
+  header_sizes = Sizes-from h on_storage crash_invariant.top.header_reads
 
   pub header_known_top : IsTop h known
-  header_known_top = IsTop-top h on_storage known guarded.same_top guarded.top
+  header_known_top = IsTop-top h on_storage known crash_invariant.same_top crash_invariant.top
 
   pub header_fixed : 0 < named_for_tables h on_storage 0
   header_fixed =
@@ -57,10 +57,10 @@ module _ (h : HeaderFields) (a : Places) (d : Direction) (p : Pending) (on_stora
       omega arith
 
   header_once : named_for_tables h on_storage 0 ≤ 1
-  header_once = let t = table_once h d p on_storage known guarded 0 header_fixed in omega arith
+  header_once = let t = table_once h d p on_storage known crash_invariant 0 header_fixed in omega arith
 
   header_known_once : named_for_tables h known 0 ≤ 1
-  header_known_once = let e = for_tables-top h on_storage known 0 guarded.same_top in let o = header_once in omega arith
+  header_known_once = let e = for_tables-top h on_storage known 0 crash_invariant.same_top in let o = header_once in omega arith
 
   pub header_same : (c : ℕ) → c ≢ 0 → SameIn (cluster_size h) c on_storage on_storage'
   header_same c other o in_c = writes.others o (λ e. other (sym in_c ∙ e))
@@ -69,37 +69,37 @@ module _ (h : HeaderFields) (a : Places) (d : Direction) (p : Pending) (on_stora
   header_known_same c other o in_c = writes.known_others o (λ e. other (sym in_c ∙ e))
 
   pub header_l1 : (i : ℕ) → l1_entry h on_storage i ≡ l1_entry h on_storage' i
-  header_l1 = first_l1 h on_storage on_storage' guarded.top header_once header_same
+  header_l1 = first_l1 h on_storage on_storage' crash_invariant.top header_once header_same
 
   pub header_known_l1 : (i : ℕ) → l1_entry h known i ≡ l1_entry h known' i
   header_known_l1 = first_l1 h known known' header_known_top header_known_once header_known_same
 
   pub header_reftable : (k : ℕ) → reftable_entry h on_storage k ≡ reftable_entry h on_storage' k
-  header_reftable = first_reftable h on_storage on_storage' guarded.top header_once header_same
+  header_reftable = first_reftable h on_storage on_storage' crash_invariant.top header_once header_same
 
   pub header_known_reftable : (k : ℕ) → reftable_entry h known k ≡ reftable_entry h known' k
   header_known_reftable = first_reftable h known known' header_known_top header_known_once header_known_same
 
   pub header_covers : SameCovers h on_storage on_storage'
-  header_covers = first_covers h on_storage on_storage' guarded.top header_once header_same
+  header_covers = first_covers h on_storage on_storage' crash_invariant.top header_once header_same
 
   pub header_known_covers : SameCovers h known known'
   header_known_covers = first_covers h known known' header_known_top header_known_once header_known_same
 
   pub header_counts : SameCounts h on_storage on_storage'
-  header_counts = first_counts h on_storage on_storage' guarded.top header_once header_same
+  header_counts = first_counts h on_storage on_storage' crash_invariant.top header_once header_same
 
   pub header_known_counts : SameCounts h known known'
   header_known_counts = first_counts h known known' header_known_top header_known_once header_known_same
 
   pub header_elsewhere : (o : ℕ) → 0 < named_in_either h on_storage known (o / cluster_size h) + p.new_data (o / cluster_size h) → o / cluster_size h ≢ 0
   header_elsewhere o some e =
-      let none = table_apart h d p on_storage known guarded 0 header_fixed in
+      let none = table_apart h d p on_storage known crash_invariant 0 header_fixed in
       let here = subst (λ n. 0 < named_in_either h on_storage known n + p.new_data n) e some in
       absurd (omega arith)
 
   pub header_unlaid : (o : ℕ) → 0 < named_in_either h on_storage known (o / cluster_size h) + p.new_data (o / cluster_size h) → on_storage' o ≡ known' o
-  header_unlaid o some = sym (writes.others o (header_elsewhere o some)) ∙ guarded.not_overlaid o some ∙ writes.known_others o (header_elsewhere o some)
+  header_unlaid o some = sym (writes.others o (header_elsewhere o some)) ∙ crash_invariant.not_overlaid o some ∙ writes.known_others o (header_elsewhere o some)
 
   -- a cluster that nothing names is another one
   pub unnamed_elsewhere : (c : ℕ) → named_for_tables h on_storage c ≡ 0 → c ≢ 0
@@ -109,7 +109,7 @@ module _ (h : HeaderFields) (a : Places) (d : Direction) (p : Pending) (on_stora
       absurd (omega arith)
 
 -- ---- the size, and the autoclear bits
-module _ (h : HeaderFields) (size autoclear : ℕ) (d : Direction) (p : Pending) (on_storage known on_storage' known' : Bytes) (guarded : CrashInvariant h d p on_storage known)
+module _ (h : HeaderFields) (size autoclear : ℕ) (d : Direction) (p : Pending) (on_storage known on_storage' known' : Bytes) (crash_invariant : CrashInvariant h d p on_storage known)
     (writes : WritesHeader h (resized_places h size autoclear) on_storage known on_storage' known') where
   a : Places
   a = resized_places h size autoclear
@@ -139,72 +139,72 @@ module _ (h : HeaderFields) (size autoclear : ℕ) (d : Direction) (p : Pending)
   sole_too b c = refl
 
   resized_l1 : (i : ℕ) → l1_entry h on_storage i ≡ l1_entry (with_places h (resized_places h size autoclear)) on_storage' i
-  resized_l1 i = header_l1 h (resized_places h size autoclear) d p on_storage known on_storage' known' guarded writes i ∙ sym (l1_too on_storage' i)
+  resized_l1 i = header_l1 h (resized_places h size autoclear) d p on_storage known on_storage' known' crash_invariant writes i ∙ sym (l1_too on_storage' i)
 
   resized_reftable : (k : ℕ) → reftable_entry h on_storage k ≡ reftable_entry (with_places h (resized_places h size autoclear)) on_storage' k
-  resized_reftable k = header_reftable h (resized_places h size autoclear) d p on_storage known on_storage' known' guarded writes k ∙ sym (reftable_too on_storage' k)
+  resized_reftable k = header_reftable h (resized_places h size autoclear) d p on_storage known on_storage' known' crash_invariant writes k ∙ sym (reftable_too on_storage' k)
 
   resized_top : IsTop (with_places h (resized_places h size autoclear)) on_storage'
   resized_top = record {
     header_is = writes.is;
     header_reads = writes.reads;
-    l1_reads = λ i lt. subst L1EntryReads (resized_l1 i) (guarded.top.l1_reads i lt);
-    reftable_reads = λ k lt. subst ReftableEntryReads (resized_reftable k) (guarded.top.reftable_reads k lt);
-    no_snapshots = guarded.top.no_snapshots;
-    no_data_file = guarded.top.no_data_file;
-    l1_aligned = guarded.top.l1_aligned;
-    reftable_aligned = guarded.top.reftable_aligned;
-    l2_tables_aligned = λ i lt. subst (λ e. IsAligned h (host_offset e)) (resized_l1 i) (guarded.top.l2_tables_aligned i lt);
-    refblocks_aligned = λ k lt. subst (λ e. IsAligned h (block_offset e)) (resized_reftable k) (guarded.top.refblocks_aligned k lt);
+    l1_reads = λ i lt. subst L1EntryReads (resized_l1 i) (crash_invariant.top.l1_reads i lt);
+    reftable_reads = λ k lt. subst ReftableEntryReads (resized_reftable k) (crash_invariant.top.reftable_reads k lt);
+    no_snapshots = crash_invariant.top.no_snapshots;
+    no_data_file = crash_invariant.top.no_data_file;
+    l1_aligned = crash_invariant.top.l1_aligned;
+    reftable_aligned = crash_invariant.top.reftable_aligned;
+    l2_tables_aligned = λ i lt. subst (λ e. IsAligned h (host_offset e)) (resized_l1 i) (crash_invariant.top.l2_tables_aligned i lt);
+    refblocks_aligned = λ k lt. subst (λ e. IsAligned h (block_offset e)) (resized_reftable k) (crash_invariant.top.refblocks_aligned k lt);
   }
 
   resized_same_top : SameTop (with_places h (resized_places h size autoclear)) on_storage' known'
   resized_same_top = record {
     first_cluster = writes.same_first;
-    l1 = λ i. sym (resized_l1 i) ∙ guarded.same_top.l1 i ∙ header_known_l1 h (resized_places h size autoclear) d p on_storage known on_storage' known' guarded writes i ∙ sym (l1_too known' i);
-    reftable = λ k. sym (resized_reftable k) ∙ guarded.same_top.reftable k ∙ header_known_reftable h (resized_places h size autoclear) d p on_storage known on_storage' known' guarded writes k ∙ sym (reftable_too known' k);
+    l1 = λ i. sym (resized_l1 i) ∙ crash_invariant.same_top.l1 i ∙ header_known_l1 h (resized_places h size autoclear) d p on_storage known on_storage' known' crash_invariant writes i ∙ sym (l1_too known' i);
+    reftable = λ k. sym (resized_reftable k) ∙ crash_invariant.same_top.reftable k ∙ header_known_reftable h (resized_places h size autoclear) d p on_storage known on_storage' known' crash_invariant writes k ∙ sym (reftable_too known' k);
   }
 
   resized_covers : KeepsCovers h (resized_places h size autoclear) on_storage on_storage'
-  resized_covers g = header_covers h (resized_places h size autoclear) d p on_storage known on_storage' known' guarded writes g ∙ sym (covers_too on_storage' g)
+  resized_covers g = header_covers h (resized_places h size autoclear) d p on_storage known on_storage' known' crash_invariant writes g ∙ sym (covers_too on_storage' g)
 
   resized_known_covers : KeepsCovers h (resized_places h size autoclear) known known'
-  resized_known_covers g = header_known_covers h (resized_places h size autoclear) d p on_storage known on_storage' known' guarded writes g ∙ sym (covers_too known' g)
+  resized_known_covers g = header_known_covers h (resized_places h size autoclear) d p on_storage known on_storage' known' crash_invariant writes g ∙ sym (covers_too known' g)
 
   resized_unlaid : (o : ℕ) → 0 < named_in_either h on_storage known (o / cluster_size h) + p.new_data (o / cluster_size h) → on_storage' o ≡ known' o
-  resized_unlaid = header_unlaid h (resized_places h size autoclear) d p on_storage known on_storage' known' guarded writes
+  resized_unlaid = header_unlaid h (resized_places h size autoclear) d p on_storage known on_storage' known' crash_invariant writes
 
   resized_fixed : (c : ℕ) → named_for_tables (with_places h (resized_places h size autoclear)) on_storage' c ≡ named_for_tables h on_storage c
   resized_fixed c =
       let before = shares h on_storage c in
       let after = shares h on_storage' c in
-      let tables = l1_names-same h on_storage on_storage' c (header_l1 h (resized_places h size autoclear) d p on_storage known on_storage' known' guarded writes) in
-      let blocks = reftable_names-same h on_storage on_storage' c (header_reftable h (resized_places h size autoclear) d p on_storage known on_storage' known' guarded writes) in
+      let tables = l1_names-same h on_storage on_storage' c (header_l1 h (resized_places h size autoclear) d p on_storage known on_storage' known' crash_invariant writes) in
+      let blocks = reftable_names-same h on_storage on_storage' c (header_reftable h (resized_places h size autoclear) d p on_storage known on_storage' known' crash_invariant writes) in
       let e = fixed_too on_storage' c in
       omega arith
 
   pub size_written : CrashInvariant (with_places h (resized_places h size autoclear)) d p on_storage' known'
   size_written =
-      tables_renamed h (resized_places h size autoclear) d p p on_storage known on_storage' known' guarded
+      tables_renamed h (resized_places h size autoclear) d p p on_storage known on_storage' known' crash_invariant
       resized_top resized_same_top (omega arith) resized_covers resized_known_covers resized_unlaid
       (λ c. 0) (λ c. 0) (λ c. 0) (λ c. (refl, omega arith, omega arith, refl, refl)) (λ c. omega arith)
       (λ c. let e = resized_fixed c in omega arith)
-      (λ c. let e = sole_too on_storage' c ∙ sym (l1_marks-same h on_storage on_storage' c (header_l1 h (resized_places h size autoclear) d p on_storage known on_storage' known' guarded writes)) in omega arith)
-      (λ c. let e = counts_too on_storage' c in let s = header_counts h (resized_places h size autoclear) d p on_storage known on_storage' known' guarded writes c in omega arith)
-      (λ c. let e = counts_too known' c in let s = header_known_counts h (resized_places h size autoclear) d p on_storage known on_storage' known' guarded writes c in omega arith)
+      (λ c. let e = sole_too on_storage' c ∙ sym (l1_marks-same h on_storage on_storage' c (header_l1 h (resized_places h size autoclear) d p on_storage known on_storage' known' crash_invariant writes)) in omega arith)
+      (λ c. let e = counts_too on_storage' c in let s = header_counts h (resized_places h size autoclear) d p on_storage known on_storage' known' crash_invariant writes c in omega arith)
+      (λ c. let e = counts_too known' c in let s = header_known_counts h (resized_places h size autoclear) d p on_storage known on_storage' known' crash_invariant writes c in omega arith)
       (λ c some. absurd (omega arith)) (λ c some. absurd (omega arith))
 
   module _ (backing : Bytes) (m : Checkpoint) (asked : List ℕ) (ask : (size ≡ h.size) ⊎ IsAsked asked size) where
     pub size_written_kept : StopOkEverywhere backing m on_storage → StopOkEverywhere backing (checkpoint_with [] asked m) on_storage'
     size_written_kept kept =
-        moved_kept h (resized_places h size autoclear) d p p on_storage known on_storage' known' guarded
+        moved_kept h (resized_places h size autoclear) d p p on_storage known on_storage' known' crash_invariant
         resized_top resized_same_top (omega arith) resized_covers resized_known_covers resized_unlaid size_written
-        (λ o some. writes.others o (header_elsewhere h (resized_places h size autoclear) d p on_storage known on_storage' known' guarded writes o (omega arith)))
-        (λ o some. writes.known_others o (header_elsewhere h (resized_places h size autoclear) d p on_storage known on_storage' known' guarded writes o (omega arith))) backing m asked ask kept
+        (λ o some. writes.others o (header_elsewhere h (resized_places h size autoclear) d p on_storage known on_storage' known' crash_invariant writes o (omega arith)))
+        (λ o some. writes.known_others o (header_elsewhere h (resized_places h size autoclear) d p on_storage known on_storage' known' crash_invariant writes o (omega arith))) backing m asked ask kept
 
     pub size_written_known_kept : StopOkEverywhere backing m known → StopOkEverywhere backing (checkpoint_with [] asked m) known'
     size_written_known_kept kept =
-        moved_known_kept h (resized_places h size autoclear) d p p on_storage known on_storage' known' guarded
+        moved_known_kept h (resized_places h size autoclear) d p p on_storage known on_storage' known' crash_invariant
         resized_top resized_same_top (omega arith) resized_covers resized_known_covers resized_unlaid size_written
-        (λ o some. writes.others o (header_elsewhere h (resized_places h size autoclear) d p on_storage known on_storage' known' guarded writes o (omega arith)))
-        (λ o some. writes.known_others o (header_elsewhere h (resized_places h size autoclear) d p on_storage known on_storage' known' guarded writes o (omega arith))) backing m asked ask kept
+        (λ o some. writes.others o (header_elsewhere h (resized_places h size autoclear) d p on_storage known on_storage' known' crash_invariant writes o (omega arith)))
+        (λ o some. writes.known_others o (header_elsewhere h (resized_places h size autoclear) d p on_storage known on_storage' known' crash_invariant writes o (omega arith))) backing m asked ask kept

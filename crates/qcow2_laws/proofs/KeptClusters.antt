@@ -23,7 +23,7 @@ use Rattle.qcow2_laws.specs.GuestLaws.{Kept, IsHostedAt, WritesRun, KeptClusterI
 use Rattle.qcow2_laws.proofs.Places.{in_one}
 use Rattle.qcow2_laws.proofs.Mixes.{tied}
 use Rattle.qcow2_laws.proofs.Consistency.{in_own}
-use Rattle.qcow2_laws.proofs.SafeSteps.{leads_less}
+use Rattle.qcow2_laws.proofs.SafeSteps.{safe_step_less}
 use Rattle.qcow2_laws.proofs.Unseen.{named_some}
 use Rattle.qcow2_laws.proofs.Shown.{shown_zero}
 use Rattle.qcow2_laws.proofs.PutRuns.{run_written, given_has}
@@ -74,12 +74,12 @@ module _ (s : DriverState) (on_storage' known' : Bytes) (sound : StateInvariant 
       inl (v_is ∙ ap known_byte (zeros (o - (g * cluster_size s.header + at)) (omega arith)) ∙ sym (shown_zero s sound backing o (Some (host, true)) (ap (cover s.header s.known) here ∙ is)))
 
   pub kept_zeroed : ((i : ℕ) → i < length bytes → byte_at bytes i ≡ 0) → SafeStep s (record s { on_storage = on_storage'; known = known' }) (λ _. []) []
-  kept_zeroed zeros = leads_less s (record s { on_storage = on_storage'; known = known' }) _ (λ _. []) [] (λ backing o v given. zeros_shown zeros backing o v given) kept_written.leads
+  kept_zeroed zeros = safe_step_less s (record s { on_storage = on_storage'; known = known' }) _ (λ _. []) [] (λ backing o v given. zeros_shown zeros backing o v given) kept_written.safe_step
 
 pub kept_cluster_is_written : KeptClusterIsWritten
 kept_cluster_is_written = record {
   bytes = λ s on_storage' known' g host at bytes sound is fits writes there.
-      let w = kept_written s on_storage' known' sound g host at bytes is fits writes there in (w.leads, w.shows);
+      let w = kept_written s on_storage' known' sound g host at bytes is fits writes there in (w.safe_step, w.shows);
   zeros = λ s on_storage' known' g host at bytes sound is fits writes there zeros. kept_zeroed s on_storage' known' sound g host at bytes is fits writes there zeros;
 }
 
@@ -111,4 +111,4 @@ module _ (s : DriverState) (known' : Bytes) (i j host : ℕ) (sound : StateInvar
       ap (value_under s.header known' known' backing o) is ∙ ap known_byte (host_bytes (o % cluster_size s.header) (mod_below o (cluster_size s.header) (pow_pos s.header.cluster_bits)))))
 
 pub kept_cluster_is_committed : KeptClusterIsCommitted
-kept_cluster_is_committed s known' i j host sound changes was is = let m = kept_committed s known' i j host sound changes was is in (m.leads, m.shows)
+kept_cluster_is_committed s known' i j host sound changes was is = let m = kept_committed s known' i j host sound changes was is in (m.safe_step, m.shows)

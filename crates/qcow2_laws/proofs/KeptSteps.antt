@@ -29,8 +29,8 @@ pub refblock_changed : (h : HeaderFields) (d d' : Direction) (p p' : Pending) (l
     → t'.place % cluster_size h ≡ 0 → HasBlock h on_storage (t'.place / cluster_size h) → AreApart (cluster_size h) (front ++ t' ∷ back)
     → SameCovers h (known_bytes (cluster_size h) l2s (front ++ t ∷ back) on_storage) (known_bytes (cluster_size h) l2s (front ++ t' ∷ back) on_storage)
     → CrashInvariant h d' p' on_storage (known_bytes (cluster_size h) l2s (front ++ t' ∷ back) on_storage) → CacheInvariantOver h d' p' l2s (front ++ t' ∷ back) on_storage
-refblock_changed h d d' p p' l2s front back t t' on_storage kept aligned stands apart covers guarded = record {
-  guarded = guarded;
+refblock_changed h d d' p p' l2s front back t t' on_storage kept aligned stands apart covers crash_invariant = record {
+  crash_invariant = crash_invariant;
   l2_apart = kept.l2_apart;
   rb_apart = apart;
   l2_stand = kept.l2_stand;
@@ -57,8 +57,8 @@ refblock_changed h d d' p p' l2s front back t t' on_storage kept aligned stands 
 pub l2_table_changed : (h : HeaderFields) (d d' : Direction) (p p' : Pending) (front back rbs : List CachedTable) (t t' : CachedTable) (on_storage : Bytes) → CacheInvariantOver h d p (front ++ t ∷ back) rbs on_storage
     → AreNamedBlocks h rbs on_storage → t'.place % cluster_size h ≡ 0 → HasOwnL2 h on_storage (t'.place / cluster_size h) → AreApart (cluster_size h) (front ++ t' ∷ back)
     → CrashInvariant h d' p' on_storage (known_bytes (cluster_size h) (front ++ t' ∷ back) rbs on_storage) → CacheInvariantOver h d' p' (front ++ t' ∷ back) rbs on_storage
-l2_table_changed h d d' p p' front back rbs t t' on_storage kept settled aligned stands apart guarded = record {
-  guarded = guarded;
+l2_table_changed h d d' p p' front back rbs t t' on_storage kept named_blocks aligned stands apart crash_invariant = record {
+  crash_invariant = crash_invariant;
   l2_apart = apart;
   rb_apart = kept.rb_apart;
   l2_stand = λ c. elim (cases_eq c (t'.place / cluster_size h)) [
@@ -68,7 +68,7 @@ l2_table_changed h d d' p p' front back rbs t t' on_storage kept settled aligned
       | inr has ↦ inr has
     ]
   ];
-  rb_stand = λ c. elim (settled c) [ inl free ↦ inl free | inr has ↦ inr (inl has) ];
+  rb_stand = λ c. elim (named_blocks c) [ inl free ↦ inl free | inr has ↦ inr (inl has) ];
 }
 
 -- ---- bytes are written to the storage, beside the modified tables
@@ -95,8 +95,8 @@ pub kept_beside : (h h' : HeaderFields) (d d' : Direction) (p p' : Pending) (l2s
     → ((c : ℕ) → HasBlock h on_storage c ⊎ IsUnnamed h on_storage (known_bytes (cluster_size h) l2s rbs on_storage) c
     → IsFreeOf (cluster_size h) rbs c ⊎ (HasBlock h' on_storage' c ⊎ IsUnnamed h' on_storage' (known_bytes (cluster_size h') l2s rbs on_storage') c))
     → CacheInvariantOver h' d' p' l2s rbs on_storage'
-kept_beside h h' d d' p p' l2s rbs on_storage on_storage' kept size guarded l2 rb = record {
-  guarded = guarded;
+kept_beside h h' d d' p p' l2s rbs on_storage on_storage' kept size crash_invariant l2 rb = record {
+  crash_invariant = crash_invariant;
   l2_apart = subst (λ n. AreApart n l2s) (sym size) kept.l2_apart;
   rb_apart = subst (λ n. AreApart n rbs) (sym size) kept.rb_apart;
   l2_stand = λ c. elim (kept.l2_stand c) [

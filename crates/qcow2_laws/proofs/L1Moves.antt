@@ -28,7 +28,7 @@ use Rattle.qcow2_laws.proofs.Values.{value_is, size_is}
 use Rattle.qcow2_laws.proofs.Renaming.{tables_renamed, moved_kept, moved_known_kept, known_sum, same_value}
 use Rattle.qcow2_laws.proofs.Headers.{header_sizes, header_same, header_known_same, header_l1, header_known_l1, header_reftable, header_known_reftable, header_covers, header_known_covers, header_counts, header_known_counts, header_elsewhere, header_unlaid, unnamed_elsewhere}
 
-module _ (h : HeaderFields) (offset entries : ℕ) (d : Direction) (p : Pending) (on_storage known on_storage' known' : Bytes) (guarded : CrashInvariant h d p on_storage known)
+module _ (h : HeaderFields) (offset entries : ℕ) (d : Direction) (p : Pending) (on_storage known on_storage' known' : Bytes) (crash_invariant : CrashInvariant h d p on_storage known)
     (writes : WritesHeader h (with_l1_at h offset entries) on_storage known on_storage' known') (new : IsNewL1 h d p on_storage known offset entries) where
   reftable_too : (b : Bytes) (k : ℕ) → reftable_entry (with_places h (with_l1_at h offset entries)) b k ≡ reftable_entry h b k
   unfolding reftable_entry
@@ -43,19 +43,19 @@ module _ (h : HeaderFields) (offset entries : ℕ) (d : Direction) (p : Pending)
       → l1_entry (with_places h (with_l1_at h offset entries)) b i ≡ l1_entry (with_places h (with_l1_at h offset entries)) b' i
   stays b b' same i =
       l1-same (with_places h (with_l1_at h offset entries)) b b' i (Sizes-from (with_places h (with_l1_at h offset entries)) on_storage' writes.reads) new.aligned (λ lt.
-      same _ (unnamed_elsewhere h (with_l1_at h offset entries) d p on_storage known on_storage' known' guarded writes _
-      (new_tables_is_unnamed h d p on_storage known guarded _
+      same _ (unnamed_elsewhere h (with_l1_at h offset entries) d p on_storage known on_storage' known' crash_invariant writes _
+      (new_tables_is_unnamed h d p on_storage known crash_invariant _
       (new.new_tables ((offset + 8 * i) / cluster_size h) (let one = l1_has (with_places h (with_l1_at h offset entries)) i (Sizes-from (with_places h (with_l1_at h offset entries)) on_storage' writes.reads) new.aligned lt in omega arith)).0
       new.written).no_table))
 
   pub now_l1 : (i : ℕ) → l1_entry h on_storage i ≡ l1_entry (with_places h (with_l1_at h offset entries)) on_storage' i
-  now_l1 i = sym (new.same i) ∙ stays on_storage on_storage' (header_same h (with_l1_at h offset entries) d p on_storage known on_storage' known' guarded writes) i
+  now_l1 i = sym (new.same i) ∙ stays on_storage on_storage' (header_same h (with_l1_at h offset entries) d p on_storage known on_storage' known' crash_invariant writes) i
 
   now_known_l1 : (i : ℕ) → l1_entry h known i ≡ l1_entry (with_places h (with_l1_at h offset entries)) known' i
-  now_known_l1 i = sym (new.known_same i) ∙ stays known known' (header_known_same h (with_l1_at h offset entries) d p on_storage known on_storage' known' guarded writes) i
+  now_known_l1 i = sym (new.known_same i) ∙ stays known known' (header_known_same h (with_l1_at h offset entries) d p on_storage known on_storage' known' crash_invariant writes) i
 
   pub now_reftable : (k : ℕ) → reftable_entry h on_storage k ≡ reftable_entry (with_places h (with_l1_at h offset entries)) on_storage' k
-  now_reftable k = header_reftable h (with_l1_at h offset entries) d p on_storage known on_storage' known' guarded writes k ∙ sym (reftable_too on_storage' k)
+  now_reftable k = header_reftable h (with_l1_at h offset entries) d p on_storage known on_storage' known' crash_invariant writes k ∙ sym (reftable_too on_storage' k)
 
   -- an entry that is none reads, and is aligned
   each_l1 : (Q : ℕ → Type 0) → Q 0 → ((i : ℕ) → i < h.l1_entries → Q (l1_entry h on_storage i)) → (i : ℕ) → Q (l1_entry (with_places h (with_l1_at h offset entries)) on_storage' i)
@@ -68,27 +68,27 @@ module _ (h : HeaderFields) (offset entries : ℕ) (d : Direction) (p : Pending)
   zero_reads = (refl, refl)
 
   zero_aligned : IsAligned h (host_offset 0)
-  zero_aligned = let some = (header_sizes h (with_l1_at h offset entries) d p on_storage known on_storage' known' guarded writes).some in omega arith
+  zero_aligned = let some = (header_sizes h (with_l1_at h offset entries) d p on_storage known on_storage' known' crash_invariant writes).some in omega arith
 
   top_now : IsTop (with_places h (with_l1_at h offset entries)) on_storage'
   top_now = record {
     header_is = writes.is;
     header_reads = writes.reads;
-    l1_reads = λ i lt. each_l1 L1EntryReads zero_reads guarded.top.l1_reads i;
-    reftable_reads = λ k lt. subst ReftableEntryReads (now_reftable k) (guarded.top.reftable_reads k lt);
-    no_snapshots = guarded.top.no_snapshots;
-    no_data_file = guarded.top.no_data_file;
+    l1_reads = λ i lt. each_l1 L1EntryReads zero_reads crash_invariant.top.l1_reads i;
+    reftable_reads = λ k lt. subst ReftableEntryReads (now_reftable k) (crash_invariant.top.reftable_reads k lt);
+    no_snapshots = crash_invariant.top.no_snapshots;
+    no_data_file = crash_invariant.top.no_data_file;
     l1_aligned = new.aligned;
-    reftable_aligned = guarded.top.reftable_aligned;
-    l2_tables_aligned = λ i lt. each_l1 (λ e. IsAligned h (host_offset e)) zero_aligned guarded.top.l2_tables_aligned i;
-    refblocks_aligned = λ k lt. subst (λ e. IsAligned h (block_offset e)) (now_reftable k) (guarded.top.refblocks_aligned k lt);
+    reftable_aligned = crash_invariant.top.reftable_aligned;
+    l2_tables_aligned = λ i lt. each_l1 (λ e. IsAligned h (host_offset e)) zero_aligned crash_invariant.top.l2_tables_aligned i;
+    refblocks_aligned = λ k lt. subst (λ e. IsAligned h (block_offset e)) (now_reftable k) (crash_invariant.top.refblocks_aligned k lt);
   }
 
   same_top_now : SameTop (with_places h (with_l1_at h offset entries)) on_storage' known'
   same_top_now = record {
     first_cluster = writes.same_first;
-    l1 = λ i. sym (now_l1 i) ∙ guarded.same_top.l1 i ∙ now_known_l1 i;
-    reftable = λ k. sym (now_reftable k) ∙ guarded.same_top.reftable k ∙ header_known_reftable h (with_l1_at h offset entries) d p on_storage known on_storage' known' guarded writes k ∙ sym (reftable_too known' k);
+    l1 = λ i. sym (now_l1 i) ∙ crash_invariant.same_top.l1 i ∙ now_known_l1 i;
+    reftable = λ k. sym (now_reftable k) ∙ crash_invariant.same_top.reftable k ∙ header_known_reftable h (with_l1_at h offset entries) d p on_storage known on_storage' known' crash_invariant writes k ∙ sym (reftable_too known' k);
   }
 
   cover_of : (b : Bytes) (g e : ℕ) → l1_entry h b (g / entries_per_cluster h) ≡ e → l1_entry (with_places h (with_l1_at h offset entries)) b (g / entries_per_cluster h) ≡ e
@@ -98,16 +98,16 @@ module _ (h : HeaderFields) (offset entries : ℕ) (d : Direction) (p : Pending)
 
   pub covers : KeepsCovers h (with_l1_at h offset entries) on_storage on_storage'
   covers g =
-      header_covers h (with_l1_at h offset entries) d p on_storage known on_storage' known' guarded writes g
-      ∙ cover_of on_storage' g _ refl (sym (now_l1 (g / entries_per_cluster h)) ∙ header_l1 h (with_l1_at h offset entries) d p on_storage known on_storage' known' guarded writes (g / entries_per_cluster h))
+      header_covers h (with_l1_at h offset entries) d p on_storage known on_storage' known' crash_invariant writes g
+      ∙ cover_of on_storage' g _ refl (sym (now_l1 (g / entries_per_cluster h)) ∙ header_l1 h (with_l1_at h offset entries) d p on_storage known on_storage' known' crash_invariant writes (g / entries_per_cluster h))
 
   pub known_covers : KeepsCovers h (with_l1_at h offset entries) known known'
   known_covers g =
-      header_known_covers h (with_l1_at h offset entries) d p on_storage known on_storage' known' guarded writes g
-      ∙ cover_of known' g _ refl (sym (now_known_l1 (g / entries_per_cluster h)) ∙ header_known_l1 h (with_l1_at h offset entries) d p on_storage known on_storage' known' guarded writes (g / entries_per_cluster h))
+      header_known_covers h (with_l1_at h offset entries) d p on_storage known on_storage' known' crash_invariant writes g
+      ∙ cover_of known' g _ refl (sym (now_known_l1 (g / entries_per_cluster h)) ∙ header_known_l1 h (with_l1_at h offset entries) d p on_storage known on_storage' known' crash_invariant writes (g / entries_per_cluster h))
 
   not_overlaid : (o : ℕ) → 0 < named_in_either h on_storage known (o / cluster_size h) + p.new_data (o / cluster_size h) → on_storage' o ≡ known' o
-  not_overlaid = header_unlaid h (with_l1_at h offset entries) d p on_storage known on_storage' known' guarded writes
+  not_overlaid = header_unlaid h (with_l1_at h offset entries) d p on_storage known on_storage' known' crash_invariant writes
 
   -- ---- how often tables name a cluster now
   longer_sum : (f g : ℕ → ℕ) → ((i : ℕ) → f i ≡ g i) → ((i : ℕ) → h.l1_entries ≤ i → f i ≡ 0) → sum_below entries g ≡ sum_below h.l1_entries f
@@ -142,55 +142,55 @@ module _ (h : HeaderFields) (offset entries : ℕ) (d : Direction) (p : Pending)
 
   pub l1_moved : CrashInvariant (with_places h (with_l1_at h offset entries)) d (renamed p (λ c. in_run h c offset (8 * entries)) (in_l1 h)) on_storage' known'
   l1_moved =
-      tables_renamed h (with_l1_at h offset entries) d p (renamed p (λ c. in_run h c offset (8 * entries)) (in_l1 h)) on_storage known on_storage' known' guarded
+      tables_renamed h (with_l1_at h offset entries) d p (renamed p (λ c. in_run h c offset (8 * entries)) (in_l1 h)) on_storage known on_storage' known' crash_invariant
       top_now same_top_now new.longer covers known_covers not_overlaid
       (λ c. in_run h c offset (8 * entries)) (λ c. 0) (in_l1 h) (λ c. (refl, refl, refl, refl, refl))
       (λ c. let one = in_run-le h c offset (8 * entries) in omega arith) fixed_changed (λ c. let e = marks_same c in omega arith)
-      (λ c. let e = counts_too on_storage' c in let s = header_counts h (with_l1_at h offset entries) d p on_storage known on_storage' known' guarded writes c in omega arith)
-      (λ c. let e = counts_too known' c in let s = header_known_counts h (with_l1_at h offset entries) d p on_storage known on_storage' known' guarded writes c in omega arith)
+      (λ c. let e = counts_too on_storage' c in let s = header_counts h (with_l1_at h offset entries) d p on_storage known on_storage' known' crash_invariant writes c in omega arith)
+      (λ c. let e = counts_too known' c in let s = header_known_counts h (with_l1_at h offset entries) d p on_storage known on_storage' known' crash_invariant writes c in omega arith)
       (λ c some. let f = new.new_tables c some in (f.0, f.1, new.written)) (λ c some. absurd (omega arith))
 
   elsewhere : (o : ℕ) → 0 < named_in_either h on_storage known (o / cluster_size h) → o / cluster_size h ≢ 0
-  elsewhere o some = header_elsewhere h (with_l1_at h offset entries) d p on_storage known on_storage' known' guarded writes o (omega arith)
+  elsewhere o some = header_elsewhere h (with_l1_at h offset entries) d p on_storage known on_storage' known' crash_invariant writes o (omega arith)
 
   pub l1_moved_kept : (backing : Bytes) (m : Checkpoint) → StopOkEverywhere backing m on_storage → StopOkEverywhere backing m on_storage'
   l1_moved_kept backing m kept =
-      moved_kept h (with_l1_at h offset entries) d p (renamed p (λ c. in_run h c offset (8 * entries)) (in_l1 h)) on_storage known on_storage' known' guarded
+      moved_kept h (with_l1_at h offset entries) d p (renamed p (λ c. in_run h c offset (8 * entries)) (in_l1 h)) on_storage known on_storage' known' crash_invariant
       top_now same_top_now new.longer covers known_covers not_overlaid l1_moved
       (λ o some. writes.others o (elsewhere o some)) (λ o some. writes.known_others o (elsewhere o some)) backing m [] (inl refl) kept
 
   pub l1_moved_known_kept : (backing : Bytes) (m : Checkpoint) → StopOkEverywhere backing m known → StopOkEverywhere backing m known'
   l1_moved_known_kept backing m kept =
-      moved_known_kept h (with_l1_at h offset entries) d p (renamed p (λ c. in_run h c offset (8 * entries)) (in_l1 h)) on_storage known on_storage' known' guarded
+      moved_known_kept h (with_l1_at h offset entries) d p (renamed p (λ c. in_run h c offset (8 * entries)) (in_l1 h)) on_storage known on_storage' known' crash_invariant
       top_now same_top_now new.longer covers known_covers not_overlaid l1_moved
       (λ o some. writes.others o (elsewhere o some)) (λ o some. writes.known_others o (elsewhere o some)) backing m [] (inl refl) kept
 
   -- ---- what guests use
   bytes_stay : (o : ℕ) → 0 < named_in_either h on_storage known (o / cluster_size h) + p.new_data (o / cluster_size h) → known' o ≡ known o
-  bytes_stay o some = sym (writes.known_others o (header_elsewhere h (with_l1_at h offset entries) d p on_storage known on_storage' known' guarded writes o some))
+  bytes_stay o some = sym (writes.known_others o (header_elsewhere h (with_l1_at h offset entries) d p on_storage known on_storage' known' crash_invariant writes o some))
 
   used_same : (c : ℕ) → over_guests (with_places h (with_l1_at h offset entries)) (names (with_places h (with_l1_at h offset entries)) known' c) ≡ over_guests h (names h known c)
   used_same c =
-      sym (known_sum h (with_l1_at h offset entries) d p (renamed p (λ k. in_run h k offset (8 * entries)) (in_l1 h)) on_storage known on_storage' known' guarded
+      sym (known_sum h (with_l1_at h offset entries) d p (renamed p (λ k. in_run h k offset (8 * entries)) (in_l1 h)) on_storage known on_storage' known' crash_invariant
       top_now same_top_now new.longer covers known_covers not_overlaid (named_by_cover h c) refl)
 
   disk_same : (backing : Bytes) → disk known' backing ≡ disk known backing
   unfolding disk_with
   disk_same backing =
-      let was = (IsTop-top h on_storage known guarded.same_top guarded.top).header_is in
+      let was = (IsTop-top h on_storage known crash_invariant.same_top crash_invariant.top).header_is in
       let is = (IsTop-top (with_places h (with_l1_at h offset entries)) on_storage' known' same_top_now top_now).header_is in
       let size : (disk known' backing).size ≡ (disk known backing).size = size_is (with_places h (with_l1_at h offset entries)) known' backing is ∙ sym (size_is h known backing was) in
       let value : (disk known' backing).value ≡ (disk known backing).value = fun_ext (λ o.
       value_is (with_places h (with_l1_at h offset entries)) known' backing o is
-      ∙ sym (same_value h (with_l1_at h offset entries) d p (renamed p (λ k. in_run h k offset (8 * entries)) (in_l1 h)) on_storage known on_storage' known' guarded
-      top_now same_top_now new.longer covers known_covers not_overlaid known known' backing known_covers guarded.known_aligned (λ g place some.
+      ∙ sym (same_value h (with_l1_at h offset entries) d p (renamed p (λ k. in_run h k offset (8 * entries)) (in_l1 h)) on_storage known on_storage' known' crash_invariant
+      top_now same_top_now new.longer covers known_covers not_overlaid known known' backing known_covers crash_invariant.known_aligned (λ g place some.
       sym (bytes_stay place (let t = (tied h p on_storage known (place / cluster_size h)).known in let n = named_once place g some in omega arith))) o)
       ∙ sym (value_is h known backing o was)) in
       λ j. record { size = size j; value = value j }
     where
       named_once : (place g : ℕ) → 0 < names h known (place / cluster_size h) g → 0 < over_guests h (names h known (place / cluster_size h))
       named_once place g some =
-          let le = guest_le h (names h known (place / cluster_size h)) g (names_within h known (place / cluster_size h) g (Sizes-from h on_storage guarded.top.header_reads) some) in
+          let le = guest_le h (names h known (place / cluster_size h)) g (names_within h known (place / cluster_size h) g (Sizes-from h on_storage crash_invariant.top.header_reads) some) in
           omega arith
 
   pub guests_kept : KeepsGuests (record { header = h; direction = d; pending = p; on_storage = on_storage; known = known })

@@ -34,7 +34,7 @@ use Rattle.qcow2_laws.proofs.Shown.{shown_under}
 
 -- what such a step does: it gives what the guest cluster shows then, which are these values over each backing disk
 pub record Maps (guest : ℕ) (old new : DriverState) (values : Bytes → ℕ → Value) : Type 0 where
-  pub leads : SafeStep old new (λ backing. given_shown (disk new.known backing) (guest * cluster_size old.header) (guest * cluster_size old.header + cluster_size old.header) ∷ []) []
+  pub safe_step : SafeStep old new (λ backing. given_shown (disk new.known backing) (guest * cluster_size old.header) (guest * cluster_size old.header + cluster_size old.header) ∷ []) []
   pub unseen : IsMappedAnew guest old new
   pub shows : (backing : Bytes) → disk new.known backing ≡ with_cluster (cluster_size old.header) (disk old.known backing) guest (values backing)
 
@@ -69,9 +69,9 @@ module _ (s : DriverState) (known' : Bytes) (i j : ℕ) (sound : StateInvariant 
       let top = entry_top s.header s.direction s.pending s.on_storage s.known known' sound i j changes.real changes.within changes.outside changes.entries in
       (IsTop-top s.header s.known known' top (IsTop-top s.header s.on_storage s.known sound.same_top sound.top)).header_is
 
-  leads_on : SafeStep s (record s { pending = pending_after s known' (guest_at s.header i j); known = known' })
+  safe_step_on : SafeStep s (record s { pending = pending_after s known' (guest_at s.header i j); known = known' })
       (λ backing. given_shown (disk known' backing) (guest_at s.header i j * cluster_size s.header) (guest_at s.header i j * cluster_size s.header + cluster_size s.header) ∷ []) []
-  leads_on =
+  safe_step_on =
       entry_is_changed s known' i j _ sound changes (λ backing o here.
       let inside = in_cluster_of o (guest_at s.header i j) (cluster_size s.header) (pow_pos s.header.cluster_bits) here in
       inr (inl (inside.0, inside.1, sym (value_is s.header known' backing o new_header) ∙ ap (disk known' backing).value (sym inside.2))))
@@ -85,24 +85,24 @@ module _ (s : DriverState) (known' : Bytes) (i j : ℕ) (sound : StateInvariant 
         let new : DriverState = record s { pending = pending_after s known' (guest_at s.header i j); known = known' } in
         elim (cases_eq (o / cluster_size s.header) (guest_at s.header i j)) [
           | inl here ↦
-              shown_under new leads_on.sound backing o (cover s.header known' (guest_at s.header i j)) (ap (cover s.header known') here)
+              shown_under new safe_step_on.sound backing o (cover s.header known' (guest_at s.header i j)) (ap (cover s.header known') here)
               ∙ are backing o here
               ∙ sym (cond-true _ _ _ (eq-eqb _ _ here))
           | inr other ↦
               let unseen = entry_unseen (pending_after s known' (guest_at s.header i j)) in
-              value_stays s new sound leads_on.sound refl backing o (unseen.covers (o / cluster_size s.header) other) (λ place some.
+              value_stays s new sound safe_step_on.sound refl backing o (unseen.covers (o / cluster_size s.header) other) (λ place some.
               unseen.bytes place (let named = named_some s new sound (place / cluster_size s.header) (o / cluster_size s.header) some in omega arith))
               ∙ sym (cond-false _ _ _ (ne_eqb _ _ other))
         ]
 
     pub entry_maps : Maps (guest_at s.header i j) s (record s { pending = pending_after s known' (guest_at s.header i j); known = known' }) values
     entry_maps = record {
-      leads = leads_on;
+      safe_step = safe_step_on;
       unseen = entry_unseen (pending_after s known' (guest_at s.header i j));
       shows = λ backing.
           let new : DriverState = record s { pending = pending_after s known' (guest_at s.header i j); known = known' } in
           let value : (disk known' backing).value ≡ (with_cluster (cluster_size s.header) (disk s.known backing) (guest_at s.header i j) (values backing)).value = fun_ext (λ o. value_now backing o) in
-          λ k. record { size = size_stays s new sound leads_on.sound refl backing k; value = value k };
+          λ k. record { size = size_stays s new sound safe_step_on.sound refl backing k; value = value k };
     }
 
   -- ---- as zeros, or as nothing

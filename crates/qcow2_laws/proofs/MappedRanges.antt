@@ -20,13 +20,13 @@ use Rattle.qcow2_laws.specs.Unseen.{used_by_guests, with_cluster}
 use Rattle.qcow2_laws.specs.GuestLaws.{MapsEntry, MapsInTurn, IsZeros, ClustersInTurnAreARange}
 use Rattle.qcow2_laws.proofs.Guests.{over_guests-change}
 use Rattle.qcow2_laws.proofs.Blocks.{guest_within}
-use Rattle.qcow2_laws.proofs.SafeSteps.{leads_none, leads_then, leads_less}
+use Rattle.qcow2_laws.proofs.SafeSteps.{safe_step_none, safe_step_then, safe_step_less}
 use Rattle.qcow2_disk.proofs.ForUsers.{laid_inside, laid_outside}
 use Rattle.qcow2_laws.proofs.MappedAnew.{Maps, pending_after, entry_unseen, entry_zeroed, entry_uncovered}
 
 -- what they do together: the range shows these values over each backing disk
 pub record MapsRange (first n : ℕ) (old new : DriverState) (values : Bytes → ℕ → Value) : Type 0 where
-  pub leads : SafeStep old new (λ backing. given_shown (disk new.known backing) (first * cluster_size old.header) ((first + n) * cluster_size old.header) ∷ []) []
+  pub safe_step : SafeStep old new (λ backing. given_shown (disk new.known backing) (first * cluster_size old.header) ((first + n) * cluster_size old.header) ∷ []) []
   pub header : new.header ≡ old.header
   pub covers : (g : ℕ) → (g < first) ⊎ (first + n ≤ g) → cover old.header old.known g ≡ cover old.header new.known g
   pub used : (c : ℕ) → 0 < used_by_guests new c → 0 < used_by_guests old c
@@ -86,7 +86,7 @@ module _ (size first n : ℕ) (some : 0 < size) (values : ℕ → Value) (d : Di
 -- ---- none, and one more
 pub maps_none : (s : DriverState) (first : ℕ) (values : Bytes → ℕ → Value) → StateInvariant s → MapsRange first 0 s s values
 maps_none s first values sound = record {
-  leads = leads_less s s (λ _. []) _ [] (λ backing o v given. absurd given) (leads_none s sound);
+  safe_step = safe_step_less s s (λ _. []) _ [] (λ backing o v given. absurd given) (safe_step_none s sound);
   header = refl;
   covers = λ g out. refl;
   used = λ c some. some;
@@ -110,9 +110,9 @@ module _ (first n : ℕ) (a b c : DriverState) (values : Bytes → ℕ → Value
   then_shows : (backing : Bytes) → disk c.known backing ≡ with_cluster (cluster_size a.header) (disk b.known backing) (first + n) (values backing)
   then_shows backing = subst (λ h. disk c.known backing ≡ with_cluster (cluster_size h) (disk b.known backing) (first + n) (values backing)) one.header (two.shows backing)
 
-  then_leads : SafeStep b c (λ backing. given_shown (disk c.known backing) ((first + n) * cluster_size a.header) ((first + n) * cluster_size a.header + cluster_size a.header) ∷ []) []
-  then_leads =
-      subst (λ h. SafeStep b c (λ backing. given_shown (disk c.known backing) ((first + n) * cluster_size h) ((first + n) * cluster_size h + cluster_size h) ∷ []) []) one.header two.leads
+  then_safe_step : SafeStep b c (λ backing. given_shown (disk c.known backing) ((first + n) * cluster_size a.header) ((first + n) * cluster_size a.header + cluster_size a.header) ∷ []) []
+  then_safe_step =
+      subst (λ h. SafeStep b c (λ backing. given_shown (disk c.known backing) ((first + n) * cluster_size h) ((first + n) * cluster_size h + cluster_size h) ∷ []) []) one.header two.safe_step
 
   before : (backing : Bytes) (o : ℕ) → o < (first + n) * cluster_size a.header → (disk c.known backing).value o ≡ (disk b.known backing).value o
   before backing o lt =
@@ -136,7 +136,7 @@ module _ (first n : ℕ) (a b c : DriverState) (values : Bytes → ℕ → Value
 
   pub maps_next : MapsRange first (suc n) a c values
   maps_next = record {
-    leads = leads_less a c _ _ [] (λ backing o v given. inr (inl (both_shown backing o v given))) (leads_then a b c _ _ [] [] one.leads then_leads);
+    safe_step = safe_step_less a c _ _ [] (λ backing o v given. inr (inl (both_shown backing o v given))) (safe_step_then a b c _ _ [] [] one.safe_step then_safe_step);
     header = two.unseen.header ∙ one.header;
     covers = λ g out.
         one.covers g (elim out [ inl below ↦ inl below | inr past ↦ inr (omega arith) ])
@@ -170,8 +170,8 @@ module _ (kind : L2Mapping → Type 0) (values : Bytes → ℕ → Value) (first
   entry_then n a b c one entry =
       subst (λ c. MapsRange first (suc n) a c values) (sym entry.is)
       (maps_next first n a b _ values one (subst (λ g. Maps g b (record b { pending = pending_after b entry.known (guest_at b.header entry.row entry.column); known = entry.known }) values) entry.here
-      (are b entry.known entry.row entry.column one.leads.sound entry.changes entry.maps))
-      (λ k some. let le = entry_used b entry.known entry.row entry.column k one.leads.sound entry.changes in omega arith))
+      (are b entry.known entry.row entry.column one.safe_step.sound entry.changes entry.maps))
+      (λ k some. let le = entry_used b entry.known entry.row entry.column k one.safe_step.sound entry.changes in omega arith))
 
   pub maps_in_turn : (n : ℕ) (s new : DriverState) → StateInvariant s → MapsInTurn kind first n s new → MapsRange first n s new values
   maps_in_turn zero s new sound same = subst (λ (b : DriverState). MapsRange first 0 s b values) (sym same) (maps_none s first values sound)
@@ -188,8 +188,8 @@ pub clusters_in_turn_are_a_range : ClustersInTurnAreARange
 clusters_in_turn_are_a_range = record {
   zeroed = λ s new first n sound turn.
       let r = maps_in_turn IsZeros (λ backing o. known_byte 0) first (λ s known' i j sound changes zeros. zeros_map s known' i j sound changes _ refl zeros) n s new sound turn in
-      record { leads = r.leads; shows = r.shows };
+      record { safe_step = r.safe_step; shows = r.shows };
   uncovered = λ s new first n sound turn.
       let r = maps_in_turn (λ v. v ≡ Uncovered) (λ backing o. known_byte (backing o)) first (λ s known' i j sound changes none. entry_uncovered s known' i j sound changes none) n s new sound turn in
-      record { leads = r.leads; shows = r.shows };
+      record { safe_step = r.safe_step; shows = r.shows };
 }

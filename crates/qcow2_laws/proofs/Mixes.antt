@@ -28,7 +28,7 @@ tied h p on_storage known c = record {
 }
 
 pub good : (h : HeaderFields) (d : Direction) (p : Pending) (on_storage known : Bytes) → CrashInvariant h d p on_storage known → (c : ℕ) → Good d (cluster h p on_storage known c) (p.surplus c)
-good h d p on_storage known guarded c = record { each_cluster = guarded.each_cluster c; ordered = guarded.ordered c }
+good h d p on_storage known crash_invariant c = record { each_cluster = crash_invariant.each_cluster c; ordered = crash_invariant.ordered c }
 
 -- ---- what is read in an image of which each cluster is that of the one or of the other
 module _ (h : HeaderFields) (on_storage known b : Bytes) (top : IsTop h on_storage) (same_top : SameTop h on_storage known) (partly : IsPartly (cluster_size h) on_storage known b) where
@@ -97,12 +97,12 @@ pub as_known : (h : HeaderFields) (known b : Bytes) → SameCovers h known b →
     → over_guests h (λ g. max (f (cover h b g)) (f (cover h known g))) ≡ over_guests h (λ g. f (cover h known g))
 as_known h known b same f = over_guests-same h _ _ (λ g. let e : f (cover h known g) ≡ f (cover h b g) = ap f (same g) in omega arith)
 
-module _ (h : HeaderFields) (d : Direction) (p : Pending) (on_storage known b : Bytes) (guarded : CrashInvariant h d p on_storage known) (mixed : IsMixed h d on_storage known b) where
+module _ (h : HeaderFields) (d : Direction) (p : Pending) (on_storage known b : Bytes) (crash_invariant : CrashInvariant h d p on_storage known) (mixed : IsMixed h d on_storage known b) where
   kept : SameTop h on_storage b
-  kept = top_kept h on_storage known b guarded.top guarded.same_top mixed.partly
+  kept = top_kept h on_storage known b crash_invariant.top crash_invariant.same_top mixed.partly
 
   pick : (g : ℕ) → (cover h b g ≡ cover h on_storage g) ⊎ (cover h b g ≡ cover h known g)
-  pick = either_cover h on_storage known b guarded.top guarded.same_top mixed.partly
+  pick = either_cover h on_storage known b crash_invariant.top crash_invariant.same_top mixed.partly
 
   nearer : (c : ℕ) → Nearer (cluster h p on_storage known c) (over_guests h (names h b c)) (named_in_either h b known c)
       (over_guests h (marks h b c)) (over_guests h (λ g. max (marks h b c g) (marks h known c g))) (count h b c)
@@ -111,7 +111,7 @@ module _ (h : HeaderFields) (d : Direction) (p : Pending) (on_storage known b : 
     in_either = over_guests-le h _ _ (λ g. two_of (named_by_cover h c) _ _ _ (pick g));
     marks_in_storage = over_guests-le h _ _ (λ g. one_of (marked_by_cover h c) _ _ _ (pick g));
     marks_either = over_guests-le h _ _ (λ g. two_of (marked_by_cover h c) _ _ _ (pick g));
-    count = either_count h on_storage known b guarded.top guarded.same_top mixed.partly c;
+    count = either_count h on_storage known b crash_invariant.top crash_invariant.same_top mixed.partly c;
   }
 
   in_order : (e : Direction) → IsInOrder e h on_storage known b → (c : ℕ) → InOrder e (cluster h p on_storage known c) (over_guests h (names h b c)) (named_in_either h b known c)
@@ -128,7 +128,7 @@ module _ (h : HeaderFields) (d : Direction) (p : Pending) (on_storage known b : 
 
   good_mix : (c : ℕ) → Good d (cluster h p b known c) (p.surplus c)
   good_mix c =
-      let before = mix d (cluster h p on_storage known c) (p.surplus c) _ _ _ _ _ (tied h p on_storage known c) (nearer c) (in_order d mixed.ordered c) (good h d p on_storage known guarded c) in
+      let before = mix d (cluster h p on_storage known c) (p.surplus c) _ _ _ _ _ (tied h p on_storage known c) (nearer c) (in_order d mixed.ordered c) (good h d p on_storage known crash_invariant c) in
       let table_refs = for_tables-top h on_storage b c kept in
       let copied_l1_refs = copied_l1_refs-top h on_storage b c kept in
       subst (λ k. Good d k (p.surplus c)) (λ j. record (cluster h p b known c) { table_refs = table_refs j; copied_l1_refs = copied_l1_refs j }) before
@@ -137,24 +137,24 @@ module _ (h : HeaderFields) (d : Direction) (p : Pending) (on_storage known b : 
   pub mixed_either : (c : ℕ) → named_in_either h b known c ≤ named_in_either h on_storage known c
   mixed_either c = (nearer c).in_either
 
-  pub mixed_guarded : CrashInvariant h d p b known
-  mixed_guarded = record {
-    top = IsTop-top h on_storage b kept guarded.top;
-    same_top = SameTop-trans h b on_storage known (SameTop-sym h on_storage b kept) guarded.same_top;
+  pub mixed_crash_invariant : CrashInvariant h d p b known
+  mixed_crash_invariant = record {
+    top = IsTop-top h on_storage b kept crash_invariant.top;
+    same_top = SameTop-trans h b on_storage known (SameTop-sym h on_storage b kept) crash_invariant.same_top;
     each_cluster = λ c. (good_mix c).each_cluster;
     ordered = λ c. (good_mix c).ordered;
     aligned = λ g. elim (pick g) [
-      | inl same ↦ subst (CoverIsAligned h) (sym same) (guarded.aligned g)
-      | inr same ↦ subst (CoverIsAligned h) (sym same) (guarded.known_aligned g)
+      | inl same ↦ subst (CoverIsAligned h) (sym same) (crash_invariant.aligned g)
+      | inr same ↦ subst (CoverIsAligned h) (sym same) (crash_invariant.known_aligned g)
     ];
-    known_aligned = guarded.known_aligned;
+    known_aligned = crash_invariant.known_aligned;
     own = λ g c marked. elim (pick g) [
-      | inl same ↦ subst (λ v. named_by_cover h c v ≤ marked_by_cover h c v) (sym same) (guarded.own g c marked)
+      | inl same ↦ subst (λ v. named_by_cover h c v ≤ marked_by_cover h c v) (sym same) (crash_invariant.own g c marked)
       | inr same ↦ subst (λ v. named_by_cover h c v ≤ marked_by_cover h c v) (sym same) (marks-all h c (cover h known g) marked)
     ];
     not_overlaid = λ o some.
         let le = (nearer (o / cluster_size h)).in_either in
-        let as_before = guarded.not_overlaid o (omega arith) in
+        let as_before = crash_invariant.not_overlaid o (omega arith) in
         elim (mixed.partly (o / cluster_size h)) [
           | inl same ↦ same o refl ∙ as_before
           | inr same ↦ same o refl
@@ -171,8 +171,8 @@ known_in_order RbDependsOnL2 h on_storage known = inr (λ g. refl)
 pub known_mixed : (h : HeaderFields) (d : Direction) (on_storage known : Bytes) → IsMixed h d on_storage known known
 known_mixed h d on_storage known = record { partly = λ c. inr (λ o in_c. refl); ordered = known_in_order d h on_storage known }
 
-pub known_guarded : (h : HeaderFields) (d : Direction) (p : Pending) (on_storage known : Bytes) → CrashInvariant h d p on_storage known → CrashInvariant h d p known known
-known_guarded h d p on_storage known guarded = mixed_guarded h d p on_storage known known guarded (known_mixed h d on_storage known)
+pub known_crash_invariant : (h : HeaderFields) (d : Direction) (p : Pending) (on_storage known : Bytes) → CrashInvariant h d p on_storage known → CrashInvariant h d p known known
+known_crash_invariant h d p on_storage known crash_invariant = mixed_crash_invariant h d p on_storage known known crash_invariant (known_mixed h d on_storage known)
 
 -- ---- turns
 
@@ -188,14 +188,14 @@ turned L2DependsOnRb Neither h p on_storage known c x may g =
 turned RbDependsOnL2 Neither h p on_storage known c x may g =
     turn_free (cluster h p on_storage known c) x (tied h p on_storage known c) (may.0 c) (as_known h known on_storage (λ k. sym (may.1 k)) (named_by_cover h c)) (as_known h known on_storage (λ k. sym (may.1 k)) (marked_by_cover h c)) g
 
-pub turned_guarded : (h : HeaderFields) (d to : Direction) (p : Pending) (on_storage known : Bytes) → MayTurn d to h on_storage known → CrashInvariant h d p on_storage known → CrashInvariant h to p on_storage known
-turned_guarded h d to p on_storage known may guarded = record {
-  top = guarded.top;
-  same_top = guarded.same_top;
-  each_cluster = λ c. guarded.each_cluster c;
-  ordered = λ c. (turned d to h p on_storage known c (p.surplus c) may (good h d p on_storage known guarded c)).ordered;
-  aligned = guarded.aligned;
-  known_aligned = guarded.known_aligned;
-  own = guarded.own;
-  not_overlaid = guarded.not_overlaid;
+pub turned_crash_invariant : (h : HeaderFields) (d to : Direction) (p : Pending) (on_storage known : Bytes) → MayTurn d to h on_storage known → CrashInvariant h d p on_storage known → CrashInvariant h to p on_storage known
+turned_crash_invariant h d to p on_storage known may crash_invariant = record {
+  top = crash_invariant.top;
+  same_top = crash_invariant.same_top;
+  each_cluster = λ c. crash_invariant.each_cluster c;
+  ordered = λ c. (turned d to h p on_storage known c (p.surplus c) may (good h d p on_storage known crash_invariant c)).ordered;
+  aligned = crash_invariant.aligned;
+  known_aligned = crash_invariant.known_aligned;
+  own = crash_invariant.own;
+  not_overlaid = crash_invariant.not_overlaid;
 }

@@ -31,34 +31,34 @@ other_reftable h b b' k0 k but other =
     (elim (cases_lt k k0) [ inl below ↦ inl (omega arith) | inr above ↦ inr (omega arith) ])))
 
 -- counts are those of the clusters in the new refblock's range; of the new refblock's own cluster it is 1 where it isn't counted elsewhere
-module _ (h : HeaderFields) (d : Direction) (p p' : Pending) (on_storage known on_storage' known' : Bytes) (guarded : CrashInvariant h d p on_storage known) (k0 entry : ℕ) (s : ℕ → ℕ)
+module _ (h : HeaderFields) (d : Direction) (p p' : Pending) (on_storage known on_storage' known' : Bytes) (crash_invariant : CrashInvariant h d p on_storage known) (k0 entry : ℕ) (s : ℕ → ℕ)
     (pending : (c : ℕ) → (p'.new_data c ≡ p.new_data c) × (p'.new_tables c ≡ p.new_tables c - (table_in h c (block_offset entry) - s c)) × (p'.old_tables c ≡ p.old_tables c + 0) × (p'.old_data c ≡ p.old_data c) × (p'.surplus c ≡ p.surplus c))
     (writes : WritesReftableEntry h on_storage known on_storage' known' k0 entry) (new : IsNewBlock h on_storage known k0 entry s) (no_table : named_for_tables h on_storage (block_offset entry / cluster_size h) ≡ 0)
     (in_range : (c : ℕ) → c / counts_per_block h ≢ k0 → s c ≡ 0) (few : (c : ℕ) → s c ≤ table_in h c (block_offset entry))
     (new_tables : (c : ℕ) → 0 < table_in h c (block_offset entry) - s c → (0 < p.new_tables c) × (count h on_storage c ≡ count h known c) × (d ≡ RbDependsOnL2 → SameCovers h on_storage known)) where
   sizes : Sizes h
-  sizes = Sizes-from h on_storage guarded.top.header_reads
+  sizes = Sizes-from h on_storage crash_invariant.top.header_reads
 
   known_top : IsTop h known
-  known_top = IsTop-top h on_storage known guarded.same_top guarded.top
+  known_top = IsTop-top h on_storage known crash_invariant.same_top crash_invariant.top
 
   one_part : 1 ≤ in_reftable h ((h.reftable_offset + 8 * k0) / cluster_size h)
-  one_part = let one = reftable_has h k0 sizes guarded.top.reftable_aligned writes.within in omega arith
+  one_part = let one = reftable_has h k0 sizes crash_invariant.top.reftable_aligned writes.within in omega arith
 
   table_refs : 0 < named_for_tables h on_storage ((h.reftable_offset + 8 * k0) / cluster_size h)
   table_refs = let parts = shares h on_storage ((h.reftable_offset + 8 * k0) / cluster_size h) in let one = one_part in omega arith
 
   once : named_for_tables h on_storage ((h.reftable_offset + 8 * k0) / cluster_size h) ≤ 1
-  once = let t = table_once h d p on_storage known guarded ((h.reftable_offset + 8 * k0) / cluster_size h) table_refs in omega arith
+  once = let t = table_once h d p on_storage known crash_invariant ((h.reftable_offset + 8 * k0) / cluster_size h) table_refs in omega arith
 
   known_once : named_for_tables h known ((h.reftable_offset + 8 * k0) / cluster_size h) ≤ 1
-  known_once = let e = for_tables-top h on_storage known ((h.reftable_offset + 8 * k0) / cluster_size h) guarded.same_top in let o = once in omega arith
+  known_once = let e = for_tables-top h on_storage known ((h.reftable_offset + 8 * k0) / cluster_size h) crash_invariant.same_top in let o = once in omega arith
 
   outside : IsSameOutside (cluster_size h) ((h.reftable_offset + 8 * k0) / cluster_size h) on_storage on_storage'
-  outside = outside_eight (cluster_size h) h.reftable_offset k0 on_storage on_storage' sizes.whole sizes.some guarded.top.reftable_aligned writes.others
+  outside = outside_eight (cluster_size h) h.reftable_offset k0 on_storage on_storage' sizes.whole sizes.some crash_invariant.top.reftable_aligned writes.others
 
   known_outside : IsSameOutside (cluster_size h) ((h.reftable_offset + 8 * k0) / cluster_size h) known known'
-  known_outside = outside_eight (cluster_size h) h.reftable_offset k0 known known' sizes.whole sizes.some guarded.top.reftable_aligned writes.known_others
+  known_outside = outside_eight (cluster_size h) h.reftable_offset k0 known known' sizes.whole sizes.some crash_invariant.top.reftable_aligned writes.known_others
 
   same : (c : ℕ) → c ≢ (h.reftable_offset + 8 * k0) / cluster_size h → SameIn (cluster_size h) c on_storage on_storage'
   same c other o in_c = outside o (λ e. other (sym in_c ∙ e))
@@ -67,13 +67,13 @@ module _ (h : HeaderFields) (d : Direction) (p p' : Pending) (on_storage known o
   known_same c other o in_c = known_outside o (λ e. other (sym in_c ∙ e))
 
   first : SameFrom 0 (cluster_size h) on_storage on_storage'
-  first = reftable_first h on_storage on_storage' guarded.top ((h.reftable_offset + 8 * k0) / cluster_size h) one_part once same
+  first = reftable_first h on_storage on_storage' crash_invariant.top ((h.reftable_offset + 8 * k0) / cluster_size h) one_part once same
 
   l1 : (i : ℕ) → l1_entry h on_storage i ≡ l1_entry h on_storage' i
-  l1 = reftable_l1 h on_storage on_storage' guarded.top ((h.reftable_offset + 8 * k0) / cluster_size h) one_part once same
+  l1 = reftable_l1 h on_storage on_storage' crash_invariant.top ((h.reftable_offset + 8 * k0) / cluster_size h) one_part once same
 
   covers : SameCovers h on_storage on_storage'
-  covers = reftable_covers h on_storage on_storage' guarded.top ((h.reftable_offset + 8 * k0) / cluster_size h) one_part once same
+  covers = reftable_covers h on_storage on_storage' crash_invariant.top ((h.reftable_offset + 8 * k0) / cluster_size h) one_part once same
 
   known_covers : SameCovers h known known'
   known_covers = reftable_covers h known known' known_top ((h.reftable_offset + 8 * k0) / cluster_size h) one_part known_once known_same
@@ -107,13 +107,13 @@ module _ (h : HeaderFields) (d : Direction) (p p' : Pending) (on_storage known o
       )
 
   known_none : block_offset (reftable_entry h known k0) ≡ 0
-  known_none = ap block_offset (sym (guarded.same_top.reftable k0)) ∙ new.none
+  known_none = ap block_offset (sym (crash_invariant.same_top.reftable k0)) ∙ new.none
 
   counts : (c : ℕ) → count h on_storage' c ≡ count h on_storage c + s c
   counts c = elim (cases_eq (c / counts_per_block h) k0) [
     | inl here ↦ let n = counts_new on_storage on_storage' same new.none writes.is new.says c here in omega (arith, n.0, n.1)
     | inr other ↦
-        let e = reftable_counts h on_storage on_storage' guarded.top ((h.reftable_offset + 8 * k0) / cluster_size h) one_part once same c (others (c / counts_per_block h) other) in
+        let e = reftable_counts h on_storage on_storage' crash_invariant.top ((h.reftable_offset + 8 * k0) / cluster_size h) one_part once same c (others (c / counts_per_block h) other) in
         let zero = in_range c other in
         omega arith
   ]
@@ -144,25 +144,25 @@ module _ (h : HeaderFields) (d : Direction) (p p' : Pending) (on_storage known o
 
   top_now : IsTop h on_storage'
   top_now = record {
-    header_is = sym (header-first h on_storage on_storage' sizes first) ∙ guarded.top.header_is;
-    header_reads = HeaderReads-same h on_storage on_storage' first guarded.top.header_reads;
-    l1_reads = λ i lt. subst L1EntryReads (l1 i) (guarded.top.l1_reads i lt);
-    reftable_reads = λ k lt. each_block ReftableEntryReads new.reads k (guarded.top.reftable_reads k lt);
-    no_snapshots = guarded.top.no_snapshots;
-    no_data_file = guarded.top.no_data_file;
-    l1_aligned = guarded.top.l1_aligned;
-    reftable_aligned = guarded.top.reftable_aligned;
-    l2_tables_aligned = λ i lt. subst (λ e. IsAligned h (host_offset e)) (l1 i) (guarded.top.l2_tables_aligned i lt);
-    refblocks_aligned = λ k lt. each_block (λ e. IsAligned h (block_offset e)) new.aligned k (guarded.top.refblocks_aligned k lt);
+    header_is = sym (header-first h on_storage on_storage' sizes first) ∙ crash_invariant.top.header_is;
+    header_reads = HeaderReads-same h on_storage on_storage' first crash_invariant.top.header_reads;
+    l1_reads = λ i lt. subst L1EntryReads (l1 i) (crash_invariant.top.l1_reads i lt);
+    reftable_reads = λ k lt. each_block ReftableEntryReads new.reads k (crash_invariant.top.reftable_reads k lt);
+    no_snapshots = crash_invariant.top.no_snapshots;
+    no_data_file = crash_invariant.top.no_data_file;
+    l1_aligned = crash_invariant.top.l1_aligned;
+    reftable_aligned = crash_invariant.top.reftable_aligned;
+    l2_tables_aligned = λ i lt. subst (λ e. IsAligned h (host_offset e)) (l1 i) (crash_invariant.top.l2_tables_aligned i lt);
+    refblocks_aligned = λ k lt. each_block (λ e. IsAligned h (block_offset e)) new.aligned k (crash_invariant.top.refblocks_aligned k lt);
   }
 
   same_top_now : SameTop h on_storage' known'
   same_top_now = record {
-    first_cluster = λ i lt. sym (first i lt) ∙ guarded.same_top.first_cluster i lt ∙ reftable_first h known known' known_top ((h.reftable_offset + 8 * k0) / cluster_size h) one_part known_once known_same i lt;
-    l1 = λ i. sym (l1 i) ∙ guarded.same_top.l1 i ∙ reftable_l1 h known known' known_top ((h.reftable_offset + 8 * k0) / cluster_size h) one_part known_once known_same i;
+    first_cluster = λ i lt. sym (first i lt) ∙ crash_invariant.same_top.first_cluster i lt ∙ reftable_first h known known' known_top ((h.reftable_offset + 8 * k0) / cluster_size h) one_part known_once known_same i lt;
+    l1 = λ i. sym (l1 i) ∙ crash_invariant.same_top.l1 i ∙ reftable_l1 h known known' known_top ((h.reftable_offset + 8 * k0) / cluster_size h) one_part known_once known_same i;
     reftable = λ k. elim (cases_eq k k0) [
       | inl e ↦ ap (reftable_entry h on_storage') e ∙ writes.is ∙ sym writes.known_is ∙ ap (reftable_entry h known') (sym e)
-      | inr ne ↦ sym (others k ne) ∙ guarded.same_top.reftable k ∙ known_others k ne
+      | inr ne ↦ sym (others k ne) ∙ crash_invariant.same_top.reftable k ∙ known_others k ne
     ];
   }
 
@@ -186,18 +186,18 @@ module _ (h : HeaderFields) (d : Direction) (p p' : Pending) (on_storage known o
 
   elsewhere : (o : ℕ) → 0 < named_in_either h on_storage known (o / cluster_size h) + p.new_data (o / cluster_size h) → o / cluster_size h ≢ (h.reftable_offset + 8 * k0) / cluster_size h
   elsewhere o some e =
-      let none = table_apart h d p on_storage known guarded ((h.reftable_offset + 8 * k0) / cluster_size h) table_refs in
+      let none = table_apart h d p on_storage known crash_invariant ((h.reftable_offset + 8 * k0) / cluster_size h) table_refs in
       let here = subst (λ n. 0 < named_in_either h on_storage known n + p.new_data n) e some in
       absurd (omega arith)
 
   not_overlaid : (o : ℕ) → 0 < named_in_either h on_storage known (o / cluster_size h) + p'.new_data (o / cluster_size h) → on_storage' o ≡ known' o
   not_overlaid o any =
       let some : 0 < named_in_either h on_storage known (o / cluster_size h) + p.new_data (o / cluster_size h) = let e = (pending (o / cluster_size h)).0 in omega arith in
-      sym (outside o (elsewhere o some)) ∙ guarded.not_overlaid o some ∙ known_outside o (elsewhere o some)
+      sym (outside o (elsewhere o some)) ∙ crash_invariant.not_overlaid o some ∙ known_outside o (elsewhere o some)
 
   pub reftable_named : CrashInvariant h d p' on_storage' known'
   reftable_named =
-      tables_renamed h (places_of h) d p p' on_storage known on_storage' known' guarded
+      tables_renamed h (places_of h) d p p' on_storage known on_storage' known' crash_invariant
       top_now same_top_now (omega arith) covers known_covers not_overlaid
       (λ c. table_in h c (block_offset entry) - s c) s (λ c. 0) pending
       (λ c. let one = table_in-le h c (block_offset entry) in let le = few c in omega arith) fixed_changed (λ c. let e = l1_marks-same h on_storage on_storage' c l1 in omega arith)
@@ -205,23 +205,23 @@ module _ (h : HeaderFields) (d : Direction) (p p' : Pending) (on_storage known o
 
   pub reftable_named_kept : (backing : Bytes) (m : Checkpoint) → StopOkEverywhere backing m on_storage → StopOkEverywhere backing m on_storage'
   reftable_named_kept backing m kept =
-      moved_kept h (places_of h) d p p' on_storage known on_storage' known' guarded
+      moved_kept h (places_of h) d p p' on_storage known on_storage' known' crash_invariant
       top_now same_top_now (omega arith) covers known_covers not_overlaid reftable_named
       (λ o some. outside o (elsewhere o (omega arith))) (λ o some. known_outside o (elsewhere o (omega arith))) backing m [] (inl refl) kept
 
   pub reftable_named_known_kept : (backing : Bytes) (m : Checkpoint) → StopOkEverywhere backing m known → StopOkEverywhere backing m known'
   reftable_named_known_kept backing m kept =
-      moved_known_kept h (places_of h) d p p' on_storage known on_storage' known' guarded
+      moved_known_kept h (places_of h) d p p' on_storage known on_storage' known' crash_invariant
       top_now same_top_now (omega arith) covers known_covers not_overlaid reftable_named
       (λ o some. outside o (elsewhere o (omega arith))) (λ o some. known_outside o (elsewhere o (omega arith))) backing m [] (inl refl) kept
 
 -- ---- a refblock of zeros in a fresh cluster
-module _ (h : HeaderFields) (d : Direction) (p : Pending) (on_storage known on_storage' known' : Bytes) (guarded : CrashInvariant h d p on_storage known) (k0 entry : ℕ)
+module _ (h : HeaderFields) (d : Direction) (p : Pending) (on_storage known on_storage' known' : Bytes) (crash_invariant : CrashInvariant h d p on_storage known) (k0 entry : ℕ)
     (writes : WritesReftableEntry h on_storage known on_storage' known' k0 entry) (new : IsNewBlock h on_storage known k0 entry (λ c. 0))
     (new_tables : 0 < p.new_tables (block_offset entry / cluster_size h)) (counted : count h on_storage (block_offset entry / cluster_size h) ≡ count h known (block_offset entry / cluster_size h))
     (written : d ≡ RbDependsOnL2 → SameCovers h on_storage known) where
   no_table_there : named_for_tables h on_storage (block_offset entry / cluster_size h) ≡ 0
-  no_table_there = (new_tables_is_unnamed h d p on_storage known guarded (block_offset entry / cluster_size h) new_tables written).no_table
+  no_table_there = (new_tables_is_unnamed h d p on_storage known crash_invariant (block_offset entry / cluster_size h) new_tables written).no_table
 
   new_tables_there : (c : ℕ) → 0 < table_in h c (block_offset entry) - 0 → (0 < p.new_tables c) × (count h on_storage c ≡ count h known c) × (d ≡ RbDependsOnL2 → SameCovers h on_storage known)
   new_tables_there c some =
@@ -232,22 +232,22 @@ module _ (h : HeaderFields) (d : Direction) (p : Pending) (on_storage known on_s
   pending_named c = (refl, omega arith, omega arith, refl, refl)
 
   pub block_named : CrashInvariant h d (named_now p (λ c. table_in h c (block_offset entry))) on_storage' known'
-  block_named = reftable_named h d p (named_now p (λ c. table_in h c (block_offset entry))) on_storage known on_storage' known' guarded k0 entry (λ c. 0) pending_named writes new no_table_there (λ c _. refl) (λ c. omega arith) new_tables_there
+  block_named = reftable_named h d p (named_now p (λ c. table_in h c (block_offset entry))) on_storage known on_storage' known' crash_invariant k0 entry (λ c. 0) pending_named writes new no_table_there (λ c _. refl) (λ c. omega arith) new_tables_there
 
   pub block_named_kept : (backing : Bytes) (m : Checkpoint) → StopOkEverywhere backing m on_storage → StopOkEverywhere backing m on_storage'
-  block_named_kept = reftable_named_kept h d p (named_now p (λ c. table_in h c (block_offset entry))) on_storage known on_storage' known' guarded k0 entry (λ c. 0) pending_named writes new no_table_there (λ c _. refl) (λ c. omega arith) new_tables_there
+  block_named_kept = reftable_named_kept h d p (named_now p (λ c. table_in h c (block_offset entry))) on_storage known on_storage' known' crash_invariant k0 entry (λ c. 0) pending_named writes new no_table_there (λ c _. refl) (λ c. omega arith) new_tables_there
 
   pub block_named_known_kept : (backing : Bytes) (m : Checkpoint) → StopOkEverywhere backing m known → StopOkEverywhere backing m known'
-  block_named_known_kept = reftable_named_known_kept h d p (named_now p (λ c. table_in h c (block_offset entry))) on_storage known on_storage' known' guarded k0 entry (λ c. 0) pending_named writes new no_table_there (λ c _. refl) (λ c. omega arith) new_tables_there
+  block_named_known_kept = reftable_named_known_kept h d p (named_now p (λ c. table_in h c (block_offset entry))) on_storage known on_storage' known' crash_invariant k0 entry (λ c. 0) pending_named writes new no_table_there (λ c _. refl) (λ c. omega arith) new_tables_there
 
 -- ---- a refblock that counts itself, and nothing else
-module _ (h : HeaderFields) (d : Direction) (p : Pending) (on_storage known on_storage' known' : Bytes) (guarded : CrashInvariant h d p on_storage known) (k0 entry : ℕ)
+module _ (h : HeaderFields) (d : Direction) (p : Pending) (on_storage known on_storage' known' : Bytes) (crash_invariant : CrashInvariant h d p on_storage known) (k0 entry : ℕ)
     (writes : WritesReftableEntry h on_storage known on_storage' known' k0 entry) (new : IsNewBlock h on_storage known k0 entry (λ c. table_in h c (block_offset entry)))
     (range : block_offset entry / cluster_size h / counts_per_block h ≡ k0) where
   itself_unnamed : named_for_tables h on_storage (block_offset entry / cluster_size h) ≡ 0
   itself_unnamed =
-      (unused_is_unnamed h d p on_storage known guarded (block_offset entry / cluster_size h)
-      (count_none h known (block_offset entry / cluster_size h) (ap (λ k. block_offset (reftable_entry h known k)) range ∙ ap block_offset (sym (guarded.same_top.reftable k0)) ∙ new.none))
+      (unused_is_unnamed h d p on_storage known crash_invariant (block_offset entry / cluster_size h)
+      (count_none h known (block_offset entry / cluster_size h) (ap (λ k. block_offset (reftable_entry h known k)) range ∙ ap block_offset (sym (crash_invariant.same_top.reftable k0)) ∙ new.none))
       (count_none h on_storage (block_offset entry / cluster_size h) (ap (λ k. block_offset (reftable_entry h on_storage k)) range ∙ new.none))).no_table
 
   only_itself : (c : ℕ) → c / counts_per_block h ≢ k0 → table_in h c (block_offset entry) ≡ 0
@@ -263,10 +263,10 @@ module _ (h : HeaderFields) (d : Direction) (p : Pending) (on_storage known on_s
   pending_still c = (refl, omega arith, omega arith, refl, refl)
 
   pub block_counts_itself : CrashInvariant h d p on_storage' known'
-  block_counts_itself = reftable_named h d p p on_storage known on_storage' known' guarded k0 entry (λ c. table_in h c (block_offset entry)) pending_still writes new itself_unnamed only_itself (λ c. omega arith) nothing_new_tables
+  block_counts_itself = reftable_named h d p p on_storage known on_storage' known' crash_invariant k0 entry (λ c. table_in h c (block_offset entry)) pending_still writes new itself_unnamed only_itself (λ c. omega arith) nothing_new_tables
 
   pub block_counts_itself_kept : (backing : Bytes) (m : Checkpoint) → StopOkEverywhere backing m on_storage → StopOkEverywhere backing m on_storage'
-  block_counts_itself_kept = reftable_named_kept h d p p on_storage known on_storage' known' guarded k0 entry (λ c. table_in h c (block_offset entry)) pending_still writes new itself_unnamed only_itself (λ c. omega arith) nothing_new_tables
+  block_counts_itself_kept = reftable_named_kept h d p p on_storage known on_storage' known' crash_invariant k0 entry (λ c. table_in h c (block_offset entry)) pending_still writes new itself_unnamed only_itself (λ c. omega arith) nothing_new_tables
 
   pub block_counts_itself_known_kept : (backing : Bytes) (m : Checkpoint) → StopOkEverywhere backing m known → StopOkEverywhere backing m known'
-  block_counts_itself_known_kept = reftable_named_known_kept h d p p on_storage known on_storage' known' guarded k0 entry (λ c. table_in h c (block_offset entry)) pending_still writes new itself_unnamed only_itself (λ c. omega arith) nothing_new_tables
+  block_counts_itself_known_kept = reftable_named_known_kept h d p p on_storage known on_storage' known' crash_invariant k0 entry (λ c. table_in h c (block_offset entry)) pending_still writes new itself_unnamed only_itself (λ c. omega arith) nothing_new_tables

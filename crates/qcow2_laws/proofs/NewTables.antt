@@ -60,35 +60,35 @@ table_in-at h c place some = elim (cases_eq (place / cluster_size h) c) [
       ])
 ]
 
-module _ (h : HeaderFields) (d : Direction) (p : Pending) (on_storage known on_storage' known' : Bytes) (guarded : CrashInvariant h d p on_storage known) (i0 entry : ℕ)
+module _ (h : HeaderFields) (d : Direction) (p : Pending) (on_storage known on_storage' known' : Bytes) (crash_invariant : CrashInvariant h d p on_storage known) (i0 entry : ℕ)
     (writes : WritesL1Entry h on_storage known on_storage' known' i0 entry) (new : IsNewTable h d p on_storage known i0 entry) where
   sizes : Sizes h
-  sizes = Sizes-from h on_storage guarded.top.header_reads
+  sizes = Sizes-from h on_storage crash_invariant.top.header_reads
 
   known_top : IsTop h known
-  known_top = IsTop-top h on_storage known guarded.same_top guarded.top
+  known_top = IsTop-top h on_storage known crash_invariant.same_top crash_invariant.top
 
   -- the cluster of the L1 table that is written to
   at_l1 : ℕ
   at_l1 = (h.l1_offset + 8 * i0) / cluster_size h
 
   part : in_l1 h ((h.l1_offset + 8 * i0) / cluster_size h) ≡ 1
-  part = l1_has h i0 sizes guarded.top.l1_aligned writes.within
+  part = l1_has h i0 sizes crash_invariant.top.l1_aligned writes.within
 
   table_refs : 0 < named_for_tables h on_storage ((h.l1_offset + 8 * i0) / cluster_size h)
   table_refs = let s = shares h on_storage ((h.l1_offset + 8 * i0) / cluster_size h) in let one = part in omega arith
 
   once : named_for_tables h on_storage ((h.l1_offset + 8 * i0) / cluster_size h) ≤ 1
-  once = let t = table_once h d p on_storage known guarded ((h.l1_offset + 8 * i0) / cluster_size h) table_refs in omega arith
+  once = let t = table_once h d p on_storage known crash_invariant ((h.l1_offset + 8 * i0) / cluster_size h) table_refs in omega arith
 
   known_once : named_for_tables h known ((h.l1_offset + 8 * i0) / cluster_size h) ≤ 1
-  known_once = let e = for_tables-top h on_storage known ((h.l1_offset + 8 * i0) / cluster_size h) guarded.same_top in let o = once in omega arith
+  known_once = let e = for_tables-top h on_storage known ((h.l1_offset + 8 * i0) / cluster_size h) crash_invariant.same_top in let o = once in omega arith
 
   outside : IsSameOutside (cluster_size h) ((h.l1_offset + 8 * i0) / cluster_size h) on_storage on_storage'
-  outside = outside_eight (cluster_size h) h.l1_offset i0 on_storage on_storage' sizes.whole sizes.some guarded.top.l1_aligned writes.others
+  outside = outside_eight (cluster_size h) h.l1_offset i0 on_storage on_storage' sizes.whole sizes.some crash_invariant.top.l1_aligned writes.others
 
   known_outside : IsSameOutside (cluster_size h) ((h.l1_offset + 8 * i0) / cluster_size h) known known'
-  known_outside = outside_eight (cluster_size h) h.l1_offset i0 known known' sizes.whole sizes.some guarded.top.l1_aligned writes.known_others
+  known_outside = outside_eight (cluster_size h) h.l1_offset i0 known known' sizes.whole sizes.some crash_invariant.top.l1_aligned writes.known_others
 
   same : (c : ℕ) → c ≢ (h.l1_offset + 8 * i0) / cluster_size h → SameIn (cluster_size h) c on_storage on_storage'
   same c other o in_c = outside o (λ e. other (sym in_c ∙ e))
@@ -100,13 +100,13 @@ module _ (h : HeaderFields) (d : Direction) (p : Pending) (on_storage known on_s
   one_part = let e = part in omega arith
 
   first : SameFrom 0 (cluster_size h) on_storage on_storage'
-  first = l1_first h on_storage on_storage' guarded.top ((h.l1_offset + 8 * i0) / cluster_size h) one_part once same
+  first = l1_first h on_storage on_storage' crash_invariant.top ((h.l1_offset + 8 * i0) / cluster_size h) one_part once same
 
   reftable : (k : ℕ) → reftable_entry h on_storage k ≡ reftable_entry h on_storage' k
-  reftable = l1_reftable h on_storage on_storage' guarded.top ((h.l1_offset + 8 * i0) / cluster_size h) one_part once same
+  reftable = l1_reftable h on_storage on_storage' crash_invariant.top ((h.l1_offset + 8 * i0) / cluster_size h) one_part once same
 
   counts : SameCounts h on_storage on_storage'
-  counts = l1_counts h on_storage on_storage' guarded.top ((h.l1_offset + 8 * i0) / cluster_size h) one_part once same
+  counts = l1_counts h on_storage on_storage' crash_invariant.top ((h.l1_offset + 8 * i0) / cluster_size h) one_part once same
 
   known_counts : SameCounts h known known'
   known_counts = l1_counts h known known' known_top ((h.l1_offset + 8 * i0) / cluster_size h) one_part known_once known_same
@@ -120,7 +120,7 @@ module _ (h : HeaderFields) (d : Direction) (p : Pending) (on_storage known on_s
   -- the new table stands elsewhere
   apart : host_offset entry / cluster_size h ≢ (h.l1_offset + 8 * i0) / cluster_size h
   apart e =
-      let none = (new_tables_is_unnamed h d p on_storage known guarded (host_offset entry / cluster_size h) new.new_tables new.written).no_table in
+      let none = (new_tables_is_unnamed h d p on_storage known crash_invariant (host_offset entry / cluster_size h) new.new_tables new.written).no_table in
       let here : named_for_tables h on_storage ((h.l1_offset + 8 * i0) / cluster_size h) ≡ 0 = ap (named_for_tables h on_storage) (sym e) ∙ none in
       let some = table_refs in
       absurd (omega arith)
@@ -140,7 +140,7 @@ module _ (h : HeaderFields) (d : Direction) (p : Pending) (on_storage known on_s
   covers : SameCovers h on_storage on_storage'
   covers g = elim (cases_eq (g / entries_per_cluster h) i0) [
     | inl here ↦ new_cover on_storage on_storage' same writes.is new.covers g here
-    | inr other ↦ l1_covers h on_storage on_storage' guarded.top ((h.l1_offset + 8 * i0) / cluster_size h) one_part once same g (others (g / entries_per_cluster h) other)
+    | inr other ↦ l1_covers h on_storage on_storage' crash_invariant.top ((h.l1_offset + 8 * i0) / cluster_size h) one_part once same g (others (g / entries_per_cluster h) other)
   ]
 
   pub known_covers : SameCovers h known known'
@@ -158,26 +158,26 @@ module _ (h : HeaderFields) (d : Direction) (p : Pending) (on_storage known on_s
 
   top_now : IsTop h on_storage'
   top_now = record {
-    header_is = sym (header-first h on_storage on_storage' sizes first) ∙ guarded.top.header_is;
-    header_reads = HeaderReads-same h on_storage on_storage' first guarded.top.header_reads;
-    l1_reads = λ i lt. each_l1 L1EntryReads new.reads i (guarded.top.l1_reads i lt);
-    reftable_reads = λ k lt. subst ReftableEntryReads (reftable k) (guarded.top.reftable_reads k lt);
-    no_snapshots = guarded.top.no_snapshots;
-    no_data_file = guarded.top.no_data_file;
-    l1_aligned = guarded.top.l1_aligned;
-    reftable_aligned = guarded.top.reftable_aligned;
-    l2_tables_aligned = λ i lt. each_l1 (λ e. IsAligned h (host_offset e)) new.aligned i (guarded.top.l2_tables_aligned i lt);
-    refblocks_aligned = λ k lt. subst (λ e. IsAligned h (block_offset e)) (reftable k) (guarded.top.refblocks_aligned k lt);
+    header_is = sym (header-first h on_storage on_storage' sizes first) ∙ crash_invariant.top.header_is;
+    header_reads = HeaderReads-same h on_storage on_storage' first crash_invariant.top.header_reads;
+    l1_reads = λ i lt. each_l1 L1EntryReads new.reads i (crash_invariant.top.l1_reads i lt);
+    reftable_reads = λ k lt. subst ReftableEntryReads (reftable k) (crash_invariant.top.reftable_reads k lt);
+    no_snapshots = crash_invariant.top.no_snapshots;
+    no_data_file = crash_invariant.top.no_data_file;
+    l1_aligned = crash_invariant.top.l1_aligned;
+    reftable_aligned = crash_invariant.top.reftable_aligned;
+    l2_tables_aligned = λ i lt. each_l1 (λ e. IsAligned h (host_offset e)) new.aligned i (crash_invariant.top.l2_tables_aligned i lt);
+    refblocks_aligned = λ k lt. subst (λ e. IsAligned h (block_offset e)) (reftable k) (crash_invariant.top.refblocks_aligned k lt);
   }
 
   same_top_now : SameTop h on_storage' known'
   same_top_now = record {
-    first_cluster = λ i lt. sym (first i lt) ∙ guarded.same_top.first_cluster i lt ∙ l1_first h known known' known_top ((h.l1_offset + 8 * i0) / cluster_size h) one_part known_once known_same i lt;
+    first_cluster = λ i lt. sym (first i lt) ∙ crash_invariant.same_top.first_cluster i lt ∙ l1_first h known known' known_top ((h.l1_offset + 8 * i0) / cluster_size h) one_part known_once known_same i lt;
     l1 = λ i. elim (cases_eq i i0) [
       | inl e ↦ ap (l1_entry h on_storage') e ∙ writes.is ∙ sym writes.known_is ∙ ap (l1_entry h known') (sym e)
-      | inr ne ↦ sym (others i ne) ∙ guarded.same_top.l1 i ∙ known_others i ne
+      | inr ne ↦ sym (others i ne) ∙ crash_invariant.same_top.l1 i ∙ known_others i ne
     ];
-    reftable = λ k. sym (reftable k) ∙ guarded.same_top.reftable k ∙ l1_reftable h known known' known_top ((h.l1_offset + 8 * i0) / cluster_size h) one_part known_once known_same k;
+    reftable = λ k. sym (reftable k) ∙ crash_invariant.same_top.reftable k ∙ l1_reftable h known known' known_top ((h.l1_offset + 8 * i0) / cluster_size h) one_part known_once known_same k;
   }
 
   -- ---- how often tables name a cluster now
@@ -210,17 +210,17 @@ module _ (h : HeaderFields) (d : Direction) (p : Pending) (on_storage known on_s
   new_at c some = table_in-at h c (host_offset entry) some
 
   not_overlaid : (o : ℕ) → 0 < named_in_either h on_storage known (o / cluster_size h) + p.new_data (o / cluster_size h) → on_storage' o ≡ known' o
-  not_overlaid o some = sym (outside o (elsewhere o some)) ∙ guarded.not_overlaid o some ∙ known_outside o (elsewhere o some)
+  not_overlaid o some = sym (outside o (elsewhere o some)) ∙ crash_invariant.not_overlaid o some ∙ known_outside o (elsewhere o some)
     where
       elsewhere : (o : ℕ) → 0 < named_in_either h on_storage known (o / cluster_size h) + p.new_data (o / cluster_size h) → o / cluster_size h ≢ (h.l1_offset + 8 * i0) / cluster_size h
       elsewhere o some e =
-          let none = table_apart h d p on_storage known guarded ((h.l1_offset + 8 * i0) / cluster_size h) table_refs in
+          let none = table_apart h d p on_storage known crash_invariant ((h.l1_offset + 8 * i0) / cluster_size h) table_refs in
           let here = subst (λ n. 0 < named_in_either h on_storage known n + p.new_data n) e some in
           absurd (omega arith)
 
   pub l1_named : CrashInvariant h d (renamed p (λ c. table_in h c (host_offset entry)) (λ c. table_in h c (table_at h on_storage i0))) on_storage' known'
   l1_named =
-      tables_renamed h (places_of h) d p (renamed p (λ c. table_in h c (host_offset entry)) (λ c. table_in h c (table_at h on_storage i0))) on_storage known on_storage' known' guarded
+      tables_renamed h (places_of h) d p (renamed p (λ c. table_in h c (host_offset entry)) (λ c. table_in h c (table_at h on_storage i0))) on_storage known on_storage' known' crash_invariant
       top_now same_top_now (omega arith) covers known_covers not_overlaid
       (λ c. table_in h c (host_offset entry)) (λ c. 0) (λ c. table_in h c (table_at h on_storage i0)) (λ c. (refl, refl, refl, refl, refl))
       (λ c. let one = table_in-le h c (host_offset entry) in omega arith) (λ c. let changed = fixed_changed c in omega arith) sole_changed
@@ -230,18 +230,18 @@ module _ (h : HeaderFields) (d : Direction) (p : Pending) (on_storage known on_s
 
   elsewhere_named : (o : ℕ) → 0 < named_in_either h on_storage known (o / cluster_size h) → o / cluster_size h ≢ (h.l1_offset + 8 * i0) / cluster_size h
   elsewhere_named o some e =
-      let none = table_apart h d p on_storage known guarded ((h.l1_offset + 8 * i0) / cluster_size h) table_refs in
+      let none = table_apart h d p on_storage known crash_invariant ((h.l1_offset + 8 * i0) / cluster_size h) table_refs in
       let here = subst (λ n. 0 < named_in_either h on_storage known n) e some in
       absurd (omega arith)
 
   pub l1_named_kept : (backing : Bytes) (m : Checkpoint) → StopOkEverywhere backing m on_storage → StopOkEverywhere backing m on_storage'
   l1_named_kept backing m kept =
-      moved_kept h (places_of h) d p (renamed p (λ c. table_in h c (host_offset entry)) (λ c. table_in h c (table_at h on_storage i0))) on_storage known on_storage' known' guarded
+      moved_kept h (places_of h) d p (renamed p (λ c. table_in h c (host_offset entry)) (λ c. table_in h c (table_at h on_storage i0))) on_storage known on_storage' known' crash_invariant
       top_now same_top_now (omega arith) covers known_covers not_overlaid l1_named
       (λ o some. outside o (elsewhere_named o some)) (λ o some. known_outside o (elsewhere_named o some)) backing m [] (inl refl) kept
 
   pub l1_named_known_kept : (backing : Bytes) (m : Checkpoint) → StopOkEverywhere backing m known → StopOkEverywhere backing m known'
   l1_named_known_kept backing m kept =
-      moved_known_kept h (places_of h) d p (renamed p (λ c. table_in h c (host_offset entry)) (λ c. table_in h c (table_at h on_storage i0))) on_storage known on_storage' known' guarded
+      moved_known_kept h (places_of h) d p (renamed p (λ c. table_in h c (host_offset entry)) (λ c. table_in h c (table_at h on_storage i0))) on_storage known on_storage' known' crash_invariant
       top_now same_top_now (omega arith) covers known_covers not_overlaid l1_named
       (λ o some. outside o (elsewhere_named o some)) (λ o some. known_outside o (elsewhere_named o some)) backing m [] (inl refl) kept

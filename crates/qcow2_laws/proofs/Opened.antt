@@ -103,8 +103,8 @@ module _ (h : HeaderFields) (b : Bytes) (ok : Consistent h b) where
         copied_l1_refs = omega (arith, l1_marks-le h b c, fixed_l1 c);
       }
 
-  pub opened_guarded : header b ≡ h → CrashInvariant h Neither (nothing_pending (surplus_of h b)) b b
-  opened_guarded is = record {
+  pub opened_crash_invariant : header b ≡ h → CrashInvariant h Neither (nothing_pending (surplus_of h b)) b b
+  opened_crash_invariant is = record {
     top = record {
       header_is = is;
       header_reads = ok.header_reads;

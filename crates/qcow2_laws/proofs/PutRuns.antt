@@ -203,8 +203,8 @@ module _ (s : DriverState) (on_storage' known' : Bytes) (sound : StateInvariant 
   pub covers_stay : SameCovers s.header s.known known'
   covers_stay = known_covers s.header s.direction s.pending s.on_storage s.known on_storage' known' given sound written
 
-  pub leads_on : SafeStep s (record s { on_storage = on_storage'; known = known' }) (λ _. given) []
-  leads_on = data_is_written.written s on_storage' known' given sound written
+  pub safe_step_on : SafeStep s (record s { on_storage = on_storage'; known = known' }) (λ _. given) []
+  safe_step_on = data_is_written.written s on_storage' known' given sound written
 
   pub l1_stays : SameL1Table s (record s { on_storage = on_storage'; known = known' })
   l1_stays i = sym ((top_stays s.header s.on_storage on_storage' sound.top (storage_stays s.header s.direction s.pending s.on_storage s.known on_storage' known' given sound written)).l1 i)
@@ -242,12 +242,12 @@ module _ (s : DriverState) (on_storage' known' : Bytes) (sound : StateInvariant 
     zeros_stay : (o p to : ℕ) → p / cluster_size s.header ≡ o / cluster_size s.header → IsHostedAt s Kept p to → (disk known' backing).value o ≡ (disk s.known backing).value o
     zeros_stay o p to here at =
         let is : cover s.header s.known (o / cluster_size s.header) ≡ Zero (Some (at.0, true)) = ap (cover s.header s.known) (sym here) ∙ at.1 in
-        shown_zero new leads_on.sound backing o (Some (at.0, true)) (sym (covers_stay (o / cluster_size s.header)) ∙ is) ∙ sym (shown_zero s sound backing o (Some (at.0, true)) is)
+        shown_zero new safe_step_on.sound backing o (Some (at.0, true)) (sym (covers_stay (o / cluster_size s.header)) ∙ is) ∙ sym (shown_zero s sound backing o (Some (at.0, true)) is)
 
     new_data_stay : (o i : ℕ) → i < n → (offset + i) / cluster_size s.header ≡ o / cluster_size s.header → 0 < s.pending.new_data ((place + i) / cluster_size s.header)
         → (disk known' backing).value o ≡ (disk s.known backing).value o
     new_data_stay o i lt here new_data =
-        value_stays s new sound leads_on.sound refl backing o (covers_stay (o / cluster_size s.header)) (stays_named (o / cluster_size s.header) (λ j j_lt own in_g.
+        value_stays s new sound safe_step_on.sound refl backing o (covers_stay (o / cluster_size s.header)) (stays_named (o / cluster_size s.header) (λ j j_lt own in_g.
         let same : (place + i) / cluster_size s.header ≡ own.host / cluster_size s.header = own_cluster s sound (offset + j) (place + j) own (offset + i) (place + i) (here ∙ sym in_g) (omega arith) in
         let at : (place + j) / cluster_size s.header ≡ (place + i) / cluster_size s.header = own_here s sound (offset + j) (place + j) own ∙ sym same in
         let none = own_unheld s sound (offset + j) (place + j) own in
@@ -267,7 +267,7 @@ module _ (s : DriverState) (on_storage' known' : Bytes) (sound : StateInvariant 
           | inl below ↦ inl (omega arith)
           | inr past ↦ inr (omega arith)
         ] in
-        at_shown new leads_on.sound true o to (now_at o to was) backing ∙ sym (ap known_byte (writes.others to beside)) ∙ sym (at_shown s sound true o to was backing)
+        at_shown new safe_step_on.sound true o to (now_at o to was) backing ∙ sym (ap known_byte (writes.others to beside)) ∙ sym (at_shown s sound true o to was backing)
 
     beside : (o i : ℕ) → i < n → (offset + i) / cluster_size s.header ≡ o / cluster_size s.header → (o < offset) ⊎ (offset + n ≤ o) → (k : Hosting) → IsHostedAt s k (offset + i) (place + i)
         → (disk known' backing).value o ≡ (disk s.known backing).value o
@@ -278,7 +278,7 @@ module _ (s : DriverState) (on_storage' known' : Bytes) (sound : StateInvariant 
     at_written : (i : ℕ) → i < n → (k : Hosting) → IsHostedAt s k (offset + i) (place + i)
         → (disk known' backing).value (offset + i) ≡ cond (is_private_hosting k) ((disk s.known backing).value (offset + i)) (laid_over offset n (λ j. known_byte (value j)) (disk s.known backing).value (offset + i))
     at_written i lt InPlace at =
-        at_shown new leads_on.sound true (offset + i) (place + i) (now_at (offset + i) (place + i) at) backing
+        at_shown new safe_step_on.sound true (offset + i) (place + i) (now_at (offset + i) (place + i) at) backing
         ∙ ap known_byte (there i lt)
         ∙ sym (laid_inside offset n (λ j. known_byte (value j)) (disk s.known backing).value i lt)
     at_written i lt Kept at = zeros_stay (offset + i) (offset + i) (place + i) refl at
@@ -292,7 +292,7 @@ module _ (s : DriverState) (on_storage' known' : Bytes) (sound : StateInvariant 
       | inl out ↦
           let same : (disk known' backing).value o ≡ (disk s.known backing).value o = elim (meets (cluster_size s.header) offset (o / cluster_size s.header) n) [
             | inl some ↦ beside o some.0 some.1 some.2 out (hosting (offset + some.0)) (hosts some.0 some.1)
-            | inr none ↦ value_stays s new sound leads_on.sound refl backing o (covers_stay (o / cluster_size s.header)) (others_stay (o / cluster_size s.header) none)
+            | inr none ↦ value_stays s new sound safe_step_on.sound refl backing o (covers_stay (o / cluster_size s.header)) (others_stay (o / cluster_size s.header) none)
           ] in
           same_either (is_private_hosting (hosting o)) _ _ _ same (same ∙ sym (laid_outside offset n (λ j. known_byte (value j)) (disk s.known backing).value o out))
     ]
@@ -300,7 +300,7 @@ module _ (s : DriverState) (on_storage' known' : Bytes) (sound : StateInvariant 
     pub shows_run : disk known' backing ≡ record (disk s.known backing) { value = λ o. cond (is_private_hosting (hosting o)) ((disk s.known backing).value o) ((with_values (disk s.known backing) offset n (λ j. known_byte (value j))).value o) }
     shows_run =
         let now : (disk known' backing).value ≡ (λ o. cond (is_private_hosting (hosting o)) ((disk s.known backing).value o) ((with_values (disk s.known backing) offset n (λ j. known_byte (value j))).value o)) = fun_ext value_now in
-        λ j. record { size = size_stays s new sound leads_on.sound refl backing j; value = now j }
+        λ j. record { size = size_stays s new sound safe_step_on.sound refl backing j; value = now j }
 
 pub run_written : (s : DriverState) (on_storage' known' : Bytes) (hosting : ℕ → Hosting) (offset place : ℕ) (bytes : List ℕ) (given : List GivenBytes) → StateInvariant s
     → ((i : ℕ) → i < length bytes → IsHostedAt s (hosting (offset + i)) (offset + i) (place + i))
@@ -308,7 +308,7 @@ pub run_written : (s : DriverState) (on_storage' known' : Bytes) (hosting : ℕ 
     → WritesAt place (length bytes) s.on_storage s.known on_storage' known' → ((i : ℕ) → i < length bytes → on_storage' (place + i) ≡ byte_at bytes i)
     → WritesRun hosting offset place bytes given s (record s { on_storage = on_storage'; known = known' })
 run_written s on_storage' known' hosting offset place bytes given sound hosts gives writes there = record {
-  leads = leads_on s on_storage' known' sound hosting offset place (length bytes) (byte_at bytes) given hosts gives writes there;
+  safe_step = safe_step_on s on_storage' known' sound hosting offset place (length bytes) (byte_at bytes) given hosts gives writes there;
   covers = covers_stay s on_storage' known' sound hosting offset place (length bytes) (byte_at bytes) given hosts gives writes there;
   l1 = l1_stays s on_storage' known' sound hosting offset place (length bytes) (byte_at bytes) given hosts gives writes there;
   there = known_there s on_storage' known' sound hosting offset place (length bytes) (byte_at bytes) given hosts gives writes there;
@@ -362,7 +362,7 @@ module _ (s : DriverState) (on_storage' known' : Bytes) (sound : StateInvariant 
   private_written =
       let value : ℕ → ℕ = λ i. on_storage' (c * cluster_size s.header + i) in
       record {
-        leads = leads_on s on_storage' known' sound (λ _. Held) 0 (c * cluster_size s.header) (cluster_size s.header) value [] hosts_cluster (λ i lt. tt) writes_cluster (λ i lt. refl);
+        safe_step = safe_step_on s on_storage' known' sound (λ _. Held) 0 (c * cluster_size s.header) (cluster_size s.header) value [] hosts_cluster (λ i lt. tt) writes_cluster (λ i lt. refl);
         unseen = record {
           header = refl;
           covers = covers_stay s on_storage' known' sound (λ _. Held) 0 (c * cluster_size s.header) (cluster_size s.header) value [] hosts_cluster (λ i lt. tt) writes_cluster (λ i lt. refl);

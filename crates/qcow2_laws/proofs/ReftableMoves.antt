@@ -25,22 +25,22 @@ use Rattle.qcow2_laws.proofs.Shares.{shares, in_reftable, reftable_has, block_ha
 use Rattle.qcow2_laws.proofs.Renaming.{tables_renamed, moved_kept, moved_known_kept}
 use Rattle.qcow2_laws.proofs.Headers.{header_sizes, header_fixed, header_same, header_known_same, header_l1, header_known_l1, header_reftable, header_known_reftable, header_covers, header_known_covers, header_counts, header_known_counts, header_elsewhere, header_unlaid, unnamed_elsewhere}
 
-module _ (h : HeaderFields) (offset clusters : ℕ) (blocks counted : ℕ → ℕ) (d : Direction) (p : Pending) (on_storage known on_storage' known' : Bytes) (guarded : CrashInvariant h d p on_storage known)
+module _ (h : HeaderFields) (offset clusters : ℕ) (blocks counted : ℕ → ℕ) (d : Direction) (p : Pending) (on_storage known on_storage' known' : Bytes) (crash_invariant : CrashInvariant h d p on_storage known)
     (writes : WritesHeader h (with_reftable_at h offset clusters) on_storage known on_storage' known') (new : IsNewReftable h d p on_storage known offset clusters blocks counted) where
   sizes : Sizes h
-  sizes = header_sizes h (with_reftable_at h offset clusters) d p on_storage known on_storage' known' guarded writes
+  sizes = header_sizes h (with_reftable_at h offset clusters) d p on_storage known on_storage' known' crash_invariant writes
 
   now_sizes : Sizes (with_places h (with_reftable_at h offset clusters))
   now_sizes = Sizes-from (with_places h (with_reftable_at h offset clusters)) on_storage' writes.reads
 
   same : (c : ℕ) → c ≢ 0 → SameIn (cluster_size h) c on_storage on_storage'
-  same = header_same h (with_reftable_at h offset clusters) d p on_storage known on_storage' known' guarded writes
+  same = header_same h (with_reftable_at h offset clusters) d p on_storage known on_storage' known' crash_invariant writes
 
   known_same : (c : ℕ) → c ≢ 0 → SameIn (cluster_size h) c known known'
-  known_same = header_known_same h (with_reftable_at h offset clusters) d p on_storage known on_storage' known' guarded writes
+  known_same = header_known_same h (with_reftable_at h offset clusters) d p on_storage known on_storage' known' crash_invariant writes
 
   known_block : (k : ℕ) → block_offset (reftable_entry h known k) ≡ block_offset (reftable_entry h on_storage k)
-  known_block k = ap block_offset (sym (guarded.same_top.reftable k))
+  known_block k = ap block_offset (sym (crash_invariant.same_top.reftable k))
 
   none_counted : (c : ℕ) → 0 < counted c → (count h known c ≡ 0) × (count h on_storage c ≡ 0)
   none_counted c some =
@@ -50,12 +50,12 @@ module _ (h : HeaderFields) (offset clusters : ℕ) (blocks counted : ℕ → �
   -- what is to be named is named by nothing yet
   unnamed : (c : ℕ) → 0 < in_run h c offset (clusters * cluster_size h) + blocks c → IsUnnamed h on_storage known c
   unnamed c some = elim (cases_lt 0 (counted c)) [
-    | inl anew ↦ let none = none_counted c anew in unused_is_unnamed h d p on_storage known guarded c none.0 none.1
-    | inr not ↦ new_tables_is_unnamed h d p on_storage known guarded c (new.new_tables c (omega arith)).0 new.written
+    | inl anew ↦ let none = none_counted c anew in unused_is_unnamed h d p on_storage known crash_invariant c none.0 none.1
+    | inr not ↦ new_tables_is_unnamed h d p on_storage known crash_invariant c (new.new_tables c (omega arith)).0 new.written
   ]
 
   others : (c : ℕ) → 0 < in_run h c offset (clusters * cluster_size h) + blocks c → c ≢ 0
-  others c some = unnamed_elsewhere h (with_reftable_at h offset clusters) d p on_storage known on_storage' known' guarded writes c (unnamed c some).no_table
+  others c some = unnamed_elsewhere h (with_reftable_at h offset clusters) d p on_storage known on_storage' known' crash_invariant writes c (unnamed c some).no_table
 
   stays : (b b' : Bytes) → ((c : ℕ) → c ≢ 0 → SameIn (cluster_size h) c b b') → (k : ℕ)
       → reftable_entry (with_places h (with_reftable_at h offset clusters)) b k ≡ reftable_entry (with_places h (with_reftable_at h offset clusters)) b' k
@@ -77,8 +77,8 @@ module _ (h : HeaderFields) (offset clusters : ℕ) (blocks counted : ℕ → �
       let at : 1 ≤ named_by_reftable (with_places h (with_reftable_at h offset clusters)) on_storage 0 = subst (λ n. 1 ≤ named_by_reftable (with_places h (with_reftable_at h offset clusters)) on_storage n) e has in
       let are = new.blocks_are 0 in
       let parts = shares h on_storage 0 in
-      let table_refs = header_fixed h (with_reftable_at h offset clusters) d p on_storage known on_storage' known' guarded writes in
-      let table = (guarded.each_cluster 0).table table_refs in
+      let table_refs = header_fixed h (with_reftable_at h offset clusters) d p on_storage known on_storage' known' crash_invariant writes in
+      let table = (crash_invariant.each_cluster 0).table table_refs in
       let zero : 0 / cluster_size h ≡ 0 = let size = sizes.some in omega arith in
       let one : in_cluster h 0 0 ≡ 1 = ap (λ n. in_cluster h n 0) (sym zero) ∙ in_own h 0 in
       others 0 (omega arith) refl
@@ -123,8 +123,8 @@ module _ (h : HeaderFields) (offset clusters : ℕ) (blocks counted : ℕ → �
             ]
         | inr real ↦
             let zero = not_anew c real in
-            let now = count_of on_storage' c (reftable_entry h on_storage k) (sym (header_reftable h (with_reftable_at h offset clusters) d p on_storage known on_storage' known' guarded writes k)) (sym (now_reftable k) ∙ new.same k real) in
-            let stay = header_counts h (with_reftable_at h offset clusters) d p on_storage known on_storage' known' guarded writes c in
+            let now = count_of on_storage' c (reftable_entry h on_storage k) (sym (header_reftable h (with_reftable_at h offset clusters) d p on_storage known on_storage' known' crash_invariant writes k)) (sym (now_reftable k) ∙ new.same k real) in
+            let stay = header_counts h (with_reftable_at h offset clusters) d p on_storage known on_storage' known' crash_invariant writes c in
             omega arith
       ]
 
@@ -143,8 +143,8 @@ module _ (h : HeaderFields) (offset clusters : ℕ) (blocks counted : ℕ → �
         | inr real ↦
             let zero = not_anew c real in
             let now = count_of known' c (reftable_entry h on_storage k)
-            (sym (guarded.same_top.reftable k ∙ header_known_reftable h (with_reftable_at h offset clusters) d p on_storage known on_storage' known' guarded writes k)) (sym (now_known_reftable k) ∙ new.same k real) in
-            let stay = header_known_counts h (with_reftable_at h offset clusters) d p on_storage known on_storage' known' guarded writes c in
+            (sym (crash_invariant.same_top.reftable k ∙ header_known_reftable h (with_reftable_at h offset clusters) d p on_storage known on_storage' known' crash_invariant writes k)) (sym (now_known_reftable k) ∙ new.same k real) in
+            let stay = header_known_counts h (with_reftable_at h offset clusters) d p on_storage known on_storage' known' crash_invariant writes c in
             omega arith
       ]
 
@@ -158,37 +158,37 @@ module _ (h : HeaderFields) (offset clusters : ℕ) (blocks counted : ℕ → �
   covers_too b g = refl
 
   pub now_l1 : (i : ℕ) → l1_entry h on_storage i ≡ l1_entry (with_places h (with_reftable_at h offset clusters)) on_storage' i
-  now_l1 i = header_l1 h (with_reftable_at h offset clusters) d p on_storage known on_storage' known' guarded writes i ∙ sym (l1_too on_storage' i)
+  now_l1 i = header_l1 h (with_reftable_at h offset clusters) d p on_storage known on_storage' known' crash_invariant writes i ∙ sym (l1_too on_storage' i)
 
   top_now : IsTop (with_places h (with_reftable_at h offset clusters)) on_storage'
   top_now = record {
     header_is = writes.is;
     header_reads = writes.reads;
-    l1_reads = λ i lt. subst L1EntryReads (now_l1 i) (guarded.top.l1_reads i lt);
+    l1_reads = λ i lt. subst L1EntryReads (now_l1 i) (crash_invariant.top.l1_reads i lt);
     reftable_reads = λ k lt. subst ReftableEntryReads (now_reftable k) (new.reads k);
-    no_snapshots = guarded.top.no_snapshots;
-    no_data_file = guarded.top.no_data_file;
-    l1_aligned = guarded.top.l1_aligned;
+    no_snapshots = crash_invariant.top.no_snapshots;
+    no_data_file = crash_invariant.top.no_data_file;
+    l1_aligned = crash_invariant.top.l1_aligned;
     reftable_aligned = new.aligned;
-    l2_tables_aligned = λ i lt. subst (λ e. IsAligned h (host_offset e)) (now_l1 i) (guarded.top.l2_tables_aligned i lt);
+    l2_tables_aligned = λ i lt. subst (λ e. IsAligned h (host_offset e)) (now_l1 i) (crash_invariant.top.l2_tables_aligned i lt);
     refblocks_aligned = λ k lt. subst (λ e. IsAligned h (block_offset e)) (now_reftable k) (new.blocks_aligned k);
   }
 
   same_top_now : SameTop (with_places h (with_reftable_at h offset clusters)) on_storage' known'
   same_top_now = record {
     first_cluster = writes.same_first;
-    l1 = λ i. sym (now_l1 i) ∙ guarded.same_top.l1 i ∙ header_known_l1 h (with_reftable_at h offset clusters) d p on_storage known on_storage' known' guarded writes i ∙ sym (l1_too known' i);
+    l1 = λ i. sym (now_l1 i) ∙ crash_invariant.same_top.l1 i ∙ header_known_l1 h (with_reftable_at h offset clusters) d p on_storage known on_storage' known' crash_invariant writes i ∙ sym (l1_too known' i);
     reftable = λ k. sym (now_reftable k) ∙ now_known_reftable k;
   }
 
   covers : KeepsCovers h (with_reftable_at h offset clusters) on_storage on_storage'
-  covers g = header_covers h (with_reftable_at h offset clusters) d p on_storage known on_storage' known' guarded writes g ∙ sym (covers_too on_storage' g)
+  covers g = header_covers h (with_reftable_at h offset clusters) d p on_storage known on_storage' known' crash_invariant writes g ∙ sym (covers_too on_storage' g)
 
   known_covers : KeepsCovers h (with_reftable_at h offset clusters) known known'
-  known_covers g = header_known_covers h (with_reftable_at h offset clusters) d p on_storage known on_storage' known' guarded writes g ∙ sym (covers_too known' g)
+  known_covers g = header_known_covers h (with_reftable_at h offset clusters) d p on_storage known on_storage' known' crash_invariant writes g ∙ sym (covers_too known' g)
 
   not_overlaid : (o : ℕ) → 0 < named_in_either h on_storage known (o / cluster_size h) + p.new_data (o / cluster_size h) → on_storage' o ≡ known' o
-  not_overlaid = header_unlaid h (with_reftable_at h offset clusters) d p on_storage known on_storage' known' guarded writes
+  not_overlaid = header_unlaid h (with_reftable_at h offset clusters) d p on_storage known on_storage' known' crash_invariant writes
 
   -- ---- how often tables name a cluster now
   tables_same : (c : ℕ) → named_by_l1_table (with_places h (with_reftable_at h offset clusters)) on_storage' c ≡ named_by_l1_table h on_storage c
@@ -215,24 +215,24 @@ module _ (h : HeaderFields) (offset clusters : ℕ) (blocks counted : ℕ → �
 
   pub reftable_moved : CrashInvariant (with_places h (with_reftable_at h offset clusters)) d (renamed p (λ c. in_run h c offset (clusters * cluster_size h) + blocks c - counted c) (in_reftable h)) on_storage' known'
   reftable_moved =
-      tables_renamed h (with_reftable_at h offset clusters) d p (renamed p (λ c. in_run h c offset (clusters * cluster_size h) + blocks c - counted c) (in_reftable h)) on_storage known on_storage' known' guarded
+      tables_renamed h (with_reftable_at h offset clusters) d p (renamed p (λ c. in_run h c offset (clusters * cluster_size h) + blocks c - counted c) (in_reftable h)) on_storage known on_storage' known' crash_invariant
       top_now same_top_now (omega arith) covers known_covers not_overlaid
       (λ c. in_run h c offset (clusters * cluster_size h) + blocks c - counted c) counted (in_reftable h) (λ c. (refl, refl, refl, refl, refl))
       (λ c. let one = new.once c in let le = new.counted_there c in omega arith) fixed_changed
-      (λ c. let e = marks_too c ∙ sym (l1_marks-same h on_storage on_storage' c (header_l1 h (with_reftable_at h offset clusters) d p on_storage known on_storage' known' guarded writes)) in omega arith)
+      (λ c. let e = marks_too c ∙ sym (l1_marks-same h on_storage on_storage' c (header_l1 h (with_reftable_at h offset clusters) d p on_storage known on_storage' known' crash_invariant writes)) in omega arith)
       counts known_counts (λ c some. let f = new.new_tables c (omega arith) in (f.0, f.1, new.written)) none_counted
 
   elsewhere : (o : ℕ) → 0 < named_in_either h on_storage known (o / cluster_size h) → o / cluster_size h ≢ 0
-  elsewhere o some = header_elsewhere h (with_reftable_at h offset clusters) d p on_storage known on_storage' known' guarded writes o (omega arith)
+  elsewhere o some = header_elsewhere h (with_reftable_at h offset clusters) d p on_storage known on_storage' known' crash_invariant writes o (omega arith)
 
   pub reftable_moved_kept : (backing : Bytes) (m : Checkpoint) → StopOkEverywhere backing m on_storage → StopOkEverywhere backing m on_storage'
   reftable_moved_kept backing m kept =
-      moved_kept h (with_reftable_at h offset clusters) d p (renamed p (λ c. in_run h c offset (clusters * cluster_size h) + blocks c - counted c) (in_reftable h)) on_storage known on_storage' known' guarded
+      moved_kept h (with_reftable_at h offset clusters) d p (renamed p (λ c. in_run h c offset (clusters * cluster_size h) + blocks c - counted c) (in_reftable h)) on_storage known on_storage' known' crash_invariant
       top_now same_top_now (omega arith) covers known_covers not_overlaid reftable_moved
       (λ o some. writes.others o (elsewhere o some)) (λ o some. writes.known_others o (elsewhere o some)) backing m [] (inl refl) kept
 
   pub reftable_moved_known_kept : (backing : Bytes) (m : Checkpoint) → StopOkEverywhere backing m known → StopOkEverywhere backing m known'
   reftable_moved_known_kept backing m kept =
-      moved_known_kept h (with_reftable_at h offset clusters) d p (renamed p (λ c. in_run h c offset (clusters * cluster_size h) + blocks c - counted c) (in_reftable h)) on_storage known on_storage' known' guarded
+      moved_known_kept h (with_reftable_at h offset clusters) d p (renamed p (λ c. in_run h c offset (clusters * cluster_size h) + blocks c - counted c) (in_reftable h)) on_storage known on_storage' known' crash_invariant
       top_now same_top_now (omega arith) covers known_covers not_overlaid reftable_moved
       (λ o some. writes.others o (elsewhere o some)) (λ o some. writes.known_others o (elsewhere o some)) backing m [] (inl refl) kept

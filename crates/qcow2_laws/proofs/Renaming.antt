@@ -25,7 +25,7 @@ use Rattle.qcow2_laws.proofs.Mixes.{tied, good}
 use Rattle.qcow2_laws.proofs.Shares.{shares}
 use Rattle.qcow2_laws.proofs.Writes.{written_covers}
 use Rattle.qcow2_laws.proofs.Tops.{IsTop-top}
-use Rattle.qcow2_laws.proofs.Consistency.{guarded_consistent, known_consistent}
+use Rattle.qcow2_laws.proofs.Consistency.{crash_invariant_consistent, known_consistent}
 use Rattle.qcow2_laws.proofs.Values.{shown, value_is, size_is}
 use Rattle.qcow2_disk.proofs.Stops.{kept_on}
 
@@ -40,12 +40,12 @@ over_guests-longer h a f g longer same none =
     ∙ ap (λ n. sum_below n f) e
     ∙ sum_below-same (guests (with_places h a)) f g (λ k lt. same k)
 
-module _ (h : HeaderFields) (a : Places) (d : Direction) (p p' : Pending) (on_storage known on_storage' known' : Bytes) (guarded : CrashInvariant h d p on_storage known)
+module _ (h : HeaderFields) (a : Places) (d : Direction) (p p' : Pending) (on_storage known on_storage' known' : Bytes) (crash_invariant : CrashInvariant h d p on_storage known)
     (top : IsTop (with_places h a) on_storage') (same_top : SameTop (with_places h a) on_storage' known') (longer : h.l1_entries ≤ a.l1_entries)
     (covers : KeepsCovers h a on_storage on_storage') (known_covers : KeepsCovers h a known known')
     (not_overlaid : (o : ℕ) → 0 < named_in_either h on_storage known (o / cluster_size h) + p'.new_data (o / cluster_size h) → on_storage' o ≡ known' o) where
   sizes : Sizes h
-  sizes = Sizes-from h on_storage guarded.top.header_reads
+  sizes = Sizes-from h on_storage crash_invariant.top.header_reads
 
   -- what counts covers sums up alike
   storage_sum : (f : L2Mapping → ℕ) → f Uncovered ≡ 0 → over_guests h (λ g. f (cover h on_storage g)) ≡ over_guests (with_places h a) (λ g. f (cover (with_places h a) on_storage' g))
@@ -95,9 +95,9 @@ module _ (h : HeaderFields) (a : Places) (d : Direction) (p p' : Pending) (on_st
         same_top = same_top;
         each_cluster = λ c. (now c).each_cluster;
         ordered = λ c. (now c).ordered;
-        aligned = λ g. subst (CoverIsAligned h) (covers g) (guarded.aligned g);
-        known_aligned = λ g. subst (CoverIsAligned h) (known_covers g) (guarded.known_aligned g);
-        own = λ g c some. subst (λ v. named_by_cover h c v ≤ marked_by_cover h c v) (covers g) (guarded.own g c (subst (λ v. 0 < marked_by_cover h c v) (sym (known_covers g)) some));
+        aligned = λ g. subst (CoverIsAligned h) (covers g) (crash_invariant.aligned g);
+        known_aligned = λ g. subst (CoverIsAligned h) (known_covers g) (crash_invariant.known_aligned g);
+        own = λ g c some. subst (λ v. named_by_cover h c v ≤ marked_by_cover h c v) (covers g) (crash_invariant.own g c (subst (λ v. 0 < marked_by_cover h c v) (sym (known_covers g)) some));
         not_overlaid = λ o some. not_overlaid o (let e = either_sum (named_by_cover h (o / cluster_size h)) refl in omega arith);
       }
 
@@ -118,7 +118,7 @@ module _ (h : HeaderFields) (a : Places) (d : Direction) (p p' : Pending) (on_st
       let fewer = copied_l1_refs c in
       let next = rename d (cluster h p on_storage known c) (p.surplus c) (named_for_tables (with_places h a) on_storage' c) (marked_by_l1_table (with_places h a) on_storage' c) (i c) (i c) (s c) (u c)
       (tied h p on_storage known c) (omega arith) (omega arith) (omega arith) (omega arith) (omega arith)
-      (λ some. (new_tables c some).0) (λ some. (new_tables c some).1) (λ some. written_covers h d p on_storage known guarded c (new_tables c some).2) (λ some. (empty c some).0) (λ some. (empty c some).1) (good h d p on_storage known guarded c) in
+      (λ some. (new_tables c some).0) (λ some. (new_tables c some).1) (λ some. written_covers h d p on_storage known crash_invariant c (new_tables c some).2) (λ some. (empty c some).0) (λ some. (empty c some).1) (good h d p on_storage known crash_invariant c) in
       let new_data_is = sym (pending c).0 in
       let new_tables_is = sym (pending c).1 in
       let old_tables_is = sym (pending c).2 in
@@ -154,7 +154,7 @@ module _ (h : HeaderFields) (a : Places) (d : Direction) (p p' : Pending) (on_st
       shown h b b' backing o (cover h b (o / cluster_size h)) (aligned (o / cluster_size h)) (λ place some. bytes (o / cluster_size h) place some)
       ∙ ap (λ v. value_under h b' b' backing o v) (keeps (o / cluster_size h))
 
-  module _ (guarded' : CrashInvariant (with_places h a) d p' on_storage' known')
+  module _ (crash_invariant' : CrashInvariant (with_places h a) d p' on_storage' known')
       (storage_bytes : (o : ℕ) → 0 < named_in_either h on_storage known (o / cluster_size h) → on_storage o ≡ on_storage' o)
       (known_bytes : (o : ℕ) → 0 < named_in_either h on_storage known (o / cluster_size h) → known o ≡ known' o)
       (backing : Bytes) (m : Checkpoint) (asked : List ℕ) (size : (a.size ≡ h.size) ⊎ IsAsked asked a.size) where
@@ -172,16 +172,16 @@ module _ (h : HeaderFields) (a : Places) (d : Direction) (p p' : Pending) (on_st
 
     pub moved_kept : StopOkEverywhere backing m on_storage → StopOkEverywhere backing (checkpoint_with [] asked m) on_storage'
     moved_kept kept =
-        kept_on backing m [] asked on_storage on_storage' (guarded_consistent (with_places h a) d p' on_storage' known' guarded') (size_too on_storage on_storage' guarded.top.header_is top.header_is)
+        kept_on backing m [] asked on_storage on_storage' (crash_invariant_consistent (with_places h a) d p' on_storage' known' crash_invariant') (size_too on_storage on_storage' crash_invariant.top.header_is top.header_is)
         (λ o. inl (value_is (with_places h a) on_storage' backing o top.header_is
-        ∙ sym (same_value on_storage on_storage' backing covers guarded.aligned (λ g place some. storage_bytes place (in_sum on_storage (place / cluster_size h) g some (omega arith))) o)
-        ∙ sym (value_is h on_storage backing o guarded.top.header_is))) kept
+        ∙ sym (same_value on_storage on_storage' backing covers crash_invariant.aligned (λ g place some. storage_bytes place (in_sum on_storage (place / cluster_size h) g some (omega arith))) o)
+        ∙ sym (value_is h on_storage backing o crash_invariant.top.header_is))) kept
 
     pub moved_known_kept : StopOkEverywhere backing m known → StopOkEverywhere backing (checkpoint_with [] asked m) known'
     moved_known_kept kept =
-        let was = (IsTop-top h on_storage known guarded.same_top guarded.top).header_is in
+        let was = (IsTop-top h on_storage known crash_invariant.same_top crash_invariant.top).header_is in
         let is = (IsTop-top (with_places h a) on_storage' known' same_top top).header_is in
-        kept_on backing m [] asked known known' (known_consistent (with_places h a) d p' on_storage' known' guarded') (size_too known known' was is)
+        kept_on backing m [] asked known known' (known_consistent (with_places h a) d p' on_storage' known' crash_invariant') (size_too known known' was is)
         (λ o. inl (value_is (with_places h a) known' backing o is
-        ∙ sym (same_value known known' backing known_covers guarded.known_aligned (λ g place some. known_bytes place (in_sum known (place / cluster_size h) g some (omega arith))) o)
+        ∙ sym (same_value known known' backing known_covers crash_invariant.known_aligned (λ g place some. known_bytes place (in_sum known (place / cluster_size h) g some (omega arith))) o)
         ∙ sym (value_is h known backing o was))) kept

@@ -24,11 +24,11 @@ more_twice gs hs ns ms m =
     let asked : (ms ++ ns) ++ m.asked ≡ ms ++ (ns ++ m.asked) = append_assoc ms ns m.asked in
     λ i. record m { given = given i; asked = asked i }
 
-pub leads_none : (s : DriverState) → StateInvariant s → SafeStep s s (λ _. []) []
-leads_none s sound = record { sound = sound; on_storage = λ backing m ok known_ok. ok; known = λ backing m ok known_ok. known_ok }
+pub safe_step_none : (s : DriverState) → StateInvariant s → SafeStep s s (λ _. []) []
+safe_step_none s sound = record { sound = sound; on_storage = λ backing m ok known_ok. ok; known = λ backing m ok known_ok. known_ok }
 
-pub leads_then : (a b c : DriverState) (first then : Bytes → List GivenBytes) (asked asks : List ℕ) → SafeStep a b first asked → SafeStep b c then asks → SafeStep a c (both_given first then) (asks ++ asked)
-leads_then a b c first then asked asks one two = record {
+pub safe_step_then : (a b c : DriverState) (first then : Bytes → List GivenBytes) (asked asks : List ℕ) → SafeStep a b first asked → SafeStep b c then asks → SafeStep a c (both_given first then) (asks ++ asked)
+safe_step_then a b c first then asked asks one two = record {
   sound = two.sound;
   on_storage = λ backing m ok known_ok.
       subst (λ k. StopOkEverywhere backing k c.on_storage) (sym (more_twice (first backing) (then backing) asked asks m))
@@ -41,33 +41,33 @@ leads_then a b c first then asked asks one two = record {
 -- ---- moments
 
 -- nothing happened
-pub endures_none : (view : StorageView) (known : Bytes) → SafeThroughout view view known (λ _. []) []
-endures_none view known = record { moments = passes_none view _; contents = λ backing m ok known_ok. ok }
+pub safe_throughout_none : (view : StorageView) (known : Bytes) → SafeThroughout view view known (λ _. []) []
+safe_throughout_none view known = record { moments = passes_none view _; contents = λ backing m ok known_ok. ok }
 
 -- nothing is written
 unwritten : (view : StorageView) (known : Bytes) (given : Bytes → List GivenBytes) → SafeThroughout view view known given []
 unwritten view known given = record { moments = passes_none view _; contents = λ backing m ok known_ok. kept_more backing (given backing) [] m (byte_at view.contents) ok }
 
 -- a count is raised
-pub raise_endures : (view : StorageView) (s : DriverState) (known' : Bytes) (c : ℕ) → s.on_storage ≡ byte_at view.contents → CountRises s.header s.known known' c → SafeThroughout view view s.known (λ _. []) []
-raise_endures view s known' c is rises = endures_none view s.known
+pub raise_safe_throughout : (view : StorageView) (s : DriverState) (known' : Bytes) (c : ℕ) → s.on_storage ≡ byte_at view.contents → CountRises s.header s.known known' c → SafeThroughout view view s.known (λ _. []) []
+raise_safe_throughout view s known' c is rises = safe_throughout_none view s.known
 
 -- a count is lowered
-pub fall_endures : (view : StorageView) (s : DriverState) (known' : Bytes) (c : ℕ) → s.on_storage ≡ byte_at view.contents → CountFalls s.header s.known known' c → SafeThroughout view view s.known (λ _. []) []
-fall_endures view s known' c is falls = endures_none view s.known
+pub fall_safe_throughout : (view : StorageView) (s : DriverState) (known' : Bytes) (c : ℕ) → s.on_storage ≡ byte_at view.contents → CountFalls s.header s.known known' c → SafeThroughout view view s.known (λ _. []) []
+fall_safe_throughout view s known' c is falls = safe_throughout_none view s.known
 
 -- what is pending changes
-pub pending_endures : (view : StorageView) (s s' : DriverState) → s.on_storage ≡ byte_at view.contents → SafeStep s s' (λ _. []) [] → SafeThroughout view view s.known (λ _. []) []
-pending_endures view s s' is leads = endures_none view s.known
+pub pending_safe_throughout : (view : StorageView) (s s' : DriverState) → s.on_storage ≡ byte_at view.contents → SafeStep s s' (λ _. []) [] → SafeThroughout view view s.known (λ _. []) []
+pending_safe_throughout view s s' is safe_step = safe_throughout_none view s.known
 
 -- an entry of a cached table changes
-pub entry_endures : (view : StorageView) (s s' : DriverState) (i j : ℕ) (given : Bytes → List GivenBytes) → s.on_storage ≡ byte_at view.contents → EntryChanges s s'.known i j → SafeStep s s' given [] → SafeThroughout view view s.known given []
-entry_endures view s s' i j given is changes leads = unwritten view s.known given
+pub entry_safe_throughout : (view : StorageView) (s s' : DriverState) (i j : ℕ) (given : Bytes → List GivenBytes) → s.on_storage ≡ byte_at view.contents → EntryChanges s s'.known i j → SafeStep s s' given [] → SafeThroughout view view s.known given []
+entry_safe_throughout view s s' i j given is changes safe_step = unwritten view s.known given
 
 -- and several, one after another
-pub entries_endure : (view : StorageView) (s s' : DriverState) (kind : L2Mapping → Type 0) (first n : ℕ) (given : Bytes → List GivenBytes) → s.on_storage ≡ byte_at view.contents → MapsInTurn kind first n s s' → SafeStep s s' given []
+pub entries_safe_throughout : (view : StorageView) (s s' : DriverState) (kind : L2Mapping → Type 0) (first n : ℕ) (given : Bytes → List GivenBytes) → s.on_storage ≡ byte_at view.contents → MapsInTurn kind first n s s' → SafeStep s s' given []
     → SafeThroughout view view s.known given []
-entries_endure view s s' kind first n given is turn leads = unwritten view s.known given
+entries_safe_throughout view s s' kind first n given is turn safe_step = unwritten view s.known given
 
 -- one call of the storage, by what is safe at its return
 by_return : (old new : StorageView) (known : Bytes) (given : Bytes → List GivenBytes) (asked : List ℕ) → EachMomentSince old new (λ c. c ≡ new.contents)
@@ -78,26 +78,26 @@ by_return old new known given asked time now =
     record { moments = passes_if P (λ c (is : c ≡ new.contents). subst P (sym is) now) time; contents = now }
 
 -- a call of the storage that keeps the contents
-pub keep_endures : (old new : StorageView) (known : Bytes) → EachMomentSince old new (λ c. c ≡ new.contents) → new.contents ≡ old.contents → SafeThroughout old new known (λ _. []) []
-keep_endures old new known time same = by_return old new known (λ _. []) [] time (λ backing m ok known_ok. subst (λ (c : List ℕ). StopOkEverywhere backing m (byte_at c)) (sym same) ok)
+pub keep_safe_throughout : (old new : StorageView) (known : Bytes) → EachMomentSince old new (λ c. c ≡ new.contents) → new.contents ≡ old.contents → SafeThroughout old new known (λ _. []) []
+keep_safe_throughout old new known time same = by_return old new known (λ _. []) [] time (λ backing m ok known_ok. subst (λ (c : List ℕ). StopOkEverywhere backing m (byte_at c)) (sym same) ok)
 
 -- one write of the storage that was done, and makes a step's change
-pub done_endures : (old new : StorageView) (s s' : DriverState) (given : Bytes → List GivenBytes) (asked : List ℕ) → EachMomentSince old new (λ c. c ≡ new.contents) → s.on_storage ≡ byte_at old.contents → s'.on_storage ≡ byte_at new.contents
+pub done_safe_throughout : (old new : StorageView) (s s' : DriverState) (given : Bytes → List GivenBytes) (asked : List ℕ) → EachMomentSince old new (λ c. c ≡ new.contents) → s.on_storage ≡ byte_at old.contents → s'.on_storage ≡ byte_at new.contents
     → SafeStep s s' given asked → SafeThroughout old new s.known given asked
-done_endures old new s s' given asked time is is' leads =
+done_safe_throughout old new s s' given asked time is is' safe_step =
     by_return old new s.known given asked time (λ backing m ok known_ok.
-    subst (λ (b : Bytes). StopOkEverywhere backing (checkpoint_with (given backing) asked m) b) is' (leads.on_storage backing m (subst (StopOkEverywhere backing m) (sym is) ok) known_ok))
+    subst (λ (b : Bytes). StopOkEverywhere backing (checkpoint_with (given backing) asked m) b) is' (safe_step.on_storage backing m (subst (StopOkEverywhere backing m) (sym is) ok) known_ok))
 
 -- a write of data that was done, with its range and what it gives
-pub data_endures : (old new : StorageView) (s s' : DriverState) (offset : ℕ) (bytes : List ℕ) (given : Bytes → List GivenBytes) → EachMomentSince old new (λ c. c ≡ new.contents) → new.contents ≡ overwritten old.contents offset bytes
+pub data_safe_throughout : (old new : StorageView) (s s' : DriverState) (offset : ℕ) (bytes : List ℕ) (given : Bytes → List GivenBytes) → EachMomentSince old new (λ c. c ≡ new.contents) → new.contents ≡ overwritten old.contents offset bytes
     → s.on_storage ≡ byte_at old.contents → s'.on_storage ≡ byte_at new.contents → SafeStep s s' given [] → SafeThroughout old new s.known given []
-data_endures old new s s' offset bytes given time written is is' leads = done_endures old new s s' given [] time is is' leads
+data_safe_throughout old new s s' offset bytes given time written is is' safe_step = done_safe_throughout old new s s' given [] time is is' safe_step
 
 -- one write of the storage, whatever it answers
-pub endures_write : {T : Type 0} {result : Result T StorageError} (old new : StorageView) (known : Bytes) (given : Bytes → List GivenBytes) (asked : List ℕ) (changed : List ℕ) → Calls old new result → Changes old new result changed → old.is_honest
+pub safe_throughout_write : {T : Type 0} {result : Result T StorageError} (old new : StorageView) (known : Bytes) (given : Bytes → List GivenBytes) (asked : List ℕ) (changed : List ℕ) → Calls old new result → Changes old new result changed → old.is_honest
     → ((backing : Bytes) (m : Checkpoint) → StopOkEverywhere backing m (byte_at old.contents) → StopOkEverywhere backing m known → StopOkEverywhere backing (checkpoint_with (given backing) asked m) (byte_at changed))
     → SafeThroughout old new known given asked
-endures_write {result = result} old new known given asked changed call changes honest step =
+safe_throughout_write {result = result} old new known given asked changed call changes honest step =
     let P : List ℕ → Type 0 = λ c. (backing : Bytes) (m : Checkpoint) → StopOkEverywhere backing m (byte_at old.contents) → StopOkEverywhere backing m known → StopOkEverywhere backing (checkpoint_with (given backing) asked m) (byte_at c) in
     let before : P old.contents = λ backing m ok known_ok. kept_more backing (given backing) asked m (byte_at old.contents) ok in
     record {
@@ -109,10 +109,10 @@ endures_write {result = result} old new known given asked changed call changes h
     }
 
 -- one run of calls after another, from where a step led
-pub endures_then : (old mid new : StorageView) (known known' : Bytes) (first then : Bytes → List GivenBytes) (asked asks : List ℕ) → SafeThroughout old mid known first asked
+pub safe_throughout_then : (old mid new : StorageView) (known known' : Bytes) (first then : Bytes → List GivenBytes) (asked asks : List ℕ) → SafeThroughout old mid known first asked
     → ((backing : Bytes) (m : Checkpoint) → StopOkEverywhere backing m (byte_at old.contents) → StopOkEverywhere backing m known → StopOkEverywhere backing (checkpoint_with (first backing) asked m) known')
     → SafeThroughout mid new known' then asks → SafeThroughout old new known (both_given first then) (asks ++ asked)
-endures_then old mid new known known' first then asked asks one step two =
+safe_throughout_then old mid new known known' first then asked asks one step two =
     let P : List ℕ → Type 0 = λ c. (backing : Bytes) (m : Checkpoint) → StopOkEverywhere backing m (byte_at old.contents) → StopOkEverywhere backing m known → StopOkEverywhere backing (checkpoint_with (both_given first then backing) (asks ++ asked) m) (byte_at c) in
     let join = λ (backing : Bytes) (m : Checkpoint). sym (more_twice (first backing) (then backing) asked asks m) in
     record {
@@ -127,16 +127,16 @@ endures_then old mid new known known' first then asked asks one step two =
     }
 
 -- one write of the storage that makes a step's change, whatever it answers
-pub step_endures : {T : Type 0} {result : Result T StorageError} (old new : StorageView) (s s' : DriverState) (given : Bytes → List GivenBytes) (asked : List ℕ) (changed : List ℕ) → Calls old new result → Changes old new result changed → old.is_honest
+pub step_safe_throughout : {T : Type 0} {result : Result T StorageError} (old new : StorageView) (s s' : DriverState) (given : Bytes → List GivenBytes) (asked : List ℕ) (changed : List ℕ) → Calls old new result → Changes old new result changed → old.is_honest
     → s.on_storage ≡ byte_at old.contents → s'.on_storage ≡ byte_at changed → SafeStep s s' given asked → SafeThroughout old new s.known given asked
-step_endures {result = result} old new s s' given asked changed call changes honest is is' leads =
-    endures_write {result = result} old new s.known given asked changed call changes honest (λ backing m ok known_ok.
-    subst (λ (b : Bytes). StopOkEverywhere backing (checkpoint_with (given backing) asked m) b) is' (leads.on_storage backing m (subst (StopOkEverywhere backing m) (sym is) ok) known_ok))
+step_safe_throughout {result = result} old new s s' given asked changed call changes honest is is' safe_step =
+    safe_throughout_write {result = result} old new s.known given asked changed call changes honest (λ backing m ok known_ok.
+    subst (λ (b : Bytes). StopOkEverywhere backing (checkpoint_with (given backing) asked m) b) is' (safe_step.on_storage backing m (subst (StopOkEverywhere backing m) (sym is) ok) known_ok))
 
 -- one write of the storage, whatever it answers, that makes a step's change where it is done
-pub write_endures : {T : Type 0} {result : Result T StorageError} (old new : StorageView) (s : DriverState) (given : Bytes → List GivenBytes) (asked : List ℕ) (changed : List ℕ) → Calls old new result → Changes old new result changed → old.is_honest
+pub write_safe_throughout : {T : Type 0} {result : Result T StorageError} (old new : StorageView) (s : DriverState) (given : Bytes → List GivenBytes) (asked : List ℕ) (changed : List ℕ) → Calls old new result → Changes old new result changed → old.is_honest
     → s.on_storage ≡ byte_at old.contents → (new.contents ≡ changed → (s' : DriverState) × (s'.on_storage ≡ byte_at new.contents) × SafeStep s s' given asked) → SafeThroughout old new s.known given asked
-write_endures {result = result} old new s given asked changed call changes honest is step =
+write_safe_throughout {result = result} old new s given asked changed call changes honest is step =
     by_return old new s.known given asked (call.time honest) (λ backing m ok known_ok. ⊎_elim
     (λ (same : new.contents ≡ old.contents). subst (λ (c : List ℕ). StopOkEverywhere backing (checkpoint_with (given backing) asked m) (byte_at c)) (sym same) (kept_more backing (given backing) asked m (byte_at old.contents) ok))
     (λ (done : new.contents ≡ changed).
@@ -145,10 +145,10 @@ write_endures {result = result} old new s given asked changed call changes hones
     (whole_or_nothing result old.contents changed new.contents (changes honest)))
 
 -- more calls after a step
-pub steps_endure : (old mid new : StorageView) (s s' : DriverState) (first then : Bytes → List GivenBytes) (asked asks : List ℕ) → s.on_storage ≡ byte_at old.contents
+pub steps_safe_throughout : (old mid new : StorageView) (s s' : DriverState) (first then : Bytes → List GivenBytes) (asked asks : List ℕ) → s.on_storage ≡ byte_at old.contents
     → SafeThroughout old mid s.known first asked → SafeStep s s' first asked → SafeThroughout mid new s'.known then asks → SafeThroughout old new s.known (both_given first then) (asks ++ asked)
-steps_endure old mid new s s' first then asked asks is one leads two =
-    endures_then old mid new s.known s'.known first then asked asks one (λ backing m ok known_ok. leads.known backing m (subst (StopOkEverywhere backing m) (sym is) ok) known_ok) two
+steps_safe_throughout old mid new s s' first then asked asks is one safe_step two =
+    safe_throughout_then old mid new s.known s'.known first then asked asks one (λ backing m ok known_ok. safe_step.known backing m (subst (StopOkEverywhere backing m) (sym is) ok) known_ok) two
 
 -- ---- what is given beside what is shown already
 
@@ -170,27 +170,27 @@ kept_less backing given fewer asked m known b within known_kept kept = record {
 }
 
 -- a step that gives only what is shown already, or is one of fewer gifts, gives those
-pub leads_less : (s s' : DriverState) (given fewer : Bytes → List GivenBytes) (asked : List ℕ) → ((backing : Bytes) (o : ℕ) (v : Value) → IsGiven (given backing) o v → (v ≡ (disk s.known backing).value o) ⊎ IsGiven (fewer backing) o v)
+pub safe_step_less : (s s' : DriverState) (given fewer : Bytes → List GivenBytes) (asked : List ℕ) → ((backing : Bytes) (o : ℕ) (v : Value) → IsGiven (given backing) o v → (v ≡ (disk s.known backing).value o) ⊎ IsGiven (fewer backing) o v)
     → SafeStep s s' given asked → SafeStep s s' fewer asked
-leads_less s s' given fewer asked within leads = record {
-  sound = leads.sound;
-  on_storage = λ backing m ok known_ok. kept_less backing (given backing) (fewer backing) asked m s.known s'.on_storage (within backing) known_ok (leads.on_storage backing m ok known_ok);
-  known = λ backing m ok known_ok. kept_less backing (given backing) (fewer backing) asked m s.known s'.known (within backing) known_ok (leads.known backing m ok known_ok);
+safe_step_less s s' given fewer asked within safe_step = record {
+  sound = safe_step.sound;
+  on_storage = λ backing m ok known_ok. kept_less backing (given backing) (fewer backing) asked m s.known s'.on_storage (within backing) known_ok (safe_step.on_storage backing m ok known_ok);
+  known = λ backing m ok known_ok. kept_less backing (given backing) (fewer backing) asked m s.known s'.known (within backing) known_ok (safe_step.known backing m ok known_ok);
 }
 
-pub endures_less : (old new : StorageView) (known : Bytes) (given fewer : Bytes → List GivenBytes) (asked : List ℕ) → ((backing : Bytes) (o : ℕ) (v : Value) → IsGiven (given backing) o v → (v ≡ (disk known backing).value o) ⊎ IsGiven (fewer backing) o v)
+pub safe_throughout_less : (old new : StorageView) (known : Bytes) (given fewer : Bytes → List GivenBytes) (asked : List ℕ) → ((backing : Bytes) (o : ℕ) (v : Value) → IsGiven (given backing) o v → (v ≡ (disk known backing).value o) ⊎ IsGiven (fewer backing) o v)
     → SafeThroughout old new known given asked → SafeThroughout old new known fewer asked
-endures_less old new known given fewer asked within endures =
+safe_throughout_less old new known given fewer asked within safe_throughout =
     let P : List ℕ → Type 0 = λ c. (backing : Bytes) (m : Checkpoint) → StopOkEverywhere backing m (byte_at old.contents) → StopOkEverywhere backing m known → StopOkEverywhere backing (checkpoint_with (fewer backing) asked m) (byte_at c) in
     record {
       moments = passes_if P (λ c (kept : (backing : Bytes) (m : Checkpoint) → StopOkEverywhere backing m (byte_at old.contents) → StopOkEverywhere backing m known → StopOkEverywhere backing (checkpoint_with (given backing) asked m) (byte_at c)).
-          λ backing m ok known_ok. kept_less backing (given backing) (fewer backing) asked m known (byte_at c) (within backing) known_ok (kept backing m ok known_ok)) endures.moments;
-      contents = λ backing m ok known_ok. kept_less backing (given backing) (fewer backing) asked m known (byte_at new.contents) (within backing) known_ok (endures.contents backing m ok known_ok);
+          λ backing m ok known_ok. kept_less backing (given backing) (fewer backing) asked m known (byte_at c) (within backing) known_ok (kept backing m ok known_ok)) safe_throughout.moments;
+      contents = λ backing m ok known_ok. kept_less backing (given backing) (fewer backing) asked m known (byte_at new.contents) (within backing) known_ok (safe_throughout.contents backing m ok known_ok);
     }
 
 -- what is safe while these sizes are asked for is so while more are
-pub endures_asking : (old new : StorageView) (known : Bytes) (given : Bytes → List GivenBytes) (asked more : List ℕ) → SafeThroughout old new known given asked → SafeThroughout old new known given (more ++ asked)
-endures_asking old new known given asked more one = endures_then old new new known known given (λ _. []) asked more one (λ backing m ok known_ok. kept_more backing (given backing) asked m known known_ok) (unasked new known more)
+pub safe_throughout_asking : (old new : StorageView) (known : Bytes) (given : Bytes → List GivenBytes) (asked more : List ℕ) → SafeThroughout old new known given asked → SafeThroughout old new known given (more ++ asked)
+safe_throughout_asking old new known given asked more one = safe_throughout_then old new new known known given (λ _. []) asked more one (λ backing m ok known_ok. kept_more backing (given backing) asked m known known_ok) (unasked new known more)
   where
     unasked : (view : StorageView) (known : Bytes) (more : List ℕ) → SafeThroughout view view known (λ _. []) more
     unasked view known more = record { moments = passes_none view _; contents = λ backing m ok known_ok. kept_more backing [] more m (byte_at view.contents) ok }

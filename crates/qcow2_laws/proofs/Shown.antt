@@ -66,7 +66,7 @@ module _ (s : DriverState) (sound : StateInvariant s) where
 
 -- what a write of data does: what it gives, and what the guest's disk is then
 pub record Writes (c : ℕ) (old new : DriverState) (given : Bytes → List GivenBytes) (now : Bytes → Disk) : Type 0 where
-  pub leads : SafeStep old new given []
+  pub safe_step : SafeStep old new given []
   pub unseen : IsUnseenBut c old new
   pub l1 : SameL1Table old new
   pub shows : (backing : Bytes) → disk new.known backing ≡ now backing

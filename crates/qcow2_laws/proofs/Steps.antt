@@ -6,12 +6,12 @@ use Rattle.qcow2_laws.specs.CrashInvariant.{CrashInvariant}
 use Rattle.qcow2_laws.specs.Changes.{one_at, with_new_data, with_new_tables, without_old_tables, without_old_data}
 use Rattle.qcow2_laws.specs.Laws.{SoundIsConsistent, MixIsSafe, TableIsWritten, CountIsChanged, PendingIsChanged, EntryIsChanged, DataIsWritten, TableIsNamed, HeaderIsWritten, StepsCompose}
 use Rattle.qcow2_disk.proofs.Stops.{stop_of_kept, kept_more}
-use Rattle.qcow2_laws.proofs.Mixes.{mixed_guarded, turned_guarded}
-use Rattle.qcow2_laws.proofs.Consistency.{guarded_consistent, known_consistent}
-use Rattle.qcow2_laws.proofs.Opened.{opened_guarded}
+use Rattle.qcow2_laws.proofs.Mixes.{mixed_crash_invariant, turned_crash_invariant}
+use Rattle.qcow2_laws.proofs.Consistency.{crash_invariant_consistent, known_consistent}
+use Rattle.qcow2_laws.proofs.Opened.{opened_crash_invariant}
 use Rattle.qcow2_laws.proofs.Values.{mixed_kept}
 use Rattle.qcow2_laws.proofs.Changes.{old_data_instead, old_tables_instead, never_named}
-use Rattle.qcow2_laws.proofs.Writes.{new_data_is_unnamed, new_tables_is_unnamed, unused_is_unnamed, written_guarded, written_kept, written_known_kept}
+use Rattle.qcow2_laws.proofs.Writes.{new_data_is_unnamed, new_tables_is_unnamed, unused_is_unnamed, written_crash_invariant, written_kept, written_known_kept}
 use Rattle.qcow2_laws.proofs.Blocks.{data_allocated, table_allocated, table_released, data_released, counts_kept, entry_set, entry_kept}
 use Rattle.qcow2_laws.proofs.NewTables.{l1_named, l1_named_kept, l1_named_known_kept}
 use Rattle.qcow2_laws.proofs.NewBlocks.{block_named, block_named_kept, block_named_known_kept, block_counts_itself, block_counts_itself_kept, block_counts_itself_known_kept}
@@ -19,24 +19,24 @@ use Rattle.qcow2_laws.proofs.Headers.{size_written, size_written_kept, size_writ
 use Rattle.qcow2_laws.proofs.L1Moves.{l1_moved, l1_moved_kept, l1_moved_known_kept}
 use Rattle.qcow2_laws.proofs.ReftableMoves.{reftable_moved, reftable_moved_kept, reftable_moved_known_kept}
 use Rattle.qcow2_laws.proofs.Caches.{block_written, table_written}
-use Rattle.qcow2_laws.proofs.SafeSteps.{leads_then, leads_less}
+use Rattle.qcow2_laws.proofs.SafeSteps.{safe_step_then, safe_step_less}
 
 pub sound_is_consistent : SoundIsConsistent
 sound_is_consistent = record {
-  on_storage = λ s sound. guarded_consistent s.header s.direction s.pending s.on_storage s.known sound;
+  on_storage = λ s sound. crash_invariant_consistent s.header s.direction s.pending s.on_storage s.known sound;
   known = λ s sound. known_consistent s.header s.direction s.pending s.on_storage s.known sound;
-  opened = λ b ok. opened_guarded (header b) b ok refl;
+  opened = λ b ok. opened_crash_invariant (header b) b ok refl;
 }
 
 pub mix_is_safe : MixIsSafe
 mix_is_safe = record {
   mixed = λ s b sound mixed. record {
-    sound = mixed_guarded s.header s.direction s.pending s.on_storage s.known b sound mixed;
+    sound = mixed_crash_invariant s.header s.direction s.pending s.on_storage s.known b sound mixed;
     on_storage = λ backing m ok known_ok. mixed_kept s.header s.direction s.pending s.on_storage s.known b sound mixed backing m ok known_ok;
     known = λ backing m ok known_ok. known_ok;
   };
   turned = λ s to sound may. record {
-    sound = turned_guarded s.header s.direction to s.pending s.on_storage s.known may sound;
+    sound = turned_crash_invariant s.header s.direction to s.pending s.on_storage s.known may sound;
     on_storage = λ backing m ok known_ok. ok;
     known = λ backing m ok known_ok. known_ok;
   };
@@ -111,7 +111,7 @@ entry_is_changed s known' i j given sound changes shows = record {
 pub data_is_written : DataIsWritten
 data_is_written = record {
   written = λ s on_storage' known' given sound writes. record {
-    sound = written_guarded s.header s.direction s.pending s.on_storage s.known on_storage' known' given sound writes;
+    sound = written_crash_invariant s.header s.direction s.pending s.on_storage s.known on_storage' known' given sound writes;
     on_storage = λ backing m ok known_ok. written_kept s.header s.direction s.pending s.on_storage s.known on_storage' known' given sound writes backing m ok;
     known = λ backing m ok known_ok. written_known_kept s.header s.direction s.pending s.on_storage s.known on_storage' known' given sound writes backing m known_ok;
   };
@@ -164,4 +164,4 @@ header_is_written = record {
 }
 
 pub steps_compose : StepsCompose
-steps_compose = record { steps = leads_then; less = leads_less; stop = λ backing b m kept. stop_of_kept backing m b kept }
+steps_compose = record { steps = safe_step_then; less = safe_step_less; stop = λ backing b m kept. stop_of_kept backing m b kept }

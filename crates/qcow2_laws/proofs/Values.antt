@@ -19,8 +19,8 @@ use Rattle.qcow2_laws.specs.CrashInvariant.{Pending, CrashInvariant, IsMixed}
 use Rattle.qcow2_laws.proofs.Places.{Sizes, Sizes-from, in_one, div_mono}
 use Rattle.qcow2_laws.proofs.Tops.{bytes_from-same, IsTop-top}
 use Rattle.qcow2_laws.proofs.Guests.{guest_le, names_within}
-use Rattle.qcow2_laws.proofs.Consistency.{in_own, guarded_consistent}
-use Rattle.qcow2_laws.proofs.Mixes.{mixed_guarded, either_cover}
+use Rattle.qcow2_laws.proofs.Consistency.{in_own, crash_invariant_consistent}
+use Rattle.qcow2_laws.proofs.Mixes.{mixed_crash_invariant, either_cover}
 use Rattle.qcow2_disk.proofs.Stops.{kept_on, kept_either}
 
 -- the value that a cover shows is as in another image where the bytes are so in each cluster that the cover names
@@ -69,9 +69,9 @@ kept_shown h backing m given b b' is is' consistent values kept =
     ]) kept
 
 -- ---- a mix of what is on the storage and what is known
-module _ (h : HeaderFields) (d : Direction) (p : Pending) (on_storage known b : Bytes) (guarded : CrashInvariant h d p on_storage known) (mixed : IsMixed h d on_storage known b) where
+module _ (h : HeaderFields) (d : Direction) (p : Pending) (on_storage known b : Bytes) (crash_invariant : CrashInvariant h d p on_storage known) (mixed : IsMixed h d on_storage known b) where
   sizes : Sizes h
-  sizes = Sizes-from h on_storage guarded.top.header_reads
+  sizes = Sizes-from h on_storage crash_invariant.top.header_reads
 
   as_on_storage : (place : ℕ) → on_storage place ≡ known place → b place ≡ on_storage place
   as_on_storage place same = elim (mixed.partly (place / cluster_size h)) [
@@ -82,29 +82,29 @@ module _ (h : HeaderFields) (d : Direction) (p : Pending) (on_storage known b : 
   -- where a guest cluster names a cluster on the storage, or as known, no table is laid over it
   unlaid_storage : (g place : ℕ) → 0 < names h on_storage (place / cluster_size h) g → on_storage place ≡ known place
   unlaid_storage g place some =
-      guarded.not_overlaid place (let le = guest_le h (λ k. max (names h on_storage (place / cluster_size h) k) (names h known (place / cluster_size h) k)) g (names_within h on_storage (place / cluster_size h) g sizes some) in omega arith)
+      crash_invariant.not_overlaid place (let le = guest_le h (λ k. max (names h on_storage (place / cluster_size h) k) (names h known (place / cluster_size h) k)) g (names_within h on_storage (place / cluster_size h) g sizes some) in omega arith)
 
   unlaid_known : (g place : ℕ) → 0 < names h known (place / cluster_size h) g → on_storage place ≡ known place
   unlaid_known g place some =
-      guarded.not_overlaid place (let le = guest_le h (λ k. max (names h on_storage (place / cluster_size h) k) (names h known (place / cluster_size h) k)) g (names_within h known (place / cluster_size h) g sizes some) in omega arith)
+      crash_invariant.not_overlaid place (let le = guest_le h (λ k. max (names h on_storage (place / cluster_size h) k) (names h known (place / cluster_size h) k)) g (names_within h known (place / cluster_size h) g sizes some) in omega arith)
 
   either_value : (backing : Bytes) (o : ℕ) → (guest_value h b b backing o ≡ guest_value h on_storage on_storage backing o) ⊎ (guest_value h b b backing o ≡ guest_value h known known backing o)
   either_value backing o =
       let g = o / cluster_size h in
-      elim (either_cover h on_storage known b guarded.top guarded.same_top mixed.partly (o / cluster_size h)) [
-        | inl same ↦ inl (sym (guest_value-same h on_storage b backing o (sym same) (guarded.aligned g) (λ place some. sym (as_on_storage place (unlaid_storage g place some)))))
-        | inr same ↦ inr (sym (guest_value-same h known b backing o (sym same) (guarded.known_aligned g)
+      elim (either_cover h on_storage known b crash_invariant.top crash_invariant.same_top mixed.partly (o / cluster_size h)) [
+        | inl same ↦ inl (sym (guest_value-same h on_storage b backing o (sym same) (crash_invariant.aligned g) (λ place some. sym (as_on_storage place (unlaid_storage g place some)))))
+        | inr same ↦ inr (sym (guest_value-same h known b backing o (sym same) (crash_invariant.known_aligned g)
             (λ place some. let u = unlaid_known g place some in sym (as_on_storage place u ∙ u))))
       ]
 
   -- what was kept is kept on the way
   pub mixed_kept : (backing : Bytes) (m : Checkpoint) → StopOkEverywhere backing m on_storage → StopOkEverywhere backing m known → StopOkEverywhere backing m b
   mixed_kept backing m kept known_kept =
-      let now = mixed_guarded h d p on_storage known b guarded mixed in
+      let now = mixed_crash_invariant h d p on_storage known b crash_invariant mixed in
       let at_b = now.top.header_is in
-      let at_storage = guarded.top.header_is in
-      let at_known = (IsTop-top h on_storage known guarded.same_top guarded.top).header_is in
-      kept_either backing m on_storage known b (guarded_consistent h d p b known now) (size_is h b backing at_b ∙ sym (size_is h on_storage backing at_storage))
+      let at_storage = crash_invariant.top.header_is in
+      let at_known = (IsTop-top h on_storage known crash_invariant.same_top crash_invariant.top).header_is in
+      kept_either backing m on_storage known b (crash_invariant_consistent h d p b known now) (size_is h b backing at_b ∙ sym (size_is h on_storage backing at_storage))
       (λ o. elim (either_value backing o) [
         | inl is ↦ inl (value_is h b backing o at_b ∙ is ∙ sym (value_is h on_storage backing o at_storage))
         | inr is ↦ inr (value_is h b backing o at_b ∙ is ∙ sym (value_is h known backing o at_known))

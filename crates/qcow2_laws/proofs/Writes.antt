@@ -22,12 +22,12 @@ use Rattle.qcow2_laws.proofs.Places.{Sizes, Sizes-from, in_one}
 use Rattle.qcow2_laws.proofs.Guests.{over_guests-same, guest_le, two_guests_le, names_within, marks-le}
 use Rattle.qcow2_laws.proofs.Tops.{SameTop-sym, SameTop-trans, for_tables-top, copied_l1_refs-top, IsTop-top}
 use Rattle.qcow2_laws.proofs.Mixes.{tied, good, as_known}
-use Rattle.qcow2_laws.proofs.Consistency.{in_own, guarded_consistent, known_consistent}
+use Rattle.qcow2_laws.proofs.Consistency.{in_own, crash_invariant_consistent, known_consistent}
 use Rattle.qcow2_laws.proofs.Shares.{top_stays, covers_stay, counts_stay}
 use Rattle.qcow2_laws.proofs.Values.{shown, kept_shown}
 
 -- ---- two images that mean the same are guarded alike
-module _ (h : HeaderFields) (d : Direction) (p : Pending) (on_storage known on_storage' known' : Bytes) (guarded : CrashInvariant h d p on_storage known)
+module _ (h : HeaderFields) (d : Direction) (p : Pending) (on_storage known on_storage' known' : Bytes) (crash_invariant : CrashInvariant h d p on_storage known)
     (top : SameTop h on_storage on_storage') (known_top : SameTop h known known') (covers : SameCovers h on_storage on_storage') (known_covers : SameCovers h known known')
     (counts : SameCounts h on_storage on_storage') (known_counts : SameCounts h known known')
     (not_overlaid : (o : ℕ) → 0 < named_in_either h on_storage known (o / cluster_size h) + p.new_data (o / cluster_size h) → on_storage' o ≡ known' o) where
@@ -55,26 +55,26 @@ module _ (h : HeaderFields) (d : Direction) (p : Pending) (on_storage known on_s
         marks_either = marks_either j;
         storage_count = counts c j;
         known_count = known_counts c j;
-      }) (good h d p on_storage known guarded c)
+      }) (good h d p on_storage known crash_invariant c)
 
-  pub same_guarded : CrashInvariant h d p on_storage' known'
-  same_guarded = record {
-    top = IsTop-top h on_storage on_storage' top guarded.top;
-    same_top = SameTop-trans h on_storage' on_storage known' (SameTop-sym h on_storage on_storage' top) (SameTop-trans h on_storage known known' guarded.same_top known_top);
+  pub same_crash_invariant : CrashInvariant h d p on_storage' known'
+  same_crash_invariant = record {
+    top = IsTop-top h on_storage on_storage' top crash_invariant.top;
+    same_top = SameTop-trans h on_storage' on_storage known' (SameTop-sym h on_storage on_storage' top) (SameTop-trans h on_storage known known' crash_invariant.same_top known_top);
     each_cluster = λ c. (good_too c).each_cluster;
     ordered = λ c. (good_too c).ordered;
-    aligned = λ g. subst (CoverIsAligned h) (covers g) (guarded.aligned g);
-    known_aligned = λ g. subst (CoverIsAligned h) (known_covers g) (guarded.known_aligned g);
+    aligned = λ g. subst (CoverIsAligned h) (covers g) (crash_invariant.aligned g);
+    known_aligned = λ g. subst (CoverIsAligned h) (known_covers g) (crash_invariant.known_aligned g);
     own = λ g c some.
-        subst (λ v. named_by_cover h c v ≤ marked_by_cover h c v) (covers g) (guarded.own g c (subst (λ v. 0 < marked_by_cover h c v) (sym (known_covers g)) some));
+        subst (λ v. named_by_cover h c v ≤ marked_by_cover h c v) (covers g) (crash_invariant.own g c (subst (λ v. 0 < marked_by_cover h c v) (sym (known_covers g)) some));
     not_overlaid = λ o some. not_overlaid o (let e = either_same (named_by_cover h (o / cluster_size h)) in omega arith);
   }
 
 -- ---- what is pending, or counted nowhere, is unnamed
-module _ (h : HeaderFields) (d : Direction) (p : Pending) (on_storage known : Bytes) (guarded : CrashInvariant h d p on_storage known) (c : ℕ) where
+module _ (h : HeaderFields) (d : Direction) (p : Pending) (on_storage known : Bytes) (crash_invariant : CrashInvariant h d p on_storage known) (c : ℕ) where
   pub new_data_is_unnamed : 0 < p.new_data c → IsUnnamed h on_storage known c
   new_data_is_unnamed some =
-      let none = new_data_unnamed d (cluster h p on_storage known c) (p.surplus c) (tied h p on_storage known c) some (good h d p on_storage known guarded c) in
+      let none = new_data_unnamed d (cluster h p on_storage known c) (p.surplus c) (tied h p on_storage known c) some (good h d p on_storage known crash_invariant c) in
       record { no_table = none.1; no_entry = none.0 }
 
   -- where what is known of entries is on the storage, no mix has more
@@ -90,23 +90,23 @@ module _ (h : HeaderFields) (d : Direction) (p : Pending) (on_storage known : By
   -- a fresh cluster may still be named by an entry on the storage, unless L2 tables are written
   pub new_tables_is_unnamed : 0 < p.new_tables c → (d ≡ RbDependsOnL2 → SameCovers h on_storage known) → IsUnnamed h on_storage known c
   new_tables_is_unnamed some covers =
-      let none = new_tables_unnamed d (cluster h p on_storage known c) (p.surplus c) (tied h p on_storage known c) some (written_covers covers) (good h d p on_storage known guarded c) in
+      let none = new_tables_unnamed d (cluster h p on_storage known c) (p.surplus c) (tied h p on_storage known c) some (written_covers covers) (good h d p on_storage known crash_invariant c) in
       record { no_table = none.1; no_entry = none.0 }
 
   pub unused_is_unnamed : count h known c ≡ 0 → count h on_storage c ≡ 0 → IsUnnamed h on_storage known c
   unused_is_unnamed known_none storage_none =
-      let none = unused_unnamed d (cluster h p on_storage known c) (p.surplus c) (tied h p on_storage known c) known_none storage_none (good h d p on_storage known guarded c) in
-      record { no_table = let t = (guarded.each_cluster c).tally in omega arith; no_entry = none }
+      let none = unused_unnamed d (cluster h p on_storage known c) (p.surplus c) (tied h p on_storage known c) known_none storage_none (good h d p on_storage known crash_invariant c) in
+      record { no_table = let t = (crash_invariant.each_cluster c).tally in omega arith; no_entry = none }
 
   pub marked_alone : (g : ℕ) → 0 < marks h known c g → (named_for_tables h on_storage c ≡ 0) × (named_in_either h on_storage known c ≤ 1)
   marked_alone g some =
-      let sizes = Sizes-from h on_storage guarded.top.header_reads in
+      let sizes = Sizes-from h on_storage crash_invariant.top.header_reads in
       let le = marks-le h c (cover h known g) in
       let inside = names_within h known c g sizes (omega arith) in
       let in_sum = guest_le h (marks h known c) g inside in
       let in_either = guest_le h (λ k. max (names h on_storage c k) (names h known c k)) g inside in
-      let table = (guarded.each_cluster c).table in
-      let once = named_once d (cluster h p on_storage known c) (p.surplus c) (tied h p on_storage known c) (omega arith) (good h d p on_storage known guarded c) in
+      let table = (crash_invariant.each_cluster c).table in
+      let once = named_once d (cluster h p on_storage known c) (p.surplus c) (tied h p on_storage known c) (omega arith) (good h d p on_storage known crash_invariant c) in
       (elim (cases_lt 0 (named_for_tables h on_storage c)) [ inl table_refs ↦ absurd (let t = table table_refs in omega arith) | inr none ↦ omega arith ], once)
 
 -- ---- a value that is as before, or given
@@ -144,17 +144,17 @@ guest_given h b b' backing o given same aligned each =
     ]
 
 -- ---- a write of data
-module _ (h : HeaderFields) (d : Direction) (p : Pending) (on_storage known on_storage' known' : Bytes) (given : List GivenBytes) (guarded : CrashInvariant h d p on_storage known)
+module _ (h : HeaderFields) (d : Direction) (p : Pending) (on_storage known on_storage' known' : Bytes) (given : List GivenBytes) (crash_invariant : CrashInvariant h d p on_storage known)
     (written : IsWritten h on_storage known on_storage' known' given) where
   sizes : Sizes h
-  sizes = Sizes-from h on_storage guarded.top.header_reads
+  sizes = Sizes-from h on_storage crash_invariant.top.header_reads
 
   stays : (c : ℕ) → 0 < named_for_tables h on_storage c → SameIn (cluster_size h) c on_storage on_storage' × SameIn (cluster_size h) c known known'
   stays c some = elim (written.each c) [
     | inl same ↦ same
     | inr change ↦ elim change [
       | inl unnamed ↦ absurd (omega (arith, some, unnamed.no_table))
-      | inr place ↦ absurd (let none = marked_alone h d p on_storage known guarded c place.guest place.marked in omega (arith, some, none.0))
+      | inr place ↦ absurd (let none = marked_alone h d p on_storage known crash_invariant c place.guest place.marked in omega (arith, some, none.0))
     ]
   ]
 
@@ -162,21 +162,21 @@ module _ (h : HeaderFields) (d : Direction) (p : Pending) (on_storage known on_s
   storage_stays c some = (stays c some).0
 
   known_stays : (c : ℕ) → 0 < named_for_tables h known c → SameIn (cluster_size h) c known known'
-  known_stays c some = (stays c (let e = for_tables-top h on_storage known c guarded.same_top in omega arith)).1
+  known_stays c some = (stays c (let e = for_tables-top h on_storage known c crash_invariant.same_top in omega arith)).1
 
   now_covers : SameCovers h on_storage on_storage'
-  now_covers = covers_stay h on_storage on_storage' guarded.top storage_stays
+  now_covers = covers_stay h on_storage on_storage' crash_invariant.top storage_stays
 
   pub known_covers : SameCovers h known known'
-  known_covers = covers_stay h known known' (IsTop-top h on_storage known guarded.same_top guarded.top) known_stays
+  known_covers = covers_stay h known known' (IsTop-top h on_storage known crash_invariant.same_top crash_invariant.top) known_stays
 
-  pub written_guarded : CrashInvariant h d p on_storage' known'
-  written_guarded =
-      let known_top = IsTop-top h on_storage known guarded.same_top guarded.top in
-      same_guarded h d p on_storage known on_storage' known' guarded
-      (top_stays h on_storage on_storage' guarded.top storage_stays) (top_stays h known known' known_top known_stays) now_covers known_covers
-      (counts_stay h on_storage on_storage' guarded.top storage_stays) (counts_stay h known known' known_top known_stays)
-      (λ o some. written.agree o (guarded.not_overlaid o some))
+  pub written_crash_invariant : CrashInvariant h d p on_storage' known'
+  written_crash_invariant =
+      let known_top = IsTop-top h on_storage known crash_invariant.same_top crash_invariant.top in
+      same_crash_invariant h d p on_storage known on_storage' known' crash_invariant
+      (top_stays h on_storage on_storage' crash_invariant.top storage_stays) (top_stays h known known' known_top known_stays) now_covers known_covers
+      (counts_stay h on_storage on_storage' crash_invariant.top storage_stays) (counts_stay h known known' known_top known_stays)
+      (λ o some. written.agree o (crash_invariant.not_overlaid o some))
 
   -- a cluster that a guest cluster has to itself is named by no other
   pub its_own : (c g g' : ℕ) → 0 < marks h known c g → 0 < names h on_storage c g' + names h known c g' → g ≡ g'
@@ -185,7 +185,7 @@ module _ (h : HeaderFields) (d : Direction) (p : Pending) (on_storage known on_s
     | inr other ↦ absurd (
         let le = marks-le h c (cover h known g) in
         let within = names_within h known c g sizes (omega arith) in
-        let once = marked_alone h d p on_storage known guarded c g marked in
+        let once = marked_alone h d p on_storage known crash_invariant c g marked in
         elim (cases_lt 0 (names h on_storage c g')) [
           | inl in_storage ↦ let two = two_guests_le h (λ k. max (names h on_storage c k) (names h known c k)) g g' within (names_within h on_storage c g' sizes in_storage) other in omega arith
           | inr none ↦ let two = two_guests_le h (λ k. max (names h on_storage c k) (names h known c k)) g g' within (names_within h known c g' sizes (omega arith)) other in omega arith
@@ -214,8 +214,8 @@ module _ (h : HeaderFields) (d : Direction) (p : Pending) (on_storage known on_s
       | inr at ↦
           let here = its_own (place / cluster_size h) at.guest (o / cluster_size h) at.marked (omega arith) in
           let marked : 0 < marks h known (place / cluster_size h) (o / cluster_size h) = subst (λ n. 0 < marks h known (place / cluster_size h) n) here at.marked in
-          let owns = guarded.own (o / cluster_size h) (place / cluster_size h) marked in
-          let both : on_storage' place ≡ known' place = written.agree place (guarded.not_overlaid place (let n = named_too (place / cluster_size h) (o / cluster_size h) (omega arith) in omega arith)) in
+          let owns = crash_invariant.own (o / cluster_size h) (place / cluster_size h) marked in
+          let both : on_storage' place ≡ known' place = written.agree place (crash_invariant.not_overlaid place (let n = named_too (place / cluster_size h) (o / cluster_size h) (omega arith) in omega arith)) in
           inr (
             omega arith,
             (λ rest. elim (at.gives place refl) [
@@ -247,11 +247,11 @@ module _ (h : HeaderFields) (d : Direction) (p : Pending) (on_storage known on_s
 
   pub written_kept : (backing : Bytes) (m : Checkpoint) → StopOkEverywhere backing m on_storage → StopOkEverywhere backing (checkpoint_with given [] m) on_storage'
   written_kept backing m kept =
-      kept_shown h backing m given on_storage on_storage' guarded.top.header_is written_guarded.top.header_is (guarded_consistent h d p on_storage' known' written_guarded)
-      (λ o. guest_given h on_storage on_storage' backing o given (now_covers (o / cluster_size h)) (guarded.aligned (o / cluster_size h)) (storage_place o)) kept
+      kept_shown h backing m given on_storage on_storage' crash_invariant.top.header_is written_crash_invariant.top.header_is (crash_invariant_consistent h d p on_storage' known' written_crash_invariant)
+      (λ o. guest_given h on_storage on_storage' backing o given (now_covers (o / cluster_size h)) (crash_invariant.aligned (o / cluster_size h)) (storage_place o)) kept
 
   pub written_known_kept : (backing : Bytes) (m : Checkpoint) → StopOkEverywhere backing m known → StopOkEverywhere backing (checkpoint_with given [] m) known'
   written_known_kept backing m kept =
-      kept_shown h backing m given known known' (IsTop-top h on_storage known guarded.same_top guarded.top).header_is
-      (IsTop-top h on_storage' known' written_guarded.same_top written_guarded.top).header_is (known_consistent h d p on_storage' known' written_guarded)
-      (λ o. guest_given h known known' backing o given (known_covers (o / cluster_size h)) (guarded.known_aligned (o / cluster_size h)) (known_place o)) kept
+      kept_shown h backing m given known known' (IsTop-top h on_storage known crash_invariant.same_top crash_invariant.top).header_is
+      (IsTop-top h on_storage' known' written_crash_invariant.same_top written_crash_invariant.top).header_is (known_consistent h d p on_storage' known' written_crash_invariant)
+      (λ o. guest_given h known known' backing o given (known_covers (o / cluster_size h)) (crash_invariant.known_aligned (o / cluster_size h)) (known_place o)) kept

@@ -46,7 +46,7 @@ HasOwnL2 h b c = (i : ℕ) × (table_at h b i ≢ 0) × (table_at h b i / cluste
 
 -- What is kept of the L2 tables, the refblocks and the storage. A modified L2 table stands where an L1 entry that is marked copied names it. So does a refblock by its entry, or it may be new, and stand where nothing is named.
 pub record CacheInvariantOver (h : HeaderFields) (d : Direction) (p : Pending) (l2s rbs : List CachedTable) (on_storage : Bytes) : Type 0 where
-  pub guarded : CrashInvariant h d p on_storage (known_bytes (cluster_size h) l2s rbs on_storage)
+  pub crash_invariant : CrashInvariant h d p on_storage (known_bytes (cluster_size h) l2s rbs on_storage)
   pub l2_apart : AreApart (cluster_size h) l2s
   pub rb_apart : AreApart (cluster_size h) rbs
   pub l2_stand : (c : ℕ) → IsFreeOf (cluster_size h) l2s c ⊎ HasOwnL2 h on_storage c

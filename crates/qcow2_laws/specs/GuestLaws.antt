@@ -83,7 +83,7 @@ IsZeros Uncovered = ⊥
 
 -- It gives what the range shows then, and this is what the disk shows there: nothing else of it changes.
 pub record ClearsRange (first n : ℕ) (old new : DriverState) (now : Bytes → Disk → ℕ → ℕ → Disk) : Type 0 where
-  pub leads : SafeStep old new (λ backing. given_shown (disk new.known backing) (first * cluster_size old.header) ((first + n) * cluster_size old.header) ∷ []) []
+  pub safe_step : SafeStep old new (λ backing. given_shown (disk new.known backing) (first * cluster_size old.header) ((first + n) * cluster_size old.header) ∷ []) []
   pub shows : (backing : Bytes) → disk new.known backing ≡ now backing (disk old.known backing) (first * cluster_size old.header) ((first + n) * cluster_size old.header)
 
 -- Guest clusters that are zeroed or uncovered in turn are a range of the disk that is.
@@ -147,7 +147,7 @@ with_seen_bytes hosting d offset bytes = record d { value = λ o. if is_private_
 
 -- Bytes were written to the places of a guest range. All entries stay, and so does each byte that another guest cluster has, or that is new data elsewhere.
 pub record WritesRun (hosting : ℕ → Hosting) (offset place : ℕ) (bytes : List ℕ) (given : List GivenBytes) (old new : DriverState) : Type 0 where
-  pub leads : SafeStep old new (λ _. given) []
+  pub safe_step : SafeStep old new (λ _. given) []
   pub covers : SameCovers old.header old.known new.known
   pub l1 : SameL1Table old new
   pub there : (i : ℕ) → i < length bytes → new.known (place + i) ≡ byte_at bytes i

@@ -101,7 +101,7 @@ module _ {S F : Type 0} (view : S → StorageView) (backing : F → BackingView)
       (does_if (λ h. (ap (λ (r : ℕ × ℕ). r.0) h.0, ap (λ (r : ℕ × ℕ). r.1) h.0, h.1)) (sees out)) (λ _ _. refl) (λ sound. rightly_cleared out sound ((sees out).answer sound).0 fits (covers out sound))
   clears_as out x s (Err e) stands early covers sees = refused_as x _ _ s _ _ _ _ refl stands (record { sized = λ _. tt; failed = λ f. error_is (first_of_all old _ _ early f); may = λ _. tt }) (sees out) (λ f. f) (λ _ _. refl) tt
 
-  pub clears_goes : (out : List (Option Prepared)) (x : Setting) (s : State) (r : Result (ℕ × ℕ) ImageError) (reply : Reply) → reply ≡ reply_of_clearing r → RefinesState x (abstract_of view backing old out) s → IsEarly r → IsCovered r → IsCleared r
+  pub clears_command_step : (out : List (Option Prepared)) (x : Setting) (s : State) (r : Result (ℕ × ℕ) ImageError) (reply : Reply) → reply ≡ reply_of_clearing r → RefinesState x (abstract_of view backing old out) s → IsEarly r → IsCovered r → IsCleared r
       → RefinesCommand x (abstract_of view backing old out) (abstract_of view backing new out) s (clear how offset n) (reply_of reply)
-  clears_goes out x s r reply is stands early covers sees =
+  clears_command_step out x s r reply is stands early covers sees =
       subst (λ q. RefinesCommand x (abstract_of view backing old out) (abstract_of view backing new out) s (clear how offset n) (reply_of q)) (sym is) (clears_as out x s r stands early covers sees)

@@ -45,26 +45,26 @@ does_nothing v = record {
 
 -- ---- calls that were refused
 
-pub breaks : {old new : AbstractImage} {given : List GivenBytes} {e : Refusal} {A : Type 0} → RefusedEffect old new given [] e A → RefusedConversion old new given e A
-breaks r = record { acts = r.acts; answer = r.answer }
+pub interrupted : {old new : AbstractImage} {given : List GivenBytes} {e : Refusal} {A : Type 0} → RefusedEffect old new given [] e A → RefusedConversion old new given e A
+interrupted r = record { acts = r.acts; answer = r.answer }
 
-pub breaks_here : {old new : AbstractImage} {given : List GivenBytes} {A : Type 0} (e : Refusal) → AnsweredEffect old new given [] A → RefusedConversion old new given e A
-breaks_here e d = record { acts = d.acts; answer = λ sound. inl (d.answer sound) }
+pub interrupted_here : {old new : AbstractImage} {given : List GivenBytes} {A : Type 0} (e : Refusal) → AnsweredEffect old new given [] A → RefusedConversion old new given e A
+interrupted_here e d = record { acts = d.acts; answer = λ sound. inl (d.answer sound) }
 
 module _ {old new : AbstractImage} {given : List GivenBytes} {e : Refusal} {A B : Type 0} where
-  pub breaks_if : (A → B) → RefusedConversion old new given e A → RefusedConversion old new given e B
-  breaks_if to r = record { acts = r.acts; answer = λ sound. ⊎_elim (λ (a : new.is_sound × A). inl (a.0, to a.1)) (λ h. inr h) (r.answer sound) }
+  pub interrupted_if : (A → B) → RefusedConversion old new given e A → RefusedConversion old new given e B
+  interrupted_if to r = record { acts = r.acts; answer = λ sound. ⊎_elim (λ (a : new.is_sound × A). inl (a.0, to a.1)) (λ h. inr h) (r.answer sound) }
 
-  pub breaks_why : (old.is_sound → B) → RefusedConversion old new given e A → RefusedConversion old new given e (A × B)
-  breaks_why why r = record { acts = r.acts; answer = λ sound. ⊎_elim (λ (a : new.is_sound × A). inl (a.0, (a.1, why sound))) (λ h. inr h) (r.answer sound) }
+  pub interrupted_why : (old.is_sound → B) → RefusedConversion old new given e A → RefusedConversion old new given e (A × B)
+  interrupted_why why r = record { acts = r.acts; answer = λ sound. ⊎_elim (λ (a : new.is_sound × A). inl (a.0, (a.1, why sound))) (λ h. inr h) (r.answer sound) }
 
 module _ {old new : AbstractImage} {gs fewer : List GivenBytes} (within : IsWithin old gs fewer) where
-  pub breaks_less : {e : Refusal} {A : Type 0} → RefusedConversion old new gs e A → RefusedConversion old new fewer e A
-  breaks_less r = record { acts = acts_less within r.acts; answer = r.answer }
+  pub interrupted_less : {e : Refusal} {A : Type 0} → RefusedConversion old new gs e A → RefusedConversion old new fewer e A
+  interrupted_less r = record { acts = acts_less within r.acts; answer = r.answer }
 
 module _ {old mid new : AbstractImage} {gs more : List GivenBytes} {A : Type 0} (within : A → IsWithin mid more gs) (first : AnsweredEffect old mid gs [] A) where
-  pub breaks_then : {e : Refusal} {B : Type 0} → RefusedConversion mid new more e B → RefusedConversion old new gs e (A × B)
-  breaks_then {B = B} then = record {
+  pub interrupted_then : {e : Refusal} {B : Type 0} → RefusedConversion mid new more e B → RefusedConversion old new gs e (A × B)
+  interrupted_then {B = B} then = record {
     acts = acts_then within first then.acts;
     answer = λ sound. let a = first.answer sound in ⊎_elim (λ (b : new.is_sound × B). inl (b.0, (a.1, b.1))) (λ h. inr h) (then.answer a.0);
   }
@@ -175,12 +175,12 @@ module _ (old mid new : AbstractImage) (contents : List ℕ) (at count : ℕ) (f
       → RefusedConversion mid new (given_of at chunk ∷ []) e (aligned → MayWrite e (guest_of mid) at chunk 0 (guest_of new))
       → RefusedConversion old new (given_of 0 contents ∷ []) e (HasSome size contents e (guest_of old) (guest_of new))
   imports_refused e size aligned start is_aligned next =
-      breaks_if (λ h. (
+      interrupted_if (λ h. (
         at,
         inl start,
         may_write_more 0 at at contents short (omega arith) e (guest_of old) (guest_of mid) (guest_of new) h.0.0 (may_write_first e (guest_of mid) (guest_of new) at count (drop at contents) (subst (λ (b : List ℕ). MayWrite e (guest_of mid) at b 0 (guest_of new)) chunk_is (h.0.1 h.1))),
       ))
-      (breaks_why is_aligned (breaks_then {more = given_of at (drop at contents) ∷ []} (λ _. rest_within) first (breaks_less chunk_within next)))
+      (interrupted_why is_aligned (interrupted_then {more = given_of at (drop at contents) ∷ []} (λ _. rest_within) first (interrupted_less chunk_within next)))
 
 -- ---- a range, in the calls' words
 module _ {S F : Type 0} (view : S → StorageView) (backing : F → BackingView) (old new : Qcow2 S F) (at : ℕ) (bytes : List ℕ) where
@@ -189,8 +189,8 @@ module _ {S F : Type 0} (view : S → StorageView) (backing : F → BackingView)
       → ((out : List (Option Prepared)) → RefusedConversion (abstract_of view backing old out) (abstract_of view backing new out) [] (refusal_of e) (IsSame (abstract_of view backing old out) (abstract_of view backing new out)))
       → ImportsAt view backing old new at bytes r
   at_refused e r is off = subst (λ x. ImportsAt view backing old new at bytes x) (sym is) (λ out.
-      breaks_if (λ same start short. may_write_none (refusal_of e) (guest_of (abstract_of view backing old out)) (guest_of (abstract_of view backing new out)) at bytes same)
-      (breaks_less (none_within (abstract_of view backing old out) (given_of at bytes ∷ [])) (off out)))
+      interrupted_if (λ same start short. may_write_none (refusal_of e) (guest_of (abstract_of view backing old out)) (guest_of (abstract_of view backing new out)) at bytes same)
+      (interrupted_less (none_within (abstract_of view backing old out) (given_of at bytes ∷ [])) (off out)))
 
   -- the bytes were there
   pub at_shown : (present wanted : List ℕ) → wanted ≡ present → wanted ≡ bytes → ReadsInto view backing old new at present (Ok tt) → ImportsAt view backing old new at bytes (Ok tt)
@@ -213,11 +213,11 @@ module _ {S F : Type 0} (view : S → StorageView) (backing : F → BackingView)
         → ((out : List (Option Prepared)) → (abstract_of view backing mid out).is_sound → 0 < n → (n < length wanted) × EndsCluster mid (at + n)) → ImportsAt view backing old new at bytes (Err e)
     at_unwritten e n writes ends = subst (λ (b : List ℕ). ImportsAt view backing old new at b (Err e)) are (λ out.
         let first = read_same out in
-        breaks_if (λ h start short.
+        interrupted_if (λ h start short.
         let none : n ≡ 0 = none_of (cluster_size_of old) at n (length wanted) start short (λ some. let x = h.1.1 some in (x.0, subst (λ size. (at + n) % size ≡ 0) h.1.0 x.1)) in
         written_none (refusal_of e) (guest_of (abstract_of view backing old out)) (guest_of (abstract_of view backing new out)) at n wanted none
         (subst (λ (g : Guest). MayWrite (refusal_of e) g at wanted n (guest_of (abstract_of view backing new out))) h.0.0 h.0.1))
-        (breaks_why {B = (cluster_size_of mid ≡ cluster_size_of old) × (0 < n → (n < length wanted) × EndsCluster mid (at + n))} (λ sound. (ap (λ (x : Setting). x.cluster_size) (first.acts.works sound).setting, ends out (first.answer sound).0)) (breaks_then (λ _ o w h. inr h) first (breaks (writes out)))))
+        (interrupted_why {B = (cluster_size_of mid ≡ cluster_size_of old) × (0 < n → (n < length wanted) × EndsCluster mid (at + n))} (λ sound. (ap (λ (x : Setting). x.cluster_size) (first.acts.works sound).setting, ends out (first.answer sound).0)) (interrupted_then (λ _ o w h. inr h) first (interrupted (writes out)))))
 
 -- ---- all ranges, in the calls' words
 
@@ -254,8 +254,8 @@ module _ {S F : Type 0} (view : S → StorageView) (backing : F → BackingView)
   pub imports_nothing : (e : ImageError) (r : Result ℕ ImageError) → r ≡ Err e → Imports view backing old old contents r
   imports_nothing e r is = subst (λ x. Imports view backing old old contents x) (sym is) (λ out.
       let v = abstract_of view backing old out in
-      breaks_if (λ same. (0, inl (zero-mod (cluster_size_of old)), may_write_none (refusal_of e) (guest_of v) (guest_of v) 0 contents same))
-      (breaks_less (none_within v (given_of 0 contents ∷ [])) (breaks_here (refusal_of e) (does_nothing v))))
+      interrupted_if (λ same. (0, inl (zero-mod (cluster_size_of old)), may_write_none (refusal_of e) (guest_of v) (guest_of v) 0 contents same))
+      (interrupted_less (none_within v (given_of 0 contents ∷ [])) (interrupted_here (refusal_of e) (does_nothing v))))
 
   module _ (mid new : Qcow2 S F) where
     -- the flush was refused
@@ -263,8 +263,8 @@ module _ {S F : Type 0} (view : S → StorageView) (backing : F → BackingView)
     imports_unflushed e r is all flush = subst (λ x. Imports view backing old new contents x) (sym is) (λ out.
         let v = abstract_of view backing old out in
         let w = abstract_of view backing new out in
-        breaks_if (λ h. (length contents, inr refl, may_write_all (refusal_of e) (guest_of v) (guest_of w) contents (h.1 ∙ h.0)))
-        (breaks_then (λ _. none_within (abstract_of view backing mid out) (given_of 0 contents ∷ [])) (all out) (breaks (flush out))))
+        interrupted_if (λ h. (length contents, inr refl, may_write_all (refusal_of e) (guest_of v) (guest_of w) contents (h.1 ∙ h.0)))
+        (interrupted_then (λ _. none_within (abstract_of view backing mid out) (given_of 0 contents ∷ [])) (all out) (interrupted (flush out))))
 
     pub imports_flushed : (n : ℕ) → n ≡ length contents → ((out : List (Option Prepared)) → (abstract_of view backing old out).is_sound → length contents ≡ (guest_of (abstract_of view backing old out)).disk.size)
         → ImportsAll view backing old mid contents (Ok tt) → FlushesImage view backing mid new (Ok tt) → Imports view backing old new contents (Ok n)
@@ -292,7 +292,7 @@ module _ {S F : Type 0} (view : S → StorageView) (backing : F → BackingView)
           (λ sound.
           let same : cluster_size_of mid ≡ cluster_size_of old = ap (λ (x : Setting). x.cluster_size) ((first out).acts.works sound).setting in
           (subst (λ size. at % size ≡ 0) (sym same) start, omega (arith, same, long, small)))
-          (breaks_if (λ f both. f both.0 both.1) (next out)))
+          (interrupted_if (λ f both. f both.0 both.1) (next out)))
 
 -- the same range of the same bytes
 pub same_range : (c d : List ℕ) (at n m : ℕ) → c ≡ d → n ≡ m → bytes_at c at n ≡ bytes_at d at m

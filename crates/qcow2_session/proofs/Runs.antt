@@ -59,12 +59,12 @@ module _ {D P : Type 0} (spec : Abstraction D P) where
       })))
 
   -- one command more
-  pub goes_on : (x : Setting) (old mid new : D) (before out out' : List (Option P)) (s : State) (commands : List Command) (replies : List Reply) (mappings mappings' : List (Option Mapping)) (command : Command) (reply : Reply)
+  pub command_step_on : (x : Setting) (old mid new : D) (before out out' : List (Option P)) (s : State) (commands : List Command) (replies : List Reply) (mappings mappings' : List (Option Mapping)) (command : Command) (reply : Reply)
       → GoesOn spec x old before mid out s commands replies mappings
       → ((s' : State) → RefinesState x (abstract_image spec mid out) s' → (s'.is_failed ≡ false → (k : ℕ) → s'.found k ≡ found_in mappings k) → RefinesCommand x (abstract_image spec mid out) (abstract_image spec new out') s' command reply)
       → ((k : ℕ) → found_in mappings' k ≡ found_after (found_in mappings) command reply k)
       → GoesOn spec x old before new out' s (commands ++ command ∷ []) (replies ++ reply ∷ []) mappings'
-  goes_on x old mid new before out out' s commands replies mappings mappings' command reply so_far steps finds =
+  command_step_on x old mid new before out out' s commands replies mappings mappings' command reply so_far steps finds =
       record {
         ran = ran_more spec x old mid new before out out' s commands replies command reply so_far.ran (steps so_far.ran.end so_far.ran.stands (so_far.found so_far.ran.end so_far.ran.run));
         found = λ end run ok k.

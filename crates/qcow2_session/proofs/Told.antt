@@ -102,12 +102,12 @@ module _ {S F : Type 0} (view : S → StorageView) (backing : F → BackingView)
   pub told_more : (old : Qcow2 S F) (last next : RunPoint S F) (commands : List Command) (replies : List Reply) (command : Command) (reply : Reply) → IsToldSoFar old last commands replies → IsToldStep view backing last next command reply
       → ((x : Setting) (s : State) → RefinesState x (abstract_at view backing last) s → (s.is_failed ≡ false → (k : ℕ) → s.found k ≡ last.found k) → RefinesCommand x (abstract_at view backing last) (abstract_at view backing next) s (command_of command) (reply_of reply))
       → IsToldSoFar old next (commands ++ command ∷ []) (replies ++ reply ∷ [])
-  told_more old last next commands replies command reply told step goes = record {
+  told_more old last next commands replies command reply told step command_step = record {
     points = told.points ++ next ∷ [];
     along = told_push (first_point old) commands replies told.points last command reply next told.along step;
     so_far = λ x s stands.
         let before = told.so_far x s stands in
-        let now = goes x before.end before.stands before.found in record {
+        let now = command_step x before.end before.stands before.found in record {
           end = now.end;
           steps = steps_push x (first_point old) (begun s) commands replies told.points last before.end command reply next told.along before.steps now;
           stands = now.stands;

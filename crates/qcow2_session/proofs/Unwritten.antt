@@ -18,7 +18,7 @@ use Rattle.qcow2_image.specs.Image.{is_failed, is_writable, size_of}
 use Rattle.qcow2_image.specs.ImageInvariant.{abstract_of}
 use Rattle.qcow2_image.specs.Prepared.{table_of}
 use Rattle.qcow2_image.specs.Preparing.{IsOfNothing}
-use Rattle.qcow2_image.specs.Ranges.{LetsGo}
+use Rattle.qcow2_image.specs.Ranges.{ReleasesOneMapping}
 use Rattle.qcow2_image.specs.Refusals.{passes, refuse_if, refuses_to_prepare, unusable}
 use Rattle.qcow2_image.specs.Resizing.{IsResized, refuses_to_resize}
 use Rattle.qcow2_image.specs.Unwritten.{HoldsSame, IsOnlyRead, IsUnmodified}
@@ -97,8 +97,8 @@ module _ {S F : Type 0} (image : Qcow2 S F) where
 
 -- ---- mappings that are let go
 
-pub read_let_go : {S F : Type 0} (view : S → StorageView) (old new : Qcow2 S F) → LetsGo view old new → IsUnmodified view old → IsOnlyRead view old new
-read_let_go view old new goes clean = read_known view old new (ap (λ (image : Qcow2 _ _). storage_of image.file.storage) goes.rest) goes.known clean
+pub read_release_prepared : {S F : Type 0} (view : S → StorageView) (old new : Qcow2 S F) → ReleasesOneMapping view old new → IsUnmodified view old → IsOnlyRead view old new
+read_release_prepared view old new command_step clean = read_known view old new (ap (λ (image : Qcow2 _ _). storage_of image.file.storage) command_step.rest) command_step.known clean
 
 -- a command that left the image
 pub left_same : {S F : Type 0} (view : S → StorageView) (backing : F → BackingView) (old new : Qcow2 S F) (out : List (Option Prepared)) → new ≡ old → is_writable old ≡ false → IsUnmodified view old → AreExisting out → IsLeftUnwritten view backing old new out

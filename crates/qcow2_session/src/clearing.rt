@@ -24,7 +24,7 @@ pub(crate) fn ensure_zero<S: Storage, F: WrappedFormat<S>>(
     ensures reading { is_writable image.old ≡ false → image.new ≡ image.old }
     ensures faults { CommandCounts S.view F.backing image.old image.new result }
     ensures causes { (before : List (Option Prepared)) (found : ℕ → Option Found) → IsRightlyRefused S.view F.backing image.old image.new before found (EnsureZeroMapping offset length) result }
-    ensures goes { (slots : Slots) → CommandSteps S.view F.backing image.old image.new slots slots (EnsureZeroMapping offset length) result }
+    ensures command_step { (slots : Slots) → CommandSteps S.view F.backing image.old image.new slots slots (EnsureZeroMapping offset length) result }
     ensures finds { (slots : Slots) → Finds slots slots (EnsureZeroMapping offset length) result }
 {
     range_reply(image.ensure_zero_mapping(offset, length))
@@ -40,7 +40,7 @@ pub(crate) fn discard_to_zero<S: Storage, F: WrappedFormat<S>>(
     ensures reading { is_writable image.old ≡ false → image.new ≡ image.old }
     ensures faults { CommandCounts S.view F.backing image.old image.new result }
     ensures causes { (before : List (Option Prepared)) (found : ℕ → Option Found) → IsRightlyRefused S.view F.backing image.old image.new before found (DiscardToZero offset length) result }
-    ensures goes { (slots : Slots) → CommandSteps S.view F.backing image.old image.new slots slots (DiscardToZero offset length) result }
+    ensures command_step { (slots : Slots) → CommandSteps S.view F.backing image.old image.new slots slots (DiscardToZero offset length) result }
     ensures finds { (slots : Slots) → Finds slots slots (DiscardToZero offset length) result }
 {
     range_reply(image.discard_to_zero_unsafe(offset, length))
@@ -56,7 +56,7 @@ pub(crate) fn discard_to_any<S: Storage, F: WrappedFormat<S>>(
     ensures reading { is_writable image.old ≡ false → image.new ≡ image.old }
     ensures faults { CommandCounts S.view F.backing image.old image.new result }
     ensures causes { (before : List (Option Prepared)) (found : ℕ → Option Found) → IsRightlyRefused S.view F.backing image.old image.new before found (DiscardToAny offset length) result }
-    ensures goes { (slots : Slots) → CommandSteps S.view F.backing image.old image.new slots slots (DiscardToAny offset length) result }
+    ensures command_step { (slots : Slots) → CommandSteps S.view F.backing image.old image.new slots slots (DiscardToAny offset length) result }
     ensures finds { (slots : Slots) → Finds slots slots (DiscardToAny offset length) result }
 {
     range_reply(image.discard_to_any_unsafe(offset, length))
@@ -72,7 +72,7 @@ pub(crate) fn discard_to_backing<S: Storage, F: WrappedFormat<S>>(
     ensures reading { is_writable image.old ≡ false → image.new ≡ image.old }
     ensures faults { CommandCounts S.view F.backing image.old image.new result }
     ensures causes { (before : List (Option Prepared)) (found : ℕ → Option Found) → IsRightlyRefused S.view F.backing image.old image.new before found (DiscardToBacking offset length) result }
-    ensures goes { (slots : Slots) → CommandSteps S.view F.backing image.old image.new slots slots (DiscardToBacking offset length) result }
+    ensures command_step { (slots : Slots) → CommandSteps S.view F.backing image.old image.new slots slots (DiscardToBacking offset length) result }
     ensures finds { (slots : Slots) → Finds slots slots (DiscardToBacking offset length) result }
 {
     range_reply(image.discard_to_backing_unsafe(offset, length))

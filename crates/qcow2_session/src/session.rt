@@ -13,7 +13,7 @@ ghost use Rattle.qcow2_session.specs.Causes.{IsRightlyRefused};
 ghost use Rattle.qcow2_session.specs.CountedFaults.{CommandCounts, RunCounts};
 ghost use Rattle.qcow2_session.specs.Sessions.{IsRightlyBeyond, IsOfReading, IsOfWriting, EndsCluster, Reads, ReadsInto, ReadsFirst, Writes, WritesFirst, CommandSteps, Finds, ReleasesMappings, RunsThrough, RunRefinesDisk, LookupsFindContents, found_in};
 ghost use Rattle.qcow2_disk.specs.Runs.{Found};
-ghost use Rattle.qcow2_image.specs.Ranges.{LetsGo};
+ghost use Rattle.qcow2_image.specs.Ranges.{ReleasesOneMapping};
 ghost use Rattle.qcow2_image.specs.Unwritten.{IsOnlyRead, IsUnmodified};
 ghost use Rattle.qcow2_session.specs.Told.{IsNeverWritten, KeepsItself, LeavesUnwritten, StaysUnwritten, TellsOfImage, TellsThrough};
 ghost use Rattle.qcow2_image.specs.declared.prepared.Prepared.{Prepared};
@@ -327,7 +327,7 @@ fn write_some<S: Storage, F: WrappedFormat<S>>(
 fn release<S: Storage, F: WrappedFormat<S>>(image: &mut Qcow2<S, F>, prepared: Prepared)
     requires { image_of prepared ≡ number_of image.old }
     ensures image { IsSameImage image.old image.new }
-    ensures rest { LetsGo S.view image.old image.new }
+    ensures rest { ReleasesOneMapping S.view image.old image.new }
     ensures faults { NoFewerFaults S.view F.backing image.old image.new }
     ensures sees { Discards S.view F.backing image.old image.new prepared }
 {
@@ -378,7 +378,7 @@ fn step<S: Storage, F: WrappedFormat<S>>(
     ensures keeps { KeepsItself image.old image.new }
     ensures faults { CommandCounts S.view F.backing image.old image.new result }
     ensures slots { slots.new.image ≡ slots.old.image }
-    ensures goes { CommandSteps S.view F.backing image.old image.new slots.old slots.new command.now result }
+    ensures command_step { CommandSteps S.view F.backing image.old image.new slots.old slots.new command.now result }
     ensures finds { Finds slots.old slots.new command.now result }
     ensures tells { TellsOfImage S.view F.backing image.old image.new slots.old.prepared.items slots.new.prepared.items command.now result }
     ensures size { IsTrue (is_failed image.old) → size_of image.new ≡ size_of image.old }
@@ -436,7 +436,7 @@ fn get_mapping<S: Storage, F: WrappedFormat<S>>(
     ensures faults { CommandCounts S.view F.backing image.old image.new result }
     ensures causes { IsRightlyRefused S.view F.backing image.old image.new slots.old.prepared.items (found_in slots.old.mappings.items) (Command.GetMapping slot offset max) result }
     ensures slots { slots.new.image ≡ slots.old.image }
-    ensures goes { CommandSteps S.view F.backing image.old image.new slots.old slots.new (Command.GetMapping slot offset max) result }
+    ensures command_step { CommandSteps S.view F.backing image.old image.new slots.old slots.new (Command.GetMapping slot offset max) result }
     ensures finds { Finds slots.old slots.new (Command.GetMapping slot offset max) result }
     ensures unwritten { LeavesUnwritten S.view F.backing image.old slots.old.prepared.items image.new slots.new.prepared.items }
     ensures tells { TellsOfImage S.view F.backing image.old image.new slots.old.prepared.items slots.new.prepared.items (Command.GetMapping slot offset max) result }
@@ -463,7 +463,7 @@ fn read_mapped<S: Storage, F: WrappedFormat<S>>(
     ensures unwritten { StaysUnwritten S.view F.backing image.old image.new }
     ensures faults { CommandCounts S.view F.backing image.old image.new result }
     ensures causes { IsRightlyRefused S.view F.backing image.old image.new slots.now.prepared.items (found_in slots.now.mappings.items) (Command.ReadMapped slot at length) result }
-    ensures goes { CommandSteps S.view F.backing image.old image.new slots.now slots.now (Command.ReadMapped slot at length) result }
+    ensures command_step { CommandSteps S.view F.backing image.old image.new slots.now slots.now (Command.ReadMapped slot at length) result }
     ensures finds { Finds slots.now slots.now (Command.ReadMapped slot at length) result }
 {
     let Some(mapping) = slots.mappings[usize::from(slot)] else {
@@ -513,7 +513,7 @@ fn prepare<S: Storage, F: WrappedFormat<S>>(
     ensures faults { CommandCounts S.view F.backing image.old image.new result }
     ensures causes { IsRightlyRefused S.view F.backing image.old image.new slots.old.prepared.items (found_in slots.old.mappings.items) (Command.PrepareDataMapping slot offset length overwrite) result }
     ensures slots { slots.new.image ≡ slots.old.image }
-    ensures goes { CommandSteps S.view F.backing image.old image.new slots.old slots.new (Command.PrepareDataMapping slot offset length overwrite) result }
+    ensures command_step { CommandSteps S.view F.backing image.old image.new slots.old slots.new (Command.PrepareDataMapping slot offset length overwrite) result }
     ensures finds { Finds slots.old slots.new (Command.PrepareDataMapping slot offset length overwrite) result }
     ensures unwritten { LeavesUnwritten S.view F.backing image.old slots.old.prepared.items image.new slots.new.prepared.items }
     ensures tells { TellsOfImage S.view F.backing image.old image.new slots.old.prepared.items slots.new.prepared.items (Command.PrepareDataMapping slot offset length overwrite) result }
@@ -547,7 +547,7 @@ fn write_mapped<S: Storage, F: WrappedFormat<S>>(
     ensures reading { is_writable image.old ≡ false → image.new ≡ image.old }
     ensures faults { CommandCounts S.view F.backing image.old image.new result }
     ensures causes { IsRightlyRefused S.view F.backing image.old image.new slots.now.prepared.items (found_in slots.now.mappings.items) (Command.WriteMapped slot at bytes.now) result }
-    ensures goes { CommandSteps S.view F.backing image.old image.new slots.now slots.now (Command.WriteMapped slot at bytes.now) result }
+    ensures command_step { CommandSteps S.view F.backing image.old image.new slots.now slots.now (Command.WriteMapped slot at bytes.now) result }
     ensures finds { Finds slots.now slots.now (Command.WriteMapped slot at bytes.now) result }
 {
     let Some(prepared) = slots.get(slot) else {
@@ -573,7 +573,7 @@ fn commit<S: Storage, F: WrappedFormat<S>>(
     ensures faults { CommandCounts S.view F.backing image.old image.new result }
     ensures causes { IsRightlyRefused S.view F.backing image.old image.new slots.old.prepared.items (found_in slots.old.mappings.items) (Command.CommitDataMapping slot) result }
     ensures slots { slots.new.image ≡ slots.old.image }
-    ensures goes { CommandSteps S.view F.backing image.old image.new slots.old slots.new (Command.CommitDataMapping slot) result }
+    ensures command_step { CommandSteps S.view F.backing image.old image.new slots.old slots.new (Command.CommitDataMapping slot) result }
     ensures finds { Finds slots.old slots.new (Command.CommitDataMapping slot) result }
     ensures unwritten { LeavesUnwritten S.view F.backing image.old slots.old.prepared.items image.new slots.new.prepared.items }
 {
@@ -600,7 +600,7 @@ fn discard<S: Storage, F: WrappedFormat<S>>(
     ensures faults { CommandCounts S.view F.backing image.old image.new result }
     ensures causes { IsRightlyRefused S.view F.backing image.old image.new slots.old.prepared.items (found_in slots.old.mappings.items) (Command.DiscardDataMapping slot) result }
     ensures slots { slots.new.image ≡ slots.old.image }
-    ensures goes { CommandSteps S.view F.backing image.old image.new slots.old slots.new (Command.DiscardDataMapping slot) result }
+    ensures command_step { CommandSteps S.view F.backing image.old image.new slots.old slots.new (Command.DiscardDataMapping slot) result }
     ensures finds { Finds slots.old slots.new (Command.DiscardDataMapping slot) result }
     ensures unwritten { LeavesUnwritten S.view F.backing image.old slots.old.prepared.items image.new slots.new.prepared.items }
 {
@@ -618,7 +618,7 @@ fn flush<S: Storage, F: WrappedFormat<S>>(image: &mut Qcow2<S, F>) -> Reply
     ensures unwritten { StaysUnwritten S.view F.backing image.old image.new }
     ensures faults { CommandCounts S.view F.backing image.old image.new result }
     ensures causes { (before : List (Option Prepared)) (found : ℕ → Option Found) → IsRightlyRefused S.view F.backing image.old image.new before found Command.Flush result }
-    ensures goes { (slots : Slots) → CommandSteps S.view F.backing image.old image.new slots slots Command.Flush result }
+    ensures command_step { (slots : Slots) → CommandSteps S.view F.backing image.old image.new slots slots Command.Flush result }
     ensures finds { (slots : Slots) → Finds slots slots Command.Flush result }
 {
     if let Err(refusal) = image.flush() {

@@ -25,7 +25,7 @@ pub(crate) fn grow<S: Storage, F: WrappedFormat<S>>(
     ensures size { IsTrue (is_failed image.old) → size_of image.new ≡ size_of image.old }
     ensures faults { CommandCounts S.view F.backing image.old image.new result }
     ensures causes { (before : List (Option Prepared)) (found : ℕ → Option Found) → IsRightlyRefused S.view F.backing image.old image.new before found (ResizeGrow size mode) result }
-    ensures goes { (slots : Slots) → CommandSteps S.view F.backing image.old image.new slots slots (ResizeGrow size mode) result }
+    ensures command_step { (slots : Slots) → CommandSteps S.view F.backing image.old image.new slots slots (ResizeGrow size mode) result }
     ensures finds { (slots : Slots) → Finds slots slots (ResizeGrow size mode) result }
 {
     match image.resize_grow(size, mode) {
@@ -41,7 +41,7 @@ pub(crate) fn shrink<S: Storage, F: WrappedFormat<S>>(image: &mut Qcow2<S, F>, s
     ensures size { IsTrue (is_failed image.old) → size_of image.new ≡ size_of image.old }
     ensures faults { CommandCounts S.view F.backing image.old image.new result }
     ensures causes { (before : List (Option Prepared)) (found : ℕ → Option Found) → IsRightlyRefused S.view F.backing image.old image.new before found (ResizeShrink size) result }
-    ensures goes { (slots : Slots) → CommandSteps S.view F.backing image.old image.new slots slots (ResizeShrink size) result }
+    ensures command_step { (slots : Slots) → CommandSteps S.view F.backing image.old image.new slots slots (ResizeShrink size) result }
     ensures finds { (slots : Slots) → Finds slots slots (ResizeShrink size) result }
 {
     match image.resize_shrink(size) {

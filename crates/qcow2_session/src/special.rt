@@ -33,7 +33,7 @@ pub(crate) fn readv_special<S: Storage, F: WrappedFormat<S>>(
     ensures unwritten { StaysUnwritten S.view F.backing image.old image.new }
     ensures faults { CommandCounts S.view F.backing image.old image.new result }
     ensures causes { (before : List (Option Prepared)) (found : ℕ → Option Found) → IsRightlyRefused S.view F.backing image.old image.new before found (ReadvSpecial offset length) result }
-    ensures goes { (slots : Slots) → CommandSteps S.view F.backing image.old image.new slots slots (ReadvSpecial offset length) result }
+    ensures command_step { (slots : Slots) → CommandSteps S.view F.backing image.old image.new slots slots (ReadvSpecial offset length) result }
     ensures finds { (slots : Slots) → Finds slots slots (ReadvSpecial offset length) result }
 {
     match read_range(alloc, image, offset, length) {
@@ -53,7 +53,7 @@ pub(crate) fn try_readv_special<S: Storage, F: WrappedFormat<S>>(
     ensures unwritten { StaysUnwritten S.view F.backing image.old image.new }
     ensures faults { CommandCounts S.view F.backing image.old image.new result }
     ensures causes { (before : List (Option Prepared)) (found : ℕ → Option Found) → IsRightlyRefused S.view F.backing image.old image.new before found (TryReadvSpecial offset length) result }
-    ensures goes { (slots : Slots) → CommandSteps S.view F.backing image.old image.new slots slots (TryReadvSpecial offset length) result }
+    ensures command_step { (slots : Slots) → CommandSteps S.view F.backing image.old image.new slots slots (TryReadvSpecial offset length) result }
     ensures finds { (slots : Slots) → Finds slots slots (TryReadvSpecial offset length) result }
 {
     match try_range(alloc, image, offset, length) {

@@ -18,22 +18,22 @@ use Rattle.qcow2_alloc.proofs.CachedEntries.Lists.{option_or-assoc, option_or-no
 module _ {S K V E : Type 0} (steps : Steps S K V E) (s : S) (es : List (K × Slot V)) where
   -- whatever a flush of what is left does, with what was done it is a flush of all
   pub record Flushing (first : Option E) (r : S) (todo done : List (K × Slot V)) : Type 0 where
-    pub goes_on : (y : Option E) (t : S) (rest : List (K × Slot V)) → FlushesAll steps r todo y t rest → FlushesAll steps s es (option_or first y) t (done ++ rest)
+    pub eviction_on : (y : Option E) (t : S) (rest : List (K × Slot V)) → FlushesAll steps r todo y t rest → FlushesAll steps s es (option_or first y) t (done ++ rest)
 
   pub flushing_more : (first : Option E) (r : S) (e : K × Slot V) (todo done : List (K × Slot V)) (x : Option E) (r' : S) (d : Slot V)
       → Flushing first r (e ∷ todo) done → FlushesEntry steps r e x r' d → Flushing (option_or first x) r' todo (done ++ (e.0, d) ∷ [])
   flushing_more first r e todo done x r' d f h = record {
-    goes_on = λ y t rest g.
+    eviction_on = λ y t rest g.
         subst (λ l. FlushesAll steps s es (option_or (option_or first x) y) t l) (sym (append_assoc done ((e.0, d) ∷ []) rest))
         (subst (λ o. FlushesAll steps s es o t (done ++ (e.0, d) ∷ rest)) (sym (option_or-assoc first x y))
-        (f.goes_on (option_or x y) t ((e.0, d) ∷ rest) (x, r', d, y, rest, h, g, refl, refl)));
+        (f.eviction_on (option_or x y) t ((e.0, d) ∷ rest) (x, r', d, y, rest, h, g, refl, refl)));
   }
 
   pub flushing_all : (first : Option E) (r : S) (done : List (K × Slot V)) → Flushing first r [] done → FlushesAll steps s es first r done
   flushing_all first r done f =
       subst (λ l. FlushesAll steps s es first r l) (append-nil done)
       (subst (λ o. FlushesAll steps s es o r (done ++ [])) (option_or-none first)
-      (f.goes_on None r [] (refl, refl, refl)))
+      (f.eviction_on None r [] (refl, refl, refl)))
 
 pub length_flushed : {S K V E : Type 0} (steps : Steps S K V E) (s : S) (es : List (K × Slot V)) (o : Option E) (t : S) (fs : List (K × Slot V)) → FlushesAll steps s es o t fs → length fs ≡ length es
 length_flushed steps s [] o t fs h = ap length h.2

@@ -147,7 +147,7 @@ module _ {S K V E : Type 0} {steps : Steps S K V E} {eq : K → K → Bool} (law
 
   oldest_keeps : (size : ℕ) (may_flush : Bool) (s t : S) (es fs : List (K × Slot V)) → IsDistinct eq (keys_of es) → Evicts steps eq size may_flush s es t fs → KeepsKnownBytes s es t fs
   oldest_keeps size may_flush s t es fs d h =
-      let found = oldest_free-lookup laws es h.entry d h.goes in record {
+      let found = oldest_free-lookup laws es h.entry d h.eviction in record {
         honest = λ x. (b.flush_writes s t h.entry.0 h.entry.1.value h.clean h.flushed x).0;
         stays = λ x j. ap (λ l. seen t l j) h.rest ∙ evict_case s t es h.entry h.clean d found h.flushed x j (eq h.entry.0 j) refl;
       }
@@ -162,7 +162,7 @@ module _ {S K V E : Type 0} {steps : Steps S K V E} {eq : K → K → Bool} (law
   no_room_keeps size may_flush s t es fs (Err (StillInUse _)) d h = absurd h
   no_room_keeps size may_flush s t es fs (Err Memory) d h = absurd h
   no_room_keeps size may_flush s t es fs (Err (Backend x)) d h =
-      subst (KeepsKnownBytes s es t) (sym h.same) (failed_keeps s t es h.entry.0 h.entry.1 x (oldest_free-lookup laws es h.entry d h.goes) h.failed)
+      subst (KeepsKnownBytes s es t) (sym h.same) (failed_keeps s t es h.entry.0 h.entry.1 x (oldest_free-lookup laws es h.entry d h.eviction) h.failed)
 
   load_case : (s t : S) (es : List (K × Slot V)) (k : K) (v : V) → steps.loaded s k v t → lookup (eq k) es ≡ None → is_honest s → (j : K) (c : Bool) → eq j k ≡ c
       → shown (cond c (Some (slot_of v 0)) (lookup (eq j) es)) (stored t j) ≡ seen s es j

@@ -93,9 +93,9 @@ module _ {K V : Type 0} where
   some_oldest None e h = cc
   some_oldest (Some x) e h = cc
 
-  pub free_goes : (size : ℕ) (es : List (K × Slot V)) → 0 < size → size ≤ length es → pinned es ≡ [] → oldest_free es ≡ None → ⊥
-  free_goes size [] some full free none = omega arith
-  free_goes size (e ∷ es) some full free none = let c = free_case e es (is_pinned e.1) free in some_oldest (oldest_free es) e (rw c.0 at none)
+  pub free_eviction : (size : ℕ) (es : List (K × Slot V)) → 0 < size → size ≤ length es → pinned es ≡ [] → oldest_free es ≡ None → ⊥
+  free_eviction size [] some full free none = omega arith
+  free_eviction size (e ∷ es) some full free none = let c = free_case e es (is_pinned e.1) free in some_oldest (oldest_free es) e (rw c.0 at none)
 
   -- where there is no oldest one, all are pinned
   none_left : (o : Option (K × Slot V)) (b : Bool) (e : K × Slot V) → option_or o (cond b None (Some e)) ≡ None → (o ≡ None) × (b ≡ true)
@@ -132,16 +132,16 @@ module _ {K V : Type 0} (eq : K → K → Bool) where
     }
 
     gone_case : (es : List (K × Slot V)) (e : K × Slot V) → IsDistinct eq (keys_of es) → oldest_free es ≡ Some e → (j : K) (c : Bool) → eq e.0 j ≡ c → pins_at (eq j) (remove_entry (eq e.0) es) ≡ pins_at (eq j) es
-    gone_case es e d goes j true same =
+    gone_case es e d eviction j true same =
         let gone : lookup (eq j) (remove_entry (eq e.0) es) ≡ None = lookup-remove_entry laws (eq e.0) (λ p q z. laws.congr e.0 p q z) j es d ∙ ap (λ c. cond c None (lookup (eq j) es)) same in
-        let was : lookup (eq j) es ≡ Some e.1 = sym (lookup_alike laws es e.0 j same) ∙ oldest_free-lookup laws es e d goes in
-        ap pins_of gone ∙ sym (ap pins_of was ∙ no_pins e.1 (oldest_unpinned es e goes))
-    gone_case es e d goes j false other = ap pins_of (removed_apart laws es e.0 j other)
+        let was : lookup (eq j) es ≡ Some e.1 = sym (lookup_alike laws es e.0 j same) ∙ oldest_free-lookup laws es e d eviction in
+        ap pins_of gone ∙ sym (ap pins_of was ∙ no_pins e.1 (oldest_unpinned es e eviction))
+    gone_case es e d eviction j false other = ap pins_of (removed_apart laws es e.0 j other)
 
     -- the oldest entry with no pin goes
     pins_gone : (es : List (K × Slot V)) (e : K × Slot V) → IsDistinct eq (keys_of es) → oldest_free es ≡ Some e → Kept es (remove_entry (eq e.0) es)
-    pins_gone es e d goes = record {
-      pins = λ j. gone_case es e d goes j (eq e.0 j) refl;
+    pins_gone es e d eviction = record {
+      pins = λ j. gone_case es e d eviction j (eq e.0 j) refl;
       free = λ f. none_pinned (remove_entry (eq e.0) es) (free_removed (eq e.0) es (are_free es f));
     }
 
@@ -214,7 +214,7 @@ module _ {K V : Type 0} (eq : K → K → Bool) where
         room_pins : (t : S) (fs : List (K × Slot V)) → IsDistinct eq (keys_of es) → HasRoomForEntry steps eq size may_flush s es t fs → Kept es fs
         room_pins t fs d h = elim h [
           | inl r ↦ pins_same es fs r.2
-          | inr r ↦ subst (Kept es) (sym r.rest) (pins_gone es r.entry d r.goes)
+          | inr r ↦ subst (Kept es) (sym r.rest) (pins_gone es r.entry d r.eviction)
         ]
 
         no_room_pins : (r : Result Bool (CacheError K E)) (t : S) (fs : List (K × Slot V)) → HasNoRoom steps eq size may_flush s es r t fs → Kept es fs

@@ -18,7 +18,7 @@ module _ {K V : Type 0} (eq : K → K → Bool) (es : List (K × Slot V)) where
   -- the entry that `oldest_free` names by its key
   pub record IsOldest (k : K) : Type 0 where
     pub entry : K × Slot V
-    pub goes : oldest_free es ≡ Some entry
+    pub eviction : oldest_free es ≡ Some entry
     pub key : entry.0 ≡ k
     pub here : lookup (eq k) es ≡ Some entry.1
 
@@ -27,7 +27,7 @@ module _ {K V : Type 0} (eq : K → K → Bool) (es : List (K × Slot V)) where
   oldest_of laws d k (Some e) is h =
       let key : e.0 ≡ k = cc in record {
         entry = e;
-        goes = is;
+        eviction = is;
         key = key;
         here = subst (λ x. lookup (eq x) es ≡ Some e.1) key (oldest_free-lookup laws es e d is);
       }
@@ -48,7 +48,7 @@ module _ {S K V E : Type 0} (steps : Steps S K V E) (eq : K → K → Bool) (siz
         room = record {
           must = must;
           entry = o.entry;
-          goes = o.goes;
+          eviction = o.eviction;
           failed = subst (λ y. steps.flush_failed s y o.entry.1.value x t) (sym o.key) f.step.0;
           same = ap (λ m. m.entries) same;
         };
@@ -71,7 +71,7 @@ module _ {S K V E : Type 0} (steps : Steps S K V E) (eq : K → K → Bool) (siz
         room = inr record {
           must = must;
           entry = o.entry;
-          goes = o.goes;
+          eviction = o.eviction;
           clean = f.slot.value;
           flushed = subst (λ y. steps.flushed s y o.entry.1.value f.slot.value t) (sym o.key) f.step.0;
           rest = rest ∙ ap (λ y. remove_entry (eq y) c.entries) (sym o.key);

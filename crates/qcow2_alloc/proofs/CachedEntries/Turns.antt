@@ -144,7 +144,7 @@ module _ {S K V E : Type 0} (steps : Steps S K V E) (s₀ : S) (all : List (K ×
       }
 
   pub flush_begins : IsFlushing None s₀ all 0
-  flush_begins = record { todo = all; done = []; split = sym (append-nil all); left = omega arith; holds = record { goes_on = λ y t rest h. h } }
+  flush_begins = record { todo = all; done = []; split = sym (append-nil all); left = omega arith; holds = record { eviction_on = λ y t rest h. h } }
 
   pub flushed_around : (first : Option E) (s : S) (es : List (K × Slot V)) (turn : ℕ) → IsFlushing first s es turn → length all ≤ turn → FlushesAll steps s₀ all first s es
   flushed_around first s es turn a le = flushing_all steps s₀ all first s es (around all (Flushing steps s₀ all first s) es turn a le)

@@ -28,7 +28,7 @@ use Rattle.qcow2_alloc.specs.KeptTables.{cached_table, cached_tables, AreKept, A
 use Rattle.qcow2_alloc.specs.MetadataCaches.{order_of, l2_tables, refblocks, known_of, CacheInvariant, IsCountedAt, Made}
 use Rattle.qcow2_alloc.proofs.KeptTables.Entries.{tables_at}
 use Rattle.qcow2_alloc.proofs.KeptTables.Loaded.{in_own_cluster}
-use Rattle.qcow2_alloc.proofs.KeptTables.Settled.{blocks_stand, settled_in}
+use Rattle.qcow2_alloc.proofs.KeptTables.BlocksNamed.{blocks_stand, named_blocks_in}
 use Rattle.qcow2_alloc.proofs.KeptTables.Standing.{AreStanding, stand_set, own_cluster}
 use Rattle.qcow2_alloc.proofs.KeptTables.Changing.{Held, new_data, loaded_apart, loaded_changed, list_knows, fit_set, fit_new_data}
 
@@ -65,7 +65,7 @@ module _ {S : Type 0} (h : HeaderFields) (p : Pending) (on_storage : Bytes) (cac
   place_is w = ap (λ n. key * 2 ^ n) sound.rb_format.bits ∙ sym at.place
 
   same_entry : reftable_entry h on_storage (c / counts_per_block h) ≡ reftable_entry h (known_of h caches on_storage) (c / counts_per_block h)
-  same_entry = sound.kept.kept.guarded.same_top.reftable (c / counts_per_block h)
+  same_entry = sound.kept.kept.crash_invariant.same_top.reftable (c / counts_per_block h)
 
   has : (w : RefBlockView) → HasBlock h on_storage ((table w).place / cluster_size h)
   has w = (c / counts_per_block h, (λ none. at.real (ap block_offset (sym same_entry) ∙ none)), ap (λ n. n / cluster_size h) (ap block_offset same_entry ∙ sym (place_is w)))
@@ -156,14 +156,14 @@ module _ {S : Type 0} (h : HeaderFields) (p : Pending) (on_storage : Bytes) (cac
         ∙ sym (ap (λ (m : Bytes). m o) known')
 
     pub sound_again : (p' : Pending) → CrashInvariant h (order_of caches') p' on_storage (known_of h caches' on_storage) → CacheInvariant h p' caches' on_storage
-    sound_again p' guarded =
+    sound_again p' crash_invariant =
         let covers : SameCovers h (known_bytes (cluster_size h) (l2_tables caches) (list_with v) on_storage) (known_bytes (cluster_size h) (l2_tables caches) (list_with w) on_storage) =
         subst (λ (b : Bytes). SameCovers h b (known_bytes (cluster_size h) (l2_tables caches) (list_with w) on_storage)) known_is
-        (subst (λ (b : Bytes). SameCovers h (known_of h caches on_storage) b) known' (counted_covers h (order_of caches) p on_storage (known_of h caches on_storage) (known_of h caches' on_storage) sound.kept.kept.guarded c at.real outside)) in
-        let guarded' : CrashInvariant h (order_of caches) p' on_storage (known_bytes (cluster_size h) (l2_tables caches) (list_with w) on_storage) =
-        subst (λ (b : Bytes). CrashInvariant h (order_of caches) p' on_storage b) known' (rw direction_is at guarded) in
+        (subst (λ (b : Bytes). SameCovers h (known_of h caches on_storage) b) known' (counted_covers h (order_of caches) p on_storage (known_of h caches on_storage) (known_of h caches' on_storage) sound.kept.kept.crash_invariant c at.real outside)) in
+        let crash_invariant' : CrashInvariant h (order_of caches) p' on_storage (known_bytes (cluster_size h) (l2_tables caches) (list_with w) on_storage) =
+        subst (λ (b : Bytes). CrashInvariant h (order_of caches) p' on_storage b) known' (rw direction_is at crash_invariant) in
         let again = refblock_changed h (order_of caches) (order_of caches) p p' (l2_tables caches) (tables there.front) (tables there.back) (table v) (table w) on_storage kept.kept aligned_v (has w)
-        (loaded_apart (cluster_size h) (HasBlock h on_storage) on_storage (list_with w) loaded') covers guarded' in
+        (loaded_apart (cluster_size h) (HasBlock h on_storage) on_storage (list_with w) loaded') covers crash_invariant' in
         let all : AllValuesFit (IsBlockOf caches.rb.backend.header.fields) (set_at (eqb key) caches.rb.entries w) =
         let old = subst (AllValuesFit (IsBlockOf caches.rb.backend.header.fields)) there.is sound.rb_fit in
         let own = fit_new_data (IsBlockOf caches.rb.backend.header.fields) key there.front there.back v there.pins old in
@@ -178,14 +178,14 @@ module _ {S : Type 0} (h : HeaderFields) (p : Pending) (on_storage : Bytes) (cac
         })
 
     -- the refblock is named, and the others are as they were
-    pub settled_again : AreNamedBlocks h (refblocks caches) on_storage → AreNamedBlocks h (refblocks caches') on_storage
-    settled_again settled =
+    pub named_blocks_again : AreNamedBlocks h (refblocks caches) on_storage → AreNamedBlocks h (refblocks caches') on_storage
+    named_blocks_again named_blocks =
         let mine : IsBlockOf caches.rb.backend.header.fields w = let own = fit_new_data (IsBlockOf caches.rb.backend.header.fields) key there.front there.back v there.pins (subst (AllValuesFit (IsBlockOf caches.rb.backend.header.fields)) there.is sound.rb_fit) in
         record { bits = same_bits ∙ own.bits; order = same_order ∙ own.order } in
         let own_key : (table w).place / cluster_size h ≡ key = ap (λ n. key * 2 ^ n / cluster_size h) sound.rb_format.bits ∙ own_cluster h.cluster_bits key in
         let all = stand_set (λ (b : RefBlockView). b.is_modified) (IsBlockOf caches.rb.backend.header.fields) (HasBlock h on_storage) key there.front there.back v w there.pins (record { fits = mine; named = λ _. subst (HasBlock h on_storage) own_key (has w) })
-        (subst (AreStanding (λ (b : RefBlockView). b.is_modified) (IsBlockOf caches.rb.backend.header.fields) (HasBlock h on_storage)) there.is (blocks_stand h p caches on_storage sound settled)) in
-        rw rb_is (settled_in h on_storage caches.rb.backend.header.fields.cluster_bits sound.rb_format.bits (IsBlockOf caches.rb.backend.header.fields) (set_at (eqb key) caches.rb.entries w)
+        (subst (AreStanding (λ (b : RefBlockView). b.is_modified) (IsBlockOf caches.rb.backend.header.fields) (HasBlock h on_storage)) there.is (blocks_stand h p caches on_storage sound named_blocks)) in
+        rw rb_is (named_blocks_in h on_storage caches.rb.backend.header.fields.cluster_bits sound.rb_format.bits (IsBlockOf caches.rb.backend.header.fields) (set_at (eqb key) caches.rb.entries w)
         (subst (AreStanding (λ (b : RefBlockView). b.is_modified) (IsBlockOf caches.rb.backend.header.fields) (HasBlock h on_storage)) (sym (there.set w)) all))
 
     pub raised : ChangesCount v.refcount_order v.bytes w.bytes index (count_in v.refcount_order v.bytes index + 1) → count h (known_of h caches on_storage) c ≡ 0
@@ -193,7 +193,7 @@ module _ {S : Type 0} (h : HeaderFields) (p : Pending) (on_storage : Bytes) (cac
     raised changes free = record {
       change = count_rises h (known_of h caches on_storage) (known_of h caches' on_storage) c v.bytes w.bytes sizes at.real outside was now
           (rw (order_is, sym at.at) at changes) (ap (count_in h.refcount_order v.bytes) at.at ∙ ap (λ n. count_in n v.bytes index) (sym order_is) ∙ sym count_is ∙ free);
-      settled = settled_again;
+      named_blocks = named_blocks_again;
       sound = sound_again;
     }
 
@@ -202,6 +202,6 @@ module _ {S : Type 0} (h : HeaderFields) (p : Pending) (on_storage : Bytes) (cac
     lowered changes some = record {
       change = count_falls h (known_of h caches on_storage) (known_of h caches' on_storage) c v.bytes w.bytes sizes at.real outside was now
           (rw (order_is, sym at.at) at changes) (rw (order_is, sym at.at) at some);
-      settled = settled_again;
+      named_blocks = named_blocks_again;
       sound = sound_again;
     }

@@ -24,14 +24,14 @@ module _ {S : Type 0} (h : HeaderFields) (caches : MetadataCaches S) (l2 : cache
 
   pub sound_empty : caches.l2.backend.header.fields ≡ h → caches.rb.backend.header.fields ≡ h → order_of caches ≡ Neither
       → (p : Pending) (on_storage : Bytes) → CrashInvariant h Neither p on_storage on_storage → CacheInvariant h p caches on_storage
-  sound_empty l2_header rb_header none p on_storage guarded = record {
+  sound_empty l2_header rb_header none p on_storage crash_invariant = record {
     l2_format = same_format caches.l2.backend.header.fields h l2_header;
     rb_format = same_format caches.rb.backend.header.fields h rb_header;
     l2_fit = rw l2 tt;
     rb_fit = rw rb tt;
     kept = rw (l2, rb, none) (record {
       kept = record {
-        guarded = subst (CrashInvariant h Neither p on_storage) (sym (known_empty (cluster_size h) on_storage)) guarded;
+        crash_invariant = subst (CrashInvariant h Neither p on_storage) (sym (known_empty (cluster_size h) on_storage)) crash_invariant;
         l2_apart = tt;
         rb_apart = tt;
         l2_stand = λ c. inl (λ o _. tt);

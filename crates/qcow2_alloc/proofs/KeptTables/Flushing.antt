@@ -24,7 +24,7 @@ use Rattle.qcow2_alloc.specs.ImageStorage.{storage_of}
 use Rattle.qcow2_alloc.specs.TableCaches.{l2_steps, rb_steps, cleared_l2, cleared_rb, IsTableOf, IsBlockOf}
 use Rattle.qcow2_alloc.specs.KeptTables.{cached_tables, AreKept}
 use Rattle.qcow2_alloc.specs.MetadataCaches.{order_of, l2_tables, refblocks, KeepSound}
-use Rattle.qcow2_alloc.proofs.KeptTables.Settled.{settled_beside, settled_anew, blocks_stand, block_place}
+use Rattle.qcow2_alloc.proofs.KeptTables.BlocksNamed.{named_blocks_beside, named_blocks_anew, blocks_stand, block_place}
 use Rattle.qcow2_alloc.proofs.KeptTables.Standing.{flush_stands}
 use Rattle.qcow2_alloc.proofs.KeptTables.Fitting.{flush_fits}
 use Rattle.qcow2_alloc.proofs.KeptTables.Writing.{l2_wrote, rb_wrote, flushed_all, flushed_clean}
@@ -86,7 +86,7 @@ module _ {S : Type 0} (view : S → StorageView) (old new : ImageStorage S) (cac
             kept = f.kept;
           };
           known = f.known;
-          settled = settled_beside h (order_of caches) (order_of caches) p p (l2_tables caches) (refblocks caches) (cached_tables bits (λ (t : L2TableView). t.bytes) (λ t. t.is_modified) l2.entries) (refblocks caches) (byte_at (seen old).contents) (byte_at (seen new).contents) sound.kept f.kept f.known;
+          named_blocks = named_blocks_beside h (order_of caches) (order_of caches) p p (l2_tables caches) (refblocks caches) (cached_tables bits (λ (t : L2TableView). t.bytes) (λ t. t.is_modified) l2.entries) (refblocks caches) (byte_at (seen old).contents) (byte_at (seen new).contents) sound.kept f.kept f.known;
           since = f.since;
         })
 
@@ -118,9 +118,9 @@ module _ {S : Type 0} (view : S → StorageView) (old new : ImageStorage S) (cac
             kept = f.kept;
           };
           known = f.known;
-          settled = λ settled.
-              settled_anew h (order_of caches) (order_of caches) p p (l2_tables caches) (refblocks caches) (l2_tables caches) (cached_tables bits (λ (b : RefBlockView). b.bytes) (λ b. b.is_modified) rb.entries) (byte_at (seen old).contents) (byte_at (seen new).contents) sound.kept f.kept f.known bits sound.rb_format.bits (IsBlockOf caches.rb.backend.header.fields) rb.entries
-              (flush_stands seen bits (λ (b : RefBlockView). b.bytes) (λ b. b.is_modified) cleared_rb (IsBlockOf caches.rb.backend.header.fields) (λ v. refl) (block_still caches.rb.backend.header.fields) (HasBlock h (byte_at (seen old).contents)) (block_place h (byte_at (seen old).contents) caches.rb.backend.header.fields.cluster_bits sound.rb_format.bits) old new caches.rb.entries rb.entries answer (blocks_stand h p caches (byte_at (seen old).contents) sound settled) flushes);
+          named_blocks = λ named_blocks.
+              named_blocks_anew h (order_of caches) (order_of caches) p p (l2_tables caches) (refblocks caches) (l2_tables caches) (cached_tables bits (λ (b : RefBlockView). b.bytes) (λ b. b.is_modified) rb.entries) (byte_at (seen old).contents) (byte_at (seen new).contents) sound.kept f.kept f.known bits sound.rb_format.bits (IsBlockOf caches.rb.backend.header.fields) rb.entries
+              (flush_stands seen bits (λ (b : RefBlockView). b.bytes) (λ b. b.is_modified) cleared_rb (IsBlockOf caches.rb.backend.header.fields) (λ v. refl) (block_still caches.rb.backend.header.fields) (HasBlock h (byte_at (seen old).contents)) (block_place h (byte_at (seen old).contents) caches.rb.backend.header.fields.cluster_bits sound.rb_format.bits) old new caches.rb.entries rb.entries answer (blocks_stand h p caches (byte_at (seen old).contents) sound named_blocks) flushes);
           since = f.since;
         })
 

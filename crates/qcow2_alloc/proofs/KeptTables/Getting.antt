@@ -117,7 +117,7 @@ module _ {S V : Type 0} (view : S → StorageView) (bits : ℕ) (bytes : V → L
     evicted s t es fs honest kept v =
         let e : ℕ × Slot V = v.entry in
         let w : ℕ × Slot V = (e.0, record { value = v.clean; pins = e.1.pins }) in
-        let sp = split_oldest es e v.goes in
+        let sp = split_oldest es e v.eviction in
         let at = tables_at bits bytes is_modified sp.front sp.back e in
         let both = tables_both bits bytes is_modified sp.front sp.back in
         let whole : tables es ≡ tables sp.front ++ table e ∷ tables sp.back = ap tables sp.is ∙ at in
@@ -152,7 +152,7 @@ module _ {S V : Type 0} (view : S → StorageView) (bits : ℕ) (bytes : V → L
     no_room_done s t es fs (Err Memory) honest kept h = absurd h
     no_room_done s t es fs (Err (Backend x)) honest kept h =
         let e : ℕ × Slot V = h.entry in
-        let sp = split_oldest es e h.goes in
+        let sp = split_oldest es e h.eviction in
         let whole : tables es ≡ tables sp.front ++ table e ∷ tables sp.back = ap tables sp.is ∙ tables_at bits bytes is_modified sp.front sp.back e in
         let kept' : P (tables sp.front ++ table e ∷ tables sp.back) (contents s) = subst (λ l. P l (contents s)) whole kept in
         let one = flushed_entry view bits bytes is_modified cleared IsFit unmodified same_bytes P all (step h.must.may) s t (tables sp.front) (tables sp.back) e (Some x) e.1 honest kept' (h.failed, refl) in

@@ -50,7 +50,7 @@ module _ {S : Type 0} (view : S → StorageView) where
       (subst (λ (m : Bytes). IsInOrderSince h (order_of b) (view (storage_of s)) (view (storage_of t)) m) k.known (second h p k.honest k.sound)) in
       let then : (l : List ℕ) → IsMixed h (order_of a) (byte_at (view (storage_of s)).contents) (known_of h a (byte_at (view (storage_of r)).contents)) (byte_at l)
       → IsMixed h (order_of a) (byte_at (view (storage_of r)).contents) (known_of h a (byte_at (view (storage_of r)).contents)) (byte_at l) =
-      λ l now. mixed_then h (order_of a) p (byte_at (view (storage_of r)).contents) (known_of h a (byte_at (view (storage_of r)).contents)) (byte_at (view (storage_of s)).contents) (byte_at l) sound.kept.kept.guarded one.contents now in
+      λ l now. mixed_then h (order_of a) p (byte_at (view (storage_of r)).contents) (known_of h a (byte_at (view (storage_of r)).contents)) (byte_at (view (storage_of s)).contents) (byte_at l) sound.kept.kept.crash_invariant one.contents now in
       record { moments = passes_on _ one.moments two.moments then; contents = then (view (storage_of t)).contents two.contents }
 
 -- what was put in, or wasn't, came in that order
@@ -78,9 +78,9 @@ module _ {S : Type 0} (view : S → StorageView) (old new : ImageStorage S) (cac
       let on_storage = byte_at (seen old).contents in
       let all = all_of (l2_steps seen caches.l2.backend.header.fields) old new caches.l2.entries l2.entries answer flushes in
       let f = flushed_all seen bits (λ (t : L2TableView). t.bytes) (λ t. t.is_modified) cleared_l2 (IsTableOf caches.l2.backend.header.fields) (λ v. refl) (λ v. refl)
-      (OrderedTables h (order_of caches) p on_storage (known_of h caches on_storage) sound.kept.kept.guarded bits sound.l2_format.bits (refblocks caches))
+      (OrderedTables h (order_of caches) p on_storage (known_of h caches on_storage) sound.kept.kept.crash_invariant bits sound.l2_format.bits (refblocks caches))
       (λ ts on_storage. known_bytes (cluster_size h) ts (refblocks caches) on_storage)
-      (l2_step_ordered h (order_of caches) p on_storage (known_of h caches on_storage) sound.kept.kept.guarded bits sound.l2_format.bits (refblocks caches) may)
+      (l2_step_ordered h (order_of caches) p on_storage (known_of h caches on_storage) sound.kept.kept.crash_invariant bits sound.l2_format.bits (refblocks caches) may)
       old new [] caches.l2.entries l2.entries all.0 honest (sound.kept, refl, mixed_same h (order_of caches) on_storage (known_of h caches on_storage)) all.1 in
       record { moments = passes_if _ (λ l now. now.1.2) f.moments; contents = f.kept.2 }
 
@@ -91,9 +91,9 @@ module _ {S : Type 0} (view : S → StorageView) (old new : ImageStorage S) (cac
       let on_storage = byte_at (seen old).contents in
       let all = all_of (rb_steps seen caches.rb.backend.header.fields) old new caches.rb.entries rb.entries answer flushes in
       let f = flushed_all seen bits (λ (b : RefBlockView). b.bytes) (λ b. b.is_modified) cleared_rb (IsBlockOf caches.rb.backend.header.fields) (λ v. refl) (λ v. refl)
-      (OrderedBlocks h (order_of caches) p on_storage (known_of h caches on_storage) sound.kept.kept.guarded bits sound.rb_format.bits (l2_tables caches))
+      (OrderedBlocks h (order_of caches) p on_storage (known_of h caches on_storage) sound.kept.kept.crash_invariant bits sound.rb_format.bits (l2_tables caches))
       (λ ts on_storage. known_bytes (cluster_size h) (l2_tables caches) ts on_storage)
-      (rb_step_ordered h (order_of caches) p on_storage (known_of h caches on_storage) sound.kept.kept.guarded bits sound.rb_format.bits (l2_tables caches) may)
+      (rb_step_ordered h (order_of caches) p on_storage (known_of h caches on_storage) sound.kept.kept.crash_invariant bits sound.rb_format.bits (l2_tables caches) may)
       old new [] caches.rb.entries rb.entries all.0 honest (sound.kept, refl, mixed_same h (order_of caches) on_storage (known_of h caches on_storage)) all.1 in
       record { moments = passes_if _ (λ l now. now.1.2) f.moments; contents = f.kept.2 }
 
@@ -108,8 +108,8 @@ module _ {S : Type 0} (view : S → StorageView) (old new : ImageStorage S) (cac
       elim (none_or_some (lookup (eqb key) caches.l2.entries)) [
         | inl there ↦ let is = hit there in rw is.2 (order_none view old caches h p honest sound)
         | inr missing ↦
-            let f = get_done seen bits (λ (t : L2TableView). t.bytes) (λ t. t.is_modified) cleared_l2 (IsTableOf caches.l2.backend.header.fields) (λ v. refl) (λ v. refl) (OrderedTables h (order_of caches) p on_storage (known_of h caches on_storage) sound.kept.kept.guarded bits sound.l2_format.bits (refblocks caches)) (λ ts on_storage. known_bytes (cluster_size h) ts (refblocks caches) on_storage) (λ ts on_storage are. loaded_distinct (cluster_size h) (HasL2 h on_storage) on_storage ts are.0.l2_loaded) (l2_drop_ordered h (order_of caches) p on_storage (known_of h caches on_storage) sound.kept.kept.guarded bits sound.l2_format.bits (refblocks caches)) (l2_add_ordered h (order_of caches) p on_storage (known_of h caches on_storage) sound.kept.kept.guarded bits sound.l2_format.bits (refblocks caches)) (l2_promote_ordered h (order_of caches) p on_storage (known_of h caches on_storage) sound.kept.kept.guarded bits sound.l2_format.bits (refblocks caches)) caches.l2.size may_flush
-            (λ flush. l2_step_ordered h (order_of caches) p on_storage (known_of h caches on_storage) sound.kept.kept.guarded bits sound.l2_format.bits (refblocks caches) (may flush))
+            let f = get_done seen bits (λ (t : L2TableView). t.bytes) (λ t. t.is_modified) cleared_l2 (IsTableOf caches.l2.backend.header.fields) (λ v. refl) (λ v. refl) (OrderedTables h (order_of caches) p on_storage (known_of h caches on_storage) sound.kept.kept.crash_invariant bits sound.l2_format.bits (refblocks caches)) (λ ts on_storage. known_bytes (cluster_size h) ts (refblocks caches) on_storage) (λ ts on_storage are. loaded_distinct (cluster_size h) (HasL2 h on_storage) on_storage ts are.0.l2_loaded) (l2_drop_ordered h (order_of caches) p on_storage (known_of h caches on_storage) sound.kept.kept.crash_invariant bits sound.l2_format.bits (refblocks caches)) (l2_add_ordered h (order_of caches) p on_storage (known_of h caches on_storage) sound.kept.kept.crash_invariant bits sound.l2_format.bits (refblocks caches)) (l2_promote_ordered h (order_of caches) p on_storage (known_of h caches on_storage) sound.kept.kept.crash_invariant bits sound.l2_format.bits (refblocks caches)) caches.l2.size may_flush
+            (λ flush. l2_step_ordered h (order_of caches) p on_storage (known_of h caches on_storage) sound.kept.kept.crash_invariant bits sound.l2_format.bits (refblocks caches) (may flush))
             old new key caches.l2.entries l2.entries answer honest (sound.kept, refl, mixed_same h (order_of caches) on_storage (known_of h caches on_storage)) (is_none (lookup (eqb key) caches.l2.entries) missing) (miss missing) in
             record { moments = passes_if _ (λ l now. now.1.2) f.moments; contents = f.kept.2 }
       ]
@@ -121,11 +121,11 @@ module _ {S : Type 0} (view : S → StorageView) (old new : ImageStorage S) (cac
   table_put_in_order may_flush key l2 v value left is answer there missing may h p honest sound =
       let bits = caches.l2.backend.header.fields.cluster_bits in
       let on_storage = byte_at (seen old).contents in
-      since_put seen bits (λ (t : L2TableView). t.bytes) (λ t. t.is_modified) cleared_l2 (IsTableOf caches.l2.backend.header.fields) (λ v. refl) (λ v. refl) (OrderedTables h (order_of caches) p on_storage (known_of h caches on_storage) sound.kept.kept.guarded bits sound.l2_format.bits (refblocks caches)) (λ ts on_storage. known_bytes (cluster_size h) ts (refblocks caches) on_storage) key v old new caches.l2.entries l2.entries h (order_of caches) (known_of h caches on_storage) (λ ts b now. now.2) answer
+      since_put seen bits (λ (t : L2TableView). t.bytes) (λ t. t.is_modified) cleared_l2 (IsTableOf caches.l2.backend.header.fields) (λ v. refl) (λ v. refl) (OrderedTables h (order_of caches) p on_storage (known_of h caches on_storage) sound.kept.kept.crash_invariant bits sound.l2_format.bits (refblocks caches)) (λ ts on_storage. known_bytes (cluster_size h) ts (refblocks caches) on_storage) key v old new caches.l2.entries l2.entries h (order_of caches) (known_of h caches on_storage) (λ ts b now. now.2) answer
       (found_or_not (lookup_entry (eqb key) caches.l2.entries)
-      (λ none. insert_put seen bits (λ (t : L2TableView). t.bytes) (λ t. t.is_modified) cleared_l2 (IsTableOf caches.l2.backend.header.fields) (λ v. refl) (λ v. refl) (OrderedTables h (order_of caches) p on_storage (known_of h caches on_storage) sound.kept.kept.guarded bits sound.l2_format.bits (refblocks caches)) (λ ts on_storage. known_bytes (cluster_size h) ts (refblocks caches) on_storage) (λ ts on_storage are. loaded_distinct (cluster_size h) (HasL2 h on_storage) on_storage ts are.0.l2_loaded) (l2_drop_ordered h (order_of caches) p on_storage (known_of h caches on_storage) sound.kept.kept.guarded bits sound.l2_format.bits (refblocks caches)) (l2_add_ordered h (order_of caches) p on_storage (known_of h caches on_storage) sound.kept.kept.guarded bits sound.l2_format.bits (refblocks caches)) (l2_promote_ordered h (order_of caches) p on_storage (known_of h caches on_storage) sound.kept.kept.guarded bits sound.l2_format.bits (refblocks caches)) caches.l2.size may_flush (λ flush. l2_step_ordered h (order_of caches) p on_storage (known_of h caches on_storage) sound.kept.kept.guarded bits sound.l2_format.bits (refblocks caches) (may flush)) key v
+      (λ none. insert_put seen bits (λ (t : L2TableView). t.bytes) (λ t. t.is_modified) cleared_l2 (IsTableOf caches.l2.backend.header.fields) (λ v. refl) (λ v. refl) (OrderedTables h (order_of caches) p on_storage (known_of h caches on_storage) sound.kept.kept.crash_invariant bits sound.l2_format.bits (refblocks caches)) (λ ts on_storage. known_bytes (cluster_size h) ts (refblocks caches) on_storage) (λ ts on_storage are. loaded_distinct (cluster_size h) (HasL2 h on_storage) on_storage ts are.0.l2_loaded) (l2_drop_ordered h (order_of caches) p on_storage (known_of h caches on_storage) sound.kept.kept.crash_invariant bits sound.l2_format.bits (refblocks caches)) (l2_add_ordered h (order_of caches) p on_storage (known_of h caches on_storage) sound.kept.kept.crash_invariant bits sound.l2_format.bits (refblocks caches)) (l2_promote_ordered h (order_of caches) p on_storage (known_of h caches on_storage) sound.kept.kept.crash_invariant bits sound.l2_format.bits (refblocks caches)) caches.l2.size may_flush (λ flush. l2_step_ordered h (order_of caches) p on_storage (known_of h caches on_storage) sound.kept.kept.crash_invariant bits sound.l2_format.bits (refblocks caches) (may flush)) key v
       old new caches.l2.entries l2.entries answer left honest (sound.kept, refl, mixed_same h (order_of caches) on_storage (known_of h caches on_storage)) (lookup_none (eqb key) caches.l2.entries none) (rw is at (missing (rw (lookup_none (eqb key) caches.l2.entries none) refl))))
-      (λ e some. replace_put seen bits (λ (t : L2TableView). t.bytes) (λ t. t.is_modified) cleared_l2 (IsTableOf caches.l2.backend.header.fields) (λ v. refl) (λ v. refl) (OrderedTables h (order_of caches) p on_storage (known_of h caches on_storage) sound.kept.kept.guarded bits sound.l2_format.bits (refblocks caches)) (λ ts on_storage. known_bytes (cluster_size h) ts (refblocks caches) on_storage) (λ ts on_storage are. loaded_distinct (cluster_size h) (HasL2 h on_storage) on_storage ts are.0.l2_loaded) (l2_drop_ordered h (order_of caches) p on_storage (known_of h caches on_storage) sound.kept.kept.guarded bits sound.l2_format.bits (refblocks caches)) (l2_add_ordered h (order_of caches) p on_storage (known_of h caches on_storage) sound.kept.kept.guarded bits sound.l2_format.bits (refblocks caches)) (l2_promote_ordered h (order_of caches) p on_storage (known_of h caches on_storage) sound.kept.kept.guarded bits sound.l2_format.bits (refblocks caches)) caches.l2.size may_flush (λ flush. l2_step_ordered h (order_of caches) p on_storage (known_of h caches on_storage) sound.kept.kept.guarded bits sound.l2_format.bits (refblocks caches) (may flush)) key v
+      (λ e some. replace_put seen bits (λ (t : L2TableView). t.bytes) (λ t. t.is_modified) cleared_l2 (IsTableOf caches.l2.backend.header.fields) (λ v. refl) (λ v. refl) (OrderedTables h (order_of caches) p on_storage (known_of h caches on_storage) sound.kept.kept.crash_invariant bits sound.l2_format.bits (refblocks caches)) (λ ts on_storage. known_bytes (cluster_size h) ts (refblocks caches) on_storage) (λ ts on_storage are. loaded_distinct (cluster_size h) (HasL2 h on_storage) on_storage ts are.0.l2_loaded) (l2_drop_ordered h (order_of caches) p on_storage (known_of h caches on_storage) sound.kept.kept.crash_invariant bits sound.l2_format.bits (refblocks caches)) (l2_add_ordered h (order_of caches) p on_storage (known_of h caches on_storage) sound.kept.kept.crash_invariant bits sound.l2_format.bits (refblocks caches)) (l2_promote_ordered h (order_of caches) p on_storage (known_of h caches on_storage) sound.kept.kept.crash_invariant bits sound.l2_format.bits (refblocks caches)) caches.l2.size may_flush (λ flush. l2_step_ordered h (order_of caches) p on_storage (known_of h caches on_storage) sound.kept.kept.crash_invariant bits sound.l2_format.bits (refblocks caches) (may flush)) key v
       old new caches.l2.entries e some honest (sound.kept, refl, mixed_same h (order_of caches) on_storage (known_of h caches on_storage)) l2.entries answer left (rw is at (rw some at there))))
 
   -- ---- a refblock
@@ -139,8 +139,8 @@ module _ {S : Type 0} (view : S → StorageView) (old new : ImageStorage S) (cac
       elim (none_or_some (lookup (eqb key) caches.rb.entries)) [
         | inl there ↦ let is = hit there in rw is.2 (order_none view old caches h p honest sound)
         | inr missing ↦
-            let f = get_done seen bits (λ (b : RefBlockView). b.bytes) (λ b. b.is_modified) cleared_rb (IsBlockOf caches.rb.backend.header.fields) (λ v. refl) (λ v. refl) (OrderedBlocks h (order_of caches) p on_storage (known_of h caches on_storage) sound.kept.kept.guarded bits sound.rb_format.bits (l2_tables caches)) (λ ts on_storage. known_bytes (cluster_size h) (l2_tables caches) ts on_storage) (λ ts on_storage are. loaded_distinct (cluster_size h) (HasBlock h on_storage) on_storage ts are.0.rb_loaded) (rb_drop_ordered h (order_of caches) p on_storage (known_of h caches on_storage) sound.kept.kept.guarded bits sound.rb_format.bits (l2_tables caches)) (rb_add_ordered h (order_of caches) p on_storage (known_of h caches on_storage) sound.kept.kept.guarded bits sound.rb_format.bits (l2_tables caches)) (rb_promote_ordered h (order_of caches) p on_storage (known_of h caches on_storage) sound.kept.kept.guarded bits sound.rb_format.bits (l2_tables caches)) caches.rb.size may_flush
-            (λ flush. rb_step_ordered h (order_of caches) p on_storage (known_of h caches on_storage) sound.kept.kept.guarded bits sound.rb_format.bits (l2_tables caches) (may flush))
+            let f = get_done seen bits (λ (b : RefBlockView). b.bytes) (λ b. b.is_modified) cleared_rb (IsBlockOf caches.rb.backend.header.fields) (λ v. refl) (λ v. refl) (OrderedBlocks h (order_of caches) p on_storage (known_of h caches on_storage) sound.kept.kept.crash_invariant bits sound.rb_format.bits (l2_tables caches)) (λ ts on_storage. known_bytes (cluster_size h) (l2_tables caches) ts on_storage) (λ ts on_storage are. loaded_distinct (cluster_size h) (HasBlock h on_storage) on_storage ts are.0.rb_loaded) (rb_drop_ordered h (order_of caches) p on_storage (known_of h caches on_storage) sound.kept.kept.crash_invariant bits sound.rb_format.bits (l2_tables caches)) (rb_add_ordered h (order_of caches) p on_storage (known_of h caches on_storage) sound.kept.kept.crash_invariant bits sound.rb_format.bits (l2_tables caches)) (rb_promote_ordered h (order_of caches) p on_storage (known_of h caches on_storage) sound.kept.kept.crash_invariant bits sound.rb_format.bits (l2_tables caches)) caches.rb.size may_flush
+            (λ flush. rb_step_ordered h (order_of caches) p on_storage (known_of h caches on_storage) sound.kept.kept.crash_invariant bits sound.rb_format.bits (l2_tables caches) (may flush))
             old new key caches.rb.entries rb.entries answer honest (sound.kept, refl, mixed_same h (order_of caches) on_storage (known_of h caches on_storage)) (is_none (lookup (eqb key) caches.rb.entries) missing) (miss missing) in
             record { moments = passes_if _ (λ l now. now.1.2) f.moments; contents = f.kept.2 }
       ]
@@ -152,9 +152,9 @@ module _ {S : Type 0} (view : S → StorageView) (old new : ImageStorage S) (cac
   block_put_in_order may_flush key rb v value left is answer there missing may h p honest sound =
       let bits = caches.rb.backend.header.fields.cluster_bits in
       let on_storage = byte_at (seen old).contents in
-      since_put seen bits (λ (b : RefBlockView). b.bytes) (λ b. b.is_modified) cleared_rb (IsBlockOf caches.rb.backend.header.fields) (λ v. refl) (λ v. refl) (OrderedBlocks h (order_of caches) p on_storage (known_of h caches on_storage) sound.kept.kept.guarded bits sound.rb_format.bits (l2_tables caches)) (λ ts on_storage. known_bytes (cluster_size h) (l2_tables caches) ts on_storage) key v old new caches.rb.entries rb.entries h (order_of caches) (known_of h caches on_storage) (λ ts b now. now.2) answer
+      since_put seen bits (λ (b : RefBlockView). b.bytes) (λ b. b.is_modified) cleared_rb (IsBlockOf caches.rb.backend.header.fields) (λ v. refl) (λ v. refl) (OrderedBlocks h (order_of caches) p on_storage (known_of h caches on_storage) sound.kept.kept.crash_invariant bits sound.rb_format.bits (l2_tables caches)) (λ ts on_storage. known_bytes (cluster_size h) (l2_tables caches) ts on_storage) key v old new caches.rb.entries rb.entries h (order_of caches) (known_of h caches on_storage) (λ ts b now. now.2) answer
       (found_or_not (lookup_entry (eqb key) caches.rb.entries)
-      (λ none. insert_put seen bits (λ (b : RefBlockView). b.bytes) (λ b. b.is_modified) cleared_rb (IsBlockOf caches.rb.backend.header.fields) (λ v. refl) (λ v. refl) (OrderedBlocks h (order_of caches) p on_storage (known_of h caches on_storage) sound.kept.kept.guarded bits sound.rb_format.bits (l2_tables caches)) (λ ts on_storage. known_bytes (cluster_size h) (l2_tables caches) ts on_storage) (λ ts on_storage are. loaded_distinct (cluster_size h) (HasBlock h on_storage) on_storage ts are.0.rb_loaded) (rb_drop_ordered h (order_of caches) p on_storage (known_of h caches on_storage) sound.kept.kept.guarded bits sound.rb_format.bits (l2_tables caches)) (rb_add_ordered h (order_of caches) p on_storage (known_of h caches on_storage) sound.kept.kept.guarded bits sound.rb_format.bits (l2_tables caches)) (rb_promote_ordered h (order_of caches) p on_storage (known_of h caches on_storage) sound.kept.kept.guarded bits sound.rb_format.bits (l2_tables caches)) caches.rb.size may_flush (λ flush. rb_step_ordered h (order_of caches) p on_storage (known_of h caches on_storage) sound.kept.kept.guarded bits sound.rb_format.bits (l2_tables caches) (may flush)) key v
+      (λ none. insert_put seen bits (λ (b : RefBlockView). b.bytes) (λ b. b.is_modified) cleared_rb (IsBlockOf caches.rb.backend.header.fields) (λ v. refl) (λ v. refl) (OrderedBlocks h (order_of caches) p on_storage (known_of h caches on_storage) sound.kept.kept.crash_invariant bits sound.rb_format.bits (l2_tables caches)) (λ ts on_storage. known_bytes (cluster_size h) (l2_tables caches) ts on_storage) (λ ts on_storage are. loaded_distinct (cluster_size h) (HasBlock h on_storage) on_storage ts are.0.rb_loaded) (rb_drop_ordered h (order_of caches) p on_storage (known_of h caches on_storage) sound.kept.kept.crash_invariant bits sound.rb_format.bits (l2_tables caches)) (rb_add_ordered h (order_of caches) p on_storage (known_of h caches on_storage) sound.kept.kept.crash_invariant bits sound.rb_format.bits (l2_tables caches)) (rb_promote_ordered h (order_of caches) p on_storage (known_of h caches on_storage) sound.kept.kept.crash_invariant bits sound.rb_format.bits (l2_tables caches)) caches.rb.size may_flush (λ flush. rb_step_ordered h (order_of caches) p on_storage (known_of h caches on_storage) sound.kept.kept.crash_invariant bits sound.rb_format.bits (l2_tables caches) (may flush)) key v
       old new caches.rb.entries rb.entries answer left honest (sound.kept, refl, mixed_same h (order_of caches) on_storage (known_of h caches on_storage)) (lookup_none (eqb key) caches.rb.entries none) (rw is at (missing (rw (lookup_none (eqb key) caches.rb.entries none) refl))))
-      (λ e some. replace_put seen bits (λ (b : RefBlockView). b.bytes) (λ b. b.is_modified) cleared_rb (IsBlockOf caches.rb.backend.header.fields) (λ v. refl) (λ v. refl) (OrderedBlocks h (order_of caches) p on_storage (known_of h caches on_storage) sound.kept.kept.guarded bits sound.rb_format.bits (l2_tables caches)) (λ ts on_storage. known_bytes (cluster_size h) (l2_tables caches) ts on_storage) (λ ts on_storage are. loaded_distinct (cluster_size h) (HasBlock h on_storage) on_storage ts are.0.rb_loaded) (rb_drop_ordered h (order_of caches) p on_storage (known_of h caches on_storage) sound.kept.kept.guarded bits sound.rb_format.bits (l2_tables caches)) (rb_add_ordered h (order_of caches) p on_storage (known_of h caches on_storage) sound.kept.kept.guarded bits sound.rb_format.bits (l2_tables caches)) (rb_promote_ordered h (order_of caches) p on_storage (known_of h caches on_storage) sound.kept.kept.guarded bits sound.rb_format.bits (l2_tables caches)) caches.rb.size may_flush (λ flush. rb_step_ordered h (order_of caches) p on_storage (known_of h caches on_storage) sound.kept.kept.guarded bits sound.rb_format.bits (l2_tables caches) (may flush)) key v
+      (λ e some. replace_put seen bits (λ (b : RefBlockView). b.bytes) (λ b. b.is_modified) cleared_rb (IsBlockOf caches.rb.backend.header.fields) (λ v. refl) (λ v. refl) (OrderedBlocks h (order_of caches) p on_storage (known_of h caches on_storage) sound.kept.kept.crash_invariant bits sound.rb_format.bits (l2_tables caches)) (λ ts on_storage. known_bytes (cluster_size h) (l2_tables caches) ts on_storage) (λ ts on_storage are. loaded_distinct (cluster_size h) (HasBlock h on_storage) on_storage ts are.0.rb_loaded) (rb_drop_ordered h (order_of caches) p on_storage (known_of h caches on_storage) sound.kept.kept.crash_invariant bits sound.rb_format.bits (l2_tables caches)) (rb_add_ordered h (order_of caches) p on_storage (known_of h caches on_storage) sound.kept.kept.crash_invariant bits sound.rb_format.bits (l2_tables caches)) (rb_promote_ordered h (order_of caches) p on_storage (known_of h caches on_storage) sound.kept.kept.crash_invariant bits sound.rb_format.bits (l2_tables caches)) caches.rb.size may_flush (λ flush. rb_step_ordered h (order_of caches) p on_storage (known_of h caches on_storage) sound.kept.kept.crash_invariant bits sound.rb_format.bits (l2_tables caches) (may flush)) key v
       old new caches.rb.entries e some honest (sound.kept, refl, mixed_same h (order_of caches) on_storage (known_of h caches on_storage)) rb.entries answer left (rw is at (rw some at there))))

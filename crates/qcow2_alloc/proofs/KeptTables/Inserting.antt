@@ -28,7 +28,7 @@ use Rattle.qcow2_alloc.specs.TableCaches.{l2_steps, rb_steps, cleared_l2, cleare
 use Rattle.qcow2_alloc.specs.KeptTables.{cached_tables, AllValuesFit, AreElsewhere, AreKept}
 use Rattle.qcow2_alloc.specs.MetadataCaches.{HasFormat, order_of, l2_tables, refblocks, CacheInvariant, UnseenCacheStep, HoldsKnown}
 use Rattle.qcow2_alloc.proofs.CachedEntries.Lists.{lookup-from_entry}
-use Rattle.qcow2_alloc.proofs.KeptTables.Settled.{settled_beside, settled_anew, blocks_stand, block_place}
+use Rattle.qcow2_alloc.proofs.KeptTables.BlocksNamed.{named_blocks_beside, named_blocks_anew, blocks_stand, block_place}
 use Rattle.qcow2_alloc.proofs.KeptTables.Standing.{clean_stands, insert_stands, replace_stands}
 use Rattle.qcow2_alloc.proofs.KeptTables.Writing.{Flushed}
 use Rattle.qcow2_alloc.proofs.KeptTables.Entries.{AreDistinct}
@@ -138,7 +138,7 @@ module _ {S : Type 0} (view : S → StorageView) (old new : ImageStorage S) (cac
           honest = f.honest;
           sound = record { l2_format = sound.l2_format; rb_format = sound.rb_format; l2_fit = fit; rb_fit = sound.rb_fit; kept = f.kept };
           known = f.known;
-          settled = settled_beside h (order_of caches) (order_of caches) p p (l2_tables caches) (refblocks caches) (cached_tables bits (λ (t : L2TableView). t.bytes) (λ t. t.is_modified) l2.entries) (refblocks caches) (byte_at (seen old).contents) (byte_at (seen new).contents) sound.kept f.kept f.known;
+          named_blocks = named_blocks_beside h (order_of caches) (order_of caches) p p (l2_tables caches) (refblocks caches) (cached_tables bits (λ (t : L2TableView). t.bytes) (λ t. t.is_modified) l2.entries) (refblocks caches) (byte_at (seen old).contents) (byte_at (seen new).contents) sound.kept f.kept f.known;
           since = f.since;
         })
 
@@ -189,10 +189,10 @@ module _ {S : Type 0} (view : S → StorageView) (old new : ImageStorage S) (cac
           honest = f.honest;
           sound = record { l2_format = sound.l2_format; rb_format = sound.rb_format; l2_fit = sound.l2_fit; rb_fit = fit; kept = f.kept };
           known = f.known;
-          settled = λ settled.
-              settled_anew h (order_of caches) (order_of caches) p p (l2_tables caches) (refblocks caches) (l2_tables caches) (cached_tables bits (λ (b : RefBlockView). b.bytes) (λ b. b.is_modified) rb.entries) (byte_at (seen old).contents) (byte_at (seen new).contents) sound.kept f.kept f.known bits sound.rb_format.bits (IsBlockOf caches.rb.backend.header.fields) rb.entries
+          named_blocks = λ named_blocks.
+              named_blocks_anew h (order_of caches) (order_of caches) p p (l2_tables caches) (refblocks caches) (l2_tables caches) (cached_tables bits (λ (b : RefBlockView). b.bytes) (λ b. b.is_modified) rb.entries) (byte_at (seen old).contents) (byte_at (seen new).contents) sound.kept f.kept f.known bits sound.rb_format.bits (IsBlockOf caches.rb.backend.header.fields) rb.entries
               (found_or_not (lookup_entry (eqb key) caches.rb.entries)
-              (λ none. insert_stands seen bits (λ (b : RefBlockView). b.bytes) (λ b. b.is_modified) cleared_rb (IsBlockOf caches.rb.backend.header.fields) (λ v. refl) (block_still caches.rb.backend.header.fields) (HasBlock h (byte_at (seen old).contents)) (block_place h (byte_at (seen old).contents) caches.rb.backend.header.fields.cluster_bits sound.rb_format.bits) caches.rb.size may_flush old new key v caches.rb.entries rb.entries answer left (λ _. clean_stands (λ (b : RefBlockView). b.is_modified) (IsBlockOf caches.rb.backend.header.fields) (HasBlock h (byte_at (seen old).contents)) key v of_format clean) (blocks_stand h p caches (byte_at (seen old).contents) sound settled) (rw is at (missing (rw (lookup_none (eqb key) caches.rb.entries none) refl))))
-              (λ e some. replace_stands seen bits (λ (b : RefBlockView). b.bytes) (λ b. b.is_modified) cleared_rb (IsBlockOf caches.rb.backend.header.fields) (λ v. refl) (block_still caches.rb.backend.header.fields) (HasBlock h (byte_at (seen old).contents)) (block_place h (byte_at (seen old).contents) caches.rb.backend.header.fields.cluster_bits sound.rb_format.bits) may_flush old new key v caches.rb.entries rb.entries e answer left some (λ _. clean_stands (λ (b : RefBlockView). b.is_modified) (IsBlockOf caches.rb.backend.header.fields) (HasBlock h (byte_at (seen old).contents)) e.0 v of_format clean) (blocks_stand h p caches (byte_at (seen old).contents) sound settled) (rw is at (rw some at there))));
+              (λ none. insert_stands seen bits (λ (b : RefBlockView). b.bytes) (λ b. b.is_modified) cleared_rb (IsBlockOf caches.rb.backend.header.fields) (λ v. refl) (block_still caches.rb.backend.header.fields) (HasBlock h (byte_at (seen old).contents)) (block_place h (byte_at (seen old).contents) caches.rb.backend.header.fields.cluster_bits sound.rb_format.bits) caches.rb.size may_flush old new key v caches.rb.entries rb.entries answer left (λ _. clean_stands (λ (b : RefBlockView). b.is_modified) (IsBlockOf caches.rb.backend.header.fields) (HasBlock h (byte_at (seen old).contents)) key v of_format clean) (blocks_stand h p caches (byte_at (seen old).contents) sound named_blocks) (rw is at (missing (rw (lookup_none (eqb key) caches.rb.entries none) refl))))
+              (λ e some. replace_stands seen bits (λ (b : RefBlockView). b.bytes) (λ b. b.is_modified) cleared_rb (IsBlockOf caches.rb.backend.header.fields) (λ v. refl) (block_still caches.rb.backend.header.fields) (HasBlock h (byte_at (seen old).contents)) (block_place h (byte_at (seen old).contents) caches.rb.backend.header.fields.cluster_bits sound.rb_format.bits) may_flush old new key v caches.rb.entries rb.entries e answer left some (λ _. clean_stands (λ (b : RefBlockView). b.is_modified) (IsBlockOf caches.rb.backend.header.fields) (HasBlock h (byte_at (seen old).contents)) e.0 v of_format clean) (blocks_stand h p caches (byte_at (seen old).contents) sound named_blocks) (rw is at (rw some at there))));
           since = f.since;
         })

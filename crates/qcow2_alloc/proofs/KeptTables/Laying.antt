@@ -55,9 +55,9 @@ module _ (h : HeaderFields) (d : Direction) (p : Pending) (l2s rbs : List Cached
 
   -- an L2 table that an L1 entry names
   pub l2_laid : AreElsewhere t.place l2s → AreNamedBlocks h rbs on_storage → HasOwnL2 h on_storage (t.place / size) → CrashInvariant h d p' on_storage (known_bytes size (t ∷ l2s) rbs on_storage) → AreKept h d p' (t ∷ l2s) rbs on_storage
-  l2_laid away settled has guarded = record {
+  l2_laid away named_blocks has crash_invariant = record {
     kept = record {
-      guarded = guarded;
+      crash_invariant = crash_invariant;
       l2_apart = (
         aligned,
         (λ o over. free_elsewhere size (HasL2 h on_storage) on_storage l2s t.place o aligned away are.l2_loaded (within_cluster t.place size o aligned (overlays_within size t o over))),
@@ -68,14 +68,14 @@ module _ (h : HeaderFields) (d : Direction) (p : Pending) (l2s rbs : List Cached
         | inl here ↦ inr (subst (HasOwnL2 h on_storage) (sym here) has)
         | inr other ↦ elim (are.kept.l2_stand c) [ inl free ↦ inl (λ o in_c. (past_other c other o in_c, free o in_c)) | inr named ↦ inr named ]
       ];
-      rb_stand = λ c. elim (settled c) [ inl free ↦ inl free | inr named ↦ inr (inl named) ];
+      rb_stand = λ c. elim (named_blocks c) [ inl free ↦ inl free | inr named ↦ inr (inl named) ];
     };
     l2_loaded = (aligned, away, (λ clean. absurd (differs t.is_modified marked clean)), are.l2_loaded);
     rb_loaded = are.rb_loaded;
   }
 
   -- a refblock that the reftable names, or one where nothing is named
-  module _ (stands : HasBlock h on_storage (t.place / size) ⊎ IsUnnamed h on_storage (known_bytes size l2s (t ∷ rbs) on_storage) (t.place / size)) (guarded : CrashInvariant h d p' on_storage (known_bytes size l2s (t ∷ rbs) on_storage)) where
+  module _ (stands : HasBlock h on_storage (t.place / size) ⊎ IsUnnamed h on_storage (known_bytes size l2s (t ∷ rbs) on_storage) (t.place / size)) (crash_invariant : CrashInvariant h d p' on_storage (known_bytes size l2s (t ∷ rbs) on_storage)) where
     no_l2 : HasL2 h on_storage (t.place / size) → ⊥
     no_l2 has =
         let s = shares h on_storage (t.place / size) in
@@ -83,7 +83,7 @@ module _ (h : HeaderFields) (d : Direction) (p : Pending) (l2s rbs : List Cached
         elim stands [
           | inl block ↦
               let also : 1 ≤ named_by_reftable h on_storage (t.place / size) = subst (λ n. 1 ≤ named_by_reftable h on_storage n) block.2 (block_has h on_storage block.0 block.1) in
-              let once = table_once h d p' on_storage (known_bytes size l2s (t ∷ rbs) on_storage) guarded (t.place / size) (omega arith) in
+              let once = table_once h d p' on_storage (known_bytes size l2s (t ∷ rbs) on_storage) crash_invariant (t.place / size) (omega arith) in
               omega arith
           | inr unnamed ↦ let none = unnamed.no_table in omega arith
         ]
@@ -94,12 +94,12 @@ module _ (h : HeaderFields) (d : Direction) (p : Pending) (l2s rbs : List Cached
     same_covers : SameCovers h (known_bytes size l2s rbs on_storage) (known_bytes size l2s (t ∷ rbs) on_storage)
     same_covers g =
         let i = g / entries_per_cluster h in
-        let top = are.kept.guarded.same_top in
-        cover_stays h (known_bytes size l2s rbs on_storage) (known_bytes size l2s (t ∷ rbs) on_storage) (IsTop-top h on_storage (known_bytes size l2s rbs on_storage) top are.kept.guarded.top) g (sym (top.l1 i) ∙ guarded.same_top.l1 i)
+        let top = are.kept.crash_invariant.same_top in
+        cover_stays h (known_bytes size l2s rbs on_storage) (known_bytes size l2s (t ∷ rbs) on_storage) (IsTop-top h on_storage (known_bytes size l2s rbs on_storage) top are.kept.crash_invariant.top) g (sym (top.l1 i) ∙ crash_invariant.same_top.l1 i)
         (λ real. same_elsewhere (table_at h (known_bytes size l2s rbs on_storage) i / size) (λ here. no_l2 (named_on_storage i real here)))
       where
         named_on_storage : (i : ℕ) → table_at h (known_bytes size l2s rbs on_storage) i ≢ 0 → table_at h (known_bytes size l2s rbs on_storage) i / size ≡ t.place / size → HasL2 h on_storage (t.place / size)
-        named_on_storage i real here = let e : table_at h on_storage i ≡ table_at h (known_bytes size l2s rbs on_storage) i = ap host_offset (are.kept.guarded.same_top.l1 i) in (i, (λ none. real (sym e ∙ none)), ap (λ n. n / size) e ∙ here)
+        named_on_storage i real here = let e : table_at h on_storage i ≡ table_at h (known_bytes size l2s rbs on_storage) i = ap host_offset (are.kept.crash_invariant.same_top.l1 i) in (i, (λ none. real (sym e ∙ none)), ap (λ n. n / size) e ∙ here)
 
     still_unnamed : (c : ℕ) → IsUnnamed h on_storage (known_bytes size l2s rbs on_storage) c → IsUnnamed h on_storage (known_bytes size l2s (t ∷ rbs) on_storage) c
     still_unnamed c unnamed = record {
@@ -110,7 +110,7 @@ module _ (h : HeaderFields) (d : Direction) (p : Pending) (l2s rbs : List Cached
     pub rb_laid : AreElsewhere t.place rbs → AreKept h d p' l2s (t ∷ rbs) on_storage
     rb_laid away = record {
       kept = record {
-        guarded = guarded;
+        crash_invariant = crash_invariant;
         l2_apart = are.kept.l2_apart;
         rb_apart = (
           aligned,

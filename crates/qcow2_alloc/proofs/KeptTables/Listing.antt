@@ -33,7 +33,7 @@ pub l2_relisted : (h : HeaderFields) (d : Direction) (p : Pending) (l2s l2s' rbs
 l2_relisted h d p l2s l2s' rbs on_storage same kept =
     let shows : known_bytes (cluster_size h) l2s' rbs on_storage ≡ known_bytes (cluster_size h) l2s rbs on_storage = same.known (known (cluster_size h) rbs on_storage) in
     record {
-      guarded = subst (CrashInvariant h d p on_storage) (sym shows) kept.guarded;
+      crash_invariant = subst (CrashInvariant h d p on_storage) (sym shows) kept.crash_invariant;
       l2_apart = same.apart;
       rb_apart = kept.rb_apart;
       l2_stand = λ c. elim (kept.l2_stand c) [ inl free ↦ inl (λ o in_c. same.free o (free o in_c)) | inr has ↦ inr has ];
@@ -50,7 +50,7 @@ pub rb_relisted : (h : HeaderFields) (d : Direction) (p : Pending) (l2s rbs rbs'
 rb_relisted h d p l2s rbs rbs' on_storage same kept =
     let shows : known_bytes (cluster_size h) l2s rbs' on_storage ≡ known_bytes (cluster_size h) l2s rbs on_storage = ap (known (cluster_size h) l2s) (same.known on_storage) in
     record {
-      guarded = subst (CrashInvariant h d p on_storage) (sym shows) kept.guarded;
+      crash_invariant = subst (CrashInvariant h d p on_storage) (sym shows) kept.crash_invariant;
       l2_apart = kept.l2_apart;
       rb_apart = same.apart;
       l2_stand = kept.l2_stand;

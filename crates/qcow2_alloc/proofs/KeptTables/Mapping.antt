@@ -67,7 +67,7 @@ module _ {S : Type 0} (h : HeaderFields) (p : Pending) (on_storage : Bytes) (cac
   place_is w = ap (λ n. key * 2 ^ n) sound.l2_format.bits ∙ sym at.place
 
   same_entry : table_at h on_storage i ≡ table_at h (known_of h caches on_storage) i
-  same_entry = ap host_offset (sound.kept.kept.guarded.same_top.l1 i)
+  same_entry = ap host_offset (sound.kept.kept.crash_invariant.same_top.l1 i)
 
   has : (w : L2TableView) → HasL2 h on_storage ((table w).place / cluster_size h)
   has w = (i, (λ none. at.real (sym same_entry ∙ none)), ap (λ n. n / cluster_size h) (same_entry ∙ sym (place_is w)))
@@ -160,11 +160,11 @@ module _ {S : Type 0} (h : HeaderFields) (p : Pending) (on_storage : Bytes) (cac
     fit' = record { bits = same_bits ∙ own_fit.bits; zero_bit = same_zero ∙ own_fit.zero_bit; external = same_external ∙ own_fit.external }
 
     sound_again : (p' : Pending) → AreNamedBlocks h (refblocks caches) on_storage → CrashInvariant h (order_of caches') p' on_storage (known_of h caches' on_storage) → CacheInvariant h p' caches' on_storage
-    sound_again p' settled guarded =
-        let guarded' : CrashInvariant h (order_of caches) p' on_storage (known_bytes (cluster_size h) (list_with w) (refblocks caches) on_storage) =
-        subst (λ (b : Bytes). CrashInvariant h (order_of caches) p' on_storage b) known' (rw direction_is at guarded) in
-        let again = l2_table_changed h (order_of caches) (order_of caches) p p' (tables there.front) (tables there.back) (refblocks caches) (table v) (table w) on_storage kept.kept settled aligned_v has_own
-        (loaded_apart (cluster_size h) (HasL2 h on_storage) on_storage (list_with w) loaded') guarded' in
+    sound_again p' named_blocks crash_invariant =
+        let crash_invariant' : CrashInvariant h (order_of caches) p' on_storage (known_bytes (cluster_size h) (list_with w) (refblocks caches) on_storage) =
+        subst (λ (b : Bytes). CrashInvariant h (order_of caches) p' on_storage b) known' (rw direction_is at crash_invariant) in
+        let again = l2_table_changed h (order_of caches) (order_of caches) p p' (tables there.front) (tables there.back) (refblocks caches) (table v) (table w) on_storage kept.kept named_blocks aligned_v has_own
+        (loaded_apart (cluster_size h) (HasL2 h on_storage) on_storage (list_with w) loaded') crash_invariant' in
         let all : AllValuesFit (IsTableOf caches.l2.backend.header.fields) (set_at (eqb key) caches.l2.entries w) =
         subst (AllValuesFit (IsTableOf caches.l2.backend.header.fields)) (sym (there.set w))
         (fit_set (IsTableOf caches.l2.backend.header.fields) key there.front there.back v w there.pins fit' (subst (AllValuesFit (IsTableOf caches.l2.backend.header.fields)) there.is sound.l2_fit)) in
@@ -183,7 +183,7 @@ module _ {S : Type 0} (h : HeaderFields) (p : Pending) (on_storage : Bytes) (cac
         others = λ k lt other. sym (now k lt) ∙ changes.others k other ∙ was k lt;
         is = sym (now index at.within) ∙ changes.entry_is;
       };
-      settled = rw rb_is (λ settled. settled);
+      named_blocks = rw rb_is (λ named_blocks. named_blocks);
       answered =
           answered ∙ ap (λ n. old_data_run n (cover_at v index) (cover_at w index)) bits_is
           ∙ ap (λ c. old_data_run h.cluster_bits c (cover_at w index)) covers_known

@@ -84,24 +84,24 @@ current_none {V = V} bits bytes is_modified IsNamed on_storage on_storage' key e
     no_slot (Some s) is = absurd (cc)
 
 -- ---- tables are named that are in their caches, and no other one is named or changed
-module _ {S : Type 0} (h : HeaderFields) (p p' : Pending) (caches : MetadataCaches S) (on_storage on_storage' : Bytes) (sound : CacheInvariant h p caches on_storage) (settled : AreNamedBlocks h (refblocks caches) on_storage)
+module _ {S : Type 0} (h : HeaderFields) (p p' : Pending) (caches : MetadataCaches S) (on_storage on_storage' : Bytes) (sound : CacheInvariant h p caches on_storage) (named_blocks : AreNamedBlocks h (refblocks caches) on_storage)
     (l2_still : (c : ℕ) → HasOwnL2 h on_storage c → HasOwnL2 h on_storage' c) (rb_still : (c : ℕ) → HasBlock h on_storage c → HasBlock h on_storage' c)
     (l2_now : (c : ℕ) → HasL2 h on_storage' c → (HasL2 h on_storage c × SameIn (cluster_size h) c on_storage' on_storage) ⊎ AreCurrentIn (cluster_size h) c (l2_tables caches) on_storage')
     (rb_now : (c : ℕ) → HasBlock h on_storage' c → (HasBlock h on_storage c × SameIn (cluster_size h) c on_storage' on_storage) ⊎ AreCurrentIn (cluster_size h) c (refblocks caches) on_storage') where
-  pub settled_named : AreNamedBlocks h (refblocks caches) on_storage'
-  settled_named c = elim (settled c) [ inl free ↦ inl free | inr has ↦ inr (rb_still c has) ]
+  pub named_blocks_named : AreNamedBlocks h (refblocks caches) on_storage'
+  named_blocks_named c = elim (named_blocks c) [ inl free ↦ inl free | inr has ↦ inr (rb_still c has) ]
 
   pub sound_named : CrashInvariant h (order_of caches) p' on_storage' (known_of h caches on_storage') → CacheInvariant h p' caches on_storage'
-  sound_named guarded = record {
+  sound_named crash_invariant = record {
     l2_format = sound.l2_format;
     rb_format = sound.rb_format;
     l2_fit = sound.l2_fit;
     rb_fit = sound.rb_fit;
     kept = record {
       kept =
-          kept_beside h h (order_of caches) (order_of caches) p p' (l2_tables caches) (refblocks caches) on_storage on_storage' sound.kept.kept refl guarded
+          kept_beside h h (order_of caches) (order_of caches) p p' (l2_tables caches) (refblocks caches) on_storage on_storage' sound.kept.kept refl crash_invariant
           (λ c has. inr (l2_still c has))
-          (λ c either. elim (settled c) [ inl free ↦ inl free | inr has ↦ inr (inl (rb_still c has)) ]);
+          (λ c either. elim (named_blocks c) [ inl free ↦ inl free | inr has ↦ inr (inl (rb_still c has)) ]);
       l2_loaded = loaded_named (cluster_size h) (HasL2 h on_storage) (HasL2 h on_storage') on_storage on_storage' (l2_tables caches) l2_now sound.kept.l2_loaded;
       rb_loaded = loaded_named (cluster_size h) (HasBlock h on_storage) (HasBlock h on_storage') on_storage on_storage' (refblocks caches) rb_now sound.kept.rb_loaded;
     };

@@ -204,18 +204,18 @@ module _ (h : HeaderFields) (d : Direction) (p : Pending) (l2s rbs l2s' rbs' : L
     no_table = unnamed.no_table;
     no_entry =
         let le : named_in_either h on_storage (known_bytes size l2s' rbs' on_storage) c ≤ named_in_either h on_storage (known_bytes size l2s rbs on_storage) c =
-        over_guests-le h _ _ (λ g. less_named (named_by_cover h c) _ _ _ (either_cover h on_storage (known_bytes size l2s rbs on_storage) (known_bytes size l2s' rbs' on_storage) are.kept.guarded.top are.kept.guarded.same_top off_partly g)) in
+        over_guests-le h _ _ (λ g. less_named (named_by_cover h c) _ _ _ (either_cover h on_storage (known_bytes size l2s rbs on_storage) (known_bytes size l2s' rbs' on_storage) are.kept.crash_invariant.top are.kept.crash_invariant.same_top off_partly g)) in
         let none = unnamed.no_entry in
         omega arith;
   }
 
-  pub off_settled : AreNamedBlocks h rbs on_storage → AreNamedBlocks h rbs' on_storage
-  off_settled settled c = elim (settled c) [ inl free ↦ inl (λ o in_c. some_free size rbs rbs' o rb_some (free o in_c)) | inr has ↦ inr has ]
+  pub off_named_blocks : AreNamedBlocks h rbs on_storage → AreNamedBlocks h rbs' on_storage
+  off_named_blocks named_blocks c = elim (named_blocks c) [ inl free ↦ inl (λ o in_c. some_free size rbs rbs' o rb_some (free o in_c)) | inr has ↦ inr has ]
 
   pub off_kept : (p' : Pending) → CrashInvariant h d p' on_storage (known_bytes size l2s' rbs' on_storage) → AreKept h d p' l2s' rbs' on_storage
-  off_kept p' guarded = record {
+  off_kept p' crash_invariant = record {
     kept = record {
-      guarded = guarded;
+      crash_invariant = crash_invariant;
       l2_apart = some_apart size l2s l2s' l2_some are.kept.l2_apart;
       rb_apart = some_apart size rbs rbs' rb_some are.kept.rb_apart;
       l2_stand = λ c. elim (are.kept.l2_stand c) [ inl free ↦ inl (λ o in_c. some_free size l2s l2s' o l2_some (free o in_c)) | inr has ↦ inr has ];
@@ -241,13 +241,13 @@ module _ {S : Type 0} (h : HeaderFields) (p : Pending) (on_storage : Bytes) (cac
         same = λ clean.
             clean_known (cluster_size h) (tables es) (known (cluster_size h) (refblocks caches) on_storage) (some_clean (l2_tables caches) (tables es) fewer clean)
             ∙ sym (clean_known (cluster_size h) (l2_tables caches) (known (cluster_size h) (refblocks caches) on_storage) clean);
-        settled = λ settled. settled;
-        sound = λ p' guarded. record {
+        named_blocks = λ named_blocks. named_blocks;
+        sound = λ p' crash_invariant. record {
           l2_format = sound.l2_format;
           rb_format = sound.rb_format;
           l2_fit = some_fit (IsTableOf caches.l2.backend.header.fields) caches.l2.entries es some sound.l2_fit;
           rb_fit = sound.rb_fit;
-          kept = off_kept h (order_of caches) p (l2_tables caches) (refblocks caches) (tables es) (refblocks caches) on_storage sound.kept fewer all p' guarded;
+          kept = off_kept h (order_of caches) p (l2_tables caches) (refblocks caches) (tables es) (refblocks caches) on_storage sound.kept fewer all p' crash_invariant;
         };
       }
 
@@ -262,13 +262,13 @@ module _ {S : Type 0} (h : HeaderFields) (p : Pending) (on_storage : Bytes) (cac
       record {
         known = off_partly h (order_of caches) p (l2_tables caches) (refblocks caches) (l2_tables caches) (blocks es) on_storage sound.kept all fewer;
         same = λ clean. ap (known (cluster_size h) (l2_tables caches)) (same clean);
-        settled = off_settled h (order_of caches) p (l2_tables caches) (refblocks caches) (l2_tables caches) (blocks es) on_storage sound.kept all fewer;
-        sound = λ p' guarded. record {
+        named_blocks = off_named_blocks h (order_of caches) p (l2_tables caches) (refblocks caches) (l2_tables caches) (blocks es) on_storage sound.kept all fewer;
+        sound = λ p' crash_invariant. record {
           l2_format = sound.l2_format;
           rb_format = sound.rb_format;
           l2_fit = sound.l2_fit;
           rb_fit = some_fit (IsBlockOf caches.rb.backend.header.fields) caches.rb.entries es some sound.rb_fit;
-          kept = off_kept h (order_of caches) p (l2_tables caches) (refblocks caches) (l2_tables caches) (blocks es) on_storage sound.kept all fewer p' guarded;
+          kept = off_kept h (order_of caches) p (l2_tables caches) (refblocks caches) (l2_tables caches) (blocks es) on_storage sound.kept all fewer p' crash_invariant;
         };
       }
 

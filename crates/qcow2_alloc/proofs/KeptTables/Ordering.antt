@@ -26,19 +26,19 @@ mixed_same h d on_storage known = record { partly = λ c. inl (λ o in_c. refl);
     in_order RbDependsOnL2 = inl (λ c. refl)
 
 -- a mix of a mix and what is known
-module _ (h : HeaderFields) (d : Direction) (p : Pending) (on_storage known b c : Bytes) (guarded : CrashInvariant h d p on_storage known) (first : IsMixed h d on_storage known b) (second : IsMixed h d b known c) where
+module _ (h : HeaderFields) (d : Direction) (p : Pending) (on_storage known b c : Bytes) (crash_invariant : CrashInvariant h d p on_storage known) (first : IsMixed h d on_storage known b) (second : IsMixed h d b known c) where
   counts_known : SameCounts h known b → SameCounts h known c
   counts_known same x =
-      let kept = top_kept h on_storage known b guarded.top guarded.same_top first.partly in
-      elim (either_count h b known c (IsTop-top h on_storage b kept guarded.top) (SameTop-trans h b on_storage known (SameTop-sym h on_storage b kept) guarded.same_top) second.partly x) [
+      let kept = top_kept h on_storage known b crash_invariant.top crash_invariant.same_top first.partly in
+      elim (either_count h b known c (IsTop-top h on_storage b kept crash_invariant.top) (SameTop-trans h b on_storage known (SameTop-sym h on_storage b kept) crash_invariant.same_top) second.partly x) [
         | inl as_b ↦ same x ∙ sym as_b
         | inr as_known ↦ sym as_known
       ]
 
   covers_known : SameCovers h known b → SameCovers h known c
   covers_known same g =
-      let kept = top_kept h on_storage known b guarded.top guarded.same_top first.partly in
-      elim (either_cover h b known c (IsTop-top h on_storage b kept guarded.top) (SameTop-trans h b on_storage known (SameTop-sym h on_storage b kept) guarded.same_top) second.partly g) [
+      let kept = top_kept h on_storage known b crash_invariant.top crash_invariant.same_top first.partly in
+      elim (either_cover h b known c (IsTop-top h on_storage b kept crash_invariant.top) (SameTop-trans h b on_storage known (SameTop-sym h on_storage b kept) crash_invariant.same_top) second.partly g) [
         | inl as_b ↦ same g ∙ sym as_b
         | inr as_known ↦ sym as_known
       ]
@@ -67,7 +67,7 @@ module _ (h : HeaderFields) (d : Direction) (p : Pending) (on_storage known b c 
   }
 
 -- ---- what is kept, and known as it was, over a mix of what there was and what is known
-module _ (h : HeaderFields) (d : Direction) (p : Pending) (on_storage0 known0 : Bytes) (guarded : CrashInvariant h d p on_storage0 known0) (bits : ℕ) (same_bits : bits ≡ h.cluster_bits) where
+module _ (h : HeaderFields) (d : Direction) (p : Pending) (on_storage0 known0 : Bytes) (crash_invariant : CrashInvariant h d p on_storage0 known0) (bits : ℕ) (same_bits : bits ≡ h.cluster_bits) where
   abbrev size : ℕ
   size = cluster_size h
 
@@ -97,7 +97,7 @@ module _ (h : HeaderFields) (d : Direction) (p : Pending) (on_storage0 known0 : 
         let new = l2_step h d p bits same_bits rbs may front back t t' on_storage on_storage' are.0 so in
         let one : IsMixed h d on_storage known0 on_storage' =
         subst (λ (k : Bytes). IsMixed h d on_storage k on_storage') are.1 (l2_mixed h d p (front ++ t ∷ back) rbs on_storage are.0.kept front back t t' on_storage' refl (subst (λ n. IsWrittenSo (2 ^ n) t t' on_storage on_storage') same_bits so) may) in
-        ((new.0, new.1 ∙ are.1, mixed_then h d p on_storage0 known0 on_storage on_storage' guarded are.2 one), new.1, new.2)
+        ((new.0, new.1 ∙ are.1, mixed_then h d p on_storage0 known0 on_storage on_storage' crash_invariant are.2 one), new.1, new.2)
 
   -- of the refblocks
   module _ (l2s : List CachedTable) where
@@ -125,4 +125,4 @@ module _ (h : HeaderFields) (d : Direction) (p : Pending) (on_storage0 known0 : 
         let new = rb_step h d p bits same_bits l2s may front back t t' on_storage on_storage' are.0 so in
         let one : IsMixed h d on_storage known0 on_storage' =
         subst (λ (k : Bytes). IsMixed h d on_storage k on_storage') are.1 (rb_mixed h d p l2s (front ++ t ∷ back) on_storage are.0.kept front back t t' on_storage' refl (subst (λ n. IsWrittenSo (2 ^ n) t t' on_storage on_storage') same_bits so) may) in
-        ((new.0, new.1 ∙ are.1, mixed_then h d p on_storage0 known0 on_storage on_storage' guarded are.2 one), new.1, new.2)
+        ((new.0, new.1 ∙ are.1, mixed_then h d p on_storage0 known0 on_storage on_storage' crash_invariant are.2 one), new.1, new.2)

@@ -23,7 +23,7 @@ use Rattle.qcow2_alloc.specs.ImageStorage.{storage_of}
 use Rattle.qcow2_alloc.specs.TableCaches.{l2_steps, cleared_l2, IsTableOf}
 use Rattle.qcow2_alloc.specs.KeptTables.{cached_table, cached_tables, AllValuesFit, AreElsewhere, AreKept}
 use Rattle.qcow2_alloc.specs.MetadataCaches.{laid_at, order_of, l2_tables, refblocks, CacheInvariant, UnseenCacheStep, LaidOver}
-use Rattle.qcow2_alloc.proofs.KeptTables.Settled.{settled_beside}
+use Rattle.qcow2_alloc.proofs.KeptTables.BlocksNamed.{named_blocks_beside}
 use Rattle.qcow2_alloc.proofs.KeptTables.Standing.{own_cluster}
 use Rattle.qcow2_alloc.proofs.KeptTables.Writing.{Flushed, Ready, Puts}
 use Rattle.qcow2_alloc.proofs.KeptTables.Entries.{AreDistinct}
@@ -67,7 +67,7 @@ module _ {S : Type 0} (view : S → StorageView) (h : HeaderFields) (p : Pending
     honest = second.honest;
     known = second.known ∙ ap (known (cluster_size h) (table ∷ [])) first.known;
     since = safe_then (view (storage_of r)) (view (storage_of s)) (view (storage_of t)) _ _ first.known first.since second.since;
-    settled = λ named settled. second.settled named (first.settled settled);
+    named_blocks = λ named named_blocks. second.named_blocks named (first.named_blocks named_blocks);
     sound = second.sound;
   }
 
@@ -128,7 +128,7 @@ module _ {S : Type 0} (view : S → StorageView) (old new : ImageStorage S) (cac
           honest = f.honest;
           sound = record { l2_format = sound.l2_format; rb_format = sound.rb_format; l2_fit = fit (λ went. absurd (isnt went)); rb_fit = sound.rb_fit; kept = f.kept };
           known = f.known;
-          settled = settled_beside h (order_of caches) (order_of caches) p p (l2_tables caches) (refblocks caches) (tables l2.entries) (refblocks caches) (byte_at (seen old).contents) (byte_at (seen new).contents) sound.kept f.kept f.known;
+          named_blocks = named_blocks_beside h (order_of caches) (order_of caches) p p (l2_tables caches) (refblocks caches) (tables l2.entries) (refblocks caches) (byte_at (seen old).contents) (byte_at (seen new).contents) sound.kept f.kept f.known;
           since = f.since;
         })
 
@@ -160,8 +160,8 @@ module _ {S : Type 0} (view : S → StorageView) (old new : ImageStorage S) (cac
             known = ap (λ ts. known_bytes (cluster_size h) ts (refblocks caches) on_storage') list_is ∙ laid_first (cluster_size h) (laid_at h key v.bytes) (tables ready.rest) (known (cluster_size h) (refblocks caches) on_storage')
                 ∙ ap (known (cluster_size h) (laid_at h key v.bytes ∷ [])) ready.done.known;
             since = ready.done.since;
-            settled = λ _. settled_beside h (order_of caches) (order_of caches) p p (l2_tables caches) (refblocks caches) (tables ready.rest) (refblocks caches) (byte_at (seen old).contents) on_storage' sound.kept ready.done.kept ready.done.known;
-            sound = λ p' stands guarded. record {
+            named_blocks = λ _. named_blocks_beside h (order_of caches) (order_of caches) p p (l2_tables caches) (refblocks caches) (tables ready.rest) (refblocks caches) (byte_at (seen old).contents) on_storage' sound.kept ready.done.kept ready.done.known;
+            sound = λ p' stands crash_invariant. record {
               l2_format = sound.l2_format;
               rb_format = sound.rb_format;
               l2_fit = subst (AllValuesFit IsFit) ready.is (fit (λ _. table_as caches.l2.backend.header.fields h v sound.l2_format fits));
@@ -169,6 +169,6 @@ module _ {S : Type 0} (view : S → StorageView) (old new : ImageStorage S) (cac
               kept = subst (λ ts. AreKept h (order_of caches) p' ts (refblocks caches) on_storage') (sym list_is)
                   (l2_laid h (order_of caches) p (tables ready.rest) (refblocks caches) on_storage' ready.done.kept (laid_at h key v.bytes) (mul-mod_left key (cluster_size h)) refl p' away stands.0
                   (subst (HasOwnL2 h on_storage') (sym (own_cluster h.cluster_bits key)) stands.1)
-                  (subst (λ ts. CrashInvariant h (order_of caches) p' on_storage' (known_bytes (cluster_size h) ts (refblocks caches) on_storage')) list_is guarded));
+                  (subst (λ ts. CrashInvariant h (order_of caches) p' on_storage' (known_bytes (cluster_size h) ts (refblocks caches) on_storage')) list_is crash_invariant));
             };
           })

@@ -28,7 +28,7 @@ use Rattle.qcow2_alloc.specs.TableLaws.{same_number}
 use Rattle.qcow2_alloc.specs.TableCaches.{rb_steps, cleared_rb, IsBlockOf}
 use Rattle.qcow2_alloc.specs.KeptTables.{cached_table, cached_tables, AllValuesFit, AreElsewhere, AreKept}
 use Rattle.qcow2_alloc.specs.MetadataCaches.{laid_at, order_of, l2_tables, refblocks, CacheInvariant, UnseenCacheStep, LaidOver}
-use Rattle.qcow2_alloc.proofs.KeptTables.Settled.{top_still, settled_anew, blocks_stand, block_place}
+use Rattle.qcow2_alloc.proofs.KeptTables.BlocksNamed.{top_still, named_blocks_anew, blocks_stand, block_place}
 use Rattle.qcow2_alloc.proofs.KeptTables.Standing.{IsStanding, AreStanding, own_cluster, insert_stands, replace_stands}
 use Rattle.qcow2_alloc.proofs.KeptTables.Writing.{block_named, Ready, Puts}
 use Rattle.qcow2_alloc.proofs.KeptTables.Entries.{AreDistinct}
@@ -96,12 +96,12 @@ module _ {S : Type 0} (view : S → StorageView) (old new : ImageStorage S) (cac
         (λ e some. replace_fits seen bits (λ (b : RefBlockView). b.bytes) (λ b. b.is_modified) cleared_rb IsFit (block_still caches.rb.backend.header.fields) may_flush old new key v caches.rb.entries rb.entries e answer left some fits sound.rb_fit (rw is at (rw some at there)))
 
     stand : AreNamedBlocks h (refblocks caches) (byte_at (seen old).contents) → (answer ≡ Ok true → IsStanding (λ (b : RefBlockView). b.is_modified) IsFit Named key v) → BlocksStand rb.entries
-    stand settled stands = found_or_not (lookup_entry (eqb key) caches.rb.entries)
+    stand named_blocks stands = found_or_not (lookup_entry (eqb key) caches.rb.entries)
         (λ none. insert_stands seen bits (λ (b : RefBlockView). b.bytes) (λ b. b.is_modified) cleared_rb IsFit (λ v. refl) (block_still caches.rb.backend.header.fields) Named (block_place h (byte_at (seen old).contents) bits sound.rb_format.bits) caches.rb.size may_flush old new key v caches.rb.entries rb.entries answer left stands
-        (blocks_stand h p caches (byte_at (seen old).contents) sound settled) (rw is at (missing (rw (lookup_none (eqb key) caches.rb.entries none) refl))))
+        (blocks_stand h p caches (byte_at (seen old).contents) sound named_blocks) (rw is at (missing (rw (lookup_none (eqb key) caches.rb.entries none) refl))))
         (λ e some. replace_stands seen bits (λ (b : RefBlockView). b.bytes) (λ b. b.is_modified) cleared_rb IsFit (λ v. refl) (block_still caches.rb.backend.header.fields) Named (block_place h (byte_at (seen old).contents) bits sound.rb_format.bits) may_flush old new key v caches.rb.entries rb.entries e answer left some
         (λ went. subst (λ n. IsStanding (λ (b : RefBlockView). b.is_modified) IsFit Named n v) (same_number key e.0 (Contains-lookup_entry (eqb key) caches.rb.entries e some).1) (stands went))
-        (blocks_stand h p caches (byte_at (seen old).contents) sound settled) (rw is at (rw some at there)))
+        (blocks_stand h p caches (byte_at (seen old).contents) sound named_blocks) (rw is at (rw some at there)))
 
     pub block_kept : (answer ≡ Ok true → ⊥) → UnseenCacheStep h p (seen old) caches (seen new) (record caches { rb = rb })
     block_kept isnt =
@@ -111,9 +111,9 @@ module _ {S : Type 0} (view : S → StorageView) (old new : ImageStorage S) (cac
           honest = f.honest;
           sound = record { l2_format = sound.l2_format; rb_format = sound.rb_format; l2_fit = sound.l2_fit; rb_fit = fit (λ went. absurd (isnt went)); kept = f.kept };
           known = f.known;
-          settled = λ settled.
-              settled_anew h (order_of caches) (order_of caches) p p (l2_tables caches) (refblocks caches) (l2_tables caches) (blocks rb.entries) (byte_at (seen old).contents) (byte_at (seen new).contents) sound.kept f.kept f.known bits sound.rb_format.bits IsFit rb.entries
-              (stand settled (λ went. absurd (isnt went)));
+          named_blocks = λ named_blocks.
+              named_blocks_anew h (order_of caches) (order_of caches) p p (l2_tables caches) (refblocks caches) (l2_tables caches) (blocks rb.entries) (byte_at (seen old).contents) (byte_at (seen new).contents) sound.kept f.kept f.known bits sound.rb_format.bits IsFit rb.entries
+              (stand named_blocks (λ went. absurd (isnt went)));
           since = f.since;
         })
 
@@ -160,11 +160,11 @@ module _ {S : Type 0} (view : S → StorageView) (old new : ImageStorage S) (cac
                 (λ o over. free o (within_cluster (key * cluster_size h) (cluster_size h) o (mul-mod_left key (cluster_size h)) (overlays_within (cluster_size h) (laid_at h key v.bytes) o over) ∙ own))
                 ∙ ap (known (cluster_size h) (laid_at h key v.bytes ∷ [])) ready.done.known;
             since = ready.done.since;
-            settled = λ named settled.
+            named_blocks = λ named named_blocks.
                 subst (λ es. AreNamedBlocks h (blocks es) on_storage') ready.is
-                (settled_anew h (order_of caches) (order_of caches) p p (l2_tables caches) (refblocks caches) (l2_tables caches) (blocks ready.rest) (byte_at (seen old).contents) on_storage' sound.kept ready.done.kept ready.done.known bits sound.rb_format.bits IsFit rb.entries
-                (stand settled (λ _. record { fits = own_fit; named = λ _. named_before named })));
-            sound = λ p' stands guarded. record {
+                (named_blocks_anew h (order_of caches) (order_of caches) p p (l2_tables caches) (refblocks caches) (l2_tables caches) (blocks ready.rest) (byte_at (seen old).contents) on_storage' sound.kept ready.done.kept ready.done.known bits sound.rb_format.bits IsFit rb.entries
+                (stand named_blocks (λ _. record { fits = own_fit; named = λ _. named_before named })));
+            sound = λ p' stands crash_invariant. record {
               l2_format = sound.l2_format;
               rb_format = sound.rb_format;
               l2_fit = sound.l2_fit;
@@ -173,6 +173,6 @@ module _ {S : Type 0} (view : S → StorageView) (old new : ImageStorage S) (cac
                   (rb_laid h (order_of caches) p (l2_tables caches) (blocks ready.rest) on_storage' ready.done.kept (laid_at h key v.bytes) (mul-mod_left key (cluster_size h)) refl p'
                   (subst (λ n. HasBlock h on_storage' n ⊎ IsUnnamed h on_storage' (known_bytes (cluster_size h) (l2_tables caches) (laid_at h key v.bytes ∷ blocks ready.rest) on_storage') n) (sym own)
                   (subst (λ ts. HasBlock h on_storage' key ⊎ IsUnnamed h on_storage' (known_bytes (cluster_size h) (l2_tables caches) ts on_storage') key) list_is stands))
-                  (subst (λ ts. CrashInvariant h (order_of caches) p' on_storage' (known_bytes (cluster_size h) (l2_tables caches) ts on_storage')) list_is guarded) away);
+                  (subst (λ ts. CrashInvariant h (order_of caches) p' on_storage' (known_bytes (cluster_size h) (l2_tables caches) ts on_storage')) list_is crash_invariant) away);
             };
           })

@@ -88,12 +88,12 @@ module _ {S V : Type 0} (view : S → StorageView) (bits : ℕ) (bytes : V → L
 
   module _ (size : ℕ) (may_flush : Bool) (s : S) (es : List (ℕ × Slot V)) (next : may_flush ≡ true → NextIsClean is_modified es) where
     next_clean : (e : ℕ × Slot V) → may_flush ≡ true → oldest_free es ≡ Some e → is_modified e.1.value ≡ false
-    next_clean e may goes = subst (λ (o : Option (ℕ × Slot V)). IfSome o (λ e. is_modified e.1.value ≡ false)) goes (next may)
+    next_clean e may eviction = subst (λ (o : Option (ℕ × Slot V)). IfSome o (λ e. is_modified e.1.value ≡ false)) eviction (next may)
 
     room_quiet : (t : S) (fs : List (ℕ × Slot V)) → HasRoomForEntry (table_steps view bits bytes is_modified cleared IsFit) eqb size may_flush s es t fs → Quiet s t
     room_quiet t fs room honest = elim room [
       | inl there ↦ still s t there.1 honest
-      | inr evicts ↦ quiet_call (view s) (view t) answer_done evicts.flushed.calls (evicts.flushed.skips (next_clean evicts.entry evicts.must.may evicts.goes)) honest
+      | inr evicts ↦ quiet_call (view s) (view t) answer_done evicts.flushed.calls (evicts.flushed.skips (next_clean evicts.entry evicts.must.may evicts.eviction)) honest
     ]
 
     no_room_quiet : (t : S) (fs : List (ℕ × Slot V)) (r : Result Bool (CacheError ℕ MetadataError)) → HasNoRoom (table_steps view bits bytes is_modified cleared IsFit) eqb size may_flush s es r t fs → Quiet s t
@@ -102,7 +102,7 @@ module _ {S V : Type 0} (view : S → StorageView) (bits : ℕ) (bytes : V → L
     no_room_quiet t fs (Err InUse) h = still s t h.2
     no_room_quiet t fs (Err (StillInUse keys)) h = absurd h
     no_room_quiet t fs (Err Memory) h = absurd h
-    no_room_quiet t fs (Err (Backend x)) h = not_both (is_modified h.entry.1.value) h.failed.modified (next_clean h.entry h.must.may h.goes)
+    no_room_quiet t fs (Err (Backend x)) h = not_both (is_modified h.entry.1.value) h.failed.modified (next_clean h.entry h.must.may h.eviction)
 
     new_quiet : (t : S) (fs : List (ℕ × Slot V)) (k : ℕ) (r : Result Bool (CacheError ℕ MetadataError)) → GetsNew (table_steps view bits bytes is_modified cleared IsFit) eqb size may_flush k s es r t fs → Quiet s t
     new_quiet t fs k (Ok true) h honest =
@@ -157,13 +157,13 @@ module _ {S V : Type 0} (view : S → StorageView) (bits : ℕ) (bytes : V → L
     pub put_quiet : (t : S) (fs : List (ℕ × Slot V)) (k : ℕ) (v : V) (value left : Option V) (is : value ≡ Some v) (r : Result Bool (CacheError ℕ MetadataError)) → (may_flush ≡ true → GoesClean k es)
         → IfSome (lookup_entry (eqb k) es) (λ e. IfSome value (λ v. Replaces (table_steps view bits bytes is_modified cleared IsFit) k e (remove_entry (eqb k) es) v may_flush s es r t fs left))
         → (IsNone (lookup (eqb k) es) → IfSome value (λ v. InsertsNew (table_steps view bits bytes is_modified cleared IsFit) eqb size may_flush k v s es r t fs left)) → Quiet s t
-    put_quiet t fs k v value left is r goes there missing =
+    put_quiet t fs k v value left is r eviction there missing =
         found_or_not (lookup_entry (eqb k) es)
         (λ none.
         let gone : IsNone (lookup (eqb k) es) = rw (lookup_none (eqb k) es none) refl in
-        put_new_quiet size may_flush s es (λ may. (goes may).1 gone) t fs k v left r (rw is at (missing gone)))
+        put_new_quiet size may_flush s es (λ may. (eviction may).1 gone) t fs k v left r (rw is at (missing gone)))
         (λ e some. replace_quiet t fs k e (remove_entry (eqb k) es) v left r
-        (λ may. subst (λ (o : Option (Slot V)). IfSome o (λ d. is_modified d.value ≡ false)) (lookup-from_entry (eqb k) es ∙ ap (option_map (λ (x : ℕ × Slot V). x.1)) some) (goes may).0)
+        (λ may. subst (λ (o : Option (Slot V)). IfSome o (λ d. is_modified d.value ≡ false)) (lookup-from_entry (eqb k) es ∙ ap (option_map (λ (x : ℕ × Slot V). x.1)) some) (eviction may).0)
         (rw is at (rw some at there)))
 
   -- ---- a call that isn't done found the cache full
@@ -213,11 +213,11 @@ module _ {S : Type 0} where
   pub next_block : (a b : Cache (RefBlockCacheBackend S) ℕ RefBlockView) → b ≡ a → NextIsClean (λ (t : RefBlockView). t.is_modified) a.entries → NextIsClean (λ (t : RefBlockView). t.is_modified) b.entries
   next_block a b same next = subst (λ (c : Cache (RefBlockCacheBackend S) ℕ RefBlockView). NextIsClean (λ (t : RefBlockView). t.is_modified) c.entries) (sym same) next
 
-  pub table_goes : (a b : Cache (L2CacheBackend S) ℕ L2TableView) (key : ℕ) → b ≡ a → TableGoesClean a key → TableGoesClean b key
-  table_goes a b key same goes = subst (λ (c : Cache (L2CacheBackend S) ℕ L2TableView). TableGoesClean c key) (sym same) goes
+  pub table_eviction : (a b : Cache (L2CacheBackend S) ℕ L2TableView) (key : ℕ) → b ≡ a → TableGoesClean a key → TableGoesClean b key
+  table_eviction a b key same eviction = subst (λ (c : Cache (L2CacheBackend S) ℕ L2TableView). TableGoesClean c key) (sym same) eviction
 
-  pub block_goes : (a b : Cache (RefBlockCacheBackend S) ℕ RefBlockView) (key : ℕ) → b ≡ a → BlockGoesClean a key → BlockGoesClean b key
-  block_goes a b key same goes = subst (λ (c : Cache (RefBlockCacheBackend S) ℕ RefBlockView). BlockGoesClean c key) (sym same) goes
+  pub block_eviction : (a b : Cache (RefBlockCacheBackend S) ℕ RefBlockView) (key : ℕ) → b ≡ a → BlockGoesClean a key → BlockGoesClean b key
+  block_eviction a b key same eviction = subst (λ (c : Cache (RefBlockCacheBackend S) ℕ RefBlockView). BlockGoesClean c key) (sym same) eviction
 
 module _ {S : Type 0} (view : S → StorageView) (old new : ImageStorage S) (caches : MetadataCaches S) where
   abbrev seen : ImageStorage S → StorageView
@@ -247,7 +247,7 @@ module _ {S : Type 0} (view : S → StorageView) (old new : ImageStorage S) (cac
             | inl there ↦ absurd (new_data_not_missing (lookup (eqb key) caches.l2.entries) there waits.0)
             | inr room ↦ elim room [
               | inl some ↦ absurd (let full = waits.1 in omega arith)
-              | inr goes ↦ goes
+              | inr eviction ↦ eviction
             ]
           ]
 
@@ -268,7 +268,7 @@ module _ {S : Type 0} (view : S → StorageView) (old new : ImageStorage S) (cac
             | inl there ↦ absurd (new_data_not_missing (lookup (eqb key) caches.rb.entries) there waits.0)
             | inr room ↦ elim room [
               | inl some ↦ absurd (let full = waits.1 in omega arith)
-              | inr goes ↦ goes
+              | inr eviction ↦ eviction
             ]
           ]
 
@@ -280,7 +280,7 @@ module _ {S : Type 0} (view : S → StorageView) (old new : ImageStorage S) (cac
         (there : IfSome (lookup_entry (eqb key) caches.l2.entries) (λ e. IfSome value (λ v. Replaces (l2_steps seen caches.l2.backend.header.fields) key e (remove_entry (eqb key) caches.l2.entries) v may_flush old caches.l2.entries answer new l2.entries left)))
         (missing : IsNone (lookup (eqb key) caches.l2.entries) → IfSome value (λ v. InsertsNew (l2_steps seen caches.l2.backend.header.fields) eqb caches.l2.size may_flush key v old caches.l2.entries answer new l2.entries left)) where
       pub table_put_quietly : (may_flush ≡ true → TableGoesClean caches.l2 key) → WritesNothing view old new
-      table_put_quietly goes = put_quiet seen caches.l2.backend.header.fields.cluster_bits (λ (t : L2TableView). t.bytes) (λ t. t.is_modified) cleared_l2 (IsTableOf caches.l2.backend.header.fields) caches.l2.size may_flush old caches.l2.entries new l2.entries key v value left is answer goes there missing
+      table_put_quietly eviction = put_quiet seen caches.l2.backend.header.fields.cluster_bits (λ (t : L2TableView). t.bytes) (λ t. t.is_modified) cleared_l2 (IsTableOf caches.l2.backend.header.fields) caches.l2.size may_flush old caches.l2.entries new l2.entries key v value left is answer eviction there missing
 
       pub table_put_waits : answer ≡ Ok false → PutsTableQuietly caches key → TablesMayGo (order_of caches) (refblocks caches) × TableGoesClean caches.l2 key
       table_put_waits refused may = elim may [
@@ -288,7 +288,7 @@ module _ {S : Type 0} (view : S → StorageView) (old new : ImageStorage S) (cac
             let none = value_missing (lookup (eqb key) caches.l2.entries) gone.0 in
             elim gone.1 [
               | inl some ↦ absurd (let full = put_waits seen caches.l2.backend.header.fields.cluster_bits (λ (t : L2TableView). t.bytes) (λ t. t.is_modified) cleared_l2 (IsTableOf caches.l2.backend.header.fields) caches.l2.size may_flush old new caches.l2.entries l2.entries key answer refused v value left is missing none in omega arith)
-              | inr goes ↦ (goes.0, (none_clean (λ (t : L2TableView). t.is_modified) (lookup (eqb key) caches.l2.entries) none, λ _. goes.1))
+              | inr eviction ↦ (eviction.0, (none_clean (λ (t : L2TableView). t.is_modified) (lookup (eqb key) caches.l2.entries) none, λ _. eviction.1))
             ]
         | inr new_data ↦ (new_data.0, (value_clean (λ (t : L2TableView). t.is_modified) (lookup (eqb key) caches.l2.entries) new_data.1, λ none. absurd (new_data_not_missing (lookup (eqb key) caches.l2.entries) new_data.2 none)))
       ]
@@ -301,7 +301,7 @@ module _ {S : Type 0} (view : S → StorageView) (old new : ImageStorage S) (cac
         (there : IfSome (lookup_entry (eqb key) caches.rb.entries) (λ e. IfSome value (λ v. Replaces (rb_steps seen caches.rb.backend.header.fields) key e (remove_entry (eqb key) caches.rb.entries) v may_flush old caches.rb.entries answer new rb.entries left)))
         (missing : IsNone (lookup (eqb key) caches.rb.entries) → IfSome value (λ v. InsertsNew (rb_steps seen caches.rb.backend.header.fields) eqb caches.rb.size may_flush key v old caches.rb.entries answer new rb.entries left)) where
       pub block_put_quietly : (may_flush ≡ true → BlockGoesClean caches.rb key) → WritesNothing view old new
-      block_put_quietly goes = put_quiet seen caches.rb.backend.header.fields.cluster_bits (λ (b : RefBlockView). b.bytes) (λ b. b.is_modified) cleared_rb (IsBlockOf caches.rb.backend.header.fields) caches.rb.size may_flush old caches.rb.entries new rb.entries key v value left is answer goes there missing
+      block_put_quietly eviction = put_quiet seen caches.rb.backend.header.fields.cluster_bits (λ (b : RefBlockView). b.bytes) (λ b. b.is_modified) cleared_rb (IsBlockOf caches.rb.backend.header.fields) caches.rb.size may_flush old caches.rb.entries new rb.entries key v value left is answer eviction there missing
 
       pub block_put_waits : answer ≡ Ok false → PutsBlockQuietly caches key → BlocksMayGo (order_of caches) (l2_tables caches) × BlockGoesClean caches.rb key
       block_put_waits refused may = elim may [
@@ -309,7 +309,7 @@ module _ {S : Type 0} (view : S → StorageView) (old new : ImageStorage S) (cac
             let none = value_missing (lookup (eqb key) caches.rb.entries) gone.0 in
             elim gone.1 [
               | inl some ↦ absurd (let full = put_waits seen caches.rb.backend.header.fields.cluster_bits (λ (b : RefBlockView). b.bytes) (λ b. b.is_modified) cleared_rb (IsBlockOf caches.rb.backend.header.fields) caches.rb.size may_flush old new caches.rb.entries rb.entries key answer refused v value left is missing none in omega arith)
-              | inr goes ↦ (goes.0, (none_clean (λ (b : RefBlockView). b.is_modified) (lookup (eqb key) caches.rb.entries) none, λ _. goes.1))
+              | inr eviction ↦ (eviction.0, (none_clean (λ (b : RefBlockView). b.is_modified) (lookup (eqb key) caches.rb.entries) none, λ _. eviction.1))
             ]
         | inr new_data ↦ (new_data.0, (value_clean (λ (b : RefBlockView). b.is_modified) (lookup (eqb key) caches.rb.entries) new_data.1, λ none. absurd (new_data_not_missing (lookup (eqb key) caches.rb.entries) new_data.2 none)))
       ]

@@ -75,7 +75,7 @@ module _ {V : Type 0} (is_modified : V → Bool) (IsFit : V → Type 0) (Named :
 
   -- the oldest entry with no pin
   pub stand_oldest : (es : List (ℕ × Slot V)) (e : ℕ × Slot V) → oldest_free es ≡ Some e → AreStanding es → IsStanding e.0 e.1.value
-  stand_oldest es e goes all = let s = split_oldest es e goes in in_list s.front s.back (subst AreStanding s.is all)
+  stand_oldest es e eviction all = let s = split_oldest es e eviction in in_list s.front s.back (subst AreStanding s.is all)
     where
       in_list : (front back : List (ℕ × Slot V)) → AreStanding (front ++ e ∷ back) → IsStanding e.0 e.1.value
       in_list [] back all = all.0
@@ -153,7 +153,7 @@ module _ {S V : Type 0} (view : S → StorageView) (bits : ℕ) (bytes : V → L
       no_room_cause s t es fs (Err InUse) all h = (h.0.full, h.1)
       no_room_cause s t es fs (Err (StillInUse _)) all h = absurd h
       no_room_cause s t es fs (Err Memory) all h = absurd h
-      no_room_cause s t es fs (Err (Backend x)) all h = let is = stand_oldest is_modified IsFit Named es h.entry h.goes all in h.failed.cause is.fits (place h.entry.0 (is.named h.failed.modified))
+      no_room_cause s t es fs (Err (Backend x)) all h = let is = stand_oldest is_modified IsFit Named es h.entry h.eviction all in h.failed.cause is.fits (place h.entry.0 (is.named h.failed.modified))
 
       pub get_stands : (s t : S) (k : ℕ) (es fs : List (ℕ × Slot V)) (r : Result Bool (CacheError ℕ MetadataError)) → All es → GetsNew Steps₀ eqb size may_flush k s es r t fs → All fs
       get_stands s t k es fs (Ok true) all (r, gs, v, room, loads, is) = subst All (sym is) (clean_stands is_modified IsFit Named k v loads.fits loads.unmodified, room_stands s r es gs all room)

@@ -44,7 +44,7 @@ module _ {S : Type 0} (view : S → StorageView) where
     honest = honest;
     sound = sound;
     known = refl;
-    settled = λ settled. settled;
+    named_blocks = λ named_blocks. named_blocks;
     since = safe_none (view (storage_of s)) (known_of h c (byte_at (view (storage_of s)).contents));
   }
 
@@ -57,7 +57,7 @@ module _ {S : Type 0} (view : S → StorageView) where
     honest = second.honest;
     sound = second.sound;
     known = second.known ∙ first.known;
-    settled = λ settled. second.settled (first.settled settled);
+    named_blocks = λ named_blocks. second.named_blocks (first.named_blocks named_blocks);
     since = safe_then (view (storage_of r)) (view (storage_of s)) (view (storage_of t)) _ _ first.known first.since second.since;
   }
 
@@ -87,7 +87,7 @@ module _ {S : Type 0} (view : S → StorageView) where
           };
         };
         known = f.known;
-        settled = f.settled;
+        named_blocks = f.named_blocks;
         since = f.since;
       }
 

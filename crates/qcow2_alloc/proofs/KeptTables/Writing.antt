@@ -39,8 +39,8 @@ use Rattle.qcow2_alloc.proofs.KeptTables.Turning.{safe_none, safe_then}
 same_top : (h : HeaderFields) (d : Direction) (p : Pending) (l2s rbs l2s' rbs' : List CachedTable) (on_storage on_storage' : Bytes) → UnseenTableWrite h d p l2s rbs on_storage l2s' rbs' on_storage' → CacheInvariantOver h d p l2s rbs on_storage → SameTop h on_storage' on_storage
 same_top h d p l2s rbs l2s' rbs' on_storage on_storage' keeps kept =
     SameTop-trans h on_storage' (known_bytes (cluster_size h) l2s rbs on_storage) on_storage
-    (subst (SameTop h on_storage') keeps.known keeps.kept.guarded.same_top)
-    (SameTop-sym h on_storage (known_bytes (cluster_size h) l2s rbs on_storage) kept.guarded.same_top)
+    (subst (SameTop h on_storage') keeps.known keeps.kept.crash_invariant.same_top)
+    (SameTop-sym h on_storage (known_bytes (cluster_size h) l2s rbs on_storage) kept.crash_invariant.same_top)
 
 l2_named : (h : HeaderFields) (on_storage on_storage' : Bytes) → SameTop h on_storage' on_storage → (c : ℕ) → HasL2 h on_storage' c → HasL2 h on_storage c
 l2_named h on_storage on_storage' top c has =

@@ -24,7 +24,7 @@ use Rattle.qcow2_image.specs.declared.prepared.Prepared.{Prepared}
 use Rattle.qcow2_image.specs.ImageInvariant.{below_of, of_data, of_tables, to_free, new_data_by, over_all, pending_in, abstract_of, meaning, is_entered, is_new, is_private, is_hidden, place_of, share_of, backing_bytes, ImageInvariant}
 use Rattle.qcow2_image.specs.MovedTables.{MovesTables}
 use Rattle.qcow2_image.specs.UnseenSteps.{pending_with_listed, ListGrows, UnseenStep, UnseenFreeingStep}
-use Rattle.qcow2_image.proofs.Moved.{format_moves}
+use Rattle.qcow2_image.proofs.Moved.{format_file_step}
 use Rattle.qcow2_image.proofs.Shares.{private_used, used_unlaid}
 use Rattle.qcow2_image.proofs.Sound.{free_more, pending_is}
 use Rattle.qcow2_disk.proofs.Compose.{stops_of}
@@ -41,8 +41,8 @@ pub same_setting : (a b : Setting) → a.cluster_size ≡ b.cluster_size → ◌
 same_setting a b sizes below = ap (λ n. record a { cluster_size = n }) sizes ∙ ap (λ (f : Bool × Bytes). record b { is_backed = f.0; backing = f.1 }) below
 
 -- where the list grows
-pub tidies_kept : {S F : Type 0} (view : S → StorageView) (backing : F → BackingView) (old new : Qcow2 S F) (out : List (Option Prepared)) (p p' : Pending) → UnseenStep view backing p p' old new out → UnseenFreeingStep view backing p p' old new out
-tidies_kept view backing old new out p p' keeps = record { sound = keeps.sound; leads = keeps.leads; since = keeps.since; unseen = keeps.unseen; copied = keeps.copied; below = keeps.below }
+pub freeing_step_kept : {S F : Type 0} (view : S → StorageView) (backing : F → BackingView) (old new : Qcow2 S F) (out : List (Option Prepared)) (p p' : Pending) → UnseenStep view backing p p' old new out → UnseenFreeingStep view backing p p' old new out
+freeing_step_kept view backing old new out p p' keeps = record { sound = keeps.sound; safe_step = keeps.safe_step; since = keeps.since; unseen = keeps.unseen; copied = keeps.copied; below = keeps.below }
 
 module _ {S F : Type 0} (view : S → StorageView) (backing : F → BackingView) (old new : Qcow2 S F) (out : List (Option Prepared)) where
   -- with the clusters that are to be freed since, all that is pending is known
@@ -92,7 +92,7 @@ module _ {S F : Type 0} (view : S → StorageView) (backing : F → BackingView)
       -- at a place that is used the same bytes stand on the storage
       used_bytes : (o : ℕ) → 0 < used_by_guests (state_in view old.file p) (o / cluster_size old.file.header.fields) → 0 < used_by_guests (state_in view new.file p') (o / cluster_size new.file.header.fields) → contents_in view new.file o ≡ contents_in view old.file o
       used_bytes o before after =
-          used_unlaid (state_in view new.file p') sound'.file.caches.kept.kept.guarded o after ∙ bytes o before ∙ sym (used_unlaid (state_in view old.file p) sound.file.caches.kept.kept.guarded o before)
+          used_unlaid (state_in view new.file p') sound'.file.caches.kept.kept.crash_invariant o after ∙ bytes o before ∙ sym (used_unlaid (state_in view old.file p) sound.file.caches.kept.kept.crash_invariant o before)
 
       private_bytes : (k : ℕ) (q : Prepared) → slice_get out k ≡ Some (Some q) → (o : ℕ) → IsTrue (is_private view backing old q o) → contents_in view new.file (place_of old.file.header.fields q o) ≡ contents_in view old.file (place_of old.file.header.fields q o)
       private_bytes k q at o private =
@@ -108,25 +108,25 @@ module _ {S F : Type 0} (view : S → StorageView) (backing : F → BackingView)
           (fun_ext (λ k. same_slot same_header private_bytes k (slice_get out k) refl))
 
     pub still_seen : UnseenFreeingStep view backing p p' old new out → guest_of (abstract_of view backing new out) ≡ guest_of (abstract_of view backing old out)
-    still_seen tidies = still_shown tidies.sound (format_moves old.file.header.fields new.file.header.fields tidies.unseen.header) tidies.unseen.bytes
-        (unseen_disk (state_in view old.file p) (state_in view new.file p') sound.file.caches.kept.kept.guarded tidies.sound.file.caches.kept.kept.guarded tidies.unseen) tidies.below
+    still_seen freeing_step = still_shown freeing_step.sound (format_file_step old.file.header.fields new.file.header.fields freeing_step.unseen.header) freeing_step.unseen.bytes
+        (unseen_disk (state_in view old.file p) (state_in view new.file p') sound.file.caches.kept.kept.crash_invariant freeing_step.sound.file.caches.kept.kept.crash_invariant freeing_step.unseen) freeing_step.below
 
   -- ---- a whole call that no guest sees
 
   module _ (sound : ImageInvariant view backing (pending_in view backing old out) old out)
       (keeps : UnseenStep view backing (pending_in view backing old out) (pending_with_listed (pending_in view backing old out) old new) old new out) where
     pending_now : pending_with_listed (pending_in view backing old out) old new ≡ pending_in view backing new out
-    pending_now = followed sound keeps.list keeps.sound.file.caches.kept.kept.guarded
+    pending_now = followed sound keeps.list keeps.sound.file.caches.kept.kept.crash_invariant
 
     pub sound_now : ImageInvariant view backing (pending_in view backing new out) new out
     sound_now = subst (λ (q : Pending). ImageInvariant view backing q new out) pending_now keeps.sound
 
     pub same_now : guest_of (abstract_of view backing new out) ≡ guest_of (abstract_of view backing old out)
-    same_now = still_seen (pending_in view backing old out) (pending_with_listed (pending_in view backing old out) old new) sound (λ k. omega arith) (λ k. omega arith) (tidies_kept view backing old new out _ _ keeps)
+    same_now = still_seen (pending_in view backing old out) (pending_with_listed (pending_in view backing old out) old new) sound (λ k. omega arith) (λ k. omega arith) (freeing_step_kept view backing old new out _ _ keeps)
 
     pub works_now : EffectOnSound (abstract_of view backing old out) (abstract_of view backing new out) [] []
     works_now = record {
       setting = same_setting _ _ (ap (λ (h : HeaderFields). cluster_size h) keeps.unseen.header) keeps.below;
       surplus = λ still. ap (λ (q : Pending). q.surplus) (sym pending_now);
-      stops = stops_of (abstract_of view backing old out) (abstract_of view backing new out) nothing_given [] keeps.since (λ still. keeps.leads.known);
+      stops = stops_of (abstract_of view backing old out) (abstract_of view backing new out) nothing_given [] keeps.since (λ still. keeps.safe_step.known);
     }

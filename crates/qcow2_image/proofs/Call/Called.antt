@@ -11,7 +11,7 @@ use Rattle.qcow2_laws.specs.Unseen.{KeepsFormat}
 use Rattle.qcow2_disk.specs.AbstractImages.{Guest, AbstractImage, guest_of}
 use Rattle.qcow2_disk.specs.Calls.{Refusal, storage, EffectOnSound, AnsweredEffect, RefusedEffect, IsSame}
 use Rattle.qcow2_laws.proofs.Formats.{l1_format}
-use Rattle.qcow2_laws.proofs.SafeSteps.{leads_then, steps_endure}
+use Rattle.qcow2_laws.proofs.SafeSteps.{safe_step_then, steps_safe_throughout}
 use Rattle.qcow2_laws.proofs.Unseen.{unseen_then}
 use Rattle.qcow2_alloc.specs.declared.error.ImageError.{ImageError}
 use Rattle.qcow2_alloc.specs.ImageFile.{state_in, view_in, nothing_given}
@@ -23,7 +23,7 @@ use Rattle.qcow2_image.proofs.Call.Marked.{MayMark, MayMarkBy}
 use Rattle.qcow2_image.specs.ImageInvariant.{of_data, of_tables, to_free, ImageInvariant, pending_in, abstract_of}
 use Rattle.qcow2_image.specs.UnseenSteps.{NamesOwn, KeepsCopied, pending_with_listed, UnseenStep}
 use Rattle.qcow2_image.proofs.Call.Answered.{works_now, sound_now, same_now}
-use Rattle.qcow2_image.proofs.Call.Settled.{settled_does, settled_refuses}
+use Rattle.qcow2_image.proofs.Call.CallOutcomes.{outcome_answered, outcome_refused}
 use Rattle.qcow2_disk.proofs.Compose.{stops_none, rests_none}
 
 -- ---- a call that was refused before it did anything
@@ -58,8 +58,8 @@ module _ {S F : Type 0} (view : S → StorageView) (backing : F → BackingView)
     pub keeps_then : ((k : ℕ) → 0 < p.new_data k → 0 < p'.new_data k) → UnseenStep view backing p p' a b out → UnseenStep view backing p' p'' b c out → UnseenStep view backing p p'' a c out
     keeps_then new_data first then = record {
       sound = then.sound;
-      leads = leads_then (state_in view a.file p) (state_in view b.file p') (state_in view c.file p'') nothing_given nothing_given [] [] first.leads then.leads;
-      since = steps_endure (view_in view a.file) (view_in view b.file) (view_in view c.file) (state_in view a.file p) (state_in view b.file p') nothing_given nothing_given [] [] refl first.since first.leads then.since;
+      safe_step = safe_step_then (state_in view a.file p) (state_in view b.file p') (state_in view c.file p'') nothing_given nothing_given [] [] first.safe_step then.safe_step;
+      since = steps_safe_throughout (view_in view a.file) (view_in view b.file) (view_in view c.file) (state_in view a.file p) (state_in view b.file p') nothing_given nothing_given [] [] refl first.since first.safe_step then.since;
       unseen = unseen_then (state_in view a.file p) (state_in view b.file p') (state_in view c.file p'') first.unseen then.unseen new_data;
       copied = copied_then first.unseen.header first.copied then.copied;
       below = then.below ∙ first.below;
@@ -93,12 +93,12 @@ module _ {S F : Type 0} (view : S → StorageView) (backing : F → BackingView)
 
       -- it was answered
       pub quiet_does : number_of new ≡ number_of old → is_failed old ≡ false → AnsweredEffect (abstract_of view backing old out) (abstract_of view backing new out) [] [] (IsSame (abstract_of view backing old out) (abstract_of view backing new out))
-      quiet_does number works = settled_does view backing old new out out [] quiet_works quiet_sound number works quiet_same
+      quiet_does number works = outcome_answered view backing old new out out [] quiet_works quiet_sound number works quiet_same
 
       -- it was refused, and the image is marked as failed now or as before
       pub quiet_refuses : (marked : Bool) (e : ImageError) → MayMark e (is_failed new) marked → number_of new ≡ number_of old → is_failed old ≡ false
           → RefusedEffect (abstract_of view backing old out) (abstract_of view backing (record new { is_failed = marked }) out) [] [] (refusal_of e) (IsSame (abstract_of view backing old out) (abstract_of view backing (record new { is_failed = marked }) out))
-      quiet_refuses marked e marks number works = settled_refuses view backing old new out out [] quiet_works quiet_sound number works marked e marks (λ sound. inl (quiet_same sound))
+      quiet_refuses marked e marks number works = outcome_refused view backing old new out out [] quiet_works quiet_sound number works marked e marks (λ sound. inl (quiet_same sound))
 
 module _ {S F : Type 0} (view : S → StorageView) (backing : F → BackingView) where
   -- two parts after one another

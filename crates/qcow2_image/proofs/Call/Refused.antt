@@ -23,10 +23,10 @@ use Rattle.qcow2_image.proofs.Call.Marked.{MayMark}
 use Rattle.qcow2_image.specs.CallParts.{UnseenCall, InterruptedCall, RefusedCall, FindsTable, IsReadied, PreparesRange}
 use Rattle.qcow2_image.specs.UnseenSteps.{InterruptedStep, Ensures, UnseenFillingStep, RefusedFillingStep, UnseenStep, RefusedStep, pending_with_listed}
 use Rattle.qcow2_image.specs.ImageInvariant.{of_data, of_tables, to_free, pending_in, abstract_of, meaning, below_of, ImageInvariant}
-use Rattle.qcow2_image.proofs.Moved.{moves_then, format_moves, stay_then, format_stay}
+use Rattle.qcow2_image.proofs.Moved.{file_step_then, format_file_step, stay_then, format_stay}
 use Rattle.qcow2_image.proofs.Sound.{free_more}
 use Rattle.qcow2_image.proofs.Call.Answered.{same_setting, same_now, sound_now, works_now}
-use Rattle.qcow2_image.proofs.Call.Settled.{is_fault, outcome, settled_refuses}
+use Rattle.qcow2_image.proofs.Call.CallOutcomes.{is_fault, outcome, outcome_refused}
 use Rattle.qcow2_image.proofs.Call.Stepped.{Steps, stepped_sound, stepped_works}
 
 -- a fault, or want of memory that was noted, marks the image
@@ -43,27 +43,27 @@ module _ {S F : Type 0} (view : S → StorageView) (backing : F → BackingView)
     works = stepped_works view backing old new out out nothing_given p steps;
     sound = stepped_sound view backing old new out out nothing_given p steps;
     same = same;
-    header = format_moves old.file.header.fields new.file.header.fields steps.header;
+    header = format_file_step old.file.header.fields new.file.header.fields steps.header;
     covers = format_stay old.file.header.fields new.file.header.fields (known_in view old.file) (known_in view new.file) steps.header covers;
   }
 
   pub stays_kept : (old new : Qcow2 S F) → ImageInvariant view backing (pending_in view backing old out) old out → UnseenStep view backing (pending_in view backing old out) (pending_with_listed (pending_in view backing old out) old new) old new out → UnseenCall view backing old new out
-  stays_kept old new sound keeps = record { works = works_now view backing old new out sound keeps; sound = sound_now view backing old new out sound keeps; same = same_now view backing old new out sound keeps; header = format_moves old.file.header.fields new.file.header.fields keeps.unseen.header; covers = format_stay old.file.header.fields new.file.header.fields (known_in view old.file) (known_in view new.file) keeps.unseen.header keeps.unseen.covers }
+  stays_kept old new sound keeps = record { works = works_now view backing old new out sound keeps; sound = sound_now view backing old new out sound keeps; same = same_now view backing old new out sound keeps; header = format_file_step old.file.header.fields new.file.header.fields keeps.unseen.header; covers = format_stay old.file.header.fields new.file.header.fields (known_in view old.file) (known_in view new.file) keeps.unseen.header keeps.unseen.covers }
 
   -- it broke off
-  pub broke_off_so : (old new : Qcow2 S F) (e : ImageError) → InterruptedFileStep view old.file new.file e → cluster_size new.file.header.fields ≡ cluster_size old.file.header.fields → below_of view backing new.backing ≡ below_of view backing old.backing → InterruptedCall view backing old new out e
-  broke_off_so old new e breaks size below = record {
-    fault = breaks.fault;
-    noted = breaks.noted;
+  pub break_off_so : (old new : Qcow2 S F) (e : ImageError) → InterruptedFileStep view old.file new.file e → cluster_size new.file.header.fields ≡ cluster_size old.file.header.fields → below_of view backing new.backing ≡ below_of view backing old.backing → InterruptedCall view backing old new out e
+  break_off_so old new e interrupted size below = record {
+    fault = interrupted.fault;
+    noted = interrupted.noted;
     works = record {
       setting = same_setting _ _ size below;
       surplus = λ now. absurd (let f : true ≡ false = now.works in cc);
-      stops = stops_of (abstract_of view backing old out) (abstract_of view backing (record new { is_failed = true }) out) nothing_given [] breaks.since (λ now. absurd (let f : true ≡ false = now.works in cc));
+      stops = stops_of (abstract_of view backing old out) (abstract_of view backing (record new { is_failed = true }) out) nothing_given [] interrupted.since (λ now. absurd (let f : true ≡ false = now.works in cc));
     };
   }
 
-  pub broke_off : (old new : Qcow2 S F) (e : ImageError) → InterruptedStep view backing old new e → InterruptedCall view backing old new out e
-  broke_off old new e broke = broke_off_so old new e broke.breaks (ap (λ (h : HeaderFields). cluster_size h) broke.header) broke.below
+  pub break_off : (old new : Qcow2 S F) (e : ImageError) → InterruptedStep view backing old new e → InterruptedCall view backing old new out e
+  break_off old new e interruption = break_off_so old new e interruption.interrupted (ap (λ (h : HeaderFields). cluster_size h) interruption.header) interruption.below
 
   -- ---- one part after another
   module _ (a b c : Qcow2 S F) (first : UnseenCall view backing a b out) where
@@ -72,23 +72,23 @@ module _ {S F : Type 0} (view : S → StorageView) (backing : F → BackingView)
       works = works_then (abstract_of view backing a out) (abstract_of view backing b out) (abstract_of view backing c out) [] [] first.sound first.works then.works;
       sound = then.sound;
       same = then.same ∙ first.same;
-      header = moves_then a.file.header.fields b.file.header.fields c.file.header.fields first.header then.header;
+      header = file_step_then a.file.header.fields b.file.header.fields c.file.header.fields first.header then.header;
       covers = stay_then a.file.header.fields b.file.header.fields c.file.header.fields (known_in view a.file) (known_in view b.file) (known_in view c.file) first.covers then.covers;
     }
 
     pub refused_then : (e : ImageError) → RefusedCall view backing b c out e → RefusedCall view backing a c out e
     refused_then e (inl stays) = inl (stays_then stays)
-    refused_then e (inr breaks) = inr (record {
-      fault = breaks.fault;
-      noted = breaks.noted;
-      works = works_then (abstract_of view backing a out) (abstract_of view backing b out) (abstract_of view backing (record c { is_failed = true }) out) [] [] first.sound first.works breaks.works;
+    refused_then e (inr interrupted) = inr (record {
+      fault = interrupted.fault;
+      noted = interrupted.noted;
+      works = works_then (abstract_of view backing a out) (abstract_of view backing b out) (abstract_of view backing (record c { is_failed = true }) out) [] [] first.sound first.works interrupted.works;
     })
 
     pub readied_after : (k offset n : ℕ) (overwrite : Bool) (p : Prepared) → IsReadied view backing b c out k offset n overwrite p → IsReadied view backing a c out k offset n overwrite p
     readied_after k offset n overwrite p is = record {
       works = works_then (abstract_of view backing a out) (abstract_of view backing b out) (abstract_of view backing c (slice_set out k (Some p))) [] [] first.sound first.works is.works;
       sound = is.sound;
-      header = moves_then a.file.header.fields b.file.header.fields c.file.header.fields first.header is.header;
+      header = file_step_then a.file.header.fields b.file.header.fields c.file.header.fields first.header is.header;
       covers = stay_then a.file.header.fields b.file.header.fields c.file.header.fields (known_in view a.file) (known_in view b.file) (known_in view c.file) first.covers is.covers;
       prepared = subst (λ (d : Disk). IsPrepared (cluster_size a.file.header.fields) d offset n overwrite (meaning view backing c p)) (ap (λ (g : Guest). g.disk) first.same)
           (subst (λ size. IsPrepared size (guest_of (abstract_of view backing b out)).disk offset n overwrite (meaning view backing c p)) (ap (λ (x : Setting). x.cluster_size) first.works.setting) is.prepared);
@@ -107,7 +107,7 @@ module _ {S F : Type 0} (view : S → StorageView) (backing : F → BackingView)
   pub left_refused : (old new : Qcow2 S F) (e : ImageError) → ImageInvariant view backing (pending_in view backing old out) old out → KeepsRestOn old new → RefusedStep view backing (pending_in view backing old out) old new out e → RefusedCall view backing old new out e
   left_refused old new e sound rest left = elim left [
     | inl keeps ↦ inl (stays_kept old new sound keeps)
-    | inr breaks ↦ inr (broke_off old new e (record { breaks = breaks; header = ap (λ x. x.fields) rest.header; below = ap (below_of view backing) rest.backing }))
+    | inr interrupted ↦ inr (break_off old new e (record { interrupted = interrupted; header = ap (λ x. x.fields) rest.header; below = ap (below_of view backing) rest.backing }))
   ]
 
   -- the table of an offset is there
@@ -117,34 +117,34 @@ module _ {S F : Type 0} (view : S → StorageView) (backing : F → BackingView)
   finds old new sound rest offset (Err e) ready = left_refused old new e sound rest ready
 
   -- a mapping was made ready, or that was refused
-  pub goes_stays : (old new : Qcow2 S F) → UnseenFillingStep view backing (pending_in view backing old out) (pending_with_listed (pending_in view backing old out) old new) old new out → UnseenCall view backing old new out
-  goes_stays old new goes =
+  pub image_step_stays : (old new : Qcow2 S F) → UnseenFillingStep view backing (pending_in view backing old out) (pending_with_listed (pending_in view backing old out) old new) old new out → UnseenCall view backing old new out
+  image_step_stays old new image_step =
       stays_stepped old new (pending_with_listed (pending_in view backing old out) old new) (record {
-        sound = goes.sound;
+        sound = image_step.sound;
         only = record {
           new_data = λ k. refl;
           new_tables = λ k. refl;
-          old_tables = λ k. let x = ap (λ l. to_free of_tables l k) goes.list.is ∙ free_more of_tables old.file.free_list goes.list.more k in omega arith;
-          old_data = λ k. let x = ap (λ l. to_free of_data l k) goes.list.is ∙ free_more of_data old.file.free_list goes.list.more k in omega arith;
+          old_tables = λ k. let x = ap (λ l. to_free of_tables l k) image_step.list.is ∙ free_more of_tables old.file.free_list image_step.list.more k in omega arith;
+          old_data = λ k. let x = ap (λ l. to_free of_data l k) image_step.list.is ∙ free_more of_data old.file.free_list image_step.list.more k in omega arith;
         };
-        leads = goes.leads;
-        since = goes.since;
-        header = goes.header;
-        below = goes.below;
+        safe_step = image_step.safe_step;
+        since = image_step.since;
+        header = image_step.header;
+        below = image_step.below;
         surplus = refl;
-      }) goes.seen goes.covers
+      }) image_step.seen image_step.covers
 
   -- a part that was refused is a call that was
   pub back_refused : (old new : Qcow2 S F) (e : ImageError) → RefusedFillingStep view backing (pending_in view backing old out) old new out e → RefusedCall view backing old new out e
-  back_refused old new e (inl goes) = inl (goes_stays old new goes)
-  back_refused old new e (inr broke) = inr (broke_off old new e broke)
+  back_refused old new e (inl image_step) = inl (image_step_stays old new image_step)
+  back_refused old new e (inr interruption) = inr (break_off old new e interruption)
 
   -- what is to be freed is freed after a refusal
   pub back_then_freed : (old mid new : Qcow2 S F) (e e' : ImageError) → RefusedCall view backing old mid out e → (FaultOfTables e → (e' ≡ e) × (new ≡ mid))
       → (ImageInvariant view backing (pending_in view backing mid out) mid out → RefusedCall view backing mid new out e') → RefusedCall view backing old new out e'
   back_then_freed old mid new e e' back fault frees = elim back [
     | inl stays ↦ refused_then old mid new stays e' (frees stays.sound)
-    | inr broke ↦ let is = fault broke.fault in inr (subst (λ (x : ImageError). InterruptedCall view backing old new out x) (sym is.0) (subst (λ (image : Qcow2 S F). InterruptedCall view backing old image out e) (sym is.1) broke))
+    | inr interruption ↦ let is = fault interruption.fault in inr (subst (λ (x : ImageError). InterruptedCall view backing old new out x) (sym is.0) (subst (λ (image : Qcow2 S F). InterruptedCall view backing old image out e) (sym is.1) interruption))
   ]
 
   -- ---- a whole call
@@ -153,20 +153,20 @@ module _ {S F : Type 0} (view : S → StorageView) (backing : F → BackingView)
     failed_now = record new { is_failed = marked }
 
     refuses_stayed : UnseenCall view backing old new out → RefusedEffect (abstract_of view backing old out) (abstract_of view backing failed_now out) [] [] (refusal_of e) (IsSame (abstract_of view backing old out) (abstract_of view backing failed_now out))
-    refuses_stayed stays = settled_refuses view backing old new out out [] (λ sound. stays.works) (λ sound. stays.sound) number usable marked e marks (λ sound. inl stays.same)
+    refuses_stayed stays = outcome_refused view backing old new out out [] (λ sound. stays.works) (λ sound. stays.sound) number usable marked e marks (λ sound. inl stays.same)
 
     module _ (memory : e ≡ I.Memory → IsTrue new.file.caches.is_changed → IsTrue marked) where
       is_marked : InterruptedCall view backing old new out e → IsTrue marked × IsRefusalByFault (refusal_of e)
-      is_marked breaks = marks_fault e (is_failed new) marked new.file.caches.is_changed breaks.fault breaks.noted marks memory
+      is_marked interrupted = marks_fault e (is_failed new) marked new.file.caches.is_changed interrupted.fault interrupted.noted marks memory
 
       refused_works : RefusedCall view backing old new out e → ImageInvariant view backing (pending_in view backing old out) old out → EffectOnSound (abstract_of view backing old out) (abstract_of view backing failed_now out) [] []
       refused_works (inl stays) sound = (refuses_stayed stays).acts.works sound
-      refused_works (inr breaks) sound = subst (λ (f : Bool). EffectOnSound (abstract_of view backing old out) (abstract_of view backing (record new { is_failed = f }) out) [] []) (sym (is_marked breaks).0) breaks.works
+      refused_works (inr interrupted) sound = subst (λ (f : Bool). EffectOnSound (abstract_of view backing old out) (abstract_of view backing (record new { is_failed = f }) out) [] []) (sym (is_marked interrupted).0) interrupted.works
 
       refused_answer : RefusedCall view backing old new out e → ImageInvariant view backing (pending_in view backing old out) old out
           → ((abstract_of view backing failed_now out).is_sound × IsSame (abstract_of view backing old out) (abstract_of view backing failed_now out)) ⊎ (IsRefusalByFault (refusal_of e) × IsTrue marked)
       refused_answer (inl stays) sound = (refuses_stayed stays).answer sound
-      refused_answer (inr breaks) sound = let is = is_marked breaks in inr (is.1, is.0)
+      refused_answer (inr interrupted) sound = let is = is_marked interrupted in inr (is.1, is.0)
 
       pub refuses_left : (ImageInvariant view backing (pending_in view backing old out) old out → RefusedCall view backing old new out e)
           → RefusedEffect (abstract_of view backing old out) (abstract_of view backing failed_now out) [] [] (refusal_of e) (IsSame (abstract_of view backing old out) (abstract_of view backing failed_now out))

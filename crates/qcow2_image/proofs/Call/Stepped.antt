@@ -24,7 +24,7 @@ module _ {S F : Type 0} (view : S → StorageView) (backing : F → BackingView)
   pub record Steps (given : Bytes → List GivenBytes) (p : Pending) : Type 0 where
     pub sound : ImageInvariant view backing p new out'
     pub only : IsOnly view backing new out' p
-    pub leads : SafeStep (state_in view old.file (pending_in view backing old out)) (state_in view new.file p) given []
+    pub safe_step : SafeStep (state_in view old.file (pending_in view backing old out)) (state_in view new.file p) given []
     pub since : SafeThroughout (view_in view old.file) (view_in view new.file) (known_in view old.file) given []
     pub header : KeepsFormat old.file.header.fields new.file.header.fields
     pub below : below_of view backing new.backing ≡ below_of view backing old.backing
@@ -32,7 +32,7 @@ module _ {S F : Type 0} (view : S → StorageView) (backing : F → BackingView)
 
   module _ (given : Bytes → List GivenBytes) (p : Pending) (steps : Steps given p) where
     pending_now : p ≡ pending_in view backing new out'
-    pending_now = pending_is view backing new out' p steps.leads.sound steps.only
+    pending_now = pending_is view backing new out' p steps.safe_step.sound steps.only
 
     pub stepped_sound : ImageInvariant view backing (pending_in view backing new out') new out'
     stepped_sound = subst (λ (q : Pending). ImageInvariant view backing q new out') pending_now steps.sound
@@ -41,5 +41,5 @@ module _ {S F : Type 0} (view : S → StorageView) (backing : F → BackingView)
     stepped_works = record {
       setting = same_setting _ _ (ap (λ (h : HeaderFields). cluster_size h) steps.header) steps.below;
       surplus = λ still. ap (λ (q : Pending). q.surplus) (sym pending_now) ∙ steps.surplus;
-      stops = stops_of (abstract_of view backing old out) (abstract_of view backing new out') given [] steps.since (λ still. steps.leads.known);
+      stops = stops_of (abstract_of view backing old out) (abstract_of view backing new out') given [] steps.since (λ still. steps.safe_step.known);
     }

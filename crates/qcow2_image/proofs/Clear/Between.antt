@@ -35,7 +35,7 @@ use Rattle.qcow2_image.specs.MovedTables.{MovesTables, CoversStay}
 use Rattle.qcow2_image.specs.UnseenSteps.{HoldsTable}
 use Rattle.qcow2_image.proofs.Apart.{pins_own}
 use Rattle.qcow2_image.proofs.Clear.Cleared.{all_cleared}
-use Rattle.qcow2_image.proofs.Moved.{moves_then}
+use Rattle.qcow2_image.proofs.Moved.{file_step_then}
 use Rattle.qcow2_image.proofs.Prepare.Taken.{in_same, keeper}
 use Rattle.qcow2_image.proofs.Shares.{over_all_at}
 
@@ -203,7 +203,7 @@ module _ {S F : Type 0} (view : S → StorageView) (backing : F → BackingView)
           works = works_then v w x given_bytes [] first.sound (works_less v w [] given_bytes [] (λ o value never. absurd never) first.works) (subst (λ gs. EffectOnSound w x gs []) (ap (λ (d : Disk). given_shown d from to ∷ []) cleared_same) part.works);
           sound = part.sound;
           shows = part.shows ∙ ap (λ (d : Disk). with_disk (guest_of w) d) cleared_same ∙ ap (λ (g : Guest). with_disk g (cleared (setting_of view backing old) (disk_of view backing old) (shown_by how) from to)) first.same;
-          header = moves_then old.file.header.fields mid.file.header.fields new.file.header.fields first.header part.header;
+          header = file_step_then old.file.header.fields mid.file.header.fields new.file.header.fields first.header part.header;
           covers = covers_before how from to old.file.header.fields mid.file.header.fields new.file.header.fields (known_in view old.file) (known_in view mid.file) (known_in view new.file) first.header first.covers part.covers;
           noted = part.noted;
         }
@@ -217,7 +217,7 @@ module _ {S F : Type 0} (view : S → StorageView) (backing : F → BackingView)
   fits_table old mid how from to found whole_old lt =
       let h = mid.file.header.fields in
       let whole = whole_format old.file.header.fields h how from to found.header whole_old in
-      row_within (cluster_size h) (entries_per_cluster h) (pow_pos h.cluster_bits) from to whole.begins whole.ends lt (Sizes-from h (contents_in view mid.file) found.sound.file.caches.kept.kept.guarded.top.header_reads).entries whole.within
+      row_within (cluster_size h) (entries_per_cluster h) (pow_pos h.cluster_bits) from to whole.begins whole.ends lt (Sizes-from h (contents_in view mid.file) found.sound.file.caches.kept.kept.crash_invariant.top.header_reads).entries whole.within
 
   module _ (old mid b new : Qcow2 S F) (how : Clearance) (from to table : ℕ) (found : UnseenCall view backing old mid out) (holds : HoldsTable view backing mid from table) (whole_old : IsClearable old.file.header.fields how from to) (lt : from < to)
       (unpinned : l2_pins mid.file.caches table ≡ 0) (list : List ClustersToFreeEntry)
@@ -249,7 +249,7 @@ module _ {S F : Type 0} (view : S → StorageView) (backing : F → BackingView)
     some_size = pow_pos h.cluster_bits
 
     some_row : 0 < entries_per_cluster h
-    some_row = (Sizes-from h (contents_in view mid.file) found.sound.file.caches.kept.kept.guarded.top.header_reads).entries
+    some_row = (Sizes-from h (contents_in view mid.file) found.sound.file.caches.kept.kept.crash_invariant.top.header_reads).entries
 
     g_is : g ≡ guest
     g_is = div-add-mod' guest (entries_per_cluster h)

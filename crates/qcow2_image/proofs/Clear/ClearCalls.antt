@@ -36,7 +36,7 @@ use Rattle.qcow2_image.proofs.Call.Marked.{MayMark}
 use Rattle.qcow2_image.specs.MovedTables.{MovesTables, CoversStay}
 use Rattle.qcow2_image.proofs.Call.Called.{Quietly, listed, refuses_early, works_none}
 use Rattle.qcow2_image.proofs.Call.Refused.{refused_then, refuses_left, stays_kept}
-use Rattle.qcow2_image.proofs.Call.Settled.{settled_does}
+use Rattle.qcow2_image.proofs.Call.CallOutcomes.{outcome_answered}
 use Rattle.qcow2_image.proofs.Clear.Between.{clears_after, whole_format}
 use Rattle.qcow2_image.proofs.Clear.Ranges.{from_whole, to_whole, to_within}
 use Rattle.qcow2_image.proofs.Sizes.{disk_size}
@@ -162,7 +162,7 @@ module _ {S F : Type 0} (view : S → StorageView) (backing : F → BackingView)
   -- nothing is touched
   pub clears_nothing : to ≤ from → Clears view backing how old old offset n (Ok (from, 0))
   clears_nothing le = λ out.
-      settled_does view backing old old out out given_bytes (λ sound. works_less (v out sound) (v out sound) [] given_bytes [] (λ o x never. absurd never) (works_none (v out sound) sound)) (λ sound. sound) refl usable
+      outcome_answered view backing old old out out given_bytes (λ sound. works_less (v out sound) (v out sound) [] given_bytes [] (λ o x never. absurd never) (works_none (v out sound) sound)) (λ sound. sound) refl usable
       (λ sound. (answer_none out sound le, ap (λ d. with_disk (guest_of (v out sound)) d) (sym (none_cleared (setting_of view backing old) (disk_of view backing old) (shown_by how) from to le) ∙ disk_is out sound)))
 
   -- ---- it begins, and clusters are cleared
@@ -175,7 +175,7 @@ module _ {S F : Type 0} (view : S → StorageView) (backing : F → BackingView)
     whole_in out call version =
         let h = old.file.header.fields in
         let h' = begun.file.header.fields in
-        let sizes = Sizes-from h' (contents_in view begun.file) call.sound.file.caches.kept.kept.guarded.top.header_reads in
+        let sizes = Sizes-from h' (contents_in view begun.file) call.sound.file.caches.kept.kept.crash_invariant.top.header_reads in
         let some : 0 < cluster_size h = pow_pos h.cluster_bits in
         let rows : 0 < entries_per_cluster h = subst (λ (x : HeaderFields). 0 < entries_per_cluster x) call.header sizes.entries in
         whole_format view backing out h h' how (from_in old offset n) (to_in old offset n) call.header
@@ -220,14 +220,14 @@ module _ {S F : Type 0} (view : S → StorageView) (backing : F → BackingView)
           let e = abstract_of view backing entries out in
           let f = abstract_of view backing freed out in
           let call : ImageInvariant view backing (pending_in view backing old out) old out → UnseenCall view backing entries freed out = λ sound. subst (EndsFreeing view backing entries freed out) ok (ends out (part out sound).sound) in
-          settled_does view backing old freed out out given_bytes
+          outcome_answered view backing old freed out out given_bytes
           (λ sound. works_then a e f given_bytes [] (part out sound).sound (part_works out sound) (works_less e f [] given_bytes [] (λ o x never. absurd never) (call sound).works))
           (λ sound. (call sound).sound) number usable
           (λ sound. (answer_some out sound lt, (call sound).same ∙ (part out sound).shows ∙ ap (λ d. with_disk (guest_of a) d) (disk_is out sound)))
 
       -- that was refused: the image failed
-      pub clear_broke : (x : ImageError) → r ≡ Err x → (refusal_of x ≡ storage → IsTrue (is_failed freed)) → Clears view backing how old freed offset n (Err x)
-      clear_broke x refused marked = λ out.
+      pub clear_interruption : (x : ImageError) → r ≡ Err x → (refusal_of x ≡ storage → IsTrue (is_failed freed)) → Clears view backing how old freed offset n (Err x)
+      clear_interruption x refused marked = λ out.
           let a = abstract_of view backing old out in
           let e = abstract_of view backing entries out in
           let f = abstract_of view backing freed out in
@@ -244,11 +244,11 @@ module _ {S F : Type 0} (view : S → StorageView) (backing : F → BackingView)
           }
 
       -- it was a fault
-      pub fault_broke : (x : ImageError) → r ≡ Err x → (out : List (Option Prepared)) → ImageInvariant view backing (pending_in view backing old out) old out → IsRefusalByFault (refusal_of x)
-      fault_broke x refused out sound = (subst (EndsFreeing view backing entries freed out) refused (ends out (part out sound).sound)).1
+      pub fault_interruption : (x : ImageError) → r ≡ Err x → (out : List (Option Prepared)) → ImageInvariant view backing (pending_in view backing old out) old out → IsRefusalByFault (refusal_of x)
+      fault_interruption x refused out sound = (subst (EndsFreeing view backing entries freed out) refused (ends out (part out sound).sound)).1
 
-      pub ungiven_broke : (x : ImageError) → r ≡ Err x → RefusesUngiven view backing old freed x
-      ungiven_broke x refused none out =
+      pub ungiven_interruption : (x : ImageError) → r ≡ Err x → RefusesUngiven view backing old freed x
+      ungiven_interruption x refused none out =
           let fault : ImageInvariant view backing (pending_in view backing old out) old out → ⊥ = λ sound. none (subst (EndsFreeing view backing entries freed out) refused (ends out (part out sound).sound)).1 in
           record {
             acts = record { number = number; works = λ sound. absurd (fault sound); rests = λ was. absurd (let no : true ≡ false = sym was ∙ usable in cc) };

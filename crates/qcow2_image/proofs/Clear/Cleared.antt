@@ -21,7 +21,7 @@ use Rattle.qcow2_laws.specs.SafeSteps.{DriverState}
 use Rattle.qcow2_laws.specs.Steps.{guest_at}
 use Rattle.qcow2_disk.specs.Stops.{GivenBytes}
 use Rattle.qcow2_laws.proofs.MappedRanges.{clusters_in_turn_are_a_range}
-use Rattle.qcow2_laws.proofs.SafeSteps.{entries_endure}
+use Rattle.qcow2_laws.proofs.SafeSteps.{entries_safe_throughout}
 use Rattle.qcow2_alloc.specs.CachePins.{KeepsPinsAndNotes}
 use Rattle.qcow2_alloc.specs.declared.cache.MetadataCaches.{MetadataCaches}
 use Rattle.qcow2_alloc.specs.declared.clusters_to_free.ClustersToFreeEntry.{ClustersToFreeEntry}
@@ -161,7 +161,7 @@ module _ {S F : Type 0} (view : S → StorageView) (backing : F → BackingView)
     -- the index isn't cut
     index_is : (out : List (Option Prepared)) (p : Pending) (row : ℕ) → MayClear view backing how t row column (suc n) a out p → min (column + n) (2 ^ 64 - 1) ≡ column + n
     index_is out p row may =
-        let few : cluster_size a.file.header.fields ≤ 2 ^ 21 = pow_mono may.sound.file.caches.kept.kept.guarded.top.header_reads.well_formed.in_range.cluster_bits.1 in
+        let few : cluster_size a.file.header.fields ≤ 2 ^ 21 = pow_mono may.sound.file.caches.kept.kept.crash_invariant.top.header_reads.well_formed.in_range.cluster_bits.1 in
         let w = may.within in
         omega (arith, few, w)
 
@@ -214,9 +214,9 @@ module _ {S F : Type 0} (view : S → StorageView) (backing : F → BackingView)
     shown_over KeptZeros below d from to = zeroed_between d from to
 
     ranged : (x : Clearance) → MapsInTurn (is_cleared x) g n s s' → ClearsRange g n s s' (shown_over x)
-    ranged Uncovered turn = clusters_in_turn_are_a_range.uncovered s s' g n sound.file.caches.kept.kept.guarded turn
-    ranged Zeros turn = clusters_in_turn_are_a_range.zeroed s s' g n sound.file.caches.kept.kept.guarded turn
-    ranged KeptZeros turn = clusters_in_turn_are_a_range.zeroed s s' g n sound.file.caches.kept.kept.guarded turn
+    ranged Uncovered turn = clusters_in_turn_are_a_range.uncovered s s' g n sound.file.caches.kept.kept.crash_invariant turn
+    ranged Zeros turn = clusters_in_turn_are_a_range.zeroed s s' g n sound.file.caches.kept.kept.crash_invariant turn
+    ranged KeptZeros turn = clusters_in_turn_are_a_range.zeroed s s' g n sound.file.caches.kept.kept.crash_invariant turn
 
     range : ClearsRange g n s s' (shown_over how)
     range = ranged how all.turn
@@ -236,7 +236,7 @@ module _ {S F : Type 0} (view : S → StorageView) (backing : F → BackingView)
     steps = record {
       sound = record {
         works = all.sound_now.works;
-        file = record { honest = all.sound_now.file.honest; caches = all.sound_now.file.caches; settled = all.sound_now.file.settled; room = all.sound_now.file.room };
+        file = record { honest = all.sound_now.file.honest; caches = all.sound_now.file.caches; named_blocks = all.sound_now.file.named_blocks; room = all.sound_now.file.room };
         l1_table = record { cluster = sound.l1_table.cluster; bits = sound.l1_table.bits; count = sound.l1_table.count; entries = sound.l1_table.entries };
         reftable = reftable_still view (record a.file { caches = caches }) final.file refl refl (λ k. refl) a.allocator all.sound_now.reftable;
         below = all.sound_now.below;
@@ -250,8 +250,8 @@ module _ {S F : Type 0} (view : S → StorageView) (backing : F → BackingView)
         old_tables = λ k. let same = all.old_tables k in let more = free_more of_tables a.file.free_list listed k in let none = listed_no_table how h' (known_in view a.file) g n k in omega (arith, same, more, none);
         old_data = λ k. let is = all.old_data k in let more = free_more of_data a.file.free_list listed k in omega (arith, is, more);
       };
-      leads = range.leads;
-      since = entries_endure (view_in view a.file) s s' (is_cleared how) g n given refl all.turn range.leads;
+      safe_step = range.safe_step;
+      since = entries_safe_throughout (view_in view a.file) s s' (is_cleared how) g n given refl all.turn range.safe_step;
       header = refl;
       below = refl;
       surplus = all.surplus;

@@ -174,8 +174,8 @@ module _ {S F : Type 0} (view : S → StorageView) (backing : F → BackingView)
   abbrev old : L2Mapping
   old = cover h s.known guest
 
-  guarded : StateInvariant s
-  guarded = sound.file.caches.kept.kept.guarded
+  crash_invariant : StateInvariant s
+  crash_invariant = sound.file.caches.kept.kept.crash_invariant
 
   abbrev word : ℕ
   word = l2_entry s.known (table_at h s.known row) column
@@ -184,10 +184,10 @@ module _ {S F : Type 0} (view : S → StorageView) (backing : F → BackingView)
   entry = clears.cleared h p s.on_storage row sound.file.caches at copied found
 
   cover_was : cover h s.known guest ≡ entry_cover h word
-  cover_was = cover_at h s.known row column (Sizes-from h s.on_storage guarded.top.header_reads) at.real at.within
+  cover_was = cover_at h s.known row column (Sizes-from h s.on_storage crash_invariant.top.header_reads) at.real at.within
 
   is_third : IsTrue (needs_zero_entries how) → (h.version == 3) ≡ true
-  is_third needs = elim guarded.top.header_reads.well_formed.in_range.version [
+  is_third needs = elim crash_invariant.top.header_reads.well_formed.in_range.version [
     | inl second ↦ absurd (let least = version needs in omega (arith, second, least))
     | inr third ↦ eq-eqb h.version 3 third
   ]
@@ -196,14 +196,14 @@ module _ {S F : Type 0} (view : S → StorageView) (backing : F → BackingView)
   says = entry_says how h.cluster_bits (h.version == 3) (has_data_file h) word is_third ∙ ap (cover_once_cleared how) (sym cover_was)
 
   pub covered : cover a.file.header.fields (known_of a.file.header.fields b.file.caches (contents_in view a.file)) (guest_at a.file.header.fields row column) ≡ cover_once_cleared how (cover a.file.header.fields (known_in view a.file) (guest_at a.file.header.fields row column))
-  covered = cover_now s known row column (cleared_entry how (entry_cover h word)) guarded at.real at.within entry.change ∙ says
+  covered = cover_now s known row column (cleared_entry how (entry_cover h word)) crash_invariant at.real at.within entry.change ∙ says
 
   changes : EntryChanges s known row column
-  changes = known_entry_changes s known row column (cleared_entry how (entry_cover h word)) guarded at.real at.within entry.change
-      (subst (λ v. Takes h p.new_data old v) (sym says) (takes_cleared how h p.new_data old (guarded.known_aligned guest)))
+  changes = known_entry_changes s known row column (cleared_entry how (entry_cover h word)) crash_invariant at.real at.within entry.change
+      (subst (λ v. Takes h p.new_data old v) (sym says) (takes_cleared how h p.new_data old (crash_invariant.known_aligned guest)))
 
   counts_stay : (k : ℕ) → count a.file.header.fields (known_in view a.file) k ≡ count a.file.header.fields (known_of a.file.header.fields b.file.caches (contents_in view a.file)) k
-  counts_stay = counts_now s known row column (cleared_entry how (entry_cover h word)) guarded at.real at.within entry.change
+  counts_stay = counts_now s known row column (cleared_entry how (entry_cover h word)) crash_invariant at.real at.within entry.change
 
   abbrev after : Pending
   after = pending_after s known guest
@@ -217,13 +217,13 @@ module _ {S F : Type 0} (view : S → StorageView) (backing : F → BackingView)
     covers : SameOtherCovers guest s s'
 
   zeros_mapped : (v : L2Mapping) → cover h known guest ≡ v → IsZeros v → Mapped
-  zeros_mapped (Zero kept) is zeros = let m = entry_zeroed s known row column guarded changes kept is in record { sound_then = m.leads.sound; covers = m.unseen.covers }
+  zeros_mapped (Zero kept) is zeros = let m = entry_zeroed s known row column crash_invariant changes kept is in record { sound_then = m.safe_step.sound; covers = m.unseen.covers }
   zeros_mapped (Data host checkpoint) is zeros = absurd zeros
   zeros_mapped (Compressed host sectors) is zeros = absurd zeros
   zeros_mapped M.Uncovered is zeros = absurd zeros
 
   mapped_as : (x : Clearance) → is_cleared x (cover h known guest) → Mapped
-  mapped_as Uncovered is = let m = entry_uncovered s known row column guarded changes is in record { sound_then = m.leads.sound; covers = m.unseen.covers }
+  mapped_as Uncovered is = let m = entry_uncovered s known row column crash_invariant changes is in record { sound_then = m.safe_step.sound; covers = m.unseen.covers }
   mapped_as Zeros is = zeros_mapped (cover h known guest) refl is
   mapped_as KeptZeros is = zeros_mapped (cover h known guest) refl is
 
@@ -244,7 +244,7 @@ module _ {S F : Type 0} (view : S → StorageView) (backing : F → BackingView)
   same_stand = ap (λ d. record s { pending = after; direction = d; known = known }) clears.order
 
   same_l1 : (l : ℕ) → l1_entry h known l ≡ l1_entry h s.known l
-  same_l1 l = sym (mapped.sound_then.same_top.l1 l) ∙ guarded.same_top.l1 l
+  same_l1 l = sym (mapped.sound_then.same_top.l1 l) ∙ crash_invariant.same_top.l1 l
 
   -- a mapping that is out lies in another table
   elsewhere : (j : ℕ) (r : Prepared) → slice_get out j ≡ Some (Some r) → (u : ℕ) → r.table ≡ Some u → IsPending h s.known s.on_storage r u → (i : ℕ) → i < length r.shares.items → cluster_of h r + i ≡ guest → ⊥
@@ -261,7 +261,7 @@ module _ {S F : Type 0} (view : S → StorageView) (backing : F → BackingView)
   still : (j : ℕ) (r : Prepared) → slice_get out j ≡ Some (Some r) → (x : Option ℕ) → r.table ≡ x → IsReadyWith h s.known s.on_storage r x → IsReadyWith h known s.on_storage r x
   still j r there None is ready = ready
   still j r there (Some u) is ready =
-      still_pending h s.known s.on_storage known s.on_storage r guarded.same_top.l1 mapped.sound_then.same_top.l1 (λ l marked. refl) u
+      still_pending h s.known s.on_storage known s.on_storage r crash_invariant.same_top.l1 mapped.sound_then.same_top.l1 (λ l marked. refl) u
       (λ i share has. still_share h s.known s.on_storage known s.on_storage r i
       (mapped.covers (cluster_of h r + i) (λ same. elsewhere j r there u is ready i (slice_get_within r.shares.items i share has) same)) share (ready.each i share has)) ready
 
@@ -270,8 +270,8 @@ module _ {S F : Type 0} (view : S → StorageView) (backing : F → BackingView)
     works = sound.works;
     file = record {
       honest = sound.file.honest;
-      caches = entry.sound after sound.file.settled (subst (λ d. CrashInvariant h d after s.on_storage known) (sym clears.order) mapped.sound_then);
-      settled = entry.settled sound.file.settled;
+      caches = entry.sound after sound.file.named_blocks (subst (λ d. CrashInvariant h d after s.on_storage known) (sym clears.order) mapped.sound_then);
+      named_blocks = entry.named_blocks sound.file.named_blocks;
       room = clears.marks.room sound.file.room;
     };
     l1_table = record { cluster = sound.l1_table.cluster; bits = sound.l1_table.bits; count = sound.l1_table.count; entries = sound.l1_table.entries };

@@ -20,7 +20,7 @@ use Rattle.qcow2_alloc.specs.ImageFile.{contents_in, known_in}
 use Rattle.qcow2_image.specs.ImageInvariant.{pending_in, abstract_of, meaning, IsReadyWith, ImageInvariant}
 use Rattle.qcow2_image.proofs.Call.Answered.{same_guest}
 use Rattle.qcow2_image.proofs.Call.Called.{Quietly, quiet_same, quiet_sound, quiet_works}
-use Rattle.qcow2_image.proofs.Call.Settled.{settled_does}
+use Rattle.qcow2_image.proofs.Call.CallOutcomes.{outcome_answered}
 use Rattle.qcow2_image.proofs.Call.Slots.{get_set_same, set_same, set_set}
 use Rattle.qcow2_image.proofs.Shares.{never_private}
 
@@ -61,18 +61,18 @@ module _ {S F : Type 0} (view : S → StorageView) (backing : F → BackingView)
     abbrev m0 : PreparedMapping
     m0 = meaning view backing old p
 
-    abbrev gifts0 : List GivenBytes
-    gifts0 = given_by_commit v0.setting.cluster_size (guest_of v0).disk m0 ∷ []
+    abbrev given_before : List GivenBytes
+    given_before = given_by_commit v0.setting.cluster_size (guest_of v0).disk m0 ∷ []
 
     nothing_new : ImageInvariant view backing (pending_in view backing old out) old out → committed (guest_of v0).disk m0 ≡ (guest_of v0).disk
     nothing_new sound =
         let none : p.shares.items ≡ [] = subst (IsReadyWith old.file.header.fields (known_in view old.file) (contents_in view old.file) p) existing (sound.ready k p placed).mapped in
         ap (λ f. record (guest_of v0).disk { value = f }) (fun_ext (λ o. cond-false (m0.is_private o) _ _ (never_private view backing old p none o)))
 
-    pub commit_existing : AnsweredEffect v0 w0 gifts0 [] (guest_of w0 ≡ with_slot (with_disk (guest_of v0) (committed (guest_of v0).disk m0)) k None)
+    pub commit_existing : AnsweredEffect v0 w0 given_before [] (guest_of w0 ≡ with_slot (with_disk (guest_of v0) (committed (guest_of v0).disk m0)) k None)
     commit_existing =
         let does = discards out k placed in
-        settled_does view backing old new out (slice_set out k None) gifts0 (λ sound. works_less v0 w0 [] gifts0 [] (λ o x never. absurd never) (does.acts.works sound)) (λ sound. (does.answer sound).0) does.acts.number usable
+        outcome_answered view backing old new out (slice_set out k None) given_before (λ sound. works_less v0 w0 [] given_before [] (λ o x never. absurd never) (does.acts.works sound)) (λ sound. (does.answer sound).0) does.acts.number usable
         (λ sound. (does.answer sound).1 ∙ ap (λ d. with_slot (with_disk (guest_of v0) d) k None) (sym (nothing_new sound)))
 
 -- ---- it begins, and its shares are entered
@@ -144,8 +144,8 @@ module _ {S F : Type 0} (view : S → StorageView) (backing : F → BackingView)
         freed_call : UnseenCall view backing entered freed left
         freed_call = subst (EndsFreeing view backing entered freed left) ok ended
 
-        let_go : AnsweredEffect f (abstract_of view backing new (slice_set left k None)) [] [] (guest_of (abstract_of view backing new (slice_set left k None)) ≡ with_slot (guest_of f) k None)
-        let_go = discards left k (get_set_same out k (Some q) (Some p) placed)
+        release_prepared : AnsweredEffect f (abstract_of view backing new (slice_set left k None)) [] [] (guest_of (abstract_of view backing new (slice_set left k None)) ≡ with_slot (guest_of f) k None)
+        release_prepared = discards left k (get_set_same out k (Some q) (Some p) placed)
 
         end : slice_set left k None ≡ slice_set out k None
         end = set_set out k (Some q) None
@@ -155,23 +155,23 @@ module _ {S F : Type 0} (view : S → StorageView) (backing : F → BackingView)
 
         works_all : EffectOnSound v w given_bytes []
         works_all =
-            let last = (let_go.acts.works freed_call.sound) in
+            let last = (release_prepared.acts.works freed_call.sound) in
             let freeing : EffectOnSound v f given_bytes [] = works_then v e f given_bytes [] all.part.sound entered_works (works_less e f [] given_bytes [] (λ o x never. absurd never) freed_call.works) in
             subst (λ now. EffectOnSound v (abstract_of view backing new now) given_bytes []) end
             (works_then v f (abstract_of view backing new (slice_set left k None)) given_bytes [] freed_call.sound freeing (works_less f (abstract_of view backing new (slice_set left k None)) [] given_bytes [] (λ o x never. absurd never) last))
 
         sound_all : ImageInvariant view backing (pending_in view backing new (slice_set out k None)) new (slice_set out k None)
-        sound_all = subst (λ now. ImageInvariant view backing (pending_in view backing new now) new now) end (let_go.answer freed_call.sound).0
+        sound_all = subst (λ now. ImageInvariant view backing (pending_in view backing new now) new now) end (release_prepared.answer freed_call.sound).0
 
         is_all : guest_of w ≡ with_slot (with_disk (guest_of v) (committed (guest_of v).disk m)) k None
         is_all =
-            let gone : guest_of w ≡ with_slot (guest_of e) k None = subst (λ now. guest_of (abstract_of view backing new now) ≡ with_slot (guest_of f) k None) end (let_go.answer freed_call.sound).1 ∙ ap (λ (g : Guest). with_slot g k None) freed_call.same in
+            let gone : guest_of w ≡ with_slot (guest_of e) k None = subst (λ now. guest_of (abstract_of view backing new now) ≡ with_slot (guest_of f) k None) end (release_prepared.answer freed_call.sound).1 ∙ ap (λ (g : Guest). with_slot g k None) freed_call.same in
             all_shown (guest_of v) (guest_of e) (guest_of w) k m (meaning view backing entered q) entered_shows all.visible gone
 
     pub commit_done : (ok : r ≡ Ok tt) (new : Qcow2 S F) → Discards view backing freed new q → number_of new ≡ number_of old
         → let w = abstract_of view backing new (slice_set out k None) in AnsweredEffect v w given_bytes [] (guest_of w ≡ with_slot (with_disk (guest_of v) (committed (guest_of v).disk m)) k None)
     commit_done ok new discards number =
-        settled_does view backing old new out (slice_set out k None) given_bytes (λ sound. works_all sound ok new discards) (λ sound. sound_all sound ok new discards) number usable (λ sound. is_all sound ok new discards)
+        outcome_answered view backing old new out (slice_set out k None) given_bytes (λ sound. works_all sound ok new discards) (λ sound. sound_all sound ok new discards) number usable (λ sound. is_all sound ok new discards)
 
     -- ---- that was refused
     module _ (number : number_of freed ≡ number_of old) (x : ImageError) (refused : r ≡ Err x) (marked : refusal_of x ≡ storage → IsTrue (is_failed freed)) where
@@ -190,9 +190,9 @@ module _ {S F : Type 0} (view : S → StorageView) (backing : F → BackingView)
           }
 
       -- the image failed: it is spent
-      pub commit_broke : (ImageInvariant view backing (pending_in view backing old out) old out → IsTrue (is_failed freed))
+      pub commit_interruption : (ImageInvariant view backing (pending_in view backing old out) old out → IsTrue (is_failed freed))
           → let w = abstract_of view backing freed (slice_set out k None) in (v.is_sound → IsRefusalByFault (refusal_of x)) × RefusedEffect v w given_bytes [] (refusal_of x) (IsSame v w)
-      commit_broke failed = (
+      commit_interruption failed = (
         (λ sound. (failed_freeing sound).1),
         record {
           acts = record { number = number; works = λ sound. works_refused None (failed sound) sound; rests = λ was. absurd (let no : true ≡ false = sym was ∙ usable in cc) };
@@ -201,8 +201,8 @@ module _ {S F : Type 0} (view : S → StorageView) (backing : F → BackingView)
         },
       )
 
-      pub commit_broke_off : IsTrue changed → let w = abstract_of view backing freed (slice_set out k None) in (v.is_sound → IsRefusalByFault (refusal_of x)) × RefusedEffect v w given_bytes [] (refusal_of x) (IsSame v w)
-      commit_broke_off is = commit_broke (λ sound. (failed_freeing sound).2 (noted sound is))
+      pub commit_break_off : IsTrue changed → let w = abstract_of view backing freed (slice_set out k None) in (v.is_sound → IsRefusalByFault (refusal_of x)) × RefusedEffect v w given_bytes [] (refusal_of x) (IsSame v w)
+      commit_break_off is = commit_interruption (λ sound. (failed_freeing sound).2 (noted sound is))
 
       -- nothing was changed: it is at its place again
       pub commit_kept : (entered ≡ begun) × (q ≡ p) → let w = abstract_of view backing freed (slice_set out k (Some p)) in (v.is_sound → IsRefusalByFault (refusal_of x)) × RefusedEffect v w given_bytes [] (refusal_of x) (IsSame v w)

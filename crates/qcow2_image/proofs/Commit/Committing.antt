@@ -39,7 +39,7 @@ use Rattle.qcow2_laws.proofs.Places.{Sizes-from, cover_at}
 use Rattle.qcow2_laws.proofs.PutRuns.{beside_tables}
 use Rattle.qcow2_laws.proofs.Shares.{shares}
 use Rattle.qcow2_laws.proofs.Consistency.{in_own}
-use Rattle.qcow2_laws.proofs.SafeSteps.{entry_endures}
+use Rattle.qcow2_laws.proofs.SafeSteps.{entry_safe_throughout}
 use Rattle.qcow2_alloc.specs.Allocation.{run_at}
 use Rattle.qcow2_alloc.specs.CachePins.{KeepsPinsAndNotes}
 use Rattle.qcow2_alloc.specs.ClustersToFree.{data_entry}
@@ -219,7 +219,7 @@ module _ {S F : Type 0} (view : S → StorageView) (backing : F → BackingView)
     -- what is so of a new cluster, and of one that a zero entry keeps
     no_table_as : (x : Share) → share ≡ x → IsTrue (is_entered x) → IsShareAt h s.known s.on_storage p i x → named_for_tables h s.on_storage (host / cluster_size h) ≡ 0
     no_table_as InPlace is entered at = absurd (let e : false ≡ true = entered in cc)
-    no_table_as Kept is entered at = beside_tables s HostedKept ((cluster_of h p + i) * cluster_size h) host sound.file.caches.kept.kept.guarded (
+    no_table_as Kept is entered at = beside_tables s HostedKept ((cluster_of h p + i) * cluster_size h) host sound.file.caches.kept.kept.crash_invariant (
       host,
       (
           let e : (cluster_of h p + i) * cluster_size h ≡ (cluster_of h p + i) * cluster_size h + 0 = omega arith in
@@ -231,12 +231,12 @@ module _ {S F : Type 0} (view : S → StorageView) (backing : F → BackingView)
           omega arith
           ),
     )
-    no_table_as (New taken old_data) is entered at = beside_tables s HostedHeld 0 host sound.file.caches.kept.kept.guarded (new_data_there taken old_data is at)
+    no_table_as (New taken old_data) is entered at = beside_tables s HostedHeld 0 host sound.file.caches.kept.kept.crash_invariant (new_data_there taken old_data is at)
 
     takes_as : (x : Share) → share ≡ x → IsTrue (is_entered x) → IsShareAt h s.known s.on_storage p i x → Takes h before.new_data (cover h s.known (guest_at h row column)) (Data host true)
     takes_as InPlace is entered at = absurd (let e : false ≡ true = entered in cc)
     takes_as Kept is entered at = (takes_own h before.new_data (cover h s.known (guest_at h row column)) host host_aligned (ap copied_host (ap (cover h s.known) guest_is ∙ at.entry) ∙ ap Some (sym place))).0
-    takes_as (New taken old_data) is entered at = takes_new_data s (guest_at h row column) host sound.file.caches.kept.kept.guarded host_aligned (new_data_there taken old_data is at)
+    takes_as (New taken old_data) is entered at = takes_new_data s (guest_at h row column) host sound.file.caches.kept.kept.crash_invariant host_aligned (new_data_there taken old_data is at)
 
     -- it isn't the header's
     host_real : host ≡ 0 → ⊥
@@ -248,16 +248,16 @@ module _ {S F : Type 0} (view : S → StorageView) (backing : F → BackingView)
         absurd (omega arith)
 
     host_fits : IsEntryHost (has_data_file h) host
-    host_fits = cluster_is_host h.cluster_bits first (has_data_file h) sound.file.caches.kept.kept.guarded.top.header_reads.well_formed.in_range.cluster_bits.0 nameable (λ none. absurd (host_real (ap (λ c. c * cluster_size h) none ∙ omega arith)))
+    host_fits = cluster_is_host h.cluster_bits first (has_data_file h) sound.file.caches.kept.kept.crash_invariant.top.header_reads.well_formed.in_range.cluster_bits.0 nameable (λ none. absurd (host_real (ap (λ c. c * cluster_size h) none ∙ omega arith)))
 
     abbrev covers_host : entry_cover h (copied_entry host) ≡ Data host true
     covers_host = cover_of-copied_entry h.cluster_bits (h.version == 3) (has_data_file h) host host_fits
 
     covered : cover h known (guest_at h row column) ≡ Data host true
-    covered = cover_now s known row column (copied_entry host) sound.file.caches.kept.kept.guarded at_entry.real at_entry.within entry.change ∙ covers_host
+    covered = cover_now s known row column (copied_entry host) sound.file.caches.kept.kept.crash_invariant at_entry.real at_entry.within entry.change ∙ covers_host
 
     changes : EntryChanges s known row column
-    changes = known_entry_changes s known row column (copied_entry host) sound.file.caches.kept.kept.guarded at_entry.real at_entry.within entry.change
+    changes = known_entry_changes s known row column (copied_entry host) sound.file.caches.kept.kept.crash_invariant at_entry.real at_entry.within entry.change
         (subst (λ v. Takes h before.new_data (cover h s.known (guest_at h row column)) v) (sym covers_host) (takes_as share refl is_entered_now stands))
 
     abbrev values : Bytes → ℕ → Value
@@ -277,7 +277,7 @@ module _ {S F : Type 0} (view : S → StorageView) (backing : F → BackingView)
     made_as InPlace is entered at = absurd (let e : false ≡ true = entered in cc)
     made_as Kept is entered at = record {
       after = before;
-      mapped = kept_committed s known row column host sound.file.caches.kept.kept.guarded changes (ap (cover h s.known) guest_is ∙ at.entry ∙ ap (λ n. Zero (Some (n, true))) (sym place)) covered;
+      mapped = kept_committed s known row column host sound.file.caches.kept.kept.crash_invariant changes (ap (cover h s.known) guest_is ∙ at.entry ∙ ap (λ n. Zero (Some (n, true))) (sym place)) covered;
       new_data = λ c. let none : new_data_in (share ∷ []) c ≡ 0 = ap (λ (x : Share). new_data_in (x ∷ []) c) is in omega arith;
       new_tables = λ c. refl;
       old_tables = λ c. let none : to_free of_tables (old_data_by share) c ≡ 0 = ap (λ (x : Share). to_free of_tables (old_data_by x) c) is in omega arith;
@@ -288,9 +288,9 @@ module _ {S F : Type 0} (view : S → StorageView) (backing : F → BackingView)
         let new_data_host = new_data_there taken old_data is at in
         record {
           after = pending_after s known (guest_at h row column);
-          mapped = private_committed s known row column sound.file.caches.kept.kept.guarded changes host covered new_data_host;
+          mapped = private_committed s known row column sound.file.caches.kept.kept.crash_invariant changes host covered new_data_host;
           new_data = λ c.
-              let left = committed_new_data s known row column sound.file.caches.kept.kept.guarded changes host covered new_data_host c in
+              let left = committed_new_data s known row column sound.file.caches.kept.kept.crash_invariant changes host covered new_data_host c in
               let one = mine taken old_data is at c in
               let less = new_data_less p.shares.items i share was c in
               let all = over_all_at new_data_by out k p placed c in
@@ -298,7 +298,7 @@ module _ {S F : Type 0} (view : S → StorageView) (backing : F → BackingView)
           new_tables = λ c. refl;
           old_tables = λ c. let none : to_free of_tables (old_data_by share) c ≡ 0 = ap (λ (x : Share). to_free of_tables (old_data_by x) c) is ∙ ap (λ l. to_free of_tables l c) at.drops ∙ listed_tables (named_run h.cluster_bits (cover h s.known (cluster_of h p + i))) c in omega arith;
           old_data = λ c.
-              let more = committed_old_data s known row column sound.file.caches.kept.kept.guarded changes host covered new_data_host c in
+              let more = committed_old_data s known row column sound.file.caches.kept.kept.crash_invariant changes host covered new_data_host c in
               let named : names h s.known c (guest_at h row column) ≡ run_has (named_run h.cluster_bits (cover h s.known (cluster_of h p + i))) c = ap (names h s.known c) guest_is ∙ named_by_cover-run (cover h s.known (cluster_of h p + i)) h c at.reach in
               let gone : to_free of_data (old_data_by share) c ≡ run_has (named_run h.cluster_bits (cover h s.known (cluster_of h p + i))) c =
               ap (λ (x : Share). to_free of_data (old_data_by x) c) is ∙ ap (λ l. to_free of_data l c) at.drops ∙ listed_has (named_run h.cluster_bits (cover h s.known (cluster_of h p + i))) c in
@@ -318,18 +318,18 @@ module _ {S F : Type 0} (view : S → StorageView) (backing : F → BackingView)
     abbrev given : Bytes → List GivenBytes
     given below = given_shown (disk known below) (guest_at h row column * cluster_size h) (guest_at h row column * cluster_size h + cluster_size h) ∷ []
 
-    leads : SafeStep s (state_in view final.file made.after) given []
-    leads = subst (λ x. SafeStep s x given []) (sym same_stand) made.mapped.leads
+    safe_step : SafeStep s (state_in view final.file made.after) given []
+    safe_step = subst (λ x. SafeStep s x given []) (sym same_stand) made.mapped.safe_step
 
     -- ---- mappings stand ready
     -- an L1 entry stays
     same_l1 : (l : ℕ) → l1_entry h known l ≡ l1_entry h s.known l
-    same_l1 l = sym (leads.sound.same_top.l1 l) ∙ sound.file.caches.kept.kept.guarded.same_top.l1 l
+    same_l1 l = sym (safe_step.sound.same_top.l1 l) ∙ sound.file.caches.kept.kept.crash_invariant.same_top.l1 l
 
     still_other : (j : ℕ) (r : Prepared) → (j ≡ k → ⊥) → slice_get out j ≡ Some (Some r) → (x : Option ℕ) → r.table ≡ x → IsReadyWith h s.known s.on_storage r x → IsReadyWith h known s.on_storage r x
     still_other j r apart there None is ready = ready
     still_other j r apart there (Some u) is ready =
-        still_pending h s.known s.on_storage known s.on_storage r sound.file.caches.kept.kept.guarded.same_top.l1 leads.sound.same_top.l1 (λ l copied. refl) u
+        still_pending h s.known s.on_storage known s.on_storage r sound.file.caches.kept.kept.crash_invariant.same_top.l1 safe_step.sound.same_top.l1 (λ l copied. refl) u
         (λ b other at. still_share h s.known s.on_storage known s.on_storage r b
         (made.mapped.unseen.covers (cluster_of h r + b) (λ same. apart_guests view backing old out before sound k p placed t is_table pending j r apart there u is ready i b within (slice_get_within r.shares.items b other at) (sym guest_is ∙ sym same))) other (ready.each b other at)) ready
 
@@ -387,12 +387,12 @@ module _ {S F : Type 0} (view : S → StorageView) (backing : F → BackingView)
       works = sound.works;
       file = record {
         honest = sound.file.honest;
-        caches = entry.sound made.after sound.file.settled (subst (λ d. CrashInvariant h d made.after s.on_storage known) (sym order) made.mapped.leads.sound);
-        settled = entry.settled sound.file.settled;
+        caches = entry.sound made.after sound.file.named_blocks (subst (λ d. CrashInvariant h d made.after s.on_storage known) (sym order) made.mapped.safe_step.sound);
+        named_blocks = entry.named_blocks sound.file.named_blocks;
         room = marks.room sound.file.room;
       };
       l1_table = record { cluster = sound.l1_table.cluster; bits = sound.l1_table.bits; count = sound.l1_table.count; entries = sound.l1_table.entries };
-      reftable = reftable_still view old.file final.file refl refl (counts_now s known row column (copied_entry host) sound.file.caches.kept.kept.guarded at_entry.real at_entry.within entry.change) old.allocator sound.reftable;
+      reftable = reftable_still view old.file final.file refl refl (counts_now s known row column (copied_entry host) sound.file.caches.kept.kept.crash_invariant at_entry.real at_entry.within entry.change) old.allocator sound.reftable;
       below = sound.below;
       ready = ready_now;
       pinned = λ table. marks.pins table ∙ sound.pinned table ∙ sym (same_pins table);
@@ -413,8 +413,8 @@ module _ {S F : Type 0} (view : S → StorageView) (backing : F → BackingView)
         old_tables = λ c. let more = free_more of_tables old.file.free_list (old_data_by share) c in let is = made.old_tables c in omega arith;
         old_data = λ c. let more = free_more of_data old.file.free_list (old_data_by share) c in let is = made.old_data c in omega arith;
       };
-      leads = leads;
-      since = entry_endures (view_in view old.file) s (state_in view final.file made.after) row column given refl changes leads;
+      safe_step = safe_step;
+      since = entry_safe_throughout (view_in view old.file) s (state_in view final.file made.after) row column given refl changes safe_step;
       header = refl;
       below = refl;
       surplus = made.surplus;

@@ -172,7 +172,7 @@ module _ {S F : Type 0} (view : S → StorageView) (backing : F → BackingView)
       omega arith)
 
   small : cluster_size h ≤ 2 ^ 21
-  small = pow_mono sound.file.caches.kept.kept.guarded.top.header_reads.well_formed.in_range.cluster_bits.1
+  small = pow_mono sound.file.caches.kept.kept.crash_invariant.top.header_reads.well_formed.in_range.cluster_bits.1
 
   inside : cluster_of h p % entries_per_cluster h + i < entries_per_cluster h
   inside = let lt = slice_get_within p.shares.items i enters.share enters.was in let within = pending.within in omega arith

@@ -102,8 +102,8 @@ module _ {S F : Type 0} (view : S → StorageView) (backing : F → BackingView)
   pub enlarged : (r : Result (Unit {0}) ImageError) → GrowsWhole view backing old new size r → Enlarges Mode.None size (view_in view old.file) (view_in view new.file) r
   enlarged (Ok x) grows =
       let extends = grows.1 in
-      let old_is = opened.sound.file.caches.kept.kept.guarded.top.header_is in
-      let new_is = extends.sound.file.caches.kept.kept.guarded.top.header_is in
+      let old_is = opened.sound.file.caches.kept.kept.crash_invariant.top.header_is in
+      let new_is = extends.sound.file.caches.kept.kept.crash_invariant.top.header_is in
       let none : size_of old ≡ 0 = ap (λ (h : HeaderFields). h.size) (sym old_is) ∙ unwritten.size in
       let is : (header (byte_at (view_in view new.file).contents)).size ≡ size = ap (λ (h : HeaderFields). h.size) new_is ∙ grows.2 ∙ ap (λ n. max n size) none ∙ omega arith in
       let disk_is = grown_unwritten size (view_in view old.file) (view_in view new.file) _ unwritten opened.clean extends.since is in
@@ -129,7 +129,7 @@ module _ {S F : Type 0} (view : S → StorageView) (backing : F → BackingView)
 
   opened_first : (new : StorageView) (r : Result (Unit {0}) ImageError) → Enlarges mode size (view_in view mid.file) new r → Enlarges mode size (view start) new r
   opened_first new (Ok x) done =
-      let mid_is = opened.sound.file.caches.kept.kept.guarded.top.header_is in
+      let mid_is = opened.sound.file.caches.kept.kept.crash_invariant.top.header_is in
       record {
         stays = record { honest = done.stays.honest; moments = all_stops new done.stays.moments };
         new_disk = done.new_disk;

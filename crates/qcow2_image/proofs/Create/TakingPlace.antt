@@ -63,7 +63,7 @@ module _ {S F : Type 0} (view : S → StorageView) (backing : F → BackingView)
       ap (λ r. option_or r (refuse_if (not (is_writable old)) I.ReadOnly)) (sound_is_usable view backing old [] opened.sound) ∙ ap (λ b. refuse_if (not b) I.ReadOnly) may
 
   header_is : header before ≡ old.file.header.fields
-  header_is = opened.sound.file.caches.kept.kept.guarded.top.header_is
+  header_is = opened.sound.file.caches.kept.kept.crash_invariant.top.header_is
 
   no_bytes : size_of old ≡ 0
   no_bytes = ap (λ (h : HeaderFields). h.size) (sym header_is) ∙ unwritten.size
@@ -146,7 +146,7 @@ module _ {S F : Type 0} (view : S → StorageView) (backing : F → BackingView)
         after = byte_at (view_in view new.file).contents
 
         new_is : header after ≡ new.file.header.fields
-        new_is = written.0.sound.file.caches.kept.kept.guarded.top.header_is
+        new_is = written.0.sound.file.caches.kept.kept.crash_invariant.top.header_is
 
         format_new : SameFormat old.file.header.fields new.file.header.fields
         format_new = format_then old.file.header.fields mid.file.header.fields new.file.header.fields format_mid written.0.format

@@ -8,7 +8,7 @@ use Rattle.qcow2_disk.specs.Calls.{AnsweredEffect, IsRefusalByFault, IsSame}
 use Rattle.qcow2_laws.specs.SafeSteps.{SafeStep}
 use Rattle.qcow2_disk.specs.AbstractImages.{stored_bytes}
 use Rattle.qcow2_laws.proofs.Formats.{format_same, format_then}
-use Rattle.qcow2_laws.proofs.SafeSteps.{leads_then, steps_endure}
+use Rattle.qcow2_laws.proofs.SafeSteps.{safe_step_then, steps_safe_throughout}
 use Rattle.qcow2_laws.proofs.Unseen.{unseen_then}
 use Rattle.qcow2_alloc.specs.declared.allocation.Allocator.{Allocator}
 use Rattle.qcow2_alloc.specs.declared.error.ImageError.{ImageError}
@@ -19,7 +19,7 @@ use Rattle.qcow2_alloc.specs.CachePins.{l2_pins}
 use Rattle.qcow2_alloc.specs.FreeList.{with_listed}
 use Rattle.qcow2_alloc.specs.ImageFile.{state_in, view_in, contents_in, known_in, nothing_given}
 use Rattle.qcow2_alloc.specs.declared.error.ImageError.TheVariants as I
-use Rattle.qcow2_alloc.proofs.FileSteps.{moves_on, pending_same}
+use Rattle.qcow2_alloc.proofs.FileSteps.{file_step_on, pending_same}
 use Rattle.qcow2_alloc.proofs.KeptAllocators.{freed_kept}
 use Rattle.qcow2_alloc.specs.LowestRuns.{KeepsNoFreeBelowHint}
 use Rattle.qcow2_image.specs.declared.image.Qcow2.{Qcow2}
@@ -30,18 +30,18 @@ use Rattle.qcow2_image.specs.Calls.{FlushesImage, refusal_of}
 use Rattle.qcow2_image.specs.Image.{number_of, is_failed}
 use Rattle.qcow2_image.proofs.Call.Marked.{MayMarkBy}
 use Rattle.qcow2_image.specs.ImageInvariant.{ImageInvariant, pending_in, abstract_of}
-use Rattle.qcow2_image.proofs.Call.Answered.{tidies_kept, still_seen}
+use Rattle.qcow2_image.proofs.Call.Answered.{freeing_step_kept, still_seen}
 use Rattle.qcow2_image.proofs.Call.Called.{copied_then}
 use Rattle.qcow2_image.proofs.Moving.{file_tidied}
-use Rattle.qcow2_image.proofs.Call.Refused.{broke_off, marks_fault, refuses_left, stays_stepped}
-use Rattle.qcow2_image.proofs.Call.Settled.{settled_does}
+use Rattle.qcow2_image.proofs.Call.Refused.{break_off, marks_fault, refuses_left, stays_stepped}
+use Rattle.qcow2_image.proofs.Call.CallOutcomes.{outcome_answered}
 
 module _ {S F : Type 0} (view : S → StorageView) (backing : F → BackingView) (out : List (Option Prepared)) where
-  pub tidies_then : (a b c : Qcow2 S F) (p q r : Pending) → ((k : ℕ) → 0 < p.new_data k → 0 < q.new_data k) → UnseenFreeingStep view backing p q a b out → UnseenFreeingStep view backing q r b c out → UnseenFreeingStep view backing p r a c out
-  tidies_then a b c p q r new_data first then = record {
+  pub freeing_step_then : (a b c : Qcow2 S F) (p q r : Pending) → ((k : ℕ) → 0 < p.new_data k → 0 < q.new_data k) → UnseenFreeingStep view backing p q a b out → UnseenFreeingStep view backing q r b c out → UnseenFreeingStep view backing p r a c out
+  freeing_step_then a b c p q r new_data first then = record {
     sound = then.sound;
-    leads = leads_then (state_in view a.file p) (state_in view b.file q) (state_in view c.file r) nothing_given nothing_given [] [] first.leads then.leads;
-    since = steps_endure (view_in view a.file) (view_in view b.file) (view_in view c.file) (state_in view a.file p) (state_in view b.file q) nothing_given nothing_given [] [] refl first.since first.leads then.since;
+    safe_step = safe_step_then (state_in view a.file p) (state_in view b.file q) (state_in view c.file r) nothing_given nothing_given [] [] first.safe_step then.safe_step;
+    since = steps_safe_throughout (view_in view a.file) (view_in view b.file) (view_in view c.file) (state_in view a.file p) (state_in view b.file q) nothing_given nothing_given [] [] refl first.since first.safe_step then.since;
     unseen = unseen_then (state_in view a.file p) (state_in view b.file q) (state_in view c.file r) first.unseen then.unseen new_data;
     copied = copied_then view backing out a b c p q r first.unseen.header first.copied then.copied;
     below = then.below ∙ first.below;
@@ -51,10 +51,10 @@ module _ {S F : Type 0} (view : S → StorageView) (backing : F → BackingView)
   module _ (p : Pending) (old : Qcow2 S F) (sound : ImageInvariant view backing (with_listed p old.file.free_list) old out) (file : ImageFile S) (a : Allocator) (pins : (table : ℕ) → l2_pins file.caches table ≡ l2_pins old.file.caches table)
       (header : file.header ≡ old.file.header) where
     pub frees_listed : (r : Result (Unit {0}) ImageError) → Frees view (with_listed p old.file.free_list) old.file a file (with_listed p file.free_list) r → KeepsNoFreeBelowHint view a file r → FreesListed view backing p old (record old { file = file; allocator = Some a }) out r
-    frees_listed (Ok _) frees hint = file_tidied view backing old out (with_listed p old.file.free_list) (with_listed p file.free_list) sound file (Some a) (moves_on view (with_listed p old.file.free_list) (with_listed p file.free_list) old.file file frees.moves) (record { reftable = frees.reftable; hint = hint }) pins
+    frees_listed (Ok _) frees hint = file_tidied view backing old out (with_listed p old.file.free_list) (with_listed p file.free_list) sound file (Some a) (file_step_on view (with_listed p old.file.free_list) (with_listed p file.free_list) old.file file frees.file_step) (record { reftable = frees.reftable; hint = hint }) pins
     frees_listed (Err e) frees hint = elim (freed_kept view (with_listed p old.file.free_list) (with_listed p file.free_list) old.file file a e frees.1 hint) [
       | inl left ↦ inl (file_tidied view backing old out (with_listed p old.file.free_list) (with_listed p file.free_list) sound file (Some a) left.0 left.1 pins)
-      | inr breaks ↦ inr (record { breaks = breaks; header = format_same old.file.header.fields file.header.fields (ap (λ x. x.fields) header); below = refl })
+      | inr interrupted ↦ inr (record { interrupted = interrupted; header = format_same old.file.header.fields file.header.fields (ap (λ x. x.fields) header); below = refl })
     ]
 
   pub frees_fault : (p q : Pending) (old file : ImageFile S) (a : Allocator) (r : Result (Unit {0}) ImageError) → Frees view p old a file q r → IfErr r FaultOfTables
@@ -63,20 +63,20 @@ module _ {S F : Type 0} (view : S → StorageView) (backing : F → BackingView)
 
   -- whatever is answered
   pub frees_any : (p : Pending) (old new : Qcow2 S F) (r : Result (Unit {0}) ImageError) → UnseenFreeingStep view backing (with_listed p old.file.free_list) (with_listed p new.file.free_list) old new out → FreesListed view backing p old new out r
-  frees_any p old new (Ok _) tidies = tidies
-  frees_any p old new (Err e) tidies = inl tidies
+  frees_any p old new (Ok _) freeing_step = freeing_step
+  frees_any p old new (Err e) freeing_step = inl freeing_step
 
   -- a part that leaves the list follows
-  pub tidies_on : (a b c : Qcow2 S F) (p : Pending) → c.file.free_list ≡ b.file.free_list → UnseenFreeingStep view backing (with_listed p a.file.free_list) (with_listed p b.file.free_list) a b out
+  pub freeing_step_on : (a b c : Qcow2 S F) (p : Pending) → c.file.free_list ≡ b.file.free_list → UnseenFreeingStep view backing (with_listed p a.file.free_list) (with_listed p b.file.free_list) a b out
       → UnseenStep view backing (with_listed p b.file.free_list) (with_listed p b.file.free_list) b c out → UnseenFreeingStep view backing (with_listed p a.file.free_list) (with_listed p c.file.free_list) a c out
-  tidies_on a b c p listed first then =
+  freeing_step_on a b c p listed first then =
       subst (λ l. UnseenFreeingStep view backing (with_listed p a.file.free_list) (with_listed p l) a c out) (sym listed)
-      (tidies_then a b c (with_listed p a.file.free_list) (with_listed p b.file.free_list) (with_listed p b.file.free_list) (λ k some. some) first (tidies_kept view backing b c out (with_listed p b.file.free_list) (with_listed p b.file.free_list) then))
+      (freeing_step_then a b c (with_listed p a.file.free_list) (with_listed p b.file.free_list) (with_listed p b.file.free_list) (λ k some. some) first (freeing_step_kept view backing b c out (with_listed p b.file.free_list) (with_listed p b.file.free_list) then))
 
   before : (a b c : Qcow2 S F) (p : Pending) → b.file.free_list ≡ a.file.free_list → UnseenStep view backing (with_listed p a.file.free_list) (with_listed p a.file.free_list) a b out
       → UnseenFreeingStep view backing (with_listed p b.file.free_list) (with_listed p c.file.free_list) b c out → UnseenFreeingStep view backing (with_listed p a.file.free_list) (with_listed p c.file.free_list) a c out
   before a b c p listed first then =
-      tidies_then a b c (with_listed p a.file.free_list) (with_listed p a.file.free_list) (with_listed p c.file.free_list) (λ k some. some) (tidies_kept view backing a b out (with_listed p a.file.free_list) (with_listed p a.file.free_list) first)
+      freeing_step_then a b c (with_listed p a.file.free_list) (with_listed p a.file.free_list) (with_listed p c.file.free_list) (λ k some. some) (freeing_step_kept view backing a b out (with_listed p a.file.free_list) (with_listed p a.file.free_list) first)
       (subst (λ l. UnseenFreeingStep view backing (with_listed p l) (with_listed p c.file.free_list) b c out) listed then)
 
   -- and one goes before
@@ -85,14 +85,14 @@ module _ {S F : Type 0} (view : S → StorageView) (backing : F → BackingView)
   frees_on a b c p (Ok _) listed first then = before a b c p listed first then
   frees_on a b c p (Err e) listed first then = elim then [
     | inl left ↦ inl (before a b c p listed first left)
-    | inr broke ↦ inr (record {
-      breaks = record {
-        fault = broke.breaks.fault;
-        noted = broke.breaks.noted;
-        since = steps_endure (view_in view a.file) (view_in view b.file) (view_in view c.file) (state_in view a.file (with_listed p a.file.free_list)) (state_in view b.file (with_listed p a.file.free_list)) nothing_given nothing_given [] [] refl first.since first.leads broke.breaks.since;
+    | inr interruption ↦ inr (record {
+      interrupted = record {
+        fault = interruption.interrupted.fault;
+        noted = interruption.interrupted.noted;
+        since = steps_safe_throughout (view_in view a.file) (view_in view b.file) (view_in view c.file) (state_in view a.file (with_listed p a.file.free_list)) (state_in view b.file (with_listed p a.file.free_list)) nothing_given nothing_given [] [] refl first.since first.safe_step interruption.interrupted.since;
       };
-      header = format_then a.file.header.fields b.file.header.fields c.file.header.fields first.unseen.header broke.header;
-      below = broke.below ∙ first.below;
+      header = format_then a.file.header.fields b.file.header.fields c.file.header.fields first.unseen.header interruption.header;
+      below = interruption.below ∙ first.below;
     })
   ]
 
@@ -106,34 +106,34 @@ module _ {S F : Type 0} (view : S → StorageView) (backing : F → BackingView)
   pub all_listed : pending_in view backing old out ≡ with_listed beside old.file.free_list
   all_listed = pending_same (pending_in view backing old out) (with_listed beside old.file.free_list) (λ k. refl) (λ k. refl) (λ k. sym (omega arith)) (λ k. sym (omega arith)) (λ k. refl)
 
-  module _ (new : Qcow2 S F) (sound : ImageInvariant view backing (pending_in view backing old out) old out) (tidies : UnseenFreeingStep view backing (with_listed beside old.file.free_list) (with_listed beside new.file.free_list) old new out) where
+  module _ (new : Qcow2 S F) (sound : ImageInvariant view backing (pending_in view backing old out) old out) (freeing_step : UnseenFreeingStep view backing (with_listed beside old.file.free_list) (with_listed beside new.file.free_list) old new out) where
     pub tidy_stays : UnseenCall view backing old new out
     tidy_stays =
         stays_stepped view backing out old new (with_listed beside new.file.free_list) (record {
-          sound = tidies.sound;
+          sound = freeing_step.sound;
           only = record { new_data = λ k. refl; new_tables = λ k. refl; old_tables = λ k. omega arith; old_data = λ k. omega arith };
-          leads = subst (λ (p : Pending). SafeStep (state_in view old.file p) (state_in view new.file (with_listed beside new.file.free_list)) nothing_given []) (sym all_listed) tidies.leads;
-          since = tidies.since;
-          header = tidies.unseen.header;
-          below = tidies.below;
+          safe_step = subst (λ (p : Pending). SafeStep (state_in view old.file p) (state_in view new.file (with_listed beside new.file.free_list)) nothing_given []) (sym all_listed) freeing_step.safe_step;
+          since = freeing_step.since;
+          header = freeing_step.unseen.header;
+          below = freeing_step.below;
           surplus = refl;
         })
-        (still_seen view backing old new out (with_listed beside old.file.free_list) (with_listed beside new.file.free_list) (subst (λ (p : Pending). ImageInvariant view backing p old out) all_listed sound) (λ k. omega arith) (λ k. omega arith) tidies) tidies.unseen.covers
+        (still_seen view backing old new out (with_listed beside old.file.free_list) (with_listed beside new.file.free_list) (subst (λ (p : Pending). ImageInvariant view backing p old out) all_listed sound) (λ k. omega arith) (λ k. omega arith) freeing_step) freeing_step.unseen.covers
 
   -- what is listed was freed, or that was refused
   pub freed_refused : (new : Qcow2 S F) (e : ImageError) → ImageInvariant view backing (pending_in view backing old out) old out → FreesListed view backing beside old new out (Err e) → RefusedCall view backing old new out e
-  freed_refused new e sound frees = elim frees [ inl tidies ↦ inl (tidy_stays new sound tidies) | inr broke ↦ inr (broke_off view backing out old new e broke) ]
+  freed_refused new e sound frees = elim frees [ inl freeing_step ↦ inl (tidy_stays new sound freeing_step) | inr interruption ↦ inr (break_off view backing out old new e interruption) ]
 
 module _ {S F : Type 0} (view : S → StorageView) (backing : F → BackingView) (old : Qcow2 S F) (usable : is_failed old ≡ false) (new : Qcow2 S F) (marked : Bool) (number : number_of new ≡ number_of old) where
   -- all that is known is written, and nothing is left of it; or it was refused
-  pub flushes_settled : (r : Result (Unit {0}) ImageError) → MayMarkBy r (is_failed new) marked → IfErr r (λ e. e ≡ I.Memory → IsTrue new.file.caches.is_changed → IsTrue marked)
+  pub flushes_with_outcome : (r : Result (Unit {0}) ImageError) → MayMarkBy r (is_failed new) marked → IfErr r (λ e. e ≡ I.Memory → IsTrue new.file.caches.is_changed → IsTrue marked)
       → ((out : List (Option Prepared)) → ImageInvariant view backing (pending_in view backing old out) old out → FreesListed view backing (beside view backing old out) old new out r)
       → IfOk r (λ done. known_in view new.file ≡ contents_in view new.file) → FlushesImage view backing old (record new { is_failed = marked }) r
-  flushes_settled (Ok done) marks memory frees written = λ out.
+  flushes_with_outcome (Ok done) marks memory frees written = λ out.
       let stays : ImageInvariant view backing (pending_in view backing old out) old out → UnseenCall view backing old new out = λ sound. tidy_stays view backing old out new sound (frees out sound) in
       subst (λ (f : Bool). let v = abstract_of view backing old out in let w = abstract_of view backing (record new { is_failed = f }) out in AnsweredEffect v w [] [] ((w.known ≡ stored_bytes w) × IsSame v w)) (sym marks)
-      (settled_does view backing old new out out [] (λ sound. (stays sound).works) (λ sound. (stays sound).sound) number usable (λ sound. (written, (stays sound).same)))
-  flushes_settled (Err e) marks memory frees written = λ out. refuses_left view backing out old usable new marked number e marks memory (λ sound. freed_refused view backing old out new e sound (frees out sound))
+      (outcome_answered view backing old new out out [] (λ sound. (stays sound).works) (λ sound. (stays sound).sound) number usable (λ sound. (written, (stays sound).same)))
+  flushes_with_outcome (Err e) marks memory frees written = λ out. refuses_left view backing out old usable new marked number e marks memory (λ sound. freed_refused view backing old out new e sound (frees out sound))
 
   -- at the end of a call
   module _ (out : List (Option Prepared)) (sound : ImageInvariant view backing (pending_in view backing old out) old out) where

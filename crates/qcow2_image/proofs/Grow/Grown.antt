@@ -11,7 +11,7 @@ use Rattle.qcow2_laws.specs.CrashInvariant.{Pending}
 use Rattle.qcow2_laws.specs.Guests.{guests}
 use Rattle.qcow2_laws.proofs.Places.{Sizes}
 use Rattle.qcow2_laws.specs.Tops.{places_of, with_places}
-use Rattle.qcow2_laws.proofs.SafeSteps.{leads_then, steps_endure, endures_asking}
+use Rattle.qcow2_laws.proofs.SafeSteps.{safe_step_then, steps_safe_throughout, safe_throughout_asking}
 use Rattle.qcow2_alloc.specs.declared.error.ImageError.{ImageError}
 use Rattle.qcow2_alloc.specs.ImageFile.{nothing_given, view_in, known_in, state_in}
 use Rattle.qcow2_alloc.proofs.FileSteps.{pending_same}
@@ -25,29 +25,29 @@ use Rattle.qcow2_alloc.specs.FreeList.{with_listed}
 use Rattle.qcow2_image.proofs.Flush.Freeing.{all_listed, beside}
 use Rattle.qcow2_image.specs.UnseenSteps.{UnseenFreeingStep, FreesListed, UnseenStep, ListGrows, pending_with_listed}
 use Rattle.qcow2_image.specs.ImageInvariant.{of_data, of_tables, to_free, pending_in, ImageInvariant}
-use Rattle.qcow2_image.proofs.Moved.{format_stay, moves_format}
+use Rattle.qcow2_image.proofs.Moved.{format_stay, file_step_format}
 use Rattle.qcow2_image.proofs.Sound.{IsOnly, free_more, pending_is}
 
 module _ {S F : Type 0} (view : S → StorageView) (backing : F → BackingView) where
   -- ---- one part after another
   -- a part that no guest sees, though the L1 table may move
   pub extends_moving : (p q : Pending) (a b : Qcow2 S F) → UnseenMove view backing p q a b [] → Extends view backing p q a b []
-  extends_moving p q a b moves = record {
-    sound = moves.sound;
-    leads = moves.leads;
-    since = moves.since;
-    format = moves_format a.file.header.fields b.file.header.fields moves.header;
-    autoclear = ap (λ (h : HeaderFields). h.autoclear) moves.header;
+  extends_moving p q a b file_step = record {
+    sound = file_step.sound;
+    safe_step = file_step.safe_step;
+    since = file_step.since;
+    format = file_step_format a.file.header.fields b.file.header.fields file_step.header;
+    autoclear = ap (λ (h : HeaderFields). h.autoclear) file_step.header;
   }
 
   -- where that was refused, what was kept is kept
   pub lasts_refused : (p : Pending) (a b : Qcow2 S F) (e : ImageError) → RefusedMove view backing p a b [] e → Lasts view a b []
-  lasts_refused p a b e left = ⊎_elim (λ keeps. keeps.since) (λ broke. broke.breaks.since) left
+  lasts_refused p a b e left = ⊎_elim (λ keeps. keeps.since) (λ interruption. interruption.interrupted.since) left
 
   pub extends_keeping : (p q : Pending) (a b : Qcow2 S F) → UnseenStep view backing p q a b [] → Extends view backing p q a b []
   extends_keeping p q a b keeps = record {
     sound = keeps.sound;
-    leads = keeps.leads;
+    safe_step = keeps.safe_step;
     since = keeps.since;
     format = subst (λ (h : HeaderFields). h ≡ with_places a.file.header.fields (places_of h)) (sym keeps.unseen.header) refl;
     autoclear = ap (λ (h : HeaderFields). h.autoclear) keeps.unseen.header;
@@ -56,19 +56,19 @@ module _ {S F : Type 0} (view : S → StorageView) (backing : F → BackingView)
   pub extends_then : (p q r : Pending) (a b c : Qcow2 S F) (asked asks : List ℕ) → Extends view backing p q a b asked → Extends view backing q r b c asks → Extends view backing p r a c (asks ++ asked)
   extends_then p q r a b c asked asks first then = record {
     sound = then.sound;
-    leads = leads_then (state_in view a.file p) (state_in view b.file q) (state_in view c.file r) nothing_given nothing_given asked asks first.leads then.leads;
-    since = steps_endure (view_in view a.file) (view_in view b.file) (view_in view c.file) (state_in view a.file p) (state_in view b.file q) nothing_given nothing_given asked asks refl first.since first.leads then.since;
+    safe_step = safe_step_then (state_in view a.file p) (state_in view b.file q) (state_in view c.file r) nothing_given nothing_given asked asks first.safe_step then.safe_step;
+    since = steps_safe_throughout (view_in view a.file) (view_in view b.file) (view_in view c.file) (state_in view a.file p) (state_in view b.file q) nothing_given nothing_given asked asks refl first.since first.safe_step then.since;
     format = then.format ∙ ap (λ h. with_places h (places_of c.file.header.fields)) first.format;
     autoclear = then.autoclear ∙ first.autoclear;
   }
 
   pub lasts_then : (p q : Pending) (a b c : Qcow2 S F) (asked asks : List ℕ) → Extends view backing p q a b asked → Lasts view b c asks → Lasts view a c (asks ++ asked)
   lasts_then p q a b c asked asks first then =
-      steps_endure (view_in view a.file) (view_in view b.file) (view_in view c.file) (state_in view a.file p) (state_in view b.file q) nothing_given nothing_given asked asks refl first.since first.leads then
+      steps_safe_throughout (view_in view a.file) (view_in view b.file) (view_in view c.file) (state_in view a.file p) (state_in view b.file q) nothing_given nothing_given asked asks refl first.since first.safe_step then
 
   -- what is kept while nothing is asked for is kept while a size is
   pub lasts_more : (a b : Qcow2 S F) (size : ℕ) → Lasts view a b [] → Lasts view a b (size ∷ [])
-  lasts_more a b size lasts = endures_asking (view_in view a.file) (view_in view b.file) (known_in view a.file) nothing_given [] (size ∷ []) lasts
+  lasts_more a b size lasts = safe_throughout_asking (view_in view a.file) (view_in view b.file) (known_in view a.file) nothing_given [] (size ∷ []) lasts
 
   -- ---- the table, then the size
   pub resized_then : (p : Pending) (a b c : Qcow2 S F) (size : ℕ) (r : Result (Unit {0}) ImageError) → Extends view backing p (pending_with_listed p a b) a b [] → c.file.free_list ≡ b.file.free_list → Resizes view backing (pending_with_listed p a b) b c size r → Resizes view backing p a c size r
@@ -120,7 +120,7 @@ module _ {S F : Type 0} (view : S → StorageView) (backing : F → BackingView)
         let q = pending_with_listed p mid big in
         let all = extends_then p p q old mid big [] (size ∷ []) (extends_keeping p p old mid begun) resizes.0 in
         subst (λ (f : Bool). GrowsDisk view backing old (record big { is_failed = f }) size (Ok x)) (sym marks)
-        (subst (λ (r : Pending). Extends view backing p r old big (size ∷ [])) (pending_is view backing big [] q all.leads.sound (nothing_else grows)) all, resizes.1 ∙ sym (omega (arith, larger)), λ _. reaches)
+        (subst (λ (r : Pending). Extends view backing p r old big (size ∷ [])) (pending_is view backing big [] q all.safe_step.sound (nothing_else grows)) all, resizes.1 ∙ sym (omega (arith, larger)), λ _. reaches)
     grown (Err e) failed lasts grows reaches marks = lasts_then p p old mid big [] (size ∷ []) (extends_keeping p p old mid begun) lasts
 
     pub grown_so : (new : Qcow2 S F) (done r : Result (Unit {0}) ImageError) → r ≡ done → new ≡ record big { is_failed = is_failed new } → MayMarkBy done (is_failed big) (is_failed new) → Resizes view backing p mid big size done → OnOk done (ListGrows mid big)
@@ -133,7 +133,7 @@ module _ {S F : Type 0} (view : S → StorageView) (backing : F → BackingView)
         → OnOk r (KeepsSurplus view backing old (record big { is_failed = failed }))
     kept (Ok x) failed writable resizes grows marks =
         let q = pending_with_listed p mid big in
-        let pending = pending_is view backing big [] q resizes.0.leads.sound (nothing_else grows) in
+        let pending = pending_is view backing big [] q resizes.0.safe_step.sound (nothing_else grows) in
         subst (λ (f : Bool). KeepsSurplus view backing old (record big { is_failed = f })) (sym marks)
         (record { sound = subst (λ (r : Pending). ImageInvariant view backing r big []) pending resizes.0.sound; writable = writable; surplus = ap (λ (r : Pending). r.surplus) (sym pending) })
     kept (Err e) failed writable resizes grows marks = tt
@@ -146,12 +146,12 @@ module _ {S F : Type 0} (view : S → StorageView) (backing : F → BackingView)
 
   -- ---- what is listed is freed, and all tables are written
   extends_tidying : (p q : Pending) (a b : Qcow2 S F) → UnseenFreeingStep view backing p q a b [] → Extends view backing p q a b []
-  extends_tidying p q a b tidies = record {
-    sound = tidies.sound;
-    leads = tidies.leads;
-    since = tidies.since;
-    format = subst (λ (h : HeaderFields). h ≡ with_places a.file.header.fields (places_of h)) (sym tidies.unseen.header) refl;
-    autoclear = ap (λ (h : HeaderFields). h.autoclear) tidies.unseen.header;
+  extends_tidying p q a b freeing_step = record {
+    sound = freeing_step.sound;
+    safe_step = freeing_step.safe_step;
+    since = freeing_step.since;
+    format = subst (λ (h : HeaderFields). h ≡ with_places a.file.header.fields (places_of h)) (sym freeing_step.unseen.header) refl;
+    autoclear = ap (λ (h : HeaderFields). h.autoclear) freeing_step.unseen.header;
   }
 
   pub written_back : (p : Pending) (old big new : Qcow2 S F) (done r : Result (Unit {0}) ImageError) → FreesListed view backing p old big [] done → r ≡ done → new ≡ record big { is_failed = is_failed new } → MayMarkBy done (is_failed big) (is_failed new)
@@ -160,10 +160,10 @@ module _ {S F : Type 0} (view : S → StorageView) (backing : F → BackingView)
       subst (λ (s : Result (Unit {0}) ImageError). WritesBack view backing p old new s) (sym answer) (subst (λ (i : Qcow2 S F). WritesBack view backing p old i done) (sym rest) (back done (is_failed new) marks frees))
     where
       back : (s : Result (Unit {0}) ImageError) (failed : Bool) → MayMarkBy s (is_failed big) failed → FreesListed view backing p old big [] s → WritesBack view backing p old (record big { is_failed = failed }) s
-      back (Ok x) failed marks tidies =
+      back (Ok x) failed marks freeing_step =
           subst (λ (f : Bool). WritesBack view backing p old (record big { is_failed = f }) (Ok x)) (sym marks)
-          (extends_tidying (with_listed p old.file.free_list) (with_listed p big.file.free_list) old big tidies, tidies.unseen.header, format_stay old.file.header.fields big.file.header.fields (known_in view old.file) (known_in view big.file) tidies.unseen.header tidies.unseen.covers)
-      back (Err e) failed marks frees = elim frees [ inl tidies ↦ tidies.since | inr broke ↦ broke.breaks.since ]
+          (extends_tidying (with_listed p old.file.free_list) (with_listed p big.file.free_list) old big freeing_step, freeing_step.unseen.header, format_stay old.file.header.fields big.file.header.fields (known_in view old.file) (known_in view big.file) freeing_step.unseen.header freeing_step.unseen.covers)
+      back (Err e) failed marks frees = elim frees [ inl freeing_step ↦ freeing_step.since | inr interruption ↦ interruption.interrupted.since ]
 
   -- after the disk was made larger
   pub grown_whole : (old mid new : Qcow2 S F) (size : ℕ) (r : Result (Unit {0}) ImageError) → GrowsDisk view backing old mid size (Ok tt) → size_of new ≡ size_of mid

@@ -18,7 +18,7 @@ use Rattle.qcow2_laws.specs.SafeSteps.{SafeStep}
 use Rattle.qcow2_laws.specs.Unseen.{used_by_guests}
 use Rattle.qcow2_laws.proofs.Formats.{guests_format}
 use Rattle.qcow2_laws.proofs.Guests.{over_guests-same}
-use Rattle.qcow2_laws.proofs.SafeSteps.{leads_none, leads_then, steps_endure}
+use Rattle.qcow2_laws.proofs.SafeSteps.{safe_step_none, safe_step_then, steps_safe_throughout}
 use Rattle.qcow2_laws.proofs.Steps.{pending_is_changed}
 use Rattle.qcow2_laws.proofs.Unseen.{unseen_disk}
 use Rattle.qcow2_alloc.specs.Allocation.{run_at, taken_as, UnseenAllocatorGrowth, RefusedGrowth}
@@ -32,7 +32,7 @@ use Rattle.qcow2_alloc.specs.declared.image_file.ImageFile.{ImageFile}
 use Rattle.qcow2_alloc.specs.FreeList.{ListsTables}
 use Rattle.qcow2_alloc.specs.ImageFile.{nothing_given, view_in, known_in, state_in, KeepsHeader}
 use Rattle.qcow2_alloc.proofs.FileSteps.{pending_same}
-use Rattle.qcow2_alloc.proofs.Following.{header_format}
+use Rattle.qcow2_alloc.proofs.ListedAfter.{header_format}
 use Rattle.qcow2_alloc.proofs.PlacedBlocks.{file_sizes}
 use Rattle.qcow2_alloc.proofs.Runs.{run_none}
 use Rattle.qcow2_alloc.specs.LowestRuns.{NoFreeBelowHint, BrokeOff}
@@ -44,13 +44,13 @@ use Rattle.qcow2_image.specs.LongerTables.{clusters_of, run_of_table, listed, wi
 use Rattle.qcow2_image.specs.UnseenSteps.{UnseenStep, FreesListed, ListGrows, pending_with_listed}
 use Rattle.qcow2_image.proofs.Call.Answered.{followed, same_setting, still_shown}
 use Rattle.qcow2_image.proofs.Call.Called.{keeps_then}
-use Rattle.qcow2_image.proofs.Call.Refused.{broke_off_so, refused_then, stays_kept, stays_then}
+use Rattle.qcow2_image.proofs.Call.Refused.{break_off_so, refused_then, stays_kept, stays_then}
 use Rattle.qcow2_image.proofs.Flush.Freeing.{beside, freed_refused, tidy_stays}
 use Rattle.qcow2_image.proofs.Formats.{lists_grow}
-use Rattle.qcow2_image.proofs.Moved.{moves_then, format_moves, stay_then, format_stay}
+use Rattle.qcow2_image.proofs.Moved.{file_step_then, format_file_step, stay_then, format_stay}
 use Rattle.qcow2_image.proofs.Moving.{file_moved_on}
-use Rattle.qcow2_image.proofs.Prepare.Entering.{as_following, breaks_on, keeps_listed, keeps_none, none_taken}
-use Rattle.qcow2_image.proofs.Prepare.Gaining.{following_on}
+use Rattle.qcow2_image.proofs.Prepare.Entering.{as_listed_after, interrupted_on, keeps_listed, keeps_none, none_taken}
+use Rattle.qcow2_image.proofs.Prepare.Gaining.{listed_after_on}
 use Rattle.qcow2_image.proofs.Sound.{free_more}
 use Rattle.qcow2_disk.proofs.Compose.{stops_of}
 
@@ -70,16 +70,16 @@ module _ {S F : Type 0} (view : S → StorageView) (backing : F → BackingView)
         let still = new_data c in
         grind arith
 
-    pub moves_kept : ImageInvariant view backing p a out → UnseenMove view backing p q a b out
-    moves_kept sound = record {
+    pub file_step_kept : ImageInvariant view backing p a out → UnseenMove view backing p q a b out
+    file_step_kept sound = record {
       sound = keeps.sound;
-      leads = keeps.leads;
+      safe_step = keeps.safe_step;
       since = keeps.since;
-      header = format_moves a.file.header.fields b.file.header.fields keeps.unseen.header;
+      header = format_file_step a.file.header.fields b.file.header.fields keeps.unseen.header;
       covers = format_stay a.file.header.fields b.file.header.fields (known_in view a.file) (known_in view b.file) keeps.unseen.header keeps.unseen.covers;
       bytes = keeps.unseen.bytes;
       used = used_stay;
-      shows = unseen_disk (state_in view a.file p) (state_in view b.file q) sound.file.caches.kept.kept.guarded keeps.sound.file.caches.kept.kept.guarded keeps.unseen;
+      shows = unseen_disk (state_in view a.file p) (state_in view b.file q) sound.file.caches.kept.kept.crash_invariant keeps.sound.file.caches.kept.kept.crash_invariant keeps.unseen;
       below = keeps.below;
       list = keeps.list;
     }
@@ -88,9 +88,9 @@ module _ {S F : Type 0} (view : S → StorageView) (backing : F → BackingView)
   move_then p q r a b c first then =
       let size : cluster_size a.file.header.fields ≡ cluster_size b.file.header.fields = sym (ap (λ (h : HeaderFields). cluster_size h) first.header) in record {
         sound = then.sound;
-        leads = leads_then (state_in view a.file p) (state_in view b.file q) (state_in view c.file r) nothing_given nothing_given [] [] first.leads then.leads;
-        since = steps_endure (view_in view a.file) (view_in view b.file) (view_in view c.file) (state_in view a.file p) (state_in view b.file q) nothing_given nothing_given [] [] refl first.since first.leads then.since;
-        header = moves_then a.file.header.fields b.file.header.fields c.file.header.fields first.header then.header;
+        safe_step = safe_step_then (state_in view a.file p) (state_in view b.file q) (state_in view c.file r) nothing_given nothing_given [] [] first.safe_step then.safe_step;
+        since = steps_safe_throughout (view_in view a.file) (view_in view b.file) (view_in view c.file) (state_in view a.file p) (state_in view b.file q) nothing_given nothing_given [] [] refl first.since first.safe_step then.since;
+        header = file_step_then a.file.header.fields b.file.header.fields c.file.header.fields first.header then.header;
         covers = stay_then a.file.header.fields b.file.header.fields c.file.header.fields (known_in view a.file) (known_in view b.file) (known_in view c.file) first.covers then.covers;
         bytes = λ o some. then.bytes o (subst (λ n. 0 < used_by_guests (state_in view b.file q) (o / n)) size (first.used (o / cluster_size a.file.header.fields) some)) ∙ first.bytes o some;
         used = λ k some. then.used k (first.used k some);
@@ -99,16 +99,16 @@ module _ {S F : Type 0} (view : S → StorageView) (backing : F → BackingView)
         list = record { more = first.list.more ++ then.list.more; is = then.list.is ∙ ap (λ l. l ++ then.list.more) first.list.is ∙ append_assoc a.file.free_list first.list.more then.list.more };
       }
 
-  pub broke_then : (p q : Pending) (a b c : Qcow2 S F) (e : ImageError) → UnseenStep view backing p q a b out → InterruptedMove view backing b c e → InterruptedMove view backing a c e
-  broke_then p q a b c e first broke = record {
-    breaks = breaks_on view backing out p q a b c e first broke.breaks;
-    header = moves_then a.file.header.fields b.file.header.fields c.file.header.fields (format_moves a.file.header.fields b.file.header.fields first.unseen.header) broke.header;
-    below = broke.below ∙ first.below;
+  pub interruption_then : (p q : Pending) (a b c : Qcow2 S F) (e : ImageError) → UnseenStep view backing p q a b out → InterruptedMove view backing b c e → InterruptedMove view backing a c e
+  interruption_then p q a b c e first interruption = record {
+    interrupted = interrupted_on view backing out p q a b c e first interruption.interrupted;
+    header = file_step_then a.file.header.fields b.file.header.fields c.file.header.fields (format_file_step a.file.header.fields b.file.header.fields first.unseen.header) interruption.header;
+    below = interruption.below ∙ first.below;
   }
 
   -- nothing was done
   pub refused_none : (p : Pending) (image : Qcow2 S F) (e : ImageError) → ImageInvariant view backing p image out → RefusedMove view backing p image image out e
-  refused_none p image e sound = inl (as_following view backing out p image image refl (keeps_none view backing out p image sound))
+  refused_none p image e sound = inl (as_listed_after view backing out p image image refl (keeps_none view backing out p image sound))
 
   -- ---- the table is placed, and then named
   pub named_then : (p : Pending) (a b c : Qcow2 S F) (t t' : EntryTableView) (cluster : ℕ) (r : Result (Unit {0}) ImageError) → ImageInvariant view backing (with_table p t cluster) a out → t' ≡ record t { cluster = Some cluster }
@@ -120,10 +120,10 @@ module _ {S F : Type 0} (view : S → StorageView) (backing : F → BackingView)
       joined (Ok x) named =
           let q = with_table p t cluster in
           subst (λ (h : HeaderFields). UnseenMove view backing q (without_l1 p h) a c out) placed.0.unseen.header
-          (move_then q q (without_l1 p b.file.header.fields) a b c (moves_kept q q a b (λ k some. some) placed.0 sound) named)
+          (move_then q q (without_l1 p b.file.header.fields) a b c (file_step_kept q q a b (λ k some. some) placed.0 sound) named)
       joined (Err e) left = let q = with_table p t cluster in elim left [
         | inl keeps ↦ inl (keeps_then view backing out a b c q q q (λ k some. some) placed.0 keeps)
-        | inr broke ↦ inr (broke_then q q a b c e placed.0 broke)
+        | inr interruption ↦ inr (interruption_then q q a b c e placed.0 interruption)
       ]
 
   -- ---- clusters that were taken for a table aren't used
@@ -136,7 +136,7 @@ module _ {S F : Type 0} (view : S → StorageView) (backing : F → BackingView)
       let q = with_table p t cluster in
       let s = state_in view image.file q in
       let n = run_at cluster (clusters_of t) in
-      let first = pending_is_changed.abandoned s n sound.file.caches.kept.kept.guarded (run_few cluster (clusters_of t)) (λ k some. omega (arith, some)) in
+      let first = pending_is_changed.abandoned s n sound.file.caches.kept.kept.crash_invariant (run_few cluster (clusters_of t)) (λ k some. omega (arith, some)) in
       keeps_listed view backing out q (run_given_up p t cluster) image list more sound is
       (subst (λ (r : Pending). SafeStep s (state_in view image.file r) nothing_given []) (pending_same (new_tables_to_old_tables q n) (run_given_up p t cluster) (λ k. refl) (λ k. omega arith) (λ k. refl) (λ k. refl) (λ k. refl)) first)
 
@@ -170,13 +170,13 @@ module _ {S F : Type 0} (view : S → StorageView) (backing : F → BackingView)
     pub none_taken_for_table : (e : ImageError) → RefusedGrowth view p old.file a file since e → NoFreeBelowHint view a file ⊎ BrokeOff file e → RefusedMove view backing p old taken out e
     none_taken_for_table e left hint = elim (none_taken view backing out p old sound file a marks lists e left hint) [
       | inl keeps ↦ inl keeps
-      | inr breaks ↦ inr (record { breaks = breaks; header = format_moves old.file.header.fields file.header.fields (header_format old.file.header file.header header); below = refl })
+      | inr interrupted ↦ inr (record { interrupted = interrupted; header = format_file_step old.file.header.fields file.header.fields (header_format old.file.header file.header header); below = refl })
     ]
 
-    module _ (t : EntryTableView) (cluster n : ℕ) (many : n ≡ clusters_of t) (becomes : UnseenAllocatorGrowth view p old.file a file (taken_as false since (run_at cluster n))) (hint : NoFreeBelowHint view a file) (longer : IsLongerL1 old t) where
+    module _ (t : EntryTableView) (cluster n : ℕ) (many : n ≡ clusters_of t) (allocator_step : UnseenAllocatorGrowth view p old.file a file (taken_as false since (run_at cluster n))) (hint : NoFreeBelowHint view a file) (longer : IsLongerL1 old t) where
       keeps_taken : UnseenStep view backing p (with_table since t cluster) old taken out
       keeps_taken = subst (λ m. UnseenStep view backing p (taken_as false since (run_at cluster m)) old taken out) many
-          (file_moved_on view backing old out p (taken_as false since (run_at cluster n)) sound file (Some a) becomes.moves (record { reftable = becomes.reftable; hint = hint }) marks.pins (lists_grow old taken lists))
+          (file_moved_on view backing old out p (taken_as false since (run_at cluster n)) sound file (Some a) allocator_step.file_step (record { reftable = allocator_step.reftable; hint = hint }) marks.pins (lists_grow old taken lists))
 
       longer_taken : IsLongerL1 taken t
       longer_taken = record {
@@ -194,9 +194,9 @@ module _ {S F : Type 0} (view : S → StorageView) (backing : F → BackingView)
         table_taken x is =
             let q = with_table since t cluster in
             let it : NamesTable view backing since taken new out t cluster (Ok x) = subst (NamesTable view backing since taken new out t cluster) is named in
-            subst (λ s. UnseenMove view backing p (without_l1 s old.file.header.fields) old new out) (following_on view backing out p old taken new same)
+            subst (λ s. UnseenMove view backing p (without_l1 s old.file.header.fields) old new out) (listed_after_on view backing out p old taken new same)
             (subst (λ (h : HeaderFields). UnseenMove view backing p (without_l1 since h) old new out) (ap (λ (v : HeaderView). v.fields) header)
-            (move_then p q (without_l1 since file.header.fields) old taken new (moves_kept p q old taken (λ k some. some) keeps_taken sound) it))
+            (move_then p q (without_l1 since file.header.fields) old taken new (file_step_kept p q old taken (λ k some. some) keeps_taken sound) it))
 
         pub table_refused : (e : ImageError) (run : ClustersToFreeEntry) (more : List ClustersToFreeEntry) → r ≡ Err e → run.first_cluster ≡ cluster → run.count ≡ clusters_of t → run.kind ≡ Kind.Metadata → more ≡ new.file.free_list ++ run ∷ []
             → TakesTable view backing p old (record new { file = record new.file { free_list = more } }) out (Err e)
@@ -209,24 +209,24 @@ module _ {S F : Type 0} (view : S → StorageView) (backing : F → BackingView)
                   (freed_run p t cluster old taken (record new { file = record new.file { free_list = more } }) run (lists_grow old taken lists) at count kind (longer ∙ ap (λ l. l ++ run ∷ []) same))
                   (keeps_then view backing out old new (record new { file = record new.file { free_list = more } }) p q (run_given_up since t cluster) (λ k h. h) (keeps_then view backing out old taken new p q q (λ k h. h) keeps_taken keeps)
                   (abandoned_run since t cluster new more (run ∷ []) keeps.sound longer)))
-              | inr broke ↦ let on = broke_then p q old taken new e keeps_taken broke in
-                  inr (record { breaks = record { fault = on.breaks.fault; noted = on.breaks.noted; since = on.breaks.since }; header = on.header; below = on.below })
+              | inr interruption ↦ let on = interruption_then p q old taken new e keeps_taken interruption in
+                  inr (record { interrupted = record { fault = on.interrupted.fault; noted = on.interrupted.noted; since = on.interrupted.since }; header = on.header; below = on.below })
             ]
 
       -- so it is whatever is answered: what was taken stays the table's, or is to be freed
-      pub table_settled : (run : ClustersToFreeEntry) (new : Qcow2 S F) (r : Result (Unit {0}) ImageError) → run.first_cluster ≡ cluster → run.count ≡ clusters_of t → run.kind ≡ Kind.Metadata
+      pub table_named_blocks : (run : ClustersToFreeEntry) (new : Qcow2 S F) (r : Result (Unit {0}) ImageError) → run.first_cluster ≡ cluster → run.count ≡ clusters_of t → run.kind ≡ Kind.Metadata
           → (ImageInvariant view backing (with_table since t cluster) taken out → IsLongerL1 taken t → NamesTaken view backing since taken new out t run r)
           → OnOk r (new.file.free_list ≡ file.free_list) → OnErr r (new.file.free_list ≡ file.free_list ++ run ∷ []) → TakesTable view backing p old new out r
-      table_settled run new r at count kind names kept listed =
+      table_named_blocks run new r at count kind names kept listed =
           let it = names keeps_taken.sound longer_taken in
           subst (λ (i : Qcow2 S F). TakesTable view backing p old i out r) (sym it.1)
-          (settled it.0 it.2 r (subst (λ n. NamesTable view backing since taken it.0 out t n r) at it.3) kept listed)
+          (named_blocks it.0 it.2 r (subst (λ n. NamesTable view backing since taken it.0 out t n r) at it.3) kept listed)
         where
-          settled : (mid : Qcow2 S F) → mid.file.free_list ≡ file.free_list → (x : Result (Unit {0}) ImageError) → NamesTable view backing since taken mid out t cluster x
+          named_blocks : (mid : Qcow2 S F) → mid.file.free_list ≡ file.free_list → (x : Result (Unit {0}) ImageError) → NamesTable view backing since taken mid out t cluster x
               → OnOk x (new.file.free_list ≡ file.free_list) → OnErr x (new.file.free_list ≡ file.free_list ++ run ∷ []) → TakesTable view backing p old (record mid { file = record mid.file { free_list = new.file.free_list } }) out x
-          settled mid same (Ok u) named stays grows =
+          named_blocks mid same (Ok u) named stays grows =
               subst (λ (l : List ClustersToFreeEntry). TakesTable view backing p old (record mid { file = record mid.file { free_list = l } }) out (Ok u)) (same ∙ sym stays) (table_taken mid (Ok u) same (λ _ _. named) u refl)
-          settled mid same (Err e) named stays grows =
+          named_blocks mid same (Err e) named stays grows =
               table_refused mid (Err e) same (λ _ _. named) e run new.file.free_list refl at count kind (grows ∙ ap (λ (l : List ClustersToFreeEntry). l ++ run ∷ []) (sym same))
 
   -- ---- the former table's clusters are to be freed
@@ -309,31 +309,31 @@ module _ {S F : Type 0} (view : S → StorageView) (backing : F → BackingView)
           let q = without_l1 (pending_with_listed p old mid) h in
           subst (λ (r : Pending). UnseenMove view backing p r old final out) to_be_freed
           (move_then p q q old mid final takes
-          (moves_kept q q mid final (λ k some. some) (keeps_listed view backing out q q mid list (listed former) takes.sound longer (leads_none (state_in view mid.file q) takes.sound.file.caches.kept.kept.guarded)) takes.sound))
+          (file_step_kept q q mid final (λ k some. some) (keeps_listed view backing out q q mid list (listed former) takes.sound longer (safe_step_none (state_in view mid.file q) takes.sound.file.caches.kept.kept.crash_invariant)) takes.sound))
 
 -- ---- a call that makes an L1 entry
 module _ {S F : Type 0} (view : S → StorageView) (backing : F → BackingView) (out : List (Option Prepared)) (old new : Qcow2 S F) (sound : ImageInvariant view backing (pending_in view backing old out) old out) where
-  module _ (moves : UnseenMove view backing (pending_in view backing old out) (pending_with_listed (pending_in view backing old out) old new) old new out) where
+  module _ (file_step : UnseenMove view backing (pending_in view backing old out) (pending_with_listed (pending_in view backing old out) old new) old new out) where
     pending_now : pending_with_listed (pending_in view backing old out) old new ≡ pending_in view backing new out
-    pending_now = followed view backing old new out sound moves.list moves.sound.file.caches.kept.kept.guarded
+    pending_now = followed view backing old new out sound file_step.list file_step.sound.file.caches.kept.kept.crash_invariant
 
     pub stays_moved : UnseenCall view backing old new out
     stays_moved = record {
       works = record {
-        setting = same_setting _ _ (ap (λ (h : HeaderFields). cluster_size h) moves.header) moves.below;
+        setting = same_setting _ _ (ap (λ (h : HeaderFields). cluster_size h) file_step.header) file_step.below;
         surplus = λ still. ap (λ (q : Pending). q.surplus) (sym pending_now);
-        stops = stops_of (abstract_of view backing old out) (abstract_of view backing new out) nothing_given [] moves.since (λ still. moves.leads.known);
+        stops = stops_of (abstract_of view backing old out) (abstract_of view backing new out) nothing_given [] file_step.since (λ still. file_step.safe_step.known);
       };
-      sound = subst (λ (q : Pending). ImageInvariant view backing q new out) pending_now moves.sound;
-      same = still_shown view backing old new out (pending_in view backing old out) (pending_with_listed (pending_in view backing old out) old new) sound (λ k. omega arith) (λ k. omega arith) moves.sound moves.header moves.bytes moves.shows moves.below;
-      header = moves.header;
-      covers = moves.covers;
+      sound = subst (λ (q : Pending). ImageInvariant view backing q new out) pending_now file_step.sound;
+      same = still_shown view backing old new out (pending_in view backing old out) (pending_with_listed (pending_in view backing old out) old new) sound (λ k. omega arith) (λ k. omega arith) file_step.sound file_step.header file_step.bytes file_step.shows file_step.below;
+      header = file_step.header;
+      covers = file_step.covers;
     }
 
   pub refused_moved : (e : ImageError) → RefusedMove view backing (pending_in view backing old out) old new out e → RefusedCall view backing old new out e
   refused_moved e left = elim left [
     | inl keeps ↦ inl (stays_kept view backing out old new sound keeps)
-    | inr broke ↦ inr (broke_off_so view backing out old new e broke.breaks (ap (λ (h : HeaderFields). cluster_size h) broke.header) broke.below)
+    | inr interruption ↦ inr (break_off_so view backing out old new e interruption.interrupted (ap (λ (h : HeaderFields). cluster_size h) interruption.header) interruption.below)
   ]
 
 module _ {S F : Type 0} (view : S → StorageView) (backing : F → BackingView) (out : List (Option Prepared)) where
@@ -341,7 +341,7 @@ module _ {S F : Type 0} (view : S → StorageView) (backing : F → BackingView)
   pub makes_none : (image : Qcow2 S F) → ImageInvariant view backing (pending_in view backing image out) image out → MakesEntry view backing image image out (Ok tt)
   makes_none image sound =
       let p = pending_in view backing image out in
-      stays_kept view backing out image image sound (as_following view backing out p image image refl (keeps_none view backing out p image sound))
+      stays_kept view backing out image image sound (as_listed_after view backing out p image image refl (keeps_none view backing out p image sound))
 
   -- what is listed is freed behind a part of the call
   pub freed_then : (old mid new : Qcow2 S F) → UnseenCall view backing old mid out → (r : Result (Unit {0}) ImageError) → FreesListed view backing (beside view backing mid out) mid new out r → MakesEntry view backing old new out r

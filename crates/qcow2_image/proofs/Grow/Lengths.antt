@@ -38,7 +38,7 @@ same_length v v' same = ap (λ (x : HeaderView). x.fields.l1_entries) same
 
 -- ---- offsets
 pub index_moved : (h h' : HeaderFields) (offset : ℕ) → MovesTables h h' → l1_index_of h' offset ≡ l1_index_of h offset
-index_moved h h' offset moves = ap (λ (x : HeaderFields). l1_index_of x offset) moves
+index_moved h h' offset file_step = ap (λ (x : HeaderFields). l1_index_of x offset) file_step
 
 index_rising : (h : HeaderFields) (a b : ℕ) → a ≤ b → l1_index_of h a ≤ l1_index_of h b
 index_rising h a b le = elim (cases_lt 0 (entries_per_cluster h)) [
@@ -62,9 +62,9 @@ last_cluster cs n some any =
 
 -- ---- parts, one after another
 pub stays_long_then : (h h' h'' : HeaderFields) (to : ℕ) → MovesTables h h' → StaysAsLong to h h' → StaysAsLong to h' h'' → StaysAsLong to h h''
-stays_long_then h h' h'' to moves first then within =
+stays_long_then h h' h'' to file_step first then within =
     let same = first within in
-    let index = index_moved h h' (to - 1) moves in
+    let index = index_moved h h' (to - 1) file_step in
     then (omega (arith, within, same, index)) ∙ same
 
 pub stays_long_shorter : (h h' : HeaderFields) (mid to : ℕ) → mid ≤ to → StaysAsLong mid h h' → StaysAsLong to h h'
@@ -84,8 +84,8 @@ reaches_begun h h' h'' offset keeps is = is ∙ ap (λ (x : HeaderFields). max x
 
 -- one that reaches the last byte of a size reaches that of its last cluster, and stays
 pub reaches_on : (h h' h'' : HeaderFields) (size : ℕ) → 0 < size → MovesTables h h' → ReachesOffset (size - 1) h h' → StaysAsLong (rounded_up (cluster_size h') size) h' h'' → ReachesOffset (size - 1) h h''
-reaches_on h h' h'' size any moves is stays =
-    let index = index_moved h h' (size - 1) moves in
+reaches_on h h' h'' size any file_step is stays =
+    let index = index_moved h h' (size - 1) file_step in
     let last : l1_index_of h' (rounded_up (cluster_size h') size - 1) ≡ l1_index_of h' (size - 1) = ap (λ x. x / entries_per_cluster h') (last_cluster (cluster_size h') size (pow_pos h'.cluster_bits) any) in
     stays (omega (arith, is, index, last)) ∙ is
 

@@ -30,7 +30,7 @@ use Rattle.qcow2_alloc.specs.Allocation.{run_at}
 use Rattle.qcow2_alloc.specs.ImageFile.{view_in, contents_in, known_in, state_in, FileInvariant}
 use Rattle.qcow2_alloc.specs.ImageStorage.{storage_of}
 use Rattle.qcow2_alloc.specs.MetadataCaches.{order_of, l2_tables, refblocks}
-use Rattle.qcow2_alloc.proofs.FileWrites.{moves_written, reftable_written}
+use Rattle.qcow2_alloc.proofs.FileWrites.{file_step_written, reftable_written}
 use Rattle.qcow2_alloc.proofs.KeptTables.Getting.{cluster_aligned}
 use Rattle.qcow2_alloc.proofs.KeptTables.Standing.{own_cluster}
 use Rattle.qcow2_alloc.proofs.PlacedBlocks.{IsFree, covers_written, file_sizes}
@@ -64,11 +64,11 @@ pub run_free : {S F : Type 0} (view : S → StorageView) (p : Pending) (image : 
 run_free view p image t cluster sound bits covers c some =
     let h = image.file.header.fields in
     let run = same_run h t cluster c bits in
-    let guarded = sound.caches.kept.kept.guarded in
+    let crash_invariant = sound.caches.kept.kept.crash_invariant in
     let new_tables : 0 < p.new_tables c + run_at cluster (clusters_of t) c = omega (arith, run, some) in
-    let tally = (guarded.each_cluster c).tally in
-    let few = (guarded.each_cluster c).pending (omega (arith, new_tables)) in
-    record { unnamed = data_is_written.new_tables (state_in view image.file (with_table p t cluster)) c guarded new_tables covers; unheld = omega (arith, tally, few, new_tables) }
+    let tally = (crash_invariant.each_cluster c).tally in
+    let few = (crash_invariant.each_cluster c).pending (omega (arith, new_tables)) in
+    record { unnamed = data_is_written.new_tables (state_in view image.file (with_table p t cluster)) c crash_invariant new_tables covers; unheld = omega (arith, tally, few, new_tables) }
 
 module _ {S F : Type 0} (view : S → StorageView) (backing : F → BackingView) (out : List (Option Prepared)) (p : Pending) (image : Qcow2 S F) (t : EntryTableView) (cluster : ℕ) (sound : ImageInvariant view backing (with_table p t cluster) image out)
     (longer : IsLongerL1 image t) (clean : AreClean (refblocks image.file.caches)) (may : BlocksMayGo (order_of image.file.caches) (l2_tables image.file.caches)) where
@@ -124,11 +124,11 @@ module _ {S F : Type 0} (view : S → StorageView) (backing : F → BackingView)
       calls_now = subst (λ (s : S). Calls (view_in view image.file) (view s) result) (sym stored) calls
 
       reftable_now : (a : Option Allocator) → IfSome a (IsAllocatorOf view image.file) → IfSome a (IsAllocatorOf view placed.file)
-      reftable_now = allocator_moved view image.file placed.file q (moves_written view q image.file storage sound.file (calls_now.honest sound.file.honest) each_now (calls_now.time sound.file.honest))
+      reftable_now = allocator_moved view image.file placed.file q (file_step_written view q image.file storage sound.file (calls_now.honest sound.file.honest) each_now (calls_now.time sound.file.honest))
           (reftable_written view q image.file storage sound.file (calls_now.honest sound.file.honest) each_now)
 
       pub keeps_placed : UnseenStep view backing q q image placed out
-      keeps_placed = file_moved view backing image out q q sound placed.file image.allocator (moves_written view q image.file storage sound.file (calls_now.honest sound.file.honest) each_now (calls_now.time sound.file.honest)) (reftable_now image.allocator sound.reftable)
+      keeps_placed = file_moved view backing image out q q sound placed.file image.allocator (file_step_written view q image.file storage sound.file (calls_now.honest sound.file.honest) each_now (calls_now.time sound.file.honest)) (reftable_now image.allocator sound.reftable)
           (λ k. refl) refl
 
       pub stands_whole : (t' : EntryTableView) → t' ≡ record t { cluster = Some cluster } → (x : Unit {0}) → result ≡ Ok x → StandsWhole view placed t' cluster

@@ -21,7 +21,7 @@ use Rattle.qcow2_disk.specs.Stops.{SafeThroughout}
 use Rattle.qcow2_laws.specs.Tops.{WritesHeader, with_places, with_l1_at, IsNewL1}
 use Rattle.qcow2_laws.proofs.GuestLaws.{longer_l1_table_keeps_guests}
 use Rattle.qcow2_laws.proofs.L1Moves.{now_l1, now_reftable}
-use Rattle.qcow2_laws.proofs.SafeSteps.{step_endures}
+use Rattle.qcow2_laws.proofs.SafeSteps.{step_safe_throughout}
 use Rattle.qcow2_laws.proofs.Places.{Sizes, l1-same}
 use Rattle.qcow2_laws.proofs.Shares.{run_has}
 use Rattle.qcow2_laws.proofs.Steps.{header_is_written}
@@ -45,7 +45,7 @@ use Rattle.qcow2_image.specs.declared.prepared.Prepared.{Prepared}
 use Rattle.qcow2_image.specs.LongerTables.{with_table, without_l1, StandsWhole, UnseenMove, NamesTable}
 use Rattle.qcow2_image.specs.ImageInvariant.{ImageInvariant}
 use Rattle.qcow2_image.specs.MovedTables.{MovesTables}
-use Rattle.qcow2_image.proofs.Open.HeaderKept.{placed_settled, placed_sound}
+use Rattle.qcow2_image.proofs.Open.HeaderKept.{placed_named_blocks, placed_sound}
 use Rattle.qcow2_image.proofs.Grow.LongerTables.{same_run, run_free}
 use Rattle.qcow2_image.proofs.Moved.{ready_moved}
 
@@ -95,7 +95,7 @@ module _ {S F : Type 0} (view : S → StorageView) (backing : F → BackingView)
             l1-same h' known on_storage i (same_sizes h place (entry_count t) sizes) aligned
             (λ lt. known_in_run ((place + 8 * i) / cluster_size h)
             (let has = run_has h place (length t.bytes) (8 * i) sizes.some aligned (let w = ready.table.whole in omega (arith, w, lt)) in omega (arith, has)))
-            ∙ same_entries i ∙ sound.file.caches.kept.kept.guarded.same_top.l1 i;
+            ∙ same_entries i ∙ sound.file.caches.kept.kept.crash_invariant.same_top.l1 i;
         new_tables = λ c some. (let run = same_run h t cluster c ready.table.bits in let is = run_is c in omega (arith, run, is, some), ready.counts c);
         written = ready.covers;
       }
@@ -103,24 +103,24 @@ module _ {S F : Type 0} (view : S → StorageView) (backing : F → BackingView)
   near_64 : place < 2 ^ 64
   near_64 = omega (arith, near)
 
-  leads_at : (b : Bytes) → WritesHeader h (with_l1_at h place (entry_count t)) on_storage known b (known_of h old.file.caches b)
+  safe_step_at : (b : Bytes) → WritesHeader h (with_l1_at h place (entry_count t)) on_storage known b (known_of h old.file.caches b)
       → SafeStep (state_in view old.file q) (record (state_in view old.file q) { header = h'; pending = without_l1 p h; on_storage = b; known = known_of h old.file.caches b }) nothing_given []
-  leads_at b writes =
-      let leads = header_is_written.l1_table (state_in view old.file q) b (known_of h old.file.caches b) place (entry_count t) sound.file.caches.kept.kept.guarded writes new_l1 in
+  safe_step_at b writes =
+      let safe_step = header_is_written.l1_table (state_in view old.file q) b (known_of h old.file.caches b) place (entry_count t) sound.file.caches.kept.kept.crash_invariant writes new_l1 in
       subst (λ (r : Pending). SafeStep (state_in view old.file q) (record (state_in view old.file q) { header = h'; pending = r; on_storage = b; known = known_of h old.file.caches b }) nothing_given [])
       (pending_same (renamed q (λ c. in_run h c place (8 * entry_count t)) (λ c. in_run h c h.l1_offset (8 * h.l1_entries))) (without_l1 p h) (λ k. refl)
-      (λ k. let run = same_run h t cluster k ready.table.bits in let is = run_is k in omega (arith, run, is)) (λ k. refl) (λ k. refl) (λ k. refl)) leads
+      (λ k. let run = same_run h t cluster k ready.table.bits in let is = run_is k in omega (arith, run, is)) (λ k. refl) (λ k. refl) (λ k. refl)) safe_step
 
   -- whatever the storage answers
   pub lasts_named : {T : Type 0} (result : Result T StorageError) (asked after : S) → asked ≡ storage_of old.file.storage → Changes (view asked) (view after) result (l1_table_pointer_written h' (view asked).contents)
       → Calls (view asked) (view after) result → SafeThroughout (view_in view old.file) (view after) known nothing_given []
   lasts_named result asked after same wrote called =
       let new = byte_at (l1_table_pointer_written h' (view_in view old.file).contents) in
-      step_endures {result = result} (view_in view old.file) (view after) (state_in view old.file q) (record (state_in view old.file q) { header = h'; pending = without_l1 p h; on_storage = new; known = known_of h old.file.caches new }) nothing_given []
+      step_safe_throughout {result = result} (view_in view old.file) (view after) (state_in view old.file q) (record (state_in view old.file q) { header = h'; pending = without_l1 p h; on_storage = new; known = known_of h old.file.caches new }) nothing_given []
       (l1_table_pointer_written h' (view_in view old.file).contents)
       (subst (λ (s : S). Calls (view s) (view after) result) same called)
       (subst (λ (s : S). Changes (view s) (view after) result (l1_table_pointer_written h' (view s).contents)) same wrote)
-      sound.file.honest refl refl (leads_at new (l1_pointer_writes view q old.file sound.file place (entry_count t) few near_64))
+      sound.file.honest refl refl (safe_step_at new (l1_pointer_writes view q old.file sound.file place (entry_count t) few near_64))
 
   module _ (storage : ImageStorage S) (is : (view (storage_of storage)).contents ≡ l1_table_pointer_written h' (view_in view old.file).contents) (honest : (view (storage_of storage)).is_honest) where
     abbrev now : Qcow2 S F
@@ -129,14 +129,14 @@ module _ {S F : Type 0} (view : S → StorageView) (backing : F → BackingView)
     writes_now : WritesHeader h (with_l1_at h place (entry_count t)) on_storage known (contents_in view now.file) (known_of h old.file.caches (contents_in view now.file))
     writes_now = subst (λ (c : List ℕ). WritesHeader h (with_l1_at h place (entry_count t)) on_storage known (byte_at c) (known_of h old.file.caches (byte_at c))) (sym is) (l1_pointer_writes view q old.file sound.file place (entry_count t) few near_64)
 
-    leads_now : SafeStep (state_in view old.file q) (state_in view now.file (without_l1 p h)) nothing_given []
-    leads_now = leads_at (contents_in view now.file) writes_now
+    safe_step_now : SafeStep (state_in view old.file q) (state_in view now.file (without_l1 p h)) nothing_given []
+    safe_step_now = safe_step_at (contents_in view now.file) writes_now
 
     l1_now : (i : ℕ) → l1_entry h' (contents_in view now.file) i ≡ l1_entry h on_storage i
-    l1_now i = sym (now_l1 h place (entry_count t) (order_of old.file.caches) q on_storage known (contents_in view now.file) (known_of h old.file.caches (contents_in view now.file)) sound.file.caches.kept.kept.guarded writes_now new_l1 i)
+    l1_now i = sym (now_l1 h place (entry_count t) (order_of old.file.caches) q on_storage known (contents_in view now.file) (known_of h old.file.caches (contents_in view now.file)) sound.file.caches.kept.kept.crash_invariant writes_now new_l1 i)
 
     blocks_now : (k : ℕ) → reftable_entry h' (contents_in view now.file) k ≡ reftable_entry h on_storage k
-    blocks_now k = sym (now_reftable h place (entry_count t) (order_of old.file.caches) q on_storage known (contents_in view now.file) (known_of h old.file.caches (contents_in view now.file)) sound.file.caches.kept.kept.guarded writes_now new_l1 k)
+    blocks_now k = sym (now_reftable h place (entry_count t) (order_of old.file.caches) q on_storage known (contents_in view now.file) (known_of h old.file.caches (contents_in view now.file)) sound.file.caches.kept.kept.crash_invariant writes_now new_l1 k)
 
     -- counts don't go by where the L1 table stands
     counts_too : (b : Bytes) (k : ℕ) → count h' b k ≡ count h b k
@@ -146,23 +146,23 @@ module _ {S F : Type 0} (view : S → StorageView) (backing : F → BackingView)
     reftable_now : (a : Option Allocator) → IfSome a (IsAllocatorOf view old.file) → IfSome a (IsAllocatorOf view now.file)
     reftable_now = allocator_kept view old.file now.file (λ t has. record { cluster = has.cluster; bits = has.bits; count = has.count; entries = λ k. has.entries k ∙ sym (blocks_now k) })
         (λ k.
-        let same = header_known_counts h (with_l1_at h place (entry_count t)) (order_of old.file.caches) q on_storage known (contents_in view now.file) (known_of h old.file.caches (contents_in view now.file)) sound.file.caches.kept.kept.guarded writes_now k in
+        let same = header_known_counts h (with_l1_at h place (entry_count t)) (order_of old.file.caches) q on_storage known (contents_in view now.file) (known_of h old.file.caches (contents_in view now.file)) sound.file.caches.kept.kept.crash_invariant writes_now k in
         let e : count h known k ≡ count h' (known_in view now.file) k = same ∙ sym (counts_too (known_in view now.file) k) in
         omega arith)
 
     guests_now : KeepsGuests (state_in view old.file q) (with_new_l1 (state_in view old.file q) place (entry_count t) (contents_in view now.file) (known_of h old.file.caches (contents_in view now.file)))
-    guests_now = longer_l1_table_keeps_guests (state_in view old.file q) (contents_in view now.file) (known_of h old.file.caches (contents_in view now.file)) place (entry_count t) sound.file.caches.kept.kept.guarded writes_now new_l1
+    guests_now = longer_l1_table_keeps_guests (state_in view old.file q) (contents_in view now.file) (known_of h old.file.caches (contents_in view now.file)) place (entry_count t) sound.file.caches.kept.kept.crash_invariant writes_now new_l1
 
     known_l1_now : (i : ℕ) → l1_entry h' (known_in view now.file) i ≡ l1_entry h known i
-    known_l1_now i = sym (leads_now.sound.same_top.l1 i) ∙ l1_now i ∙ sound.file.caches.kept.kept.guarded.same_top.l1 i
+    known_l1_now i = sym (safe_step_now.sound.same_top.l1 i) ∙ l1_now i ∙ sound.file.caches.kept.kept.crash_invariant.same_top.l1 i
 
     named_sound : ImageInvariant view backing (without_l1 p h) now out
     named_sound = record {
       works = sound.works;
       file = record {
         honest = honest;
-        caches = placed_sound view q (without_l1 p h) old.file sound.file (with_l1_at h place (entry_count t)) (contents_in view now.file) writes_now leads_now.sound l1_now blocks_now;
-        settled = placed_settled view q (without_l1 p h) old.file sound.file (with_l1_at h place (entry_count t)) (contents_in view now.file) writes_now leads_now.sound l1_now blocks_now;
+        caches = placed_sound view q (without_l1 p h) old.file sound.file (with_l1_at h place (entry_count t)) (contents_in view now.file) writes_now safe_step_now.sound l1_now blocks_now;
+        named_blocks = placed_named_blocks view q (without_l1 p h) old.file sound.file (with_l1_at h place (entry_count t)) (contents_in view now.file) writes_now safe_step_now.sound l1_now blocks_now;
         room = sound.file.room;
       };
       l1_table = record {
@@ -181,10 +181,10 @@ module _ {S F : Type 0} (view : S → StorageView) (backing : F → BackingView)
       once = sound.once;
     }
 
-    named_moves : SafeThroughout (view_in view old.file) (view (storage_of storage)) known nothing_given [] → UnseenMove view backing q (without_l1 p h) old now out
-    named_moves since = record {
+    named_file_step : SafeThroughout (view_in view old.file) (view (storage_of storage)) known nothing_given [] → UnseenMove view backing q (without_l1 p h) old now out
+    named_file_step since = record {
       sound = named_sound;
-      leads = leads_now;
+      safe_step = safe_step_now;
       since = since;
       header = refl;
       covers = guests_now.covers;
@@ -212,14 +212,14 @@ module _ {S F : Type 0} (view : S → StorageView) (backing : F → BackingView)
         let calls : Calls (view_in view old.file) (view (storage_of storage)) result = subst (λ (s : S). Calls (view s) (view (storage_of storage)) result) same called in
         let is = rw done at (subst (λ (s : S). Changes (view s) (view (storage_of storage)) result (l1_table_pointer_written h' (view s).contents)) same wrote' sound.file.honest) in
         subst (λ (v : HeaderView). NamesTable view backing p old (record old { file = record old.file { storage = storage; header = v }; l1_table = t }) out t cluster (Ok x)) (sym header_now)
-        (named_moves storage is (calls.honest sound.file.honest) (lasts_named result asked (storage_of storage) same wrote' called))
+        (named_file_step storage is (calls.honest sound.file.honest) (lasts_named result asked (storage_of storage) same wrote' called))
 
     -- the storage failed
-    pub named_broke : {T : Type 0} (result : Result T StorageError) (storage : ImageStorage S) (asked : S) → asked ≡ storage_of old.file.storage → Changes (view asked) (view (storage_of storage)) result (l1_table_pointer_written header.fields (view asked).contents)
+    pub named_interruption : {T : Type 0} (result : Result T StorageError) (storage : ImageStorage S) (asked : S) → asked ≡ storage_of old.file.storage → Changes (view asked) (view (storage_of storage)) result (l1_table_pointer_written header.fields (view asked).contents)
         → Calls (view asked) (view (storage_of storage)) result → (e : StorageError) → IsTrue old.file.caches.is_changed
         → NamesTable view backing p old (record old { file = record old.file { storage = storage; header = header } }) out t cluster (Err (of_storage e))
-    named_broke result storage asked same wrote called e noted = inr (record {
-      breaks = record { fault = fault_of_storage e; noted = λ is. noted; since = lasts_named result asked (storage_of storage) same (pointer_written_as result asked (storage_of storage) wrote) called };
+    named_interruption result storage asked same wrote called e noted = inr (record {
+      interrupted = record { fault = fault_of_storage e; noted = λ is. noted; since = lasts_named result asked (storage_of storage) same (pointer_written_as result asked (storage_of storage) wrote) called };
       header = subst (λ (v : HeaderView). MovesTables old.file.header.fields v.fields) (sym header_now) refl;
       below = refl;
     })

@@ -26,5 +26,5 @@ pub cached_aligned : {S : Type 0} (view : S → StorageView) (file : ImageFile S
     → IsEntryAt file.header.fields (known_in view file) i table (cluster % entries_per_cluster file.header.fields) → cluster / entries_per_cluster file.header.fields ≡ i → HasAlignedHost t.cluster_bits (mapping_of t cluster)
 cached_aligned view file p t table i cluster sound shows at here =
     let bits = (shows file.header.fields p (contents_in view file) i (cluster % entries_per_cluster file.header.fields) sound.caches at).format.bits in
-    let aligned = aligned_host file.header.fields _ (sound.caches.kept.kept.guarded.known_aligned cluster) in
+    let aligned = aligned_host file.header.fields _ (sound.caches.kept.kept.crash_invariant.known_aligned cluster) in
     subst (λ n. HasAlignedHost n (mapping_of t cluster)) (sym bits) (subst (HasAlignedHost file.header.fields.cluster_bits) (sym (cached_says view file p t table i cluster sound shows at here)) aligned)

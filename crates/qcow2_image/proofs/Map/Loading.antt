@@ -23,7 +23,7 @@ use Rattle.qcow2_laws.proofs.Lists.{clean_known}
 use Rattle.qcow2_laws.specs.Caches.{AreNamedBlocks}
 use Rattle.image_access.specs.declared.error.StorageError.{StorageError}
 use Rattle.image_access.specs.Moments.{QuietCalls, EachMomentSince, ContentsStay}
-use Rattle.qcow2_laws.proofs.SafeSteps.{leads_none, endures_none}
+use Rattle.qcow2_laws.proofs.SafeSteps.{safe_step_none, safe_throughout_none}
 use Rattle.qcow2_alloc.specs.MetadataCaches.{l2_tables, refblocks, known_of, AreAllWritten, CacheInvariant, UnseenCacheStep}
 use Rattle.qcow2_alloc.specs.ImageFile.{state_in, view_in, contents_in, known_in}
 use Rattle.qcow2_alloc.specs.KeptAllocators.{IsAllocatorOf}
@@ -33,7 +33,7 @@ use Rattle.qcow2_image.specs.declared.prepared.Prepared.{Prepared}
 use Rattle.qcow2_image.specs.ImageInvariant.{cluster_of, ImageInvariant}
 use Rattle.qcow2_image.specs.UnseenSteps.{UnseenStep}
 use Rattle.qcow2_image.proofs.Ready.{still_ready}
-use Rattle.qcow2_alloc.proofs.FileSteps.{cached_endures}
+use Rattle.qcow2_alloc.proofs.FileSteps.{cached_safe_throughout}
 use Rattle.qcow2_alloc.proofs.KeptTables.Turning.{safe_none, safe_keep}
 
 -- of two sound stands with the same header and the same known bytes the tables above are the same on the storage
@@ -57,35 +57,35 @@ module _ {S F : Type 0} (view : S → StorageView) (backing : F → BackingView)
           cluster = has.cluster;
           bits = has.bits;
           count = has.count;
-          entries = λ i. has.entries i ∙ sym (same_reftable (state_in view old.file p) (state_in view (with_caches storage' caches').file p) sound.file.caches.kept.kept.guarded stay.sound.kept.kept.guarded refl stay.known i);
+          entries = λ i. has.entries i ∙ sym (same_reftable (state_in view old.file p) (state_in view (with_caches storage' caches').file p) sound.file.caches.kept.kept.crash_invariant stay.sound.kept.kept.crash_invariant refl stay.known i);
         })
         (λ k. let e = ap (λ (b : Bytes). count old.file.header.fields b k) stay.known in omega arith)
 
     l1_still : (i : ℕ) → l1_entry old.file.header.fields (contents_in view (with_caches storage' caches').file) i ≡ l1_entry old.file.header.fields (contents_in view old.file) i
-    l1_still i = same_l1 (state_in view old.file p) (state_in view (with_caches storage' caches').file p) sound.file.caches.kept.kept.guarded stay.sound.kept.kept.guarded refl stay.known i
+    l1_still i = same_l1 (state_in view old.file p) (state_in view (with_caches storage' caches').file p) sound.file.caches.kept.kept.crash_invariant stay.sound.kept.kept.crash_invariant refl stay.known i
 
     pub caches_moved : UnseenStep view backing p p old (with_caches storage' caches') out
     caches_moved = record {
       sound = record {
         works = sound.works;
-        file = record { honest = stay.honest; caches = stay.sound; settled = stay.settled sound.file.settled; room = room sound.file.room };
+        file = record { honest = stay.honest; caches = stay.sound; named_blocks = stay.named_blocks sound.file.named_blocks; room = room sound.file.room };
         l1_table = record { cluster = sound.l1_table.cluster; bits = sound.l1_table.bits; count = sound.l1_table.count; entries = λ i. sound.l1_table.entries i ∙ sym (l1_still i) };
         reftable = allocator_still old.allocator sound.reftable;
         below = sound.below;
         ready = λ k q at. let r = sound.ready k q at in record {
           own = r.own;
           mapped = still_ready old.file.header.fields (known_in view old.file) (contents_in view old.file) (known_in view (with_caches storage' caches').file) (contents_in view (with_caches storage' caches').file)
-              q sound.file.caches.kept.kept.guarded.same_top.l1 stay.sound.kept.kept.guarded.same_top.l1 (λ i is. l1_still i) (λ i. ap (λ b. cover old.file.header.fields b (cluster_of old.file.header.fields q + i)) (sym stay.known)) q.table r.mapped;
+              q sound.file.caches.kept.kept.crash_invariant.same_top.l1 stay.sound.kept.kept.crash_invariant.same_top.l1 (λ i is. l1_still i) (λ i. ap (λ b. cover old.file.header.fields b (cluster_of old.file.header.fields q + i)) (sym stay.known)) q.table r.mapped;
         };
         pinned = λ table. pins table ∙ sound.pinned table;
         once = sound.once;
       };
-      leads = record {
-        sound = stay.sound.kept.kept.guarded;
+      safe_step = record {
+        sound = stay.sound.kept.kept.crash_invariant;
         on_storage = λ bytes m kept known_kept. stay.since.contents bytes m kept known_kept;
         known = λ bytes m kept known_kept. subst (λ b. StopOkEverywhere bytes m b) (sym stay.known) known_kept;
       };
-      since = cached_endures (view_in view old.file) (view (storage_of storage')) (known_in view old.file) stay.since;
+      since = cached_safe_throughout (view_in view old.file) (view (storage_of storage')) (known_in view old.file) stay.since;
       unseen = unseen_known (state_in view old.file p) (state_in view (with_caches storage' caches').file p) refl stay.known;
       copied = λ i is. l1_still i;
       below = refl;
@@ -104,7 +104,7 @@ module _ {S : Type 0} (h : HeaderFields) (p : Pending) (caches caches' : Metadat
     honest = honest;
     sound = tables.sound h p (byte_at v.contents) sound;
     known = tables.known h (byte_at v.contents);
-    settled = λ settled. subst (λ (ts : List CachedTable). AreNamedBlocks h ts (byte_at v.contents)) (sym tables.refblocks) settled;
+    named_blocks = λ named_blocks. subst (λ (ts : List CachedTable). AreNamedBlocks h ts (byte_at v.contents)) (sym tables.refblocks) named_blocks;
     since = safe_none v (known_of h caches (byte_at v.contents));
   }
 
@@ -129,7 +129,7 @@ module _ {S : Type 0} (h : HeaderFields) (p : Pending) (caches : MetadataCaches 
     honest = honest;
     sound = subst (λ c. CacheInvariant h p caches (byte_at c)) (sym same) sound;
     known = ap (λ c. known_of h caches (byte_at c)) same;
-    settled = λ settled. subst (λ c. AreNamedBlocks h (refblocks caches) (byte_at c)) (sym same) settled;
+    named_blocks = λ named_blocks. subst (λ c. AreNamedBlocks h (refblocks caches) (byte_at c)) (sym same) named_blocks;
     since = safe_keep v v' (known_of h caches (byte_at v.contents)) time same;
   }
 

@@ -146,8 +146,8 @@ pub cached_says : {S : Type 0} (view : S → StorageView) (file : ImageFile S) (
     → IsEntryAt file.header.fields (known_in view file) i table (cluster % entries_per_cluster file.header.fields) → cluster / entries_per_cluster file.header.fields ≡ i → mapping_of t cluster ≡ cover file.header.fields (known_in view file) cluster
 cached_says view file p t table i cluster sound shows at here =
     let h = file.header.fields in
-    let guarded = sound.caches.kept.kept.guarded in
-    let sizes = Sizes-from h (known_in view file) (IsTop-top h (contents_in view file) (known_in view file) guarded.same_top guarded.top).header_reads in
+    let crash_invariant = sound.caches.kept.kept.crash_invariant in
+    let sizes = Sizes-from h (known_in view file) (IsTop-top h (contents_in view file) (known_in view file) crash_invariant.same_top crash_invariant.top).header_reads in
     let each = λ (index : ℕ) (lt : index < entries_per_cluster h). shows h p (contents_in view file) i index sound.caches (record { real = at.real; place = at.place; within = lt }) in
     says_known h (known_in view file) t i sizes at.real (each (cluster % entries_per_cluster h) at.within).format (λ index lt. (each index lt).entry) cluster here
 

@@ -15,14 +15,14 @@ use Rattle.qcow2_laws.specs.CrashInvariant.{Pending, CrashInvariant}
 use Rattle.qcow2_disk.specs.Stops.{StopOkEverywhere}
 use Rattle.qcow2_laws.specs.Tops.{WritesHeader, resized_places}
 use Rattle.qcow2_laws.proofs.HeaderWrites.{autoclear_beside}
-use Rattle.qcow2_laws.proofs.SafeSteps.{endures_none, endures_write}
+use Rattle.qcow2_laws.proofs.SafeSteps.{safe_throughout_none, safe_throughout_write}
 use Rattle.qcow2_laws.proofs.Steps.{header_is_written}
 use Rattle.qcow2_alloc.specs.declared.image_file.ImageFile.{ImageFile}
 use Rattle.qcow2_alloc.specs.declared.image_storage.ImageStorage.{ImageStorage}
 use Rattle.qcow2_alloc.specs.ImageFile.{nothing_given, view_in, contents_in, known_in, state_in}
 use Rattle.qcow2_alloc.specs.ImageStorage.{storage_of}
 use Rattle.qcow2_alloc.specs.MetadataCaches.{order_of, l2_tables, refblocks, known_of, CacheInvariant}
-use Rattle.qcow2_image.proofs.Open.HeaderKept.{resized_l1, resized_reftable, placed_settled, placed_sound}
+use Rattle.qcow2_image.proofs.Open.HeaderKept.{resized_l1, resized_reftable, placed_named_blocks, placed_sound}
 use Rattle.qcow2_image.specs.Opened.{IsFresh, StaysFresh, IsKeptSince}
 
 module _ {S F : Type 0} (view : S → StorageView) (backing : F → BackingView) (p : Pending) (file : ImageFile S) (new_tables : IsFresh view backing p file) where
@@ -39,8 +39,8 @@ module _ {S F : Type 0} (view : S → StorageView) (backing : F → BackingView)
   kept = new_tables.sound.caches.kept.kept
 
   module _ (on_storage' : Bytes) (writes : WritesHeader h (resized_places h h.size 0) on_storage (known_in view file) on_storage' (known_of h file.caches on_storage')) where
-    cleared_guarded : CrashInvariant h' (order_of file.caches) p on_storage' (known_of h file.caches on_storage')
-    cleared_guarded = (header_is_written.same_size (state_in view file p) on_storage' (known_of h file.caches on_storage') 0 kept.guarded writes).sound
+    cleared_crash_invariant : CrashInvariant h' (order_of file.caches) p on_storage' (known_of h file.caches on_storage')
+    cleared_crash_invariant = (header_is_written.same_size (state_in view file p) on_storage' (known_of h file.caches on_storage') 0 kept.crash_invariant writes).sound
 
     l1_still : (i : ℕ) → l1_entry h' on_storage' i ≡ l1_entry h on_storage i
     l1_still = resized_l1 view p file new_tables.sound h.size 0 on_storage' writes
@@ -48,11 +48,11 @@ module _ {S F : Type 0} (view : S → StorageView) (backing : F → BackingView)
     reftable_still : (k : ℕ) → reftable_entry h' on_storage' k ≡ reftable_entry h on_storage k
     reftable_still = resized_reftable view p file new_tables.sound h.size 0 on_storage' writes
 
-    cleared_settled : AreNamedBlocks h' (refblocks file.caches) on_storage'
-    cleared_settled = placed_settled view p p file new_tables.sound (resized_places h h.size 0) on_storage' writes cleared_guarded l1_still reftable_still
+    cleared_named_blocks : AreNamedBlocks h' (refblocks file.caches) on_storage'
+    cleared_named_blocks = placed_named_blocks view p p file new_tables.sound (resized_places h h.size 0) on_storage' writes cleared_crash_invariant l1_still reftable_still
 
     cleared_sound : CacheInvariant h' p file.caches on_storage'
-    cleared_sound = placed_sound view p p file new_tables.sound (resized_places h h.size 0) on_storage' writes cleared_guarded l1_still reftable_still
+    cleared_sound = placed_sound view p p file new_tables.sound (resized_places h h.size 0) on_storage' writes cleared_crash_invariant l1_still reftable_still
 
   pub stays_cleared : (storage : ImageStorage S) → (view (storage_of storage)).is_honest → (view (storage_of storage)).contents ≡ autoclear_cleared (view_in view file).contents
       → header (byte_at (autoclear_cleared (view_in view file).contents)) ≡ without_autoclear (header (byte_at (view_in view file).contents))
@@ -64,7 +64,7 @@ module _ {S F : Type 0} (view : S → StorageView) (backing : F → BackingView)
       subst (λ (c : List ℕ). WritesHeader h (resized_places h h.size 0) on_storage (known_in view file) (byte_at c) (known_of h file.caches (byte_at c))) (sym same)
       (autoclear_beside h (order_of file.caches) p (l2_tables file.caches) (refblocks file.caches) (view_in view file).contents kept (with_fields file.header h') fields there) in record {
         new_tables = record {
-          sound = record { honest = honest; caches = cleared_sound on_storage' writes; settled = cleared_settled on_storage' writes; room = new_tables.sound.room };
+          sound = record { honest = honest; caches = cleared_sound on_storage' writes; named_blocks = cleared_named_blocks on_storage' writes; room = new_tables.sound.room };
           header = subst (IsHeaderIn (with_fields file.header h')) (sym same) there;
           clean = new_tables.clean;
           unpinned = new_tables.unpinned;
@@ -99,11 +99,11 @@ module _ {S F : Type 0} (view : S → StorageView) (backing : F → BackingView)
       → (file.header.fields.autoclear ≢ 0 → IsHeaderIn file.header (view_in view file).contents → IsHeaderIn (with_fields file.header (without_autoclear file.header.fields)) (autoclear_cleared (view_in view file).contents))
       → IsKeptSince (view_in view file) (view (storage_of storage))
   kept_after result storage written untouched call fields reads = elim (cases_eq file.header.fields.autoclear 0) [
-    | inl none ↦ subst (λ (s : ImageStorage S). IsKeptSince (view_in view file) (view (storage_of s))) (sym (untouched none)) (endures_none (view_in view file) on_storage)
+    | inl none ↦ subst (λ (s : ImageStorage S). IsKeptSince (view_in view file) (view (storage_of s))) (sym (untouched none)) (safe_throughout_none (view_in view file) on_storage)
     | inr some ↦
         let new = autoclear_cleared (view_in view file).contents in
         let writes = autoclear_beside h (order_of file.caches) p (l2_tables file.caches) (refblocks file.caches) (view_in view file).contents kept (with_fields file.header h') fields (reads some new_tables.header) in
-        let leads = header_is_written.same_size (state_in view file p) (byte_at new) (known_of h file.caches (byte_at new)) 0 kept.guarded writes in
-        endures_write (view_in view file) (view (storage_of storage)) on_storage nothing_given [] new call (written some) new_tables.sound.honest
-        (λ backing m ok known_ok. leads.on_storage backing m ok (subst (StopOkEverywhere backing m) (sym (new_tables.clean on_storage)) ok))
+        let safe_step = header_is_written.same_size (state_in view file p) (byte_at new) (known_of h file.caches (byte_at new)) 0 kept.crash_invariant writes in
+        safe_throughout_write (view_in view file) (view (storage_of storage)) on_storage nothing_given [] new call (written some) new_tables.sound.honest
+        (λ backing m ok known_ok. safe_step.on_storage backing m ok (subst (StopOkEverywhere backing m) (sym (new_tables.clean on_storage)) ok))
   ]

@@ -18,9 +18,9 @@ use Rattle.qcow2_laws.specs.Clusters.{Neither}
 use Rattle.qcow2_laws.specs.CrashInvariant.{Pending, CrashInvariant}
 use Rattle.qcow2_laws.specs.Opened.{nothing_pending, surplus_of}
 use Rattle.qcow2_disk.specs.AbstractImages.{IsOpened}
-use Rattle.qcow2_laws.proofs.Opened.{opened_guarded}
+use Rattle.qcow2_laws.proofs.Opened.{opened_crash_invariant}
 use Rattle.qcow2_laws.proofs.Places.{l1_entry-past}
-use Rattle.qcow2_laws.proofs.SafeSteps.{keep_endures, endures_then}
+use Rattle.qcow2_laws.proofs.SafeSteps.{keep_safe_throughout, safe_throughout_then}
 use Rattle.qcow2_alloc.specs.declared.image_file.ImageFile.{ImageFile}
 use Rattle.qcow2_alloc.specs.declared.image_storage.ImageStorage.{ImageStorage}
 use Rattle.qcow2_alloc.specs.ImageFile.{l2_pins, CachesHaveRoom, view_in, contents_in, nothing_given}
@@ -39,10 +39,10 @@ named_still old new contents is same = record { fields = refl; reads = is.reads;
 
 -- ---- what is kept
 pub kept_read : (old new : StorageView) → EachMomentSince old new (λ c. c ≡ new.contents) → new.contents ≡ old.contents → IsKeptSince old new
-kept_read old new time same = keep_endures old new (byte_at old.contents) time same
+kept_read old new time same = keep_safe_throughout old new (byte_at old.contents) time same
 
 pub kept_then : (old mid new : StorageView) → IsKeptSince old mid → IsKeptSince mid new → IsKeptSince old new
-kept_then old mid new first second = endures_then old mid new (byte_at old.contents) (byte_at mid.contents) nothing_given nothing_given [] [] first first.contents second
+kept_then old mid new first second = safe_throughout_then old mid new (byte_at old.contents) (byte_at mid.contents) nothing_given nothing_given [] [] first first.contents second
 
 pub kept_loaded : {T : Type 0} {result : Result T MetadataError} (old new : StorageView) → OnlyReads old new result → old.is_honest → IsKeptSince old new
 kept_loaded old new reads honest = kept_read old new (passes_if _ (λ c is. is ∙ sym (reads.same honest)) (reads.time honest)) (reads.same honest)
@@ -78,7 +78,7 @@ module _ {S F : Type 0} (view : S → StorageView) (backing : F → BackingView)
       sound = record {
         honest = honest;
         caches = subst (λ (c : List ℕ). CacheInvariant file.header.fields p file.caches (byte_at c)) (sym same) new_tables.sound.caches;
-        settled = subst (λ (c : List ℕ). AreNamedBlocks file.header.fields (refblocks file.caches) (byte_at c)) (sym same) new_tables.sound.settled;
+        named_blocks = subst (λ (c : List ℕ). AreNamedBlocks file.header.fields (refblocks file.caches) (byte_at c)) (sym same) new_tables.sound.named_blocks;
         room = new_tables.sound.room;
       };
       header = subst (λ (c : List ℕ). IsHeaderIn file.header c) (sym same) new_tables.header;
@@ -126,15 +126,15 @@ module _ {S F : Type 0} (view : S → StorageView) (backing : F → BackingView)
       → ((p : Pending) (on_storage : Bytes) → CrashInvariant file.header.fields Neither p on_storage on_storage → CacheInvariant file.header.fields p file.caches on_storage)
       → ((on_storage : Bytes) → known_of file.header.fields file.caches on_storage ≡ on_storage) → ((on_storage : Bytes) → AreNamedBlocks file.header.fields (refblocks file.caches) on_storage)
       → CachesHaveRoom file.caches → ((cluster : ℕ) → l2_pins file.caches cluster ≡ 0) → file.free_list ≡ [] → IsFresh view backing (nothing_pending (surplus_of file.header.fields (byte_at contents))) file
-  new_tables_new contents file consistent honest same there sound known settled room pins list =
+  new_tables_new contents file consistent honest same there sound known named_blocks room pins list =
       let h = file.header.fields in
       let p = nothing_pending (surplus_of file.header.fields (byte_at contents)) in
-      let guarded : CrashInvariant h Neither p (byte_at contents) (byte_at contents) =
-      opened_guarded file.header.fields (byte_at contents) (subst (λ k. Consistent k (byte_at contents)) (sym there.fields) consistent) (sym there.fields) in record {
+      let crash_invariant : CrashInvariant h Neither p (byte_at contents) (byte_at contents) =
+      opened_crash_invariant file.header.fields (byte_at contents) (subst (λ k. Consistent k (byte_at contents)) (sym there.fields) consistent) (sym there.fields) in record {
         sound = record {
           honest = honest;
-          caches = subst (λ (c : List ℕ). CacheInvariant file.header.fields (nothing_pending (surplus_of file.header.fields (byte_at contents))) file.caches (byte_at c)) (sym same) (sound p (byte_at contents) guarded);
-          settled = settled (contents_in view file);
+          caches = subst (λ (c : List ℕ). CacheInvariant file.header.fields (nothing_pending (surplus_of file.header.fields (byte_at contents))) file.caches (byte_at c)) (sym same) (sound p (byte_at contents) crash_invariant);
+          named_blocks = named_blocks (contents_in view file);
           room = room;
         };
         header = subst (IsHeaderIn file.header) (sym same) there;
@@ -157,7 +157,7 @@ module _ {S F : Type 0} (view : S → StorageView) (backing : F → BackingView)
         pinned = loaded.new_tables.unpinned;
         once = λ table. omega arith;
       } in
-      let is : p ≡ pending_in view backing image [] = pending_is view backing image [] p loaded.new_tables.sound.caches.kept.kept.guarded (record {
+      let is : p ≡ pending_in view backing image [] = pending_is view backing image [] p loaded.new_tables.sound.caches.kept.kept.crash_invariant (record {
         new_data = λ k. refl;
         new_tables = λ k. refl;
         old_tables = λ k. ap (λ l. to_free of_tables l k) (sym loaded.new_tables.list);

@@ -30,4 +30,4 @@ module _ {S : Type 0} (view : S → StorageView) (old new : ImageFile S) where
 
   -- a step of the file that leaves the same pending
   pub allocator_moved : (p : Pending) → UnseenFileStep view p p old new → ((t : EntryTableView) → HasReftable view old t → HasReftable view new t) → (a : Option Allocator) → IfSome a (IsAllocatorOf view old) → IfSome a (IsAllocatorOf view new)
-  allocator_moved p moves table = allocator_kept view old new table (λ k. let e = moves.counts k in omega arith)
+  allocator_moved p file_step table = allocator_kept view old new table (λ k. let e = file_step.counts k in omega arith)

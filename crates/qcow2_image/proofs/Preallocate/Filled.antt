@@ -30,7 +30,7 @@ use Rattle.qcow2_image.proofs.Call.Called.{works_none}
 use Rattle.qcow2_image.proofs.Clear.ClearCalls.{under_before}
 use Rattle.qcow2_image.proofs.Clear.Ranges.{table_end, table_whole}
 use Rattle.qcow2_image.proofs.Grow.Lengths.{reaches_stays, same_length, stays_long_shorter, stays_long_then}
-use Rattle.qcow2_image.proofs.Moved.{moves_then}
+use Rattle.qcow2_image.proofs.Moved.{file_step_then}
 use Rattle.std.proofs.lemmas.Nat.{pow_pos}
 use Rattle.qcow2_image.proofs.Preallocate.Covers.{covers_before, covers_cleared, covers_from, covers_none, covers_stay, covers_then}
 use Rattle.qcow2_image.proofs.Preallocate.Pieces.{none_of}
@@ -42,11 +42,11 @@ met_taken e met is = absurd (subst (λ (x : ImageError). IsMet x) is met)
 
 -- a prepared table of a part is one of the whole, by the header before
 pub taken_wider : (h h' : HeaderFields) (from to from' to' : ℕ) (out : List (Option Prepared)) → MovesTables h h' → from' ≤ from → to ≤ to' → IsUnderMappingIn h' from to out → IsUnderMappingIn h from' to' out
-taken_wider h h' from to from' to' out moves low high is = let a = is.low in let b = is.high in record {
+taken_wider h h' from to from' to' out file_step low high is = let a = is.low in let b = is.high in record {
   offset = is.offset;
   low = omega arith;
   high = omega arith;
-  under = under_before h h' is.offset out moves is.under;
+  under = under_before h h' is.offset out file_step is.under;
 }
 
 pub taken_here : (h : HeaderFields) (from to : ℕ) (out : List (Option Prepared)) → from < to → IsUnderMapping h from out → IsUnderMappingIn h from to out
@@ -108,7 +108,7 @@ module _ {S F : Type 0} (view : S → StorageView) (backing : F → BackingView)
     may = may_none from to (disk_of view backing old);
     shows = stays.same;
   })
-  fill_unseen old new from to e (inr breaks) = inr (record { fault = breaks.fault; noted = breaks.noted; works = none_of _ _ (given_by_zeros from to ∷ []) breaks.works })
+  fill_unseen old new from to e (inr interrupted) = inr (record { fault = interrupted.fault; noted = interrupted.noted; works = none_of _ _ (given_by_zeros from to ∷ []) interrupted.works })
 
   -- refused before anything was done
   pub refused_here : (image : Qcow2 S F) (from to : ℕ) (e : ImageError) → (e ≡ I.TablePrepared → ⊥) → ImageInvariant view backing (pending_in view backing image out) image out → RefusedFill view backing from to image image out e
@@ -127,14 +127,14 @@ module _ {S F : Type 0} (view : S → StorageView) (backing : F → BackingView)
   module _ (a b c : Qcow2 S F) (zeros from mid to : ℕ) (low : from ≤ mid) (high : mid ≤ to) where
     as_large : (x y : ℕ) → MovesTables a.file.header.fields b.file.header.fields → FilledCovers (cluster_size b.file.header.fields) zeros x y b.file.header.fields (known_in view b.file) c.file.header.fields (known_in view c.file)
         → FilledCovers (cluster_size a.file.header.fields) zeros x y b.file.header.fields (known_in view b.file) c.file.header.fields (known_in view c.file)
-    as_large x y moves covers = subst (λ size. FilledCovers size zeros x y b.file.header.fields (known_in view b.file) c.file.header.fields (known_in view c.file)) (ap (λ (h : HeaderFields). cluster_size h) moves) covers
+    as_large x y file_step covers = subst (λ size. FilledCovers size zeros x y b.file.header.fields (known_in view b.file) c.file.header.fields (known_in view c.file)) (ap (λ (h : HeaderFields). cluster_size h) file_step) covers
 
     pub fills_then : FillsPart view backing zeros from mid a b out → FillsPart view backing zeros mid to b c out → FillsPart view backing zeros from to a c out
     fills_then first then = record {
       works = works_then (abstract_of view backing a out) (abstract_of view backing b out) (abstract_of view backing c out) (given_by_zeros from to ∷ []) [] first.sound (wider_works a b from mid from to (omega arith) high first.works) (wider_works b c mid to from to low (omega arith) then.works);
       sound = then.sound;
       shows = then.shows ∙ ap (λ (g : Guest). with_disk g (zeroed_between g.disk mid to)) first.shows ∙ ap (λ (d : Disk). with_disk (guest_of (abstract_of view backing a out)) d) (zeroed_then (disk_of view backing a) from mid to low high);
-      header = moves_then a.file.header.fields b.file.header.fields c.file.header.fields first.header then.header;
+      header = file_step_then a.file.header.fields b.file.header.fields c.file.header.fields first.header then.header;
       length = stays_long_then a.file.header.fields b.file.header.fields c.file.header.fields to first.header (stays_long_shorter a.file.header.fields b.file.header.fields mid to high first.length) then.length;
       covers = covers_then (cluster_size a.file.header.fields) (pow_pos a.file.header.fields.cluster_bits) zeros a.file.header.fields (known_in view a.file) b.file.header.fields (known_in view b.file) c.file.header.fields (known_in view c.file) from mid to low high first.covers
           (as_large mid to first.header then.covers);
@@ -146,7 +146,7 @@ module _ {S F : Type 0} (view : S → StorageView) (backing : F → BackingView)
       works = works_then (abstract_of view backing a out) (abstract_of view backing b out) (abstract_of view backing c out) (given_by_zeros from to ∷ []) [] first.sound (wider_works a b mid to from to low (omega arith) first.works) (wider_works b c from mid from to (omega arith) high then.works);
       sound = then.sound;
       shows = then.shows ∙ ap (λ (g : Guest). with_disk g (zeroed_between g.disk from mid)) first.shows ∙ ap (λ (d : Disk). with_disk (guest_of (abstract_of view backing a out)) d) (zeroed_before (disk_of view backing a) from mid to low high);
-      header = moves_then a.file.header.fields b.file.header.fields c.file.header.fields first.header then.header;
+      header = file_step_then a.file.header.fields b.file.header.fields c.file.header.fields first.header then.header;
       length = stays_long_then a.file.header.fields b.file.header.fields c.file.header.fields to first.header first.length (stays_long_shorter b.file.header.fields c.file.header.fields mid to high then.length);
       covers = covers_before (cluster_size a.file.header.fields) (pow_pos a.file.header.fields.cluster_bits) zeros a.file.header.fields (known_in view a.file) b.file.header.fields (known_in view b.file) c.file.header.fields (known_in view c.file) from mid to low high first.covers
           (as_large from mid first.header then.covers);
@@ -185,7 +185,7 @@ module _ {S F : Type 0} (view : S → StorageView) (backing : F → BackingView)
       works = works_then (abstract_of view backing a out) (abstract_of view backing b out) (abstract_of view backing c out) (given_by_zeros from to ∷ []) [] first.sound first.works (none_of _ _ (given_by_zeros from to ∷ []) then.works);
       sound = then.sound;
       shows = then.same ∙ first.shows;
-      header = moves_then a.file.header.fields b.file.header.fields c.file.header.fields first.header then.header;
+      header = file_step_then a.file.header.fields b.file.header.fields c.file.header.fields first.header then.header;
       length = λ within. same_length b.file.header c.file.header same ∙ first.length within;
       covers = covers_stay (cluster_size a.file.header.fields) (pow_pos a.file.header.fields.cluster_bits) zeros a.file.header.fields (known_in view a.file) b.file.header.fields (known_in view b.file) c.file.header.fields (known_in view c.file) from to first.covers then.covers;
     }

@@ -117,15 +117,15 @@ module _ {S F : Type 0} (view : S → StorageView) (backing : F → BackingView)
       }
 
       broken : (e : ImageError) → InterruptedGiving view backing (given_by_zeros (size_of old) end ∷ []) old new out e → InterruptedGiving view backing (all_given_by_growing view backing old size mode) old new out e
-      broken e breaks = record {
-        fault = breaks.fault;
-        noted = breaks.noted;
-        works = works_less (abstract_of view backing old out) (abstract_of view backing (record new { is_failed = true }) out) (given_by_zeros (size_of old) end ∷ []) (all_given_by_growing view backing old size mode) [] (λ o w given. inr (given_zeros o w given)) breaks.works;
+      broken e interrupted = record {
+        fault = interrupted.fault;
+        noted = interrupted.noted;
+        works = works_less (abstract_of view backing old out) (abstract_of view backing (record new { is_failed = true }) out) (given_by_zeros (size_of old) end ∷ []) (all_given_by_growing view backing old size mode) [] (λ o w given. inr (given_zeros o w given)) interrupted.works;
       }
 
       pub grown_refused : (e : ImageError) → RefusedFill view backing (size_of old) end old new out e → RefusedGrown view backing size mode old new out e
       grown_refused e refused = record {
-        left = ⊎_elim (λ (part : FillsSome view backing (size_of old) end old new out). inl (in_part part)) (λ (breaks : InterruptedGiving view backing (given_by_zeros (size_of old) end ∷ []) old new out e). inr (broken e breaks)) refused.left;
+        left = ⊎_elim (λ (part : FillsSome view backing (size_of old) end old new out). inl (in_part part)) (λ (interrupted : InterruptedGiving view backing (given_by_zeros (size_of old) end ∷ []) old new out e). inr (broken e interrupted)) refused.left;
         taken = λ is. subst (λ n. IsUnderMappingIn old.file.header.fields n end out) size_is (refused.taken is);
       }
 

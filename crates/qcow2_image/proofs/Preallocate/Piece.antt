@@ -26,7 +26,7 @@ use Rattle.qcow2_image.specs.declared.image.Qcow2.{Qcow2}
 use Rattle.qcow2_image.specs.declared.prepared.Prepared.{Prepared}
 use Rattle.qcow2_image.specs.CallParts.{AreCopied, EntersAll, IsEntered, IsReadied, IsWriteOutcome, PutsPart, RefusedCall, StaysBeside, WritesBytes}
 use Rattle.qcow2_image.specs.Calls.{Discards}
-use Rattle.qcow2_image.specs.Ranges.{LetsGo}
+use Rattle.qcow2_image.specs.Ranges.{ReleasesOneMapping}
 use Rattle.qcow2_image.specs.declared.prepared.Share.TheVariants.{InPlace}
 use Rattle.qcow2_disk.specs.Mappings.{is_copied_data}
 use Rattle.qcow2_image.specs.ImageInvariant.{ImageInvariant, IsPending, IsReadyWith, cluster_of, abstract_of, disk_of, image_abstraction, meaning, pending_in}
@@ -79,8 +79,8 @@ by_table (Some t) n len rest none some past = some refl past
 
 -- data stand where they stood, once tables have moved
 data_moved : (h h' : HeaderFields) (known known' : Bytes) → MovesTables h h' → CoversStay h known h' known' → (o place : ℕ) → IsDataAt h known true o place → IsDataAt h' known' true o place
-data_moved h h' known known' moves covers o place is =
-    let size : cluster_size h' ≡ cluster_size h = ap (λ (x : HeaderFields). cluster_size x) moves in
+data_moved h h' known known' file_step covers o place is =
+    let size : cluster_size h' ≡ cluster_size h = ap (λ (x : HeaderFields). cluster_size x) file_step in
     (is.0, ap (λ s. cover h' known' (o / s)) size ∙ sym (covers (o / cluster_size h)) ∙ is.1, ap (λ s. is.0 + o % s) size ∙ is.2)
 
 -- a cluster that a mapping touches is one of its shares
@@ -137,21 +137,21 @@ module _ {S F : Type 0} (view : S → StorageView) (backing : F → BackingView)
 
   -- ---- a commit of which nothing is refused
   module _ (old : Qcow2 S F) (p : Prepared) (new : Qcow2 S F) (out : List (Option Prepared)) (k : ℕ) (placed : slice_get out k ≡ Some (Some p)) (sound : ImageInvariant view backing (pending_in view backing old out) old out) where
-    pub commits_existing : p.table ≡ None → Discards view backing old new p → LetsGo view old new → CommitsWhole view backing old new out k p (slice_set out k None)
-    commits_existing none discards goes =
+    pub commits_existing : p.table ≡ None → Discards view backing old new p → ReleasesOneMapping view old new → CommitsWhole view backing old new out k p (slice_set out k None)
+    commits_existing none discards image_step =
         let does = commit_existing view backing old p none new sound.works discards out k placed in
         let answer = does.answer sound in
         record {
           works = does.acts.works sound;
           sound = answer.0;
           shows = answer.1;
-          beside = beside_still p.guest (p.guest + p.length) old old new (ap (λ (image : Qcow2 S F). image.file.header) goes.rest) goes.known (λ g outside. refl);
+          beside = beside_still p.guest (p.guest + p.length) old old new (ap (λ (image : Qcow2 S F). image.file.header) image_step.rest) image_step.known (λ g outside. refl);
           copied = λ some. absurd (let e : false ≡ true = subst (λ (x : Option ℕ). IsSome x) none some in cc);
-          still = λ _ g. sym (ap (λ (h : HeaderFields). cover h (known_in view new.file) g) (ap (λ (image : Qcow2 S F). image.file.header.fields) goes.rest) ∙ ap (λ k. cover old.file.header.fields k g) goes.known);
+          still = λ _ g. sym (ap (λ (h : HeaderFields). cover h (known_in view new.file) g) (ap (λ (image : Qcow2 S F). image.file.header.fields) image_step.rest) ∙ ap (λ k. cover old.file.header.fields k g) image_step.known);
         }
 
-    pub commits_entered : (entered : Qcow2 S F) (q : Prepared) (changed : Bool) → IsSome p.table → EntersAll view backing old entered p q changed → IsEntered p q → Discards view backing entered new q → LetsGo view entered new → CommitsWhole view backing old new out k p (slice_set out k None)
-    commits_entered entered q changed some enters whole discards goes =
+    pub commits_entered : (entered : Qcow2 S F) (q : Prepared) (changed : Bool) → IsSome p.table → EntersAll view backing old entered p q changed → IsEntered p q → Discards view backing entered new q → ReleasesOneMapping view entered new → CommitsWhole view backing old new out k p (slice_set out k None)
+    commits_entered entered q changed some enters whole discards image_step =
         let all = (enters out k placed some sound).0 in
         let left : List (Option Prepared) = slice_set out k (Some q) in
         let gone = discards (slice_set out k (Some q)) k (get_set_same out k (Some q) (Some p) placed) in
@@ -167,8 +167,8 @@ module _ {S F : Type 0} (view : S → StorageView) (backing : F → BackingView)
           sound = subst (λ (now : List (Option Prepared)). ImageInvariant view backing (pending_in view backing new now) new now) end answer.0;
           shows = all_shown (guest_of v) (guest_of e) (guest_of (abstract_of view backing new (slice_set out k None))) k (meaning view backing old p) (meaning view backing entered q) all.part.shows all.visible
               (subst (λ (now : List (Option Prepared)). guest_of (abstract_of view backing new now) ≡ with_slot (guest_of e) k None) end answer.1);
-          beside = beside_still p.guest (p.guest + p.length) old entered new (ap (λ (image : Qcow2 S F). image.file.header) goes.rest) goes.known all.part.beside;
-          copied = λ _. copied_still p.guest (p.guest + p.length) entered new (ap (λ (image : Qcow2 S F). image.file.header) goes.rest) goes.known
+          beside = beside_still p.guest (p.guest + p.length) old entered new (ap (λ (image : Qcow2 S F). image.file.header) image_step.rest) image_step.known all.part.beside;
+          copied = λ _. copied_still p.guest (p.guest + p.length) entered new (ap (λ (image : Qcow2 S F). image.file.header) image_step.rest) image_step.known
               (copied_with entered p q all.part.shows.from all.part.shows.length whole q.table refl (subst (λ (x : Option ℕ). IsSome x) (sym whole.table) some) (all.part.sound.ready k q (get_set_same out k (Some q) (Some p) placed)).mapped);
           still = λ none. absurd (let e : false ≡ true = subst (λ (x : Option ℕ). IsSome x) none some in cc);
         }
@@ -268,10 +268,10 @@ module _ {S F : Type 0} (view : S → StorageView) (backing : F → BackingView)
             may = may_none from (from + p.length) (disk_of view backing old);
             shows = stays.same ∙ still;
           })
-          some_then still (inr breaks) = inr (record {
-            fault = breaks.fault;
-            noted = breaks.noted;
-            works = works_then (abstract_of view backing old out) (abstract_of view backing gone out) (abstract_of view backing (record new { is_failed = true }) out) (given_by_zeros from (from + p.length) ∷ []) [] sound_now works_now (none_of _ _ (given_by_zeros from (from + p.length) ∷ []) breaks.works);
+          some_then still (inr interrupted) = inr (record {
+            fault = interrupted.fault;
+            noted = interrupted.noted;
+            works = works_then (abstract_of view backing old out) (abstract_of view backing gone out) (abstract_of view backing (record new { is_failed = true }) out) (given_by_zeros from (from + p.length) ∷ []) [] sound_now works_now (none_of _ _ (given_by_zeros from (from + p.length) ∷ []) interrupted.works);
           })
 
   -- ---- as a call makes it
@@ -279,7 +279,7 @@ module _ {S F : Type 0} (view : S → StorageView) (backing : F → BackingView)
       (answered : IsAnswered old.file.header.fields (known_in view old.file) from n mid.file.header.fields (known_in view mid.file) p (meaning view backing mid p)) (lt : from < to) (whole : to % cluster_size old.file.header.fields ≡ 0)
       (few : 2 ^ 21 ≤ most) (asked : n ≡ min most (to - from)) (counted : count ≡ min p.length most) where
     large : cluster_size old.file.header.fields ≤ most
-    large = let bits : 2 ^ old.file.header.fields.cluster_bits ≤ 2 ^ 21 = pow_mono sound.file.caches.kept.kept.guarded.top.header_reads.well_formed.in_range.cluster_bits.1 in omega (arith, bits, few)
+    large = let bits : 2 ^ old.file.header.fields.cluster_bits ≤ 2 ^ 21 = pow_mono sound.file.caches.kept.kept.crash_invariant.top.header_reads.well_formed.in_range.cluster_bits.1 in omega (arith, bits, few)
 
     pub all_fits : p.length ≤ n
     all_fits = piece_fits (cluster_size old.file.header.fields) from to most n p.length (pow_pos old.file.header.fields.cluster_bits) whole lt large asked (by_table p.table n p.length (cluster_size old.file.header.fields - from % cluster_size old.file.header.fields) answered.whole answered.most)

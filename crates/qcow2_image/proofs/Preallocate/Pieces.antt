@@ -78,9 +78,9 @@ module _ {D P : Type 0} (spec : Abstraction D P) (has : HasFreePlaces spec) (in_
 
       -- and it is let go
       pub gone_works : (d3 : D) → EffectOnSound (at_place d2 (Some p) out) (at_place d3 None out) [] [] → spec.is_sound d3 (None ∷ out) → EffectOnSound (abstract_image spec d0 out) (abstract_image spec d3 out) given_bytes []
-      gone_works d3 goes sound3 =
+      gone_works d3 image_step sound3 =
           works_then (abstract_image spec d0 out) (at_place d3 None out) (abstract_image spec d3 out) given_bytes [] sound3
-          (works_then (abstract_image spec d0 out) (at_place d2 (Some p) out) (at_place d3 None out) given_bytes [] sound2 put_works (none_of _ _ given_bytes goes)) (none_of _ _ given_bytes (leaves d3 out))
+          (works_then (abstract_image spec d0 out) (at_place d2 (Some p) out) (at_place d3 None out) given_bytes [] sound2 put_works (none_of _ _ given_bytes image_step)) (none_of _ _ given_bytes (leaves d3 out))
 
       -- where none was put nothing changed
       pub gone_same : (d3 : D) → guest_of (at_place d2 (Some p) out) ≡ guest_of (at_place d1 (Some p) out) → guest_of (at_place d3 None out) ≡ with_slot (guest_of (at_place d2 (Some p) out)) 0 None

@@ -26,16 +26,16 @@ module _ {S F : Type 0} where
 
 -- clusters are as large, whatever tables moved
 pub same_size : (h h' : HeaderFields) → MovesTables h h' → cluster_size h' ≡ cluster_size h
-same_size h h' moves = ap (λ (x : HeaderFields). cluster_size x) moves
+same_size h h' file_step = ap (λ (x : HeaderFields). cluster_size x) file_step
 
 pub same_version : (h h' : HeaderFields) → MovesTables h h' → h'.version ≡ h.version
-same_version h h' moves = ap (λ (x : HeaderFields). x.version) moves
+same_version h h' file_step = ap (λ (x : HeaderFields). x.version) file_step
 
 pub still_at : (h h' : HeaderFields) (n : ℕ) → MovesTables h h' → n % cluster_size h ≡ 0 → n % cluster_size h' ≡ 0
-still_at h h' n moves is = ap (λ s. n % s) (same_size h h' moves) ∙ is
+still_at h h' n file_step is = ap (λ s. n % s) (same_size h h' file_step) ∙ is
 
 pub was_at : (h h' : HeaderFields) (n : ℕ) → MovesTables h h' → n % cluster_size h' ≡ 0 → n % cluster_size h ≡ 0
-was_at h h' n moves is = sym (ap (λ s. n % s) (same_size h h' moves)) ∙ is
+was_at h h' n file_step is = sym (ap (λ s. n % s) (same_size h h' file_step)) ∙ is
 
 module _ {S F : Type 0} (view : S → StorageView) (backing : F → BackingView) (from to : ℕ) where
   -- so far zeros stand in a range, up to the start of a cluster
@@ -65,10 +65,10 @@ module _ {S F : Type 0} (view : S → StorageView) (backing : F → BackingView)
       high = omega (arith, lt, most);
       so_far = λ out sound first whole version.
           let so = before.so_far out sound first whole version in
-          let moves = so.0.header in
-          let here : IsWholeRange now.file.header.fields at to = (still_at old.file.header.fields now.file.header.fields at moves so.1, still_at old.file.header.fields now.file.header.fields to moves whole.1) in (
-            fills_then view backing out old now new 0 from at next low le so.0 (fills out so.0.sound (omega (arith, lt)) here (subst (λ v. 3 ≤ v) (sym (same_version old.file.header.fields now.file.header.fields moves)) version)),
-            was_at old.file.header.fields now.file.header.fields next moves (ends out so.0.sound here),
+          let file_step = so.0.header in
+          let here : IsWholeRange now.file.header.fields at to = (still_at old.file.header.fields now.file.header.fields at file_step so.1, still_at old.file.header.fields now.file.header.fields to file_step whole.1) in (
+            fills_then view backing out old now new 0 from at next low le so.0 (fills out so.0.sound (omega (arith, lt)) here (subst (λ v. 3 ≤ v) (sym (same_version old.file.header.fields now.file.header.fields file_step)) version)),
+            was_at old.file.header.fields now.file.header.fields next file_step (ends out so.0.sound here),
           );
     }
 
@@ -77,11 +77,11 @@ module _ {S F : Type 0} (view : S → StorageView) (backing : F → BackingView)
         → (out : List (Option Prepared)) → ImageInvariant view backing (pending_in view backing old out) old out → from ≤ to → IsWholeRange old.file.header.fields from to → 3 ≤ old.file.header.fields.version → RefusedFill view backing from to old new out e
     zeroed_refused e refused out sound first whole version =
         let so = before.so_far out sound first whole version in
-        let moves = so.0.header in
-        let here : IsWholeRange now.file.header.fields at to = (still_at old.file.header.fields now.file.header.fields at moves so.1, still_at old.file.header.fields now.file.header.fields to moves whole.1) in
+        let file_step = so.0.header in
+        let here : IsWholeRange now.file.header.fields at to = (still_at old.file.header.fields now.file.header.fields at file_step so.1, still_at old.file.header.fields now.file.header.fields to file_step whole.1) in
         let low = before.low in
         refused_after view backing out old now new 0 from to from at at to (omega arith) (omega (arith, lt)) low (omega arith) so.0 e
-        (refused out so.0.sound (omega (arith, lt)) here (subst (λ v. 3 ≤ v) (sym (same_version old.file.header.fields now.file.header.fields moves)) version))
+        (refused out so.0.sound (omega (arith, lt)) here (subst (λ v. 3 ≤ v) (sym (same_version old.file.header.fields now.file.header.fields file_step)) version))
 
   -- so far zeros stand in a range, which has clusters of its own
   pub record FilledTo (at : ℕ) (old now : Qcow2 S F) : Type 0 where

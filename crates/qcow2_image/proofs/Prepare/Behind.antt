@@ -27,11 +27,11 @@ use Rattle.qcow2_image.specs.declared.prepared.Share.TheVariants.{InPlace, New}
 use Rattle.qcow2_image.specs.ImageInvariant.{run_of, of_data, of_tables, to_free, listed_run, disk_of, pending_in, cluster_of, host_begin_of, IsNewAt, IsPending, IsReadyWith, ImageInvariant}
 use Rattle.qcow2_image.specs.CallParts.{UnseenCall}
 use Rattle.qcow2_image.specs.Ranges.{Ends, FindsBehind, IsSharedAt, MayGoOn, SharesAt, StandsBehind}
-use Rattle.qcow2_image.proofs.Call.Refused.{back_refused, goes_stays}
-use Rattle.qcow2_image.proofs.Prepare.Gaining.{following_same}
+use Rattle.qcow2_image.proofs.Call.Refused.{back_refused, image_step_stays}
+use Rattle.qcow2_image.proofs.Prepare.Gaining.{listed_after_same}
 use Rattle.qcow2_image.specs.UnseenSteps.{is_announced, pending_with_listed, IsFilled, UnseenFillingStep}
 use Rattle.qcow2_image.proofs.Prepare.Extending.{within_as}
-use Rattle.qcow2_image.proofs.Prepare.Filling.{goes_none}
+use Rattle.qcow2_image.proofs.Prepare.Filling.{image_step_none}
 use Rattle.qcow2_image.proofs.Shares.{place_in}
 use Rattle.qcow2_image.proofs.Sound.{free_more}
 
@@ -94,8 +94,8 @@ module _ {S F : Type 0} (view : S → StorageView) (backing : F → BackingView)
 
   -- nothing changed
   unseen_none : UnseenCall view backing old old out
-  unseen_none = goes_stays view backing out old old (subst (λ q. UnseenFillingStep view backing (pending_in view backing old out) q old old out) (sym (following_same view backing out (pending_in view backing old out) old old refl))
-      (goes_none view backing out old (pending_in view backing old out) sound))
+  unseen_none = image_step_stays view backing out old old (subst (λ q. UnseenFillingStep view backing (pending_in view backing old out) q old old out) (sym (listed_after_same view backing out (pending_in view backing old out) old old refl))
+      (image_step_none view backing out old (pending_in view backing old out) sound))
 
   -- copied data elsewhere
   pub ends_elsewhere : (place : ℕ) → cover h (known_in view old.file) (cluster_of h p + count) ≡ Data place true → (place ≡ p.offset + p.length → ⊥) → UnseenCall view backing old old out × Ends view old p
@@ -109,7 +109,7 @@ module _ {S F : Type 0} (view : S → StorageView) (backing : F → BackingView)
   pub behind_in_place : cover h (known_in view old.file) (cluster_of h p + count) ≡ Data (p.offset + p.length) true → StandsBehind view backing old old out n overwrite p InPlace
   behind_in_place is = record {
     pending = pending_in view backing old out;
-    goes = goes_none view backing out old (pending_in view backing old out) sound;
+    image_step = image_step_none view backing out old (pending_in view backing old out) sound;
     new_data = λ c. omega arith;
     new_tables = λ c. refl;
     old_tables = λ c. refl;
@@ -160,13 +160,13 @@ module _ {S F : Type 0} (view : S → StorageView) (backing : F → BackingView)
     old_data = listed_run (named_run old.file.header.fields.cluster_bits mapping)
 
     size : cluster_size hn ≡ cluster_size h
-    size = size_format h hn shared.gained.goes.header
+    size = size_format h hn shared.gained.image_step.header
 
     cluster_same : cluster_of hn p ≡ cluster_of h p
     cluster_same = ap (λ s. p.guest / s) size
 
     stays_covered : cover hn (known_in view new.file) (cluster_of hn p + count) ≡ mapping
-    stays_covered = ap (λ c. cover hn (known_in view new.file) (c + count)) cluster_same ∙ cover_format h hn shared.gained.goes.header (known_in view new.file) (cluster_of h p + count) ∙ sym (shared.gained.goes.covers (cluster_of h p + count)) ∙ covered
+    stays_covered = ap (λ c. cover hn (known_in view new.file) (c + count)) cluster_same ∙ cover_format h hn shared.gained.image_step.header (known_in view new.file) (cluster_of h p + count) ∙ sym (shared.gained.image_step.covers (cluster_of h p + count)) ∙ covered
 
     host_same : host_begin_of hn p count ≡ host_begin_of h p count
     host_same = ap (λ s. p.offset - p.guest % s + count * s) size
@@ -179,22 +179,22 @@ module _ {S F : Type 0} (view : S → StorageView) (backing : F → BackingView)
       first = run.first_cluster;
       is = ap (λ (e : ClustersToFreeEntry). e ∷ []) (ap (λ c. record run { count = c }) shared.gained.one ∙ ap (λ x. record run { count = 1; kind = x }) shared.gained.kind);
       place = place;
-      nameable = subst (λ (x : HeaderFields). IsHostCluster x.cluster_bits run.first_cluster) (sym shared.gained.goes.header) shared.nameable;
+      nameable = subst (λ (x : HeaderFields). IsHostCluster x.cluster_bits run.first_cluster) (sym shared.gained.image_step.header) shared.nameable;
       entry = ap is_copied_data stays_covered ∙ other;
       reach = subst IsInReach (sym stays_covered) reach;
-      drops = ap (λ (x : HeaderFields). listed_run (named_run x.cluster_bits mapping)) (sym shared.gained.goes.header) ∙ ap (λ v. listed_run (named_run hn.cluster_bits v)) (sym stays_covered);
+      drops = ap (λ (x : HeaderFields). listed_run (named_run x.cluster_bits mapping)) (sym shared.gained.image_step.header) ∙ ap (λ v. listed_run (named_run hn.cluster_bits v)) (sym stays_covered);
     }
 
     behind_as_new : StandsBehind view backing old new out n overwrite p (New (run ∷ []) old_data)
     behind_as_new = record {
       pending = with_new_data (pending_with_listed (pending_in view backing old out) old new) (run_of run);
-      goes = shared.gained.goes;
+      image_step = shared.gained.image_step;
       new_data = λ c.
           let as_data : to_free of_data (run ∷ []) c ≡ run_of run c = ap (λ x. of_data x (run_of run c) + 0) shared.gained.kind ∙ omega arith in
           omega arith;
       new_tables = λ c. refl;
-      old_tables = λ c. let more = ap (λ l. to_free of_tables l c) shared.gained.goes.list.is ∙ free_more of_tables old.file.free_list shared.gained.goes.list.more c in omega arith;
-      old_data = λ c. let more = ap (λ l. to_free of_data l c) shared.gained.goes.list.is ∙ free_more of_data old.file.free_list shared.gained.goes.list.more c in omega arith;
+      old_tables = λ c. let more = ap (λ l. to_free of_tables l c) shared.gained.image_step.list.is ∙ free_more of_tables old.file.free_list shared.gained.image_step.list.more c in omega arith;
+      old_data = λ c. let more = ap (λ l. to_free of_data l c) shared.gained.image_step.list.is ∙ free_more of_data old.file.free_list shared.gained.image_step.list.more c in omega arith;
       surplus = refl;
       stands = stands;
       filled = λ o here entered opened.
@@ -218,5 +218,5 @@ module _ {S F : Type 0} (view : S → StorageView) (backing : F → BackingView)
       let ends : Ends view new p = record {
         cluster = ap (λ s. (p.guest + p.length) % s) same ∙ next_begins;
         because = inr (inr (not_own (λ own. never (sym here ∙ own)) (subst (λ (x : HeaderFields). (IsHostCluster x.cluster_bits ((p.offset + p.length) / cluster_size x) → ⊥) ⊎ (count_of new.file.header.fields (known_in view new.file) ((p.offset + p.length) / cluster_size x) ≢ 0)) (sym is.0.header) is.1)));
-      } in (goes_stays view backing out old new is.0, ends)
+      } in (image_step_stays view backing out old new is.0, ends)
   finds_shared new mapping reach other never covered (Err e) is = back_refused view backing out old new e is

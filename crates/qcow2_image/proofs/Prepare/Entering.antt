@@ -15,7 +15,7 @@ use Rattle.qcow2_laws.specs.Changes.{one_at, with_new_tables, new_tables_to_old_
 use Rattle.qcow2_laws.specs.CrashInvariant.{Pending}
 use Rattle.qcow2_laws.specs.SafeSteps.{SafeStep}
 use Rattle.qcow2_laws.specs.Unseen.{KeepsFormat}
-use Rattle.qcow2_laws.proofs.SafeSteps.{pending_endures}
+use Rattle.qcow2_laws.proofs.SafeSteps.{pending_safe_throughout}
 use Rattle.qcow2_laws.proofs.Steps.{pending_is_changed}
 use Rattle.qcow2_laws.proofs.Unseen.{unseen_known}
 use Rattle.qcow2_alloc.specs.Allocation.{run_at, taken_as, UnseenAllocatorGrowth, RefusedGrowth}
@@ -28,7 +28,7 @@ use Rattle.qcow2_alloc.specs.declared.clusters_to_free.ClusterKind.TheVariants a
 use Rattle.qcow2_alloc.specs.declared.error.ImageError.{ImageError}
 use Rattle.qcow2_alloc.specs.FreeList.{ListsTables}
 use Rattle.qcow2_alloc.specs.ImageFile.{nothing_given, view_in, contents_in, known_in, state_in, InterruptedFileStep}
-use Rattle.qcow2_alloc.proofs.FileSteps.{endures_then, one_few, one_here, pending_same}
+use Rattle.qcow2_alloc.proofs.FileSteps.{safe_throughout_then, one_few, one_here, pending_same}
 use Rattle.qcow2_alloc.proofs.Runs.{run_before, run_after, run_last}
 use Rattle.qcow2_alloc.proofs.KeptAllocators.{refused_kept}
 use Rattle.qcow2_alloc.specs.LowestRuns.{NoFreeBelowHint, BrokeOff}
@@ -40,8 +40,8 @@ use Rattle.qcow2_image.specs.UnseenSteps.{NamesOwn, UnseenStep, RefusedStep, Lis
 use Rattle.qcow2_image.specs.ImageInvariant.{of_data, of_tables, to_free, ImageInvariant}
 use Rattle.qcow2_image.proofs.Call.Called.{keeps_then}
 use Rattle.qcow2_image.proofs.Formats.{lists_grow, says_format}
-use Rattle.qcow2_image.proofs.Prepare.Gaining.{following_on, following_same}
-use Rattle.qcow2_image.proofs.Commit.LetGo.{sound_while}
+use Rattle.qcow2_image.proofs.Prepare.Gaining.{listed_after_on, listed_after_same}
+use Rattle.qcow2_image.proofs.Commit.Released.{sound_while}
 use Rattle.qcow2_image.proofs.Map.Loading.{still_moved}
 use Rattle.qcow2_image.proofs.Moving.{file_moved_on}
 use Rattle.qcow2_image.proofs.Sound.{free_more}
@@ -63,14 +63,14 @@ module _ {S F : Type 0} (view : S → StorageView) (backing : F → BackingView)
   keeps_none p image sound = still_moved view backing image out p sound image.file.storage sound.file.honest (passes_none (view_in view image.file) _) refl
 
   pub unlisted : (p : Pending) (old new : Qcow2 S F) → new.file.free_list ≡ old.file.free_list → p ≡ pending_with_listed p old new
-  unlisted p old new same = sym (following_same view backing out p old new same)
+  unlisted p old new same = sym (listed_after_same view backing out p old new same)
 
   -- where nothing more is to be freed
-  pub as_following : (p : Pending) (old new : Qcow2 S F) → new.file.free_list ≡ old.file.free_list → UnseenStep view backing p p old new out → UnseenStep view backing p (pending_with_listed p old new) old new out
-  as_following p old new same keeps = subst (λ (q : Pending). UnseenStep view backing p q old new out) (unlisted p old new same) keeps
+  pub as_listed_after : (p : Pending) (old new : Qcow2 S F) → new.file.free_list ≡ old.file.free_list → UnseenStep view backing p p old new out → UnseenStep view backing p (pending_with_listed p old new) old new out
+  as_listed_after p old new same keeps = subst (λ (q : Pending). UnseenStep view backing p q old new out) (unlisted p old new same) keeps
 
-  pub breaks_on : (p q : Pending) (a b c : Qcow2 S F) (e : ImageError) → UnseenStep view backing p q a b out → InterruptedFileStep view b.file c.file e → InterruptedFileStep view a.file c.file e
-  breaks_on p q a b c e first second = record { fault = second.fault; noted = second.noted; since = endures_then view a.file b.file c.file first.since first.leads.known second.since }
+  pub interrupted_on : (p q : Pending) (a b c : Qcow2 S F) (e : ImageError) → UnseenStep view backing p q a b out → InterruptedFileStep view b.file c.file e → InterruptedFileStep view a.file c.file e
+  interrupted_on p q a b c e first second = record { fault = second.fault; noted = second.noted; since = safe_throughout_then view a.file b.file c.file first.since first.safe_step.known second.since }
 
   -- ---- images with the same L1 table
   module _ (p q : Pending) (a b : Qcow2 S F) (sound : ImageInvariant view backing p a out) (sound' : ImageInvariant view backing q b out) (same : b.l1_table ≡ a.l1_table) where
@@ -99,7 +99,7 @@ module _ {S F : Type 0} (view : S → StorageView) (backing : F → BackingView)
             (keeps_then view backing out a b c q q (replacing view p b index) (λ k h. h) first names.0),
         names.1,
       )
-  written_so p a b c index at (Err e) sound same first breaks = let q = with_new_tables p (one_at at) in inr (breaks_on q q a b c e first breaks)
+  written_so p a b c index at (Err e) sound same first interrupted = let q = with_new_tables p (one_at at) in inr (interrupted_on q q a b c e first interrupted)
 
   -- ---- more is to be freed
   module _ (p q : Pending) (image : Qcow2 S F) (list more : List ClustersToFreeEntry) (sound : ImageInvariant view backing p image out) (is : list ≡ image.file.free_list ++ more)
@@ -111,7 +111,7 @@ module _ {S F : Type 0} (view : S → StorageView) (backing : F → BackingView)
     keeps_listed = record {
       sound = record {
         works = sound.works;
-        file = record { honest = sound.file.honest; caches = sound_while image.file.header.fields p q image.file.caches (contents_in view image.file) new_data.sound sound.file.caches; settled = sound.file.settled; room = sound.file.room };
+        file = record { honest = sound.file.honest; caches = sound_while image.file.header.fields p q image.file.caches (contents_in view image.file) new_data.sound sound.file.caches; named_blocks = sound.file.named_blocks; room = sound.file.room };
         l1_table = record { cluster = sound.l1_table.cluster; bits = sound.l1_table.bits; count = sound.l1_table.count; entries = sound.l1_table.entries };
         reftable = reftable_still view image.file relisted.file refl refl (λ k. refl) image.allocator sound.reftable;
         below = sound.below;
@@ -119,8 +119,8 @@ module _ {S F : Type 0} (view : S → StorageView) (backing : F → BackingView)
         pinned = sound.pinned;
         once = sound.once;
       };
-      leads = record { sound = new_data.sound; on_storage = new_data.on_storage; known = new_data.known };
-      since = pending_endures (view_in view image.file) (state_in view image.file p) (state_in view image.file q) refl new_data;
+      safe_step = record { sound = new_data.sound; on_storage = new_data.on_storage; known = new_data.known };
+      since = pending_safe_throughout (view_in view image.file) (state_in view image.file p) (state_in view image.file q) refl new_data;
       unseen = unseen_known (state_in view image.file p) (state_in view relisted.file q) refl refl;
       copied = λ i own. refl;
       below = refl;
@@ -137,7 +137,7 @@ module _ {S F : Type 0} (view : S → StorageView) (backing : F → BackingView)
       let q = with_new_tables p (one_at at) in
       let s = state_in view image.file q in
       let own = one_here at in
-      let first = pending_is_changed.abandoned s (one_at at) sound.file.caches.kept.kept.guarded (one_few at) (λ k some. omega (arith, some)) in
+      let first = pending_is_changed.abandoned s (one_at at) sound.file.caches.kept.kept.crash_invariant (one_few at) (λ k some. omega (arith, some)) in
       keeps_listed q (given_up p at) image list more sound is
       (subst (λ (r : Pending). SafeStep s (state_in view image.file r) nothing_given []) (pending_same (new_tables_to_old_tables q (one_at at)) (given_up p at) (λ k. refl) (λ k. omega arith) (λ k. refl) (λ k. refl) (λ k. refl)) first)
 
@@ -171,13 +171,13 @@ module _ {S F : Type 0} (view : S → StorageView) (backing : F → BackingView)
     pub none_taken : (e : ImageError) → RefusedGrowth view p old.file a file since e → NoFreeBelowHint view a file ⊎ BrokeOff file e → RefusedStep view backing p old taken out e
     none_taken e left hint = elim (refused_kept view p since old.file file a e left hint) [
       | inl kept ↦ inl (file_moved_on view backing old out p since sound file (Some a) kept.0 kept.1 marks.pins (lists_grow old taken lists))
-      | inr breaks ↦ inr breaks
+      | inr interrupted ↦ inr interrupted
     ]
 
-    module _ (first n : ℕ) (one : n ≡ 1) (becomes : UnseenAllocatorGrowth view p old.file a file (taken_as false since (run_at first n))) (hint : NoFreeBelowHint view a file) where
+    module _ (first n : ℕ) (one : n ≡ 1) (allocator_step : UnseenAllocatorGrowth view p old.file a file (taken_as false since (run_at first n))) (hint : NoFreeBelowHint view a file) where
       pub keeps_taken : UnseenStep view backing p (with_new_tables since (one_at first)) old taken out
       keeps_taken = subst (λ (q : Pending). UnseenStep view backing p q old taken out) (ap (λ m. taken_as false since (run_at first m)) one ∙ one_taken since first)
-          (file_moved_on view backing old out p (taken_as false since (run_at first n)) sound file (Some a) becomes.moves (record { reftable = becomes.reftable; hint = hint }) marks.pins (lists_grow old taken lists))
+          (file_moved_on view backing old out p (taken_as false since (run_at first n)) sound file (Some a) allocator_step.file_step (record { reftable = allocator_step.reftable; hint = hint }) marks.pins (lists_grow old taken lists))
 
       may_taken : (index : ℕ) → MayName view old index → MayName view taken index
       may_taken = may_still p (with_new_tables since (one_at first)) old taken sound keeps_taken.sound refl
@@ -192,7 +192,7 @@ module _ {S F : Type 0} (view : S → StorageView) (backing : F → BackingView)
             let q = with_new_tables since (one_at first) in
             let named : WritesNew view backing since taken new out index first (Ok x) = subst (WritesNew view backing since taken new out index first) is written in (
               subst (λ (s : Pending). UnseenStep view backing p s old new out)
-                  (replacing_same p q old taken sound keeps_taken.sound refl since index keeps_taken.unseen.header ∙ ap (λ s. replacing view s old index) (following_on view backing out p old taken new listed))
+                  (replacing_same p q old taken sound keeps_taken.sound refl since index keeps_taken.unseen.header ∙ ap (λ s. replacing view s old index) (listed_after_on view backing out p old taken new listed))
                   (keeps_then view backing out old taken new p q (replacing view since taken index) (λ k h. h) keeps_taken named.0),
               named.1,
             )
@@ -208,5 +208,5 @@ module _ {S F : Type 0} (view : S → StorageView) (backing : F → BackingView)
                   (freed_table p first old taken (record new { file = record new.file { free_list = more } }) run (lists_grow old taken lists) at single kind (longer ∙ ap (λ l. l ++ run ∷ []) listed))
                   (keeps_then view backing out old new (record new { file = record new.file { free_list = more } }) p q (given_up since first) (λ k h. h) (keeps_then view backing out old taken new p q q (λ k h. h) keeps_taken keeps)
                   (abandoned since first new more (run ∷ []) keeps.sound longer)))
-              | inr breaks ↦ let on = breaks_on p q old taken new e keeps_taken breaks in inr (record { fault = on.fault; noted = on.noted; since = on.since })
+              | inr interrupted ↦ let on = interrupted_on p q old taken new e keeps_taken interrupted in inr (record { fault = on.fault; noted = on.noted; since = on.since })
             ]

@@ -92,7 +92,7 @@ module _ {S F : Type 0} (view : S → StorageView) (backing : F → BackingView)
   h = mid.file.header.fields
 
   size : cluster_size h ≡ cluster_size old.file.header.fields
-  size = ap (λ (x : HeaderFields). cluster_size x) behind.goes.header
+  size = ap (λ (x : HeaderFields). cluster_size x) behind.image_step.header
 
   some_size : 0 < cluster_size h
   some_size = pow_pos h.cluster_bits
@@ -104,13 +104,13 @@ module _ {S F : Type 0} (view : S → StorageView) (backing : F → BackingView)
   now = slice_set out k (Some q)
 
   whole : p.guest % cluster_size h + p.length ≡ length p.shares.items * cluster_size h
-  whole = subst (λ (x : HeaderFields). p.guest % cluster_size x + p.length ≡ length p.shares.items * cluster_size x) (sym behind.goes.header) may.whole
+  whole = subst (λ (x : HeaderFields). p.guest % cluster_size x + p.length ≡ length p.shares.items * cluster_size x) (sym behind.image_step.header) may.whole
 
   within : cluster_of h p % entries_per_cluster h + length p.shares.items < entries_per_cluster h
-  within = subst (λ (x : HeaderFields). cluster_of x p % entries_per_cluster x + length p.shares.items < entries_per_cluster x) (sym behind.goes.header) may.within
+  within = subst (λ (x : HeaderFields). cluster_of x p % entries_per_cluster x + length p.shares.items < entries_per_cluster x) (sym behind.image_step.header) may.within
 
   ready : IsReady view backing mid p
-  ready = behind.goes.sound.ready k p at
+  ready = behind.image_step.sound.ready k p at
 
   pending : IsPending h (known_in view mid.file) (contents_in view mid.file) p table
   pending = subst (IsReadyWith h (known_in view mid.file) (contents_in view mid.file) p) may.under ready.mapped
@@ -153,7 +153,7 @@ module _ {S F : Type 0} (view : S → StorageView) (backing : F → BackingView)
   ready_now j r there = ⊎_elim
       (λ (e : Some r ≡ Some q). let same : r ≡ q = cc in subst (λ (x : Prepared). IsReady view backing mid x) (sym same)
       (record { own = ready.own; mapped = subst (IsReadyWith h (known_in view mid.file) (contents_in view mid.file) q) (sym may.under) own_ready }))
-      (λ before. behind.goes.sound.ready j r before) (get_set out k j (Some q) (Some r) there)
+      (λ before. behind.image_step.sound.ready j r before) (get_set out k j (Some q) (Some r) there)
 
   same_pins : (c : ℕ) → over_all pins_by now c ≡ over_all pins_by out c
   same_pins c = let both : over_all pins_by now c + pins_by p c ≡ over_all pins_by out c + pins_by p c = over_all_set pins_by out k p q at c in omega arith
@@ -167,20 +167,20 @@ module _ {S F : Type 0} (view : S → StorageView) (backing : F → BackingView)
   steps : Steps view backing old mid out now nothing_given behind.pending
   steps = record {
     sound = record {
-      works = behind.goes.sound.works;
-      file = behind.goes.sound.file;
-      l1_table = behind.goes.sound.l1_table;
-      reftable = behind.goes.sound.reftable;
-      below = behind.goes.sound.below;
+      works = behind.image_step.sound.works;
+      file = behind.image_step.sound.file;
+      l1_table = behind.image_step.sound.l1_table;
+      reftable = behind.image_step.sound.reftable;
+      below = behind.image_step.sound.below;
       ready = ready_now;
-      pinned = λ c. behind.goes.sound.pinned c ∙ sym (same_pins c);
-      once = λ c. subst (λ m. m ≤ 1) (sym (same_pins c)) (behind.goes.sound.once c);
+      pinned = λ c. behind.image_step.sound.pinned c ∙ sym (same_pins c);
+      once = λ c. subst (λ m. m ≤ 1) (sym (same_pins c)) (behind.image_step.sound.once c);
     };
     only = record { new_data = λ c. behind.new_data c ∙ sym (new_data_now c); new_tables = behind.new_tables; old_tables = behind.old_tables; old_data = behind.old_data };
-    leads = behind.goes.leads;
-    since = behind.goes.since;
-    header = behind.goes.header;
-    below = behind.goes.below;
+    safe_step = behind.image_step.safe_step;
+    since = behind.image_step.since;
+    header = behind.image_step.header;
+    below = behind.image_step.below;
     surplus = behind.surplus;
   }
 
@@ -188,12 +188,12 @@ module _ {S F : Type 0} (view : S → StorageView) (backing : F → BackingView)
   seen_now : guest_of (abstract_of view backing mid now) ≡ with_slot (guest_of (abstract_of view backing old out)) k (Some (meaning view backing mid q))
   seen_now =
       same_guest _ (with_slot (guest_of (abstract_of view backing mid out)) k (Some (meaning view backing mid q))) refl (fun_ext (λ j. slot_set (meaning view backing mid) out k (Some q) (Some p) at j))
-      ∙ ap (λ (x : Guest). with_slot x k (Some (meaning view backing mid q))) behind.goes.seen
+      ∙ ap (λ (x : Guest). with_slot x k (Some (meaning view backing mid q))) behind.image_step.seen
 
   means_same : meaning view backing mid p ≡ meaning view backing old p
   means_same =
       let both : Some (meaning view backing mid p) ≡ Some (meaning view backing old p) =
-      sym (ap (meaning_at (meaning view backing mid)) at) ∙ ap (λ (x : Guest). x.slots k) behind.goes.seen ∙ ap (meaning_at (meaning view backing old)) at in
+      sym (ap (meaning_at (meaning view backing mid)) at) ∙ ap (λ (x : Guest). x.slots k) behind.image_step.seen ∙ ap (meaning_at (meaning view backing old)) at in
       cc
 
   ends : rounded_up (cluster_size h) (p.guest + min n (p.length + cluster_size old.file.header.fields)) ≡ (cluster_of h p + length p.shares.items) * cluster_size h + cluster_size h
@@ -238,7 +238,7 @@ module _ {S F : Type 0} (view : S → StorageView) (backing : F → BackingView)
         (its_share shared.index shared.share shared.is)
 
     still_prepared : IsPrepared (cluster_size old.file.header.fields) (guest_of (abstract_of view backing old out)).disk p.guest n overwrite (meaning view backing mid q)
-    still_prepared = subst (λ (x : HeaderFields). IsPrepared (cluster_size x) (guest_of (abstract_of view backing old out)).disk p.guest n overwrite (meaning view backing mid q)) behind.goes.header (record {
+    still_prepared = subst (λ (x : HeaderFields). IsPrepared (cluster_size x) (guest_of (abstract_of view backing old out)).disk p.guest n overwrite (meaning view backing mid q)) behind.image_step.header (record {
       from = refl;
       some = λ any. let lt = longer in omega arith;
       inside = inside;
@@ -249,8 +249,8 @@ module _ {S F : Type 0} (view : S → StorageView) (backing : F → BackingView)
   extended = record {
     works = stepped_works view backing old mid out now nothing_given behind.pending steps;
     sound = stepped_sound view backing old mid out now nothing_given behind.pending steps;
-    header = behind.goes.header;
-    covers = behind.goes.covers;
+    header = behind.image_step.header;
+    covers = behind.image_step.covers;
     prepared = still_prepared;
     is = seen_now;
   }

@@ -19,7 +19,7 @@ use Rattle.qcow2_laws.specs.CrashInvariant.{Pending}
 use Rattle.qcow2_laws.specs.Tops.{WritesAt}
 use Rattle.qcow2_laws.specs.Writes.{IsUnnamed}
 use Rattle.qcow2_laws.proofs.Formats.{covers_format, format_then, size_format}
-use Rattle.qcow2_laws.proofs.SafeSteps.{leads_none, leads_then, endures_none, steps_endure}
+use Rattle.qcow2_laws.proofs.SafeSteps.{safe_step_none, safe_step_then, safe_throughout_none, steps_safe_throughout}
 use Rattle.qcow2_laws.proofs.KeptClusters.{kept_aligned}
 use Rattle.qcow2_laws.proofs.Mixes.{tied}
 use Rattle.qcow2_laws.proofs.Places.{in_one}
@@ -44,7 +44,7 @@ use Rattle.qcow2_disk.specs.Alike.{IsAlike, IsAlikeRun}
 use Rattle.qcow2_laws.proofs.Unseen.{unseen_disk}
 use Rattle.qcow2_image.specs.ImageInvariant.{new_data_by, place_of, backing_bytes, disk_of, ImageInvariant}
 use Rattle.qcow2_image.proofs.Shares.{Standing, in_new, in_kept, kept_used, over_all_at, private_stands}
-use Rattle.qcow2_image.proofs.Call.Answered.{same_guest, same_slot, tidies_kept, still_seen}
+use Rattle.qcow2_image.proofs.Call.Answered.{same_guest, same_slot, freeing_step_kept, still_seen}
 use Rattle.qcow2_image.proofs.Call.Called.{copied_then}
 use Rattle.qcow2_image.proofs.Map.Loading.{still_moved}
 use Rattle.qcow2_image.proofs.Write.Written.{written, writes, sound_written, since_written, same_l1_written}
@@ -75,24 +75,24 @@ written_or_not (Err I.Overflow) old changed new is = inl is
 written_or_not (Err (I.StillInUse tables)) old changed new is = inl is
 
 module _ {S F : Type 0} (view : S → StorageView) (backing : F → BackingView) (out : List (Option Prepared)) where
-  pub goes_kept : (a b : Qcow2 S F) (p p' : Pending) → ImageInvariant view backing p a out → HoldsAll view backing p out → HoldsAll view backing p' out → UnseenStep view backing p p' a b out → UnseenFillingStep view backing p p' a b out
-  goes_kept a b p p' sound holds still keeps = record {
+  pub image_step_kept : (a b : Qcow2 S F) (p p' : Pending) → ImageInvariant view backing p a out → HoldsAll view backing p out → HoldsAll view backing p' out → UnseenStep view backing p p' a b out → UnseenFillingStep view backing p p' a b out
+  image_step_kept a b p p' sound holds still keeps = record {
     sound = keeps.sound;
-    leads = keeps.leads;
+    safe_step = keeps.safe_step;
     since = keeps.since;
     header = keeps.unseen.header;
     covers = keeps.unseen.covers;
     copied = keeps.copied;
     below = keeps.below;
     list = keeps.list;
-    seen = still_seen view backing a b out p p' sound holds still (tidies_kept view backing a b out p p' keeps);
+    seen = still_seen view backing a b out p p' sound holds still (freeing_step_kept view backing a b out p p' keeps);
   }
 
-  pub goes_none : (a : Qcow2 S F) (p : Pending) → ImageInvariant view backing p a out → UnseenFillingStep view backing p p a a out
-  goes_none a p sound = record {
+  pub image_step_none : (a : Qcow2 S F) (p : Pending) → ImageInvariant view backing p a out → UnseenFillingStep view backing p p a a out
+  image_step_none a p sound = record {
     sound = sound;
-    leads = leads_none (state_in view a.file p) sound.file.caches.kept.kept.guarded;
-    since = endures_none (view_in view a.file) (known_in view a.file);
+    safe_step = safe_step_none (state_in view a.file p) sound.file.caches.kept.kept.crash_invariant;
+    since = safe_throughout_none (view_in view a.file) (known_in view a.file);
     header = refl;
     covers = λ g. refl;
     copied = λ i copied. refl;
@@ -101,11 +101,11 @@ module _ {S F : Type 0} (view : S → StorageView) (backing : F → BackingView)
     seen = refl;
   }
 
-  pub goes_then : (a b c : Qcow2 S F) (p q r : Pending) → UnseenFillingStep view backing p q a b out → UnseenFillingStep view backing q r b c out → UnseenFillingStep view backing p r a c out
-  goes_then a b c p q r first then = record {
+  pub image_step_then : (a b c : Qcow2 S F) (p q r : Pending) → UnseenFillingStep view backing p q a b out → UnseenFillingStep view backing q r b c out → UnseenFillingStep view backing p r a c out
+  image_step_then a b c p q r first then = record {
     sound = then.sound;
-    leads = leads_then (state_in view a.file p) (state_in view b.file q) (state_in view c.file r) nothing_given nothing_given [] [] first.leads then.leads;
-    since = steps_endure (view_in view a.file) (view_in view b.file) (view_in view c.file) (state_in view a.file p) (state_in view b.file q) nothing_given nothing_given [] [] refl first.since first.leads then.since;
+    safe_step = safe_step_then (state_in view a.file p) (state_in view b.file q) (state_in view c.file r) nothing_given nothing_given [] [] first.safe_step then.safe_step;
+    since = steps_safe_throughout (view_in view a.file) (view_in view b.file) (view_in view c.file) (state_in view a.file p) (state_in view b.file q) nothing_given nothing_given [] [] refl first.since first.safe_step then.since;
     header = format_then a.file.header.fields b.file.header.fields c.file.header.fields first.header then.header;
     covers = λ g. first.covers g ∙ covers_format a.file.header.fields b.file.header.fields first.header (known_in view b.file) (known_in view c.file) then.covers g;
     copied = copied_then view backing out a b c p q r first.header first.copied then.copied;
@@ -117,9 +117,9 @@ module _ {S F : Type 0} (view : S → StorageView) (backing : F → BackingView)
   -- clusters that are held have the same bytes where no guest sees a change
   pub same_new_data : (a b : Qcow2 S F) (p : Pending) → ImageInvariant view backing p a out → UnseenStep view backing p p a b out → SameHeld view backing p a b
   same_new_data a b p sound keeps o some =
-      let before : contents_in view a.file o ≡ known_in view a.file o = sound.file.caches.kept.kept.guarded.not_overlaid o (omega (arith, some)) in
+      let before : contents_in view a.file o ≡ known_in view a.file o = sound.file.caches.kept.kept.crash_invariant.not_overlaid o (omega (arith, some)) in
       let here : 0 < p.new_data (o / cluster_size b.file.header.fields) = subst (λ n. 0 < p.new_data (o / n)) (sym (size_format a.file.header.fields b.file.header.fields keeps.unseen.header)) some in
-      let after : contents_in view b.file o ≡ known_in view b.file o = keeps.sound.file.caches.kept.kept.guarded.not_overlaid o (omega (arith, here)) in
+      let after : contents_in view b.file o ≡ known_in view b.file o = keeps.sound.file.caches.kept.kept.crash_invariant.not_overlaid o (omega (arith, here)) in
       after ∙ keeps.unseen.bytes o (omega (arith, some)) ∙ sym before
 
   -- bytes are written to a cluster that is held, and that no mapping has yet
@@ -133,7 +133,7 @@ module _ {S F : Type 0} (view : S → StorageView) (backing : F → BackingView)
     new = written view backing old out sound storage at bytes is
 
     unnamed : IsUnnamed h (contents_in view old.file) (known_in view old.file) cluster
-    unnamed = new_data_is_unnamed h (order_of old.file.caches) p (contents_in view old.file) (known_in view old.file) sound.file.caches.kept.kept.guarded cluster own.new_data
+    unnamed = new_data_is_unnamed h (order_of old.file.caches) p (contents_in view old.file) (known_in view old.file) sound.file.caches.kept.kept.crash_invariant cluster own.new_data
 
     no_table : (i : ℕ) → i < length bytes → named_for_tables h (contents_in view old.file) ((at + i) / cluster_size h) ≡ 0
     no_table i lt = ap (named_for_tables h (contents_in view old.file)) (own.inside i lt) ∙ unnamed.no_table
@@ -151,7 +151,7 @@ module _ {S F : Type 0} (view : S → StorageView) (backing : F → BackingView)
     alone = writes view backing old out sound storage at bytes is no_table
 
     apart : Writes cluster (state_in view old.file p) (state_in view new.file p) (λ _. []) (λ below. disk (known_in view old.file) below)
-    apart = private_written (state_in view old.file p) (contents_in view new.file) (known_in view new.file) sound.file.caches.kept.kept.guarded cluster own.new_data
+    apart = private_written (state_in view old.file p) (contents_in view new.file) (known_in view new.file) sound.file.caches.kept.kept.crash_invariant cluster own.new_data
         (λ o other. alone.others o (outside o other)) (λ o other. alone.known_others o (outside o other)) alone.agree
 
     -- no private byte of a mapping stands there
@@ -163,22 +163,22 @@ module _ {S F : Type 0} (view : S → StorageView) (backing : F → BackingView)
         absurd (omega arith)
     elsewhere j q at_j o (in_kept host kept place) here =
         let state = state_in view old.file p in
-        let guarded = sound.file.caches.kept.kept.guarded in
-        let aligned = kept_aligned state guarded (o / cluster_size h) host kept in
+        let crash_invariant = sound.file.caches.kept.kept.crash_invariant in
+        let aligned = kept_aligned state crash_invariant (o / cluster_size h) host kept in
         let there : host / cluster_size h ≡ cluster = sym (ap (λ n. n / cluster_size h) place ∙ in_one (cluster_size h) host (o % cluster_size h) aligned (mod_below o (cluster_size h) (pow_pos h.cluster_bits))) ∙ here in
-        let used : 0 < over_guests h (names h (known_in view old.file) cluster) = subst (λ c. 0 < over_guests h (names h (known_in view old.file) c)) there (kept_used state guarded (o / cluster_size h) host kept) in
+        let used : 0 < over_guests h (names h (known_in view old.file) cluster) = subst (λ c. 0 < over_guests h (names h (known_in view old.file) c)) there (kept_used state crash_invariant (o / cluster_size h) host kept) in
         let t = (tied h p (contents_in view old.file) (known_in view old.file) cluster).known in
         let none = unnamed.no_entry in
         absurd (omega arith)
 
-    goes_written : UnseenFillingStep view backing p p old new out
-    goes_written = record {
-      sound = sound_written view backing old out sound storage at bytes is no_table (λ _. []) honest time apart.leads apart.unseen.covers;
-      leads = apart.leads;
-      since = since_written view backing old out sound storage at bytes is no_table (λ _. []) honest time apart.leads apart.unseen.covers;
+    image_step_written : UnseenFillingStep view backing p p old new out
+    image_step_written = record {
+      sound = sound_written view backing old out sound storage at bytes is no_table (λ _. []) honest time apart.safe_step apart.unseen.covers;
+      safe_step = apart.safe_step;
+      since = since_written view backing old out sound storage at bytes is no_table (λ _. []) honest time apart.safe_step apart.unseen.covers;
       header = refl;
       covers = apart.unseen.covers;
-      copied = λ i copied. same_l1_written view backing old out sound storage at bytes is no_table (λ _. []) honest time apart.leads apart.unseen.covers i;
+      copied = λ i copied. same_l1_written view backing old out sound storage at bytes is no_table (λ _. []) honest time apart.safe_step apart.unseen.covers i;
       below = refl;
       list = record { more = []; is = sym (append-nil old.file.free_list) };
       seen = same_guest _ _ (apart.shows (backing_bytes view backing old.backing))
@@ -190,11 +190,11 @@ module _ {S F : Type 0} (view : S → StorageView) (backing : F → BackingView)
   module _ (old new : Qcow2 S F) (p : Pending) (sound : ImageInvariant view backing p old out) (cluster at : ℕ) (bytes : List ℕ) (own : IsInHeldCluster view backing p old out cluster at (length bytes)) (holds : HoldsAll view backing p out)
       (r : Result (Unit {0}) ImageError) (w : WritesBytes view old new at bytes r) where
     still : (view_in view new.file).contents ≡ (view_in view old.file).contents → UnseenFillingStep view backing p p old (record old { file = record old.file { storage = new.file.storage } }) out
-    still same = goes_kept old (record old { file = record old.file { storage = new.file.storage } }) p p sound holds holds (still_moved view backing old out p sound new.file.storage (w.honest sound.file.honest) (w.time sound.file.honest) same)
+    still same = image_step_kept old (record old { file = record old.file { storage = new.file.storage } }) p p sound holds holds (still_moved view backing old out p sound new.file.storage (w.honest sound.file.honest) (w.time sound.file.honest) same)
 
-    pub goes_data : UnseenFillingStep view backing p p old new out
-    goes_data = subst (λ (image : Qcow2 S F). UnseenFillingStep view backing p p old image out) (sym w.rest)
-        (⊎_elim still (λ (is : (view_in view new.file).contents ≡ overwritten (view_in view old.file).contents at bytes). goes_written old p sound cluster at bytes own new.file.storage (w.honest sound.file.honest) (w.time sound.file.honest) is) (written_or_not r (view_in view old.file).contents (overwritten (view_in view old.file).contents at bytes) (view_in view new.file).contents (w.written sound.file.honest)))
+    pub image_step_data : UnseenFillingStep view backing p p old new out
+    image_step_data = subst (λ (image : Qcow2 S F). UnseenFillingStep view backing p p old image out) (sym w.rest)
+        (⊎_elim still (λ (is : (view_in view new.file).contents ≡ overwritten (view_in view old.file).contents at bytes). image_step_written old p sound cluster at bytes own new.file.storage (w.honest sound.file.honest) (w.time sound.file.honest) is) (written_or_not r (view_in view old.file).contents (overwritten (view_in view old.file).contents at bytes) (view_in view new.file).contents (w.written sound.file.honest)))
 
 -- a range of the same length in an image of the same file
 pub own_of : {S F : Type 0} (view : S → StorageView) (backing : F → BackingView) (p : Pending) (old new : Qcow2 S F) (out : List (Option Prepared)) (cluster at n m : ℕ) → m ≡ n → new.file.header ≡ old.file.header
@@ -214,7 +214,7 @@ there_written view old new at bytes (Err e) w honest = tt
 -- where no guest sees a change the disk is the same
 pub disk_kept : {S F : Type 0} (view : S → StorageView) (backing : F → BackingView) (old new : Qcow2 S F) (out : List (Option Prepared)) (p : Pending) → ImageInvariant view backing p old out → UnseenStep view backing p p old new out → disk_of view backing new ≡ disk_of view backing old
 disk_kept view backing old new out p sound keeps =
-    unseen_disk (state_in view old.file p) (state_in view new.file p) sound.file.caches.kept.kept.guarded keeps.sound.file.caches.kept.kept.guarded keeps.unseen (backing_bytes view backing new.backing)
+    unseen_disk (state_in view old.file p) (state_in view new.file p) sound.file.caches.kept.kept.crash_invariant keeps.sound.file.caches.kept.kept.crash_invariant keeps.unseen (backing_bytes view backing new.backing)
     ∙ ap (λ (b : Bool × Bytes). disk (known_in view old.file) b.1) keeps.below
 
 -- a range within one guest cluster is mapped alike

@@ -11,7 +11,7 @@ use Rattle.qcow2_laws.specs.SafeSteps.{SafeStep}
 use Rattle.qcow2_disk.specs.Disk.{Disk}
 use Rattle.qcow2_metadata.specs.Guest.{known_byte}
 use Rattle.qcow2_laws.specs.Unseen.{KeepsFormat}
-use Rattle.qcow2_laws.proofs.SafeSteps.{pending_endures}
+use Rattle.qcow2_laws.proofs.SafeSteps.{pending_safe_throughout}
 use Rattle.qcow2_laws.proofs.Steps.{pending_is_changed}
 use Rattle.qcow2_alloc.specs.Allocation.{run_at, Allocates, AllocatesAt, RefusedGrowth}
 use Rattle.qcow2_alloc.specs.CachePins.{KeepsPinsAndNotes}
@@ -23,7 +23,7 @@ use Rattle.qcow2_alloc.specs.declared.image_file.ImageFile.{ImageFile}
 use Rattle.qcow2_alloc.specs.FreeList.{ListsTables, pending_then as since_listed}
 use Rattle.qcow2_alloc.specs.ImageFile.{state_in, view_in, contents_in, known_in, nothing_given, KeepsHeader, UnseenFileGrowth}
 use Rattle.qcow2_alloc.proofs.FileSteps.{pending_same}
-use Rattle.qcow2_alloc.proofs.Following.{header_format, following_same as same_list}
+use Rattle.qcow2_alloc.proofs.ListedAfter.{header_format, listed_after_same as same_list}
 use Rattle.qcow2_alloc.proofs.Runs.{run_in}
 use Rattle.qcow2_alloc.specs.KeptAllocators.{IsAllocatorOf}
 use Rattle.qcow2_alloc.proofs.KeptAllocators.{refused_kept}
@@ -35,20 +35,20 @@ use Rattle.qcow2_image.specs.Ranges.{TakesDataAt}
 use Rattle.qcow2_image.specs.UnseenSteps.{pending_with_listed, is_announced, IsFilled, UnseenFillingStep, RefusedFillingStep, HoldsAll, ListGrows, TakesData}
 use Rattle.qcow2_image.specs.ImageInvariant.{run_of, of_data, of_tables, to_free, new_data_by, over_all, disk_of, ImageInvariant}
 use Rattle.qcow2_image.proofs.Formats.{lists_grow}
-use Rattle.qcow2_image.proofs.Prepare.Filling.{goes_kept, goes_then}
-use Rattle.qcow2_image.proofs.Commit.LetGo.{run_few, sound_while}
+use Rattle.qcow2_image.proofs.Prepare.Filling.{image_step_kept, image_step_then}
+use Rattle.qcow2_image.proofs.Commit.Released.{run_few, sound_while}
 use Rattle.qcow2_image.proofs.Moving.{file_moved_on}
 use Rattle.qcow2_image.proofs.Open.Reftables.{reftable_still}
 use Rattle.qcow2_image.proofs.Sound.{free_more}
 
 module _ {S F : Type 0} (view : S → StorageView) (backing : F → BackingView) (out : List (Option Prepared)) where
   -- with the same list all is pending that was
-  pub following_same : (p : Pending) (old new : Qcow2 S F) → new.file.free_list ≡ old.file.free_list → pending_with_listed p old new ≡ p
-  following_same p old new list = same_list p old.file.free_list new.file.free_list list
+  pub listed_after_same : (p : Pending) (old new : Qcow2 S F) → new.file.free_list ≡ old.file.free_list → pending_with_listed p old new ≡ p
+  listed_after_same p old new list = same_list p old.file.free_list new.file.free_list list
 
   -- with the list of another image what is pending is the same
-  pub following_on : (p : Pending) (old mid new : Qcow2 S F) → new.file.free_list ≡ mid.file.free_list → pending_with_listed p old mid ≡ pending_with_listed p old new
-  following_on p old mid new list = ap (λ l. since_listed p old.file.free_list l) (sym list)
+  pub listed_after_on : (p : Pending) (old mid new : Qcow2 S F) → new.file.free_list ≡ mid.file.free_list → pending_with_listed p old mid ≡ pending_with_listed p old new
+  listed_after_on p old mid new list = ap (λ l. since_listed p old.file.free_list l) (sym list)
 
   -- ---- by the allocator
   module _ (old : Qcow2 S F) (p : Pending) (sound : ImageInvariant view backing p old out) (holds : HoldsAll view backing p out) (file : ImageFile S) (a : Allocator) (marks : KeepsPinsAndNotes old.file.caches file.caches) (lists : ListsTables old.file.free_list file.free_list) (header : KeepsHeader old.file.header file.header) where
@@ -60,27 +60,27 @@ module _ {S F : Type 0} (view : S → StorageView) (backing : F → BackingView)
     since = pending_with_listed p old taken
 
     -- from what is pending to what is
-    goes_moved : (q : Pending) → HoldsAll view backing q out → UnseenFileGrowth view p q old.file file → IsAllocatorOf view file a → UnseenFillingStep view backing p q old taken out
-    goes_moved q still moves reftable = goes_kept view backing out old taken p q sound holds still (file_moved_on view backing old out p q sound file (Some a) moves reftable marks.pins (lists_grow old taken lists))
+    image_step_moved : (q : Pending) → HoldsAll view backing q out → UnseenFileGrowth view p q old.file file → IsAllocatorOf view file a → UnseenFillingStep view backing p q old taken out
+    image_step_moved q still file_step reftable = image_step_kept view backing out old taken p q sound holds still (file_moved_on view backing old out p q sound file (Some a) file_step reftable marks.pins (lists_grow old taken lists))
 
-    goes_back : (e : ImageError) → RefusedGrowth view p old.file a file since e → NoFreeBelowHint view a file ⊎ BrokeOff file e → RefusedFillingStep view backing p old taken out e
-    goes_back e leaves hint = elim (refused_kept view p since old.file file a e leaves hint) [
-      | inl kept ↦ inl (goes_moved since holds kept.0 kept.1)
-      | inr broken ↦ inr (record { breaks = broken; header = header_format old.file.header file.header header; below = refl })
+    image_step_back : (e : ImageError) → RefusedGrowth view p old.file a file since e → NoFreeBelowHint view a file ⊎ BrokeOff file e → RefusedFillingStep view backing p old taken out e
+    image_step_back e leaves hint = elim (refused_kept view p since old.file file a e leaves hint) [
+      | inl kept ↦ inl (image_step_moved since holds kept.0 kept.1)
+      | inr broken ↦ inr (record { interrupted = broken; header = header_format old.file.header file.header header; below = refl })
     ]
 
     pub takes_data : (r : Result ClustersToFreeEntry ImageError) → Allocates view p old.file a file since Kind.Data 1 r → KeepsNoFreeBelowHint view a file r → TakesData view backing p old taken out r
     takes_data (Ok n) is hint =
         let count = is.0 in
         let run : run_at n.first_cluster 1 ≡ run_of n = ap (λ m. run_at n.first_cluster m) (sym count) in
-        let becomes = is.2 in (
+        let allocator_step = is.2 in (
           count,
           is.1,
           subst (λ f. UnseenFillingStep view backing p (with_new_data since f) old taken out) run
-              (goes_moved (with_new_data since (run_at n.first_cluster 1)) (λ k. let h = holds k in omega arith)
-              becomes.moves (record { reftable = becomes.reftable; hint = hint })),
+              (image_step_moved (with_new_data since (run_at n.first_cluster 1)) (λ k. let h = holds k in omega arith)
+              allocator_step.file_step (record { reftable = allocator_step.reftable; hint = hint })),
         )
-    takes_data (Err e) is hint = goes_back e is hint
+    takes_data (Err e) is hint = image_step_back e is hint
 
     -- so does a cluster that was asked for
     pub takes_data_at : (cluster : ℕ) (r : Result (Option ClustersToFreeEntry) ImageError) → AllocatesAt view p old.file a file since cluster r
@@ -91,11 +91,11 @@ module _ {S F : Type 0} (view : S → StorageView) (backing : F → BackingView)
           is.1,
           is.2,
           subst (λ f. UnseenFillingStep view backing p (with_new_data since f) old taken out) run
-              (goes_moved (with_new_data since (run_at cluster 1)) (λ k. let h = holds k in omega arith)
-              is.3.moves (record { reftable = is.3.reftable; hint = hint })),
+              (image_step_moved (with_new_data since (run_at cluster 1)) (λ k. let h = holds k in omega arith)
+              is.3.file_step (record { reftable = is.3.reftable; hint = hint })),
         )
-    takes_data_at cluster (Ok None) is none hint = (goes_moved since holds is.moves (record { reftable = is.reftable; hint = hint }), none refl)
-    takes_data_at cluster (Err e) is none hint = goes_back e is hint
+    takes_data_at cluster (Ok None) is none hint = (image_step_moved since holds is.file_step (record { reftable = is.reftable; hint = hint }), none refl)
+    takes_data_at cluster (Err e) is none hint = image_step_back e is hint
 
   -- ---- what was taken is handed back
   module _ (old : Qcow2 S F) (p : Pending) (n : ClustersToFreeEntry) (one : n.count ≡ 1) (kind : n.kind ≡ Kind.Data) (sound : ImageInvariant view backing (with_new_data p (run_of n)) old out) where
@@ -108,17 +108,17 @@ module _ {S F : Type 0} (view : S → StorageView) (backing : F → BackingView)
     abbrev after : Pending
     after = new_data_to_old_data (with_new_data p (run_of n)) (run_of n)
 
-    leads : SafeStep (state_in view old.file new_data) (state_in view left.file after) nothing_given []
-    leads = pending_is_changed.old_data (state_in view old.file new_data) (run_of n) sound.file.caches.kept.kept.guarded (λ c. run_few n.first_cluster n.count c) (λ c some. omega arith)
+    safe_step : SafeStep (state_in view old.file new_data) (state_in view left.file after) nothing_given []
+    safe_step = pending_is_changed.old_data (state_in view old.file new_data) (run_of n) sound.file.caches.kept.kept.crash_invariant (λ c. run_few n.first_cluster n.count c) (λ c some. omega arith)
 
-    pub goes_handed_back : UnseenFillingStep view backing new_data after old left out
-    goes_handed_back = record {
+    pub image_step_handed_back : UnseenFillingStep view backing new_data after old left out
+    image_step_handed_back = record {
       sound = record {
         works = sound.works;
         file = record {
           honest = sound.file.honest;
-          caches = sound_while old.file.header.fields new_data after old.file.caches (contents_in view old.file) leads.sound sound.file.caches;
-          settled = sound.file.settled;
+          caches = sound_while old.file.header.fields new_data after old.file.caches (contents_in view old.file) safe_step.sound sound.file.caches;
+          named_blocks = sound.file.named_blocks;
           room = sound.file.room;
         };
         l1_table = record { cluster = sound.l1_table.cluster; bits = sound.l1_table.bits; count = sound.l1_table.count; entries = sound.l1_table.entries };
@@ -128,8 +128,8 @@ module _ {S F : Type 0} (view : S → StorageView) (backing : F → BackingView)
         pinned = sound.pinned;
         once = sound.once;
       };
-      leads = leads;
-      since = pending_endures (view_in view old.file) (state_in view old.file new_data) (state_in view left.file after) refl leads;
+      safe_step = safe_step;
+      since = pending_safe_throughout (view_in view old.file) (state_in view old.file new_data) (state_in view left.file after) refl safe_step;
       header = refl;
       covers = λ g. refl;
       copied = λ i copied. refl;
@@ -159,23 +159,23 @@ module _ {S F : Type 0} (view : S → StorageView) (backing : F → BackingView)
       (λ k. refl)
 
   -- all of it
-  pub goes_left : (start old : Qcow2 S F) (p : Pending) (n : ClustersToFreeEntry) (one : n.count ≡ 1) (kind : n.kind ≡ Kind.Data) → (goes : UnseenFillingStep view backing p (with_new_data (pending_with_listed p start old) (run_of n)) start old out)
-      → let end = left old (pending_with_listed p start old) n one kind goes.sound in UnseenFillingStep view backing p (pending_with_listed p start end) start end out
-  goes_left start old p n one kind goes =
+  pub image_step_left : (start old : Qcow2 S F) (p : Pending) (n : ClustersToFreeEntry) (one : n.count ≡ 1) (kind : n.kind ≡ Kind.Data) → (image_step : UnseenFillingStep view backing p (with_new_data (pending_with_listed p start old) (run_of n)) start old out)
+      → let end = left old (pending_with_listed p start old) n one kind image_step.sound in UnseenFillingStep view backing p (pending_with_listed p start end) start end out
+  image_step_left start old p n one kind image_step =
       let q = pending_with_listed p start old in
-      let end = left old q n one kind goes.sound in
-      subst (λ r. UnseenFillingStep view backing p r start end out) (after_is start old p n one kind goes.sound goes.list)
-      (goes_then view backing out start old end p (with_new_data q (run_of n)) (after old q n one kind goes.sound) goes (goes_handed_back old q n one kind goes.sound))
+      let end = left old q n one kind image_step.sound in
+      subst (λ r. UnseenFillingStep view backing p r start end out) (after_is start old p n one kind image_step.sound image_step.list)
+      (image_step_then view backing out start old end p (with_new_data q (run_of n)) (after old q n one kind image_step.sound) image_step (image_step_handed_back old q n one kind image_step.sound))
 
   -- ---- a cluster that was taken is new
-  module _ (old mid : Qcow2 S F) (p : Pending) (n : ClustersToFreeEntry) (one : n.count ≡ 1) (holds : HoldsAll view backing p out) (goes : UnseenFillingStep view backing p (with_new_data (pending_with_listed p old mid) (run_of n)) old mid out) where
+  module _ (old mid : Qcow2 S F) (p : Pending) (n : ClustersToFreeEntry) (one : n.count ≡ 1) (holds : HoldsAll view backing p out) (image_step : UnseenFillingStep view backing p (with_new_data (pending_with_listed p old mid) (run_of n)) old mid out) where
     pub taken_new_data : 0 < (with_new_data (pending_with_listed p old mid) (run_of n)).new_data n.first_cluster
     taken_new_data = let once = run_in n.first_cluster n.count n.first_cluster (omega arith) (omega (arith, one)) in omega arith
 
     pub taken_unused : over_all new_data_by out n.first_cluster ≡ 0
     taken_unused =
         let once = run_in n.first_cluster n.count n.first_cluster (omega arith) (omega (arith, one)) in
-        let each_cluster = goes.sound.file.caches.kept.kept.guarded.each_cluster n.first_cluster in
+        let each_cluster = image_step.sound.file.caches.kept.kept.crash_invariant.each_cluster n.first_cluster in
         let tally = each_cluster.tally in
         let few = each_cluster.pending (omega arith) in
         let all = holds n.first_cluster in

@@ -43,7 +43,7 @@ use Rattle.qcow2_image.specs.UnseenSteps.{HoldsAll, IsFilled, IsKeptAlone, Unsee
 use Rattle.qcow2_image.proofs.Apart.{same_row}
 use Rattle.qcow2_image.proofs.Call.Answered.{same_guest, same_slot}
 use Rattle.qcow2_image.proofs.Map.Loading.{if_ok, still_moved}
-use Rattle.qcow2_image.proofs.Prepare.Filling.{goes_kept, there_written, written_or_not}
+use Rattle.qcow2_image.proofs.Prepare.Filling.{image_step_kept, there_written, written_or_not}
 use Rattle.qcow2_image.proofs.Shares.{Standing, in_new, in_kept, over_all_at, private_shared, private_stands, ready_table, share_here, share_there}
 use Rattle.qcow2_image.proofs.Write.Written.{written, writes, there, since_written, sound_written, same_l1_written}
 
@@ -61,8 +61,8 @@ module _ {S F : Type 0} (view : S → StorageView) (backing : F → BackingView)
   abbrev s : DriverState
   s = state_in view old.file p
 
-  guarded : StateInvariant s
-  guarded = sound.file.caches.kept.kept.guarded
+  crash_invariant : StateInvariant s
+  crash_invariant = sound.file.caches.kept.kept.crash_invariant
 
   byte_is : (i : ℕ) → guest * size + at + i ≡ guest * size + (at + i)
   byte_is i = omega arith
@@ -76,7 +76,7 @@ module _ {S F : Type 0} (view : S → StorageView) (backing : F → BackingView)
       (host, ap (cover h s.known) (here i lt) ∙ is_kept.kept, omega (arith, rest))
 
   no_table : (i : ℕ) → i < length bytes → named_for_tables h (contents_in view old.file) ((host + at + i) / size) ≡ 0
-  no_table i lt = beside_tables s HostedKept (guest * size + at + i) (host + at + i) guarded (hosts i lt)
+  no_table i lt = beside_tables s HostedKept (guest * size + at + i) (host + at + i) crash_invariant (hosts i lt)
 
   module _ (storage : ImageStorage S) (honest : (view (storage_of storage)).is_honest) (time : EachMomentSince (view_in view old.file) (view (storage_of storage)) (λ c. c ≡ (view (storage_of storage)).contents))
       (is : (view (storage_of storage)).contents ≡ overwritten (view_in view old.file).contents (host + at) bytes) where
@@ -87,10 +87,10 @@ module _ {S F : Type 0} (view : S → StorageView) (backing : F → BackingView)
     beside = writes view backing old out sound storage (host + at) bytes is no_table
 
     run : WritesRun (λ _. HostedKept) (guest * size + at) (host + at) bytes (given_of (guest * size + at) bytes ∷ []) s (state_in view new.file p)
-    run = kept_written s (contents_in view new.file) (known_in view new.file) guarded guest host at bytes is_kept.kept fits beside (there view backing old out sound storage (host + at) bytes is)
+    run = kept_written s (contents_in view new.file) (known_in view new.file) crash_invariant guest host at bytes is_kept.kept fits beside (there view backing old out sound storage (host + at) bytes is)
 
-    leads : SafeStep s (state_in view new.file p) nothing_given []
-    leads = kept_zeroed s (contents_in view new.file) (known_in view new.file) guarded guest host at bytes is_kept.kept fits beside (there view backing old out sound storage (host + at) bytes is) zeros
+    safe_step : SafeStep s (state_in view new.file p) nothing_given []
+    safe_step = kept_zeroed s (contents_in view new.file) (known_in view new.file) crash_invariant guest host at bytes is_kept.kept fits beside (there view backing old out sound storage (host + at) bytes is) zeros
 
     -- no private byte of a mapping stands there
     module _ (j : ℕ) (r : Prepared) (there_is : slice_get out j ≡ Some (Some r)) (o : ℕ) (private : IsTrue (is_private view backing old r o)) where
@@ -112,12 +112,12 @@ module _ {S F : Type 0} (view : S → StorageView) (backing : F → BackingView)
       stays_kept : (first : ℕ) → cover h s.known (o / size) ≡ Zero (Some (first, true)) → place ≡ first + o % size → contents_in view new.file place ≡ contents_in view old.file place
       stays_kept first kept place_is =
           let rest = mod_below o size (pow_pos h.cluster_bits) in
-          let cluster : place / size ≡ first / size = ap (λ n. n / size) place_is ∙ in_one size first (o % size) (kept_aligned s guarded (o / size) first kept) rest in
+          let cluster : place / size ≡ first / size = ap (λ n. n / size) place_is ∙ in_one size first (o % size) (kept_aligned s crash_invariant (o / size) first kept) rest in
           let named : names h s.known (place / size) (o / size) ≡ 1 = ap (named_by_cover h (place / size)) kept ∙ ap (λ c. in_cluster h c first) cluster ∙ in_own h first in
           let known : known_in view new.file place ≡ s.known place = run.others (o / size) (λ i lt same. other (sym same ∙ here i lt)) place (omega (arith, named)) in
           let kept_now : cover h (known_in view new.file) (o / size) ≡ Zero (Some (first, true)) = sym (run.covers (o / size)) ∙ kept in
-          ap (contents_in view new.file) place_is ∙ kept_unlaid (state_in view new.file p) leads.sound (o / size) first kept_now (o % size) rest ∙ ap (known_in view new.file) (sym place_is) ∙ known
-          ∙ ap s.known place_is ∙ sym (kept_unlaid s guarded (o / size) first kept (o % size) rest) ∙ ap (contents_in view old.file) (sym place_is)
+          ap (contents_in view new.file) place_is ∙ kept_unlaid (state_in view new.file p) safe_step.sound (o / size) first kept_now (o % size) rest ∙ ap (known_in view new.file) (sym place_is) ∙ known
+          ∙ ap s.known place_is ∙ sym (kept_unlaid s crash_invariant (o / size) first kept (o % size) rest) ∙ ap (contents_in view old.file) (sym place_is)
 
       by_standing : Standing h s.known r o → contents_in view new.file place ≡ contents_in view old.file place
       by_standing (in_new new_data) = stays_new_data new_data
@@ -126,14 +126,14 @@ module _ {S F : Type 0} (view : S → StorageView) (backing : F → BackingView)
       stays : contents_in view new.file place ≡ contents_in view old.file place
       stays = by_standing (private_stands view backing old out p sound j r there_is o private)
 
-    goes_written : UnseenFillingStep view backing p p old new out
-    goes_written = record {
-      sound = sound_written view backing old out sound storage (host + at) bytes is no_table nothing_given honest time leads run.covers;
-      leads = leads;
-      since = since_written view backing old out sound storage (host + at) bytes is no_table nothing_given honest time leads run.covers;
+    image_step_written : UnseenFillingStep view backing p p old new out
+    image_step_written = record {
+      sound = sound_written view backing old out sound storage (host + at) bytes is no_table nothing_given honest time safe_step run.covers;
+      safe_step = safe_step;
+      since = since_written view backing old out sound storage (host + at) bytes is no_table nothing_given honest time safe_step run.covers;
       header = refl;
       covers = run.covers;
-      copied = λ i copied. same_l1_written view backing old out sound storage (host + at) bytes is no_table nothing_given honest time leads run.covers i;
+      copied = λ i copied. same_l1_written view backing old out sound storage (host + at) bytes is no_table nothing_given honest time safe_step run.covers i;
       below = refl;
       list = record { more = []; is = sym (append-nil old.file.free_list) };
       seen = same_guest _ _ (run.shows (backing_bytes view backing old.backing))
@@ -141,22 +141,22 @@ module _ {S F : Type 0} (view : S → StorageView) (backing : F → BackingView)
     }
 
   -- whether the write is there or isn't
-  pub goes_zeros : (new : Qcow2 S F) (r : Result (Unit {0}) ImageError) → WritesBytes view old new (host + at) bytes r → UnseenFillingStep view backing p p old new out
-  goes_zeros new r w =
+  pub image_step_zeros : (new : Qcow2 S F) (r : Result (Unit {0}) ImageError) → WritesBytes view old new (host + at) bytes r → UnseenFillingStep view backing p p old new out
+  image_step_zeros new r w =
       subst (λ (image : Qcow2 S F). UnseenFillingStep view backing p p old image out) (sym w.rest)
       (⊎_elim
-      (λ (same : (view_in view new.file).contents ≡ (view_in view old.file).contents). goes_kept view backing out old (record old { file = record old.file { storage = new.file.storage } }) p p sound holds holds
+      (λ (same : (view_in view new.file).contents ≡ (view_in view old.file).contents). image_step_kept view backing out old (record old { file = record old.file { storage = new.file.storage } }) p p sound holds holds
       (still_moved view backing old out p sound new.file.storage (w.honest sound.file.honest) (w.time sound.file.honest) same))
-      (λ (is : (view_in view new.file).contents ≡ overwritten (view_in view old.file).contents (host + at) bytes). goes_written new.file.storage (w.honest sound.file.honest) (w.time sound.file.honest) is)
+      (λ (is : (view_in view new.file).contents ≡ overwritten (view_in view old.file).contents (host + at) bytes). image_step_written new.file.storage (w.honest sound.file.honest) (w.time sound.file.honest) is)
       (written_or_not r (view_in view old.file).contents (overwritten (view_in view old.file).contents (host + at) bytes) (view_in view new.file).contents (w.written sound.file.honest)))
 
 -- so many zeros fill a part of it
-pub goes_filled : {S F : Type 0} (view : S → StorageView) (backing : F → BackingView) (out : List (Option Prepared)) (old new : Qcow2 S F) (p : Pending) → ImageInvariant view backing p old out → HoldsAll view backing p out → (offset host at n : ℕ) → IsKeptAlone view backing old out offset host
+pub image_step_filled : {S F : Type 0} (view : S → StorageView) (backing : F → BackingView) (out : List (Option Prepared)) (old new : Qcow2 S F) (p : Pending) → ImageInvariant view backing p old out → HoldsAll view backing p out → (offset host at n : ℕ) → IsKeptAlone view backing old out offset host
     → at + n ≤ cluster_size old.file.header.fields → (r : Result (Unit {0}) ImageError) → WritesBytes view old new (host + at) (replicate n 0) r → UnseenFillingStep view backing p p old new out
-goes_filled view backing out old new p sound holds offset host at n is_kept fits r w =
+image_step_filled view backing out old new p sound holds offset host at n is_kept fits r w =
     let zeros : List ℕ = replicate n 0 in
     let long = length-replicate {A = ℕ} n 0 in
-    goes_zeros view backing out old p sound holds offset host is_kept at (replicate n 0) (omega (arith, fits, long)) (λ i lt. get_or-replicate n i 0 0 (omega (arith, lt, long))) new r w
+    image_step_zeros view backing out old p sound holds offset host is_kept at (replicate n 0) (omega (arith, fits, long)) (λ i lt. get_or-replicate n i 0 0 (omega (arith, lt, long))) new r w
 
 module _ {S F : Type 0} (view : S → StorageView) (backing : F → BackingView) (out : List (Option Prepared)) (old new : Qcow2 S F) (p : Pending) (sound : ImageInvariant view backing p old out) (offset host length : ℕ) (overwrite : Bool)
     (kept : cover old.file.header.fields (known_in view old.file) (offset / cluster_size old.file.header.fields) ≡ Zero (Some (host, true))) where
@@ -166,7 +166,7 @@ module _ {S F : Type 0} (view : S → StorageView) (backing : F → BackingView)
   -- it begins where a cluster does
   pub host_whole : host / cluster_size hf * cluster_size hf ≡ host
   host_whole =
-      let none = kept_aligned (state_in view old.file p) sound.file.caches.kept.kept.guarded (offset / cluster_size hf) host kept in
+      let none = kept_aligned (state_in view old.file p) sound.file.caches.kept.kept.crash_invariant (offset / cluster_size hf) host kept in
       let is : host / cluster_size hf * cluster_size hf + host % cluster_size hf ≡ host = div-add-mod' host (cluster_size hf) in
       omega (arith, none, is)
 
@@ -189,7 +189,7 @@ module _ {S F : Type 0} (view : S → StorageView) (backing : F → BackingView)
       let whole = host_whole in
       let place : host / cluster_size hf * cluster_size hf + i ≡ host + part.start + (i - part.start) = omega (arith, whole, from) in
       ap (λ o. known_byte (contents_in view new.file o)) place ∙ ap known_byte (there (i - part.start) (omega (arith, long, from, below)) ∙ get_or-replicate (part.end - part.start) (i - part.start) 0 0 (omega (arith, from, below)))
-      ∙ sym (shown_zero (state_in view old.file p) sound.file.caches.kept.kept.guarded (backing_bytes view backing old.backing) (offset - offset % cluster_size hf + i) (Some (host, true))
+      ∙ sym (shown_zero (state_in view old.file p) sound.file.caches.kept.kept.crash_invariant (backing_bytes view backing old.backing) (offset - offset % cluster_size hf + i) (Some (host, true))
       (ap (cover hf (known_in view old.file)) (guest_byte i lt) ∙ kept)))
       (there_written view old new (host + part.start) (replicate (part.end - part.start) 0) r w sound.file.honest)
 

@@ -73,7 +73,7 @@ module _ {S F : Type 0} (view : S → StorageView) (backing : F → BackingView)
         absurd (omega (arith, mine, all, pins, unpinned)));
   }
 
-  module _ (mid : Qcow2 S F) (goes : UnseenFillingStep view backing before before old mid out) (caches : mid.file.caches ≡ old.file.caches) (list : mid.file.free_list ≡ old.file.free_list) (like : Prepared) (one : like.shares.items ≡ Kept ∷ []) (reach : host ≤ greatest_offset) (k length : ℕ) (overwrite : Bool)
+  module _ (mid : Qcow2 S F) (image_step : UnseenFillingStep view backing before before old mid out) (caches : mid.file.caches ≡ old.file.caches) (list : mid.file.free_list ≡ old.file.free_list) (like : Prepared) (one : like.shares.items ≡ Kept ∷ []) (reach : host ≤ greatest_offset) (k length : ℕ) (overwrite : Bool)
       (free : slice_get out k ≡ Some None) (filled : IsFilled view backing old mid (host / cluster_size old.file.header.fields) offset length overwrite) where
     abbrev hm : HeaderFields
     hm = mid.file.header.fields
@@ -82,13 +82,13 @@ module _ {S F : Type 0} (view : S → StorageView) (backing : F → BackingView)
     ready = mapping_at hm (number_of mid) table offset host like
 
     size : cluster_size hm ≡ cluster_size old.file.header.fields
-    size = size_format old.file.header.fields hm goes.header
+    size = size_format old.file.header.fields hm image_step.header
 
     found : IsSome (l2_at mid.file.caches table)
     found = subst (λ (c : MetadataCaches S). IsSome (l2_at c table)) (sym caches) holds.new_data
 
     holds_now : HoldsTable view backing mid offset table
-    holds_now = holds_still view backing out old mid before before offset table sound goes holds found
+    holds_now = holds_still view backing out old mid before before offset table sound image_step holds found
 
     unpinned_now : l2_pins mid.file.caches table ≡ 0
     unpinned_now = ap (λ (c : MetadataCaches S). l2_pins c table) caches ∙ unpinned
@@ -101,7 +101,7 @@ module _ {S F : Type 0} (view : S → StorageView) (backing : F → BackingView)
 
     stays_kept : cover hm (known_in view mid.file) (cluster_of hm ready + 0) ≡ Zero (Some (host, true))
     stays_kept = ap (cover hm (known_in view mid.file)) first_cluster ∙ ap (λ s. cover hm (known_in view mid.file) (offset / s)) size
-        ∙ cover_format old.file.header.fields hm goes.header (known_in view mid.file) (offset / cluster_size old.file.header.fields) ∙ sym (goes.covers (offset / cluster_size old.file.header.fields)) ∙ kept
+        ∙ cover_format old.file.header.fields hm image_step.header (known_in view mid.file) (offset / cluster_size old.file.header.fields) ∙ sym (image_step.covers (offset / cluster_size old.file.header.fields)) ∙ kept
 
     whole : host / cluster_size old.file.header.fields * cluster_size old.file.header.fields ≡ host
     whole = host_whole view backing out old old before sound offset host length overwrite kept
@@ -133,7 +133,7 @@ module _ {S F : Type 0} (view : S → StorageView) (backing : F → BackingView)
       old_values : (o : ℕ) → IsTrue (is_private view backing pinned ready o) → (overwrite && is_within offset (min length (cluster_size hm - offset % cluster_size hm)) o ≡ false) → (meaning view backing pinned ready).shown o ≡ (guest_of (abstract_of view backing old out)).disk.value o
       old_values o private opened =
           let more = pins.pins found unpinned_now in
-          let here = private_inside view backing old mid out k free before goes offset table host Kept like one holds_now unpinned_now stands new.file.caches pins.tables more now o private in
+          let here = private_inside view backing old mid out k free before image_step offset table host Kept like one holds_now unpinned_now stands new.file.caches pins.tables more now o private in
           let there = place_in hm ready o 0 (here ∙ sym first_cluster) in
           let begins : place_of hm ready o ≡ host / cluster_size old.file.header.fields * cluster_size hm + o % cluster_size hm = there ∙ ap (λ b. b + o % cluster_size hm) (sym place) in
           ap known_byte (cond-true _ _ _ private ∙ ap (contents_in view mid.file) begins)
@@ -143,8 +143,8 @@ module _ {S F : Type 0} (view : S → StorageView) (backing : F → BackingView)
       readied_kept =
           let more = pins.pins found unpinned_now in
           subst (λ (image : Qcow2 S F). IsReadied view backing old image out k offset length overwrite ready) (sym pins.rest)
-          (readied view backing old mid out k free before goes offset table host Kept like one holds_now unpinned_now stands new.file.caches pins.tables more now length overwrite
-          (prepared_by view backing old mid out k free before goes offset table host Kept like one holds_now unpinned_now stands new.file.caches pins.tables more now length overwrite old_values))
+          (readied view backing old mid out k free before image_step offset table host Kept like one holds_now unpinned_now stands new.file.caches pins.tables more now length overwrite
+          (prepared_by view backing old mid out k free before image_step offset table host Kept like one holds_now unpinned_now stands new.file.caches pins.tables more now length overwrite old_values))
 
 -- ---- the cluster behind a mapping that is out
 module _ {S F : Type 0} (view : S → StorageView) (backing : F → BackingView) (old : Qcow2 S F) (out : List (Option Prepared)) (k : ℕ) (p : Prepared) (at : slice_get out k ≡ Some (Some p)) (n table : ℕ) (overwrite : Bool) (may : MayGoOn old.file.header.fields n table p)
@@ -188,12 +188,12 @@ module _ {S F : Type 0} (view : S → StorageView) (backing : F → BackingView)
     pub behind_alone : IsKeptAlone view backing old out (p.guest + p.length) host
     behind_alone = record { kept = kept; alone = alone_at }
 
-    module _ (new : Qcow2 S F) (goes : UnseenFillingStep view backing behind behind old new out) (list : new.file.free_list ≡ old.file.free_list) (filled : IsFilled view backing old new (host / cluster_size h) (p.guest + p.length) (n - p.length) overwrite) where
+    module _ (new : Qcow2 S F) (image_step : UnseenFillingStep view backing behind behind old new out) (list : new.file.free_list ≡ old.file.free_list) (filled : IsFilled view backing old new (host / cluster_size h) (p.guest + p.length) (n - p.length) overwrite) where
       abbrev hn : HeaderFields
       hn = new.file.header.fields
 
       size_still : cluster_size hn ≡ cluster_size h
-      size_still = size_format h hn goes.header
+      size_still = size_format h hn image_step.header
 
       whole_there : host / cluster_size h * cluster_size h ≡ host
       whole_there = host_whole view backing out old old behind sound (p.guest + p.length) host n overwrite kept
@@ -206,13 +206,13 @@ module _ {S F : Type 0} (view : S → StorageView) (backing : F → BackingView)
 
       cluster_there : cover hn (known_in view new.file) (cluster_of hn p + count) ≡ Zero (Some (host, true))
       cluster_there =
-          ap (λ s. cover hn (known_in view new.file) (p.guest / s + count)) size_still ∙ cover_format h hn goes.header (known_in view new.file) (cluster_of h p + count) ∙ sym (goes.covers (cluster_of h p + count))
+          ap (λ s. cover hn (known_in view new.file) (p.guest / s + count)) size_still ∙ cover_format h hn image_step.header (known_in view new.file) (cluster_of h p + count) ∙ sym (image_step.covers (cluster_of h p + count))
           ∙ ap (cover h (known_in view old.file)) (sym (next_cluster view backing old out k p at n table overwrite may sound)) ∙ kept
 
       pub behind_kept : StandsBehind view backing old new out n overwrite p Kept
       behind_kept = record {
         pending = behind;
-        goes = goes;
+        image_step = image_step;
         new_data = λ c. omega arith;
         new_tables = λ c. refl;
         old_tables = λ c. ap (λ (l : List ClustersToFreeEntry). to_free of_tables l c) (sym list);

@@ -40,7 +40,7 @@ use Rattle.qcow2_laws.proofs.Places.{Sizes, cover_none}
 use Rattle.qcow2_laws.proofs.Shares.{shares, in_l1, l1_has, l1_reftable, table_has, block_has, count_stays}
 use Rattle.qcow2_laws.proofs.Steps.{table_is_named}
 use Rattle.qcow2_laws.proofs.Unseen.{unseen_l2_table}
-use Rattle.qcow2_laws.proofs.SafeSteps.{done_endures, write_endures}
+use Rattle.qcow2_laws.proofs.SafeSteps.{done_safe_throughout, write_safe_throughout}
 use Rattle.qcow2_metadata.specs.Tables.{CachedTable}
 use Rattle.qcow2_alloc.specs.declared.allocation.Allocator.{Allocator}
 use Rattle.qcow2_alloc.specs.declared.image_storage.ImageStorage.{ImageStorage}
@@ -130,7 +130,7 @@ module _ {S F : Type 0} (view : S → StorageView) (backing : F → BackingView)
   reads =
       let value = enters.entry_is ∙ ap (λ n. copied_entry (at * 2 ^ n)) sound.l1_table.bits in
       let near = subst (λ n. IsHostCluster n at) sound.l1_table.bits nameable in
-      let aligned = on_sector at h.cluster_bits sound.file.caches.kept.kept.guarded.top.header_reads.well_formed.in_range.cluster_bits.0 in
+      let aligned = on_sector at h.cluster_bits sound.file.caches.kept.kept.crash_invariant.top.header_reads.well_formed.in_range.cluster_bits.0 in
       (omega (arith, value, near, aligned), omega (arith, value, near, aligned))
 
   -- what the new table says, on the storage and as known
@@ -155,7 +155,7 @@ module _ {S F : Type 0} (view : S → StorageView) (backing : F → BackingView)
   stored g here = elim (cases_eq (table_at h on_storage index) 0) [
     | inl none ↦
         let at_storage : table_at h on_storage (g / entries_per_cluster h) ≡ 0 = ap (table_at h on_storage) here ∙ none in
-        let at_known = ap host_offset (sym (sound.file.caches.kept.kept.guarded.same_top.l1 (g / entries_per_cluster h))) ∙ at_storage in
+        let at_known = ap host_offset (sym (sound.file.caches.kept.kept.crash_invariant.same_top.l1 (g / entries_per_cluster h))) ∙ at_storage in
         cover_none h on_storage g at_storage ∙ sym (cover_none h known g at_known)
     | inr real ↦ shared_covers h (order_of old.file.caches) q (l2_tables old.file.caches) (refblocks old.file.caches) on_storage sound.file.caches.kept.kept index (λ copied. may (real, copied)) g here
   ]
@@ -193,7 +193,7 @@ module _ {S F : Type 0} (view : S → StorageView) (backing : F → BackingView)
     but = subst (λ (l : List ℕ). IsSameBut (h.l1_offset + 8 * index) 8 on_storage (byte_at l)) (sym is) (overwritten_but (view_in view old.file).contents (h.l1_offset + 8 * index) (to_be_bytes w64 entry))
 
     outside : IsSameOutside (cluster_size h) written_to on_storage on_storage'
-    outside = outside_eight (cluster_size h) h.l1_offset index on_storage on_storage' sizes.whole sizes.some sound.file.caches.kept.kept.guarded.top.l1_aligned but
+    outside = outside_eight (cluster_size h) h.l1_offset index on_storage on_storage' sizes.whole sizes.some sound.file.caches.kept.kept.crash_invariant.top.l1_aligned but
 
     stays_in : (c : ℕ) → c ≢ written_to → SameIn (cluster_size h) c on_storage on_storage'
     stays_in c other o in_c = outside o (λ e. other (sym in_c ∙ e))
@@ -212,22 +212,22 @@ module _ {S F : Type 0} (view : S → StorageView) (backing : F → BackingView)
     fewer : renamed q (λ c. table_in h c (host_offset entry)) (λ c. table_in h c (table_at h on_storage index)) ≡ replacing view p old index
     fewer = pending_same _ (replacing view p old index) (λ k. refl) (λ k. let one = ap (table_in h k) place ∙ table_alone h at k real in omega (arith, one)) (λ k. refl) (λ k. refl) (λ k. refl)
 
-    leads : SafeStep (state_in view old.file q) (state_in view named.file (replacing view p old index)) nothing_given []
-    leads = subst (λ (r : Pending). SafeStep (state_in view old.file q) (state_in view named.file r) nothing_given []) fewer
-        (table_is_named.l2_table (state_in view old.file q) on_storage' (known_in view named.file) index entry sound.file.caches.kept.kept.guarded writes new_table)
+    safe_step : SafeStep (state_in view old.file q) (state_in view named.file (replacing view p old index)) nothing_given []
+    safe_step = subst (λ (r : Pending). SafeStep (state_in view old.file q) (state_in view named.file r) nothing_given []) fewer
+        (table_is_named.l2_table (state_in view old.file q) on_storage' (known_in view named.file) index entry sound.file.caches.kept.kept.crash_invariant writes new_table)
 
     unseen : IsUnseen (state_in view old.file q) (state_in view named.file (replacing view p old index))
-    unseen = unseen_l2_table (state_in view old.file q) (state_in view named.file (replacing view p old index)) sound.file.caches.kept.kept.guarded index entry refl writes new_table
+    unseen = unseen_l2_table (state_in view old.file q) (state_in view named.file (replacing view p old index)) sound.file.caches.kept.kept.crash_invariant index entry refl writes new_table
 
     -- ---- the caches
     part : 1 ≤ in_l1 h written_to
-    part = let one = l1_has h index sizes sound.file.caches.kept.kept.guarded.top.l1_aligned within_table in omega (arith, one)
+    part = let one = l1_has h index sizes sound.file.caches.kept.kept.crash_invariant.top.l1_aligned within_table in omega (arith, one)
 
     once : named_for_tables h on_storage written_to ≡ 1
-    once = let parts = shares h on_storage written_to in let one = part in table_once h (order_of old.file.caches) q on_storage known sound.file.caches.kept.kept.guarded written_to (omega (arith, parts, one))
+    once = let parts = shares h on_storage written_to in let one = part in table_once h (order_of old.file.caches) q on_storage known sound.file.caches.kept.kept.crash_invariant written_to (omega (arith, parts, one))
 
     reftable_same : (k : ℕ) → reftable_entry h on_storage k ≡ reftable_entry h on_storage' k
-    reftable_same = l1_reftable h on_storage on_storage' sound.file.caches.kept.kept.guarded.top written_to part (let one = once in omega (arith, one)) stays_in
+    reftable_same = l1_reftable h on_storage on_storage' sound.file.caches.kept.kept.crash_invariant.top written_to part (let one = once in omega (arith, one)) stays_in
 
     apart : (c : ℕ) → 0 < named_by_l1_table h on_storage c + named_by_reftable h on_storage c → c ≢ written_to
     apart c some here =
@@ -294,7 +294,7 @@ module _ {S F : Type 0} (view : S → StorageView) (backing : F → BackingView)
       rb_fit = sound.file.caches.rb_fit;
       kept = record {
         kept =
-            kept_beside h h (order_of old.file.caches) (order_of old.file.caches) q (replacing view p old index) (l2_tables old.file.caches) (refblocks old.file.caches) on_storage on_storage' sound.file.caches.kept.kept refl leads.sound
+            kept_beside h h (order_of old.file.caches) (order_of old.file.caches) q (replacing view p old index) (l2_tables old.file.caches) (refblocks old.file.caches) on_storage on_storage' sound.file.caches.kept.kept refl safe_step.sound
             (λ c has. inr (still_named c has)) (λ c either. inl (clean_free (cluster_size h) (refblocks old.file.caches) ready.stored.counts c));
         l2_loaded = loaded_named (cluster_size h) (HasL2 h on_storage) (HasL2 h on_storage') on_storage on_storage' (l2_tables old.file.caches) l2_now sound.file.caches.kept.l2_loaded;
         rb_loaded = loaded_named (cluster_size h) (HasBlock h on_storage) (HasBlock h on_storage') on_storage on_storage' (refblocks old.file.caches) rb_now sound.file.caches.kept.rb_loaded;
@@ -308,7 +308,7 @@ module _ {S F : Type 0} (view : S → StorageView) (backing : F → BackingView)
     -- no refblock stands where the entry is written
     storage_counts : (k : ℕ) → count h on_storage k ≡ count h on_storage' k
     storage_counts k =
-        count_stays h on_storage on_storage' sound.file.caches.kept.kept.guarded.top k (reftable_same (k / counts_per_block h))
+        count_stays h on_storage on_storage' sound.file.caches.kept.kept.crash_invariant.top k (reftable_same (k / counts_per_block h))
         (λ real o in_block. sym (back_in (block_offset (reftable_entry h on_storage (k / counts_per_block h)) / cluster_size h) (let one = block_has h on_storage (k / counts_per_block h) real in omega (arith, one)) o in_block))
 
     reftable_named : (a : Option Allocator) → IfSome a (IsAllocatorOf view old.file) → IfSome a (IsAllocatorOf view named.file)
@@ -329,13 +329,13 @@ module _ {S F : Type 0} (view : S → StorageView) (backing : F → BackingView)
 
     ready_named : (j : ℕ) (r : Prepared) → IsReadyWith h known on_storage r r.table → IsReadyWith h (known_in view named.file) on_storage' r r.table
     ready_named j r is_ready =
-        still_ready h known on_storage (known_in view named.file) on_storage' r sound.file.caches.kept.kept.guarded.same_top.l1 leads.sound.same_top.l1 own_stays (λ i. unseen.covers (cluster_of h r + i)) r.table is_ready
+        still_ready h known on_storage (known_in view named.file) on_storage' r sound.file.caches.kept.kept.crash_invariant.same_top.l1 safe_step.sound.same_top.l1 own_stays (λ i. unseen.covers (cluster_of h r + i)) r.table is_ready
 
     pub keeps_named : (view (storage_of storage)).is_honest → EachMomentSince (view_in view old.file) (view (storage_of storage)) (λ c. c ≡ (view (storage_of storage)).contents) → UnseenStep view backing q (replacing view p old index) old named out
     keeps_named honest time = record {
       sound = record {
         works = sound.works;
-        file = record { honest = honest; caches = caches_named; settled = λ c. inl (clean_free (cluster_size h) (refblocks old.file.caches) ready.stored.counts c); room = sound.file.room };
+        file = record { honest = honest; caches = caches_named; named_blocks = λ c. inl (clean_free (cluster_size h) (refblocks old.file.caches) ready.stored.counts c); room = sound.file.room };
         l1_table = l1_named;
         reftable = reftable_named old.allocator sound.reftable;
         below = sound.below;
@@ -343,8 +343,8 @@ module _ {S F : Type 0} (view : S → StorageView) (backing : F → BackingView)
         pinned = sound.pinned;
         once = sound.once;
       };
-      leads = leads;
-      since = done_endures (view_in view old.file) (view (storage_of storage)) (state_in view old.file q) (state_in view named.file (replacing view p old index)) nothing_given [] time refl refl leads;
+      safe_step = safe_step;
+      since = done_safe_throughout (view_in view old.file) (view (storage_of storage)) (state_in view old.file q) (state_in view named.file (replacing view p old index)) nothing_given [] time refl refl safe_step;
       unseen = unseen;
       copied = own_stays;
       below = refl;
@@ -368,14 +368,14 @@ module _ {S F : Type 0} (view : S → StorageView) (backing : F → BackingView)
     changes : Changes (view_in view old.file) (view (storage_of storage)) result (overwritten (view_in view old.file).contents (h.l1_offset + 8 * index) (to_be_bytes w64 entry))
     changes =
         let few : 0 < h.l1_entries = let e = sound.l1_table.count in omega (arith, within, e) in
-        let aligned = sound.file.caches.kept.kept.guarded.top.l1_aligned in
+        let aligned = sound.file.caches.kept.kept.crash_invariant.top.l1_aligned in
         entry_write_as view (storage_of old.file.storage) asked (storage_of storage) t'.cluster (h.l1_offset / cluster_size h) t'.cluster_bits h.cluster_bits h.l1_offset (8 * index) (to_be_bytes w64 entry) result before
         (ap (λ (x : EntryTableView). x.cluster) same ∙ sound.l1_table.cluster few) (ap (λ (x : EntryTableView). x.cluster_bits) same ∙ sound.l1_table.bits) (let e = div-add-mod' h.l1_offset (cluster_size h) in omega (arith, e, aligned)) wrote
 
-    pub endures_named : SafeThroughout (view_in view old.file) (view (storage_of storage)) known nothing_given []
-    endures_named =
-        write_endures {result = result} (view_in view old.file) (view (storage_of storage)) (state_in view old.file q) nothing_given [] (overwritten (view_in view old.file).contents (h.l1_offset + 8 * index) (to_be_bytes w64 entry)) calls changes
-        sound.file.honest refl (λ is. (state_in view (record old.file { storage = storage }) (replacing view p old index), refl, leads storage is))
+    pub safe_throughout_named : SafeThroughout (view_in view old.file) (view (storage_of storage)) known nothing_given []
+    safe_throughout_named =
+        write_safe_throughout {result = result} (view_in view old.file) (view (storage_of storage)) (state_in view old.file q) nothing_given [] (overwritten (view_in view old.file).contents (h.l1_offset + 8 * index) (to_be_bytes w64 entry)) calls changes
+        sound.file.honest refl (λ is. (state_in view (record old.file { storage = storage }) (replacing view p old index), refl, safe_step storage is))
 
     pub named_so : (x : Unit {0}) → result ≡ Ok x → UnseenStep view backing q (replacing view p old index) old (record old { file = record old.file { storage = storage }; l1_table = t' }) out × NamesCopied view (record old { file = record old.file { storage = storage }; l1_table = t' }) index at
     named_so x done = let is = rw done at (changes sound.file.honest) in (keeps_named storage is (calls.honest sound.file.honest) (calls.time sound.file.honest), names_copied storage is)

@@ -17,7 +17,7 @@ use Rattle.qcow2_disk.specs.Mappings.{PreparedMapping, IsPrepared}
 use Rattle.qcow2_laws.specs.Unseen.{KeepsFormat}
 use Rattle.qcow2_disk.proofs.Compose.{works_then, stops_as}
 use Rattle.qcow2_alloc.specs.ImageFile.{contents_in, known_in, state_in, KeepsHeader}
-use Rattle.qcow2_alloc.proofs.Following.{header_format, header_then}
+use Rattle.qcow2_alloc.proofs.ListedAfter.{header_format, header_then}
 use Rattle.qcow2_alloc.specs.declared.error.ImageError.{ImageError}
 use Rattle.qcow2_image.specs.declared.image.Qcow2.{Qcow2}
 use Rattle.qcow2_image.specs.declared.prepared.Prepared.{Prepared}
@@ -26,11 +26,11 @@ use Rattle.qcow2_image.specs.Image.{ImageStays}
 use Rattle.qcow2_image.specs.Calls.{Discards}
 use Rattle.qcow2_image.specs.CallParts.{IsReadied, RefusedCall, UnseenCall}
 use Rattle.qcow2_image.specs.ImageInvariant.{cluster_of, pending_in, abstract_of, meaning, IsPending, IsReadyWith, ImageInvariant}
-use Rattle.qcow2_image.specs.Ranges.{BreaksOff, Ends, HasRoomForRange, IsExtended, IsFirst, IsLongerMapping, IsNext, EndsWithCluster, LetsGo, MayGoOn}
+use Rattle.qcow2_image.specs.Ranges.{BreaksOff, Ends, HasRoomForRange, IsExtended, IsFirst, IsLongerMapping, IsNext, EndsWithCluster, ReleasesOneMapping, MayGoOn}
 use Rattle.qcow2_image.specs.MovedTables.{MovesTables, CoversStay}
 use Rattle.qcow2_image.proofs.Call.Answered.{same_guest}
 use Rattle.qcow2_image.proofs.Call.Slots.{get_set_same, set_same, set_set}
-use Rattle.qcow2_image.proofs.Moved.{moves_then, format_moves, stay_then, format_stay}
+use Rattle.qcow2_image.proofs.Moved.{file_step_then, format_file_step, stay_then, format_stay}
 use Rattle.qcow2_image.proofs.Free.{free_places}
 use Rattle.qcow2_image.proofs.Prepare.Extending.{length_behind}
 use Rattle.qcow2_image.proofs.Prepare.PreparedAs.{entries_some, rest_as}
@@ -70,7 +70,7 @@ module _ {S F : Type 0} (view : S → StorageView) (backing : F → BackingView)
         works = works_then (abstract_of view backing start out) (abstract_of view backing mid out1) (abstract_of view backing new (slice_set out k (Some q))) [] [] first.sound first.works
             (subst (λ l. EffectOnSound (abstract_of view backing mid out1) (abstract_of view backing new l) [] []) end is.works);
         sound = subst (λ l. ImageInvariant view backing (pending_in view backing new l) new l) end is.sound;
-        header = moves_then start.file.header.fields mid.file.header.fields new.file.header.fields first.header (format_moves mid.file.header.fields new.file.header.fields is.header);
+        header = file_step_then start.file.header.fields mid.file.header.fields new.file.header.fields first.header (format_file_step mid.file.header.fields new.file.header.fields is.header);
         covers = stay_then start.file.header.fields mid.file.header.fields new.file.header.fields (known_in view start.file) (known_in view mid.file) (known_in view new.file) first.covers
             (format_stay mid.file.header.fields new.file.header.fields (known_in view mid.file) (known_in view new.file) is.header is.covers);
         prepared = subst (λ o. IsPrepared (cluster_size start.file.header.fields) (guest_of (abstract_of view backing start out)).disk o n overwrite m) (sym guest)
@@ -89,22 +89,22 @@ module _ {S F : Type 0} (view : S → StorageView) (backing : F → BackingView)
       record {
         works = works_then (abstract_of view backing start out) (abstract_of view backing mid out1) (abstract_of view backing new out1) [] [] first.sound first.works still.works;
         sound = still.sound;
-        header = moves_then start.file.header.fields mid.file.header.fields new.file.header.fields first.header still.header;
+        header = file_step_then start.file.header.fields mid.file.header.fields new.file.header.fields first.header still.header;
         covers = stay_then start.file.header.fields mid.file.header.fields new.file.header.fields (known_in view start.file) (known_in view mid.file) (known_in view new.file) first.covers still.covers;
         prepared = subst (λ m. IsPrepared (cluster_size start.file.header.fields) (guest_of (abstract_of view backing start out)).disk p.guest n overwrite m) (sym means) first.prepared;
         is = still.same ∙ first.is ∙ ap (λ m. with_slot (guest_of (abstract_of view backing start out)) k (Some m)) (sym means);
       }
 
   -- it is let go after a refusal
-  module _ (end : Qcow2 S F) (e : ImageError) (lets : LetsGo view new end) (gone : Discards view backing new end p) where
+  module _ (end : Qcow2 S F) (e : ImageError) (lets : ReleasesOneMapping view new end) (gone : Discards view backing new end p) where
     abbrev a : Guest
     a = guest_of (abstract_of view backing start out)
 
     same_out : slice_set (slice_set out k (Some p)) k None ≡ out
     same_out = set_set out k (Some p) None ∙ set_same out k None free
 
-    let_go_still : UnseenCall view backing mid new out1 → UnseenCall view backing start end out
-    let_go_still still =
+    release_prepared_still : UnseenCall view backing mid new out1 → UnseenCall view backing start end out
+    release_prepared_still still =
         let done = gone out1 k (get_set_same out k (Some p) None free) in
         let answer = done.answer still.sound in
         let header : end.file.header.fields ≡ new.file.header.fields = ap (λ (m : Qcow2 S F). m.file.header.fields) lets.rest in
@@ -115,14 +115,14 @@ module _ {S F : Type 0} (view : S → StorageView) (backing : F → BackingView)
           sound = subst (λ l. ImageInvariant view backing (pending_in view backing end l) end l) same_out answer.0;
           same = ap (λ l. guest_of (abstract_of view backing end l)) (sym same_out) ∙ answer.1 ∙ ap (λ (x : Guest). with_slot x k None) (still.same ∙ first.is) ∙ slot_twice a k (Some (meaning view backing mid p)) None
               ∙ slot_back a k None (ap (meaning_at (meaning view backing start)) free);
-          header = subst (λ x. MovesTables start.file.header.fields x) (sym header) (moves_then start.file.header.fields mid.file.header.fields new.file.header.fields first.header still.header);
+          header = subst (λ x. MovesTables start.file.header.fields x) (sym header) (file_step_then start.file.header.fields mid.file.header.fields new.file.header.fields first.header still.header);
           covers = subst (λ x. CoversStay start.file.header.fields (known_in view start.file) x (known_in view end.file)) (sym header) (subst (λ b. CoversStay start.file.header.fields (known_in view start.file) new.file.header.fields b) (sym lets.known)
               (stay_then start.file.header.fields mid.file.header.fields new.file.header.fields (known_in view start.file) (known_in view mid.file) (known_in view new.file) first.covers still.covers));
         }
 
     -- a failed image is as it was, but for its caches
-    let_go_failed : EffectOnSound (abstract_of view backing mid out1) (abstract_of view backing (record new { is_failed = true }) out1) [] [] → EffectOnSound (abstract_of view backing mid out1) (abstract_of view backing (record end { is_failed = true }) out) [] []
-    let_go_failed works = subst (λ (m : Qcow2 S F). EffectOnSound (abstract_of view backing mid out1) (abstract_of view backing (record m { is_failed = true }) out) [] []) (sym lets.rest)
+    release_prepared_failed : EffectOnSound (abstract_of view backing mid out1) (abstract_of view backing (record new { is_failed = true }) out1) [] [] → EffectOnSound (abstract_of view backing mid out1) (abstract_of view backing (record end { is_failed = true }) out) [] []
+    release_prepared_failed works = subst (λ (m : Qcow2 S F). EffectOnSound (abstract_of view backing mid out1) (abstract_of view backing (record m { is_failed = true }) out) [] []) (sym lets.rest)
         (record {
           setting = works.setting;
           surplus = λ now. absurd (let f : true ≡ false = now.works in cc);
@@ -131,18 +131,18 @@ module _ {S F : Type 0} (view : S → StorageView) (backing : F → BackingView)
               stops_as (abstract_of view backing mid out1) (abstract_of view backing (record new { is_failed = true }) out1) (abstract_of view backing mid out1) left [] [] refl refl refl (λ now. absurd (let f : true ≡ false = now.works in cc)) m (works.stops m starts);
         })
 
-    pub let_go_refused : RefusedCall view backing mid new out1 e → RefusedCall view backing start end out e
-    let_go_refused (inl still) = inl (let_go_still still)
-    let_go_refused (inr broke) = inr (record {
-      fault = broke.fault;
-      noted = λ memory. lets.changed ∙ broke.noted memory;
-      works = works_then (abstract_of view backing start out) (abstract_of view backing mid out1) (abstract_of view backing (record end { is_failed = true }) out) [] [] first.sound first.works (let_go_failed broke.works);
+    pub release_prepared_refused : RefusedCall view backing mid new out1 e → RefusedCall view backing start end out e
+    release_prepared_refused (inl still) = inl (release_prepared_still still)
+    release_prepared_refused (inr interruption) = inr (record {
+      fault = interruption.fault;
+      noted = λ memory. lets.changed ∙ interruption.noted memory;
+      works = works_then (abstract_of view backing start out) (abstract_of view backing mid out1) (abstract_of view backing (record end { is_failed = true }) out) [] [] first.sound first.works (release_prepared_failed interruption.works);
     })
 
 -- so it is after any part
-pub let_go_broken : {S F : Type 0} (view : S → StorageView) (backing : F → BackingView) (start new end : Qcow2 S F) (out : List (Option Prepared)) (k n : ℕ) (overwrite : Bool) (q : Prepared) (e : ImageError) → slice_get out k ≡ Some None → LetsGo view new end → Discards view backing new end q
+pub release_prepared_broken : {S F : Type 0} (view : S → StorageView) (backing : F → BackingView) (start new end : Qcow2 S F) (out : List (Option Prepared)) (k n : ℕ) (overwrite : Bool) (q : Prepared) (e : ImageError) → slice_get out k ≡ Some None → ReleasesOneMapping view new end → Discards view backing new end q
     → BreaksOff view backing start new out k n overwrite q e → RefusedCall view backing start end out e
-let_go_broken view backing start new end out k n overwrite q e free lets gone broke = let_go_refused view backing start broke.mid new out k n overwrite q free broke.readied end e lets gone broke.refused
+release_prepared_broken view backing start new end out k n overwrite q e free lets gone interruption = release_prepared_refused view backing start interruption.mid new out k n overwrite q free interruption.readied end e lets gone interruption.refused
 
 -- ---- cluster by cluster
 
@@ -152,7 +152,7 @@ pub record IsSoFar {S F : Type 0} (view : S → StorageView) (backing : F → Ba
   pub header : KeepsHeader old.file.header now.file.header
   pub longer : IsLongerMapping old.file.header.fields n p q
   pub room : p.guest % cluster_size old.file.header.fields + end < vec_capacity q.shares * cluster_size old.file.header.fields
-  pub goes : (start : Qcow2 S F) (out : List (Option Prepared)) (k : ℕ) → slice_get out k ≡ Some None → p.table ≡ Some table → IsReadied view backing start old out k p.guest n overwrite p → IsReadied view backing start now out k q.guest n overwrite q
+  pub image_step : (start : Qcow2 S F) (out : List (Option Prepared)) (k : ℕ) → slice_get out k ≡ Some None → p.table ≡ Some table → IsReadied view backing start old out k p.guest n overwrite p → IsReadied view backing start now out k q.guest n overwrite q
 
 pos_mul : (a b : ℕ) → 0 < a → 0 < b → 0 < a * b
 pos_mul a b some any =
@@ -208,7 +208,7 @@ module _ {S F : Type 0} (view : S → StorageView) (backing : F → BackingView)
       -- it may go on
       pub may_go_on : (start : Qcow2 S F) (out : List (Option Prepared)) (k : ℕ) → p.table ≡ Some table → IsReadied view backing start old out k p.guest n overwrite p → MayGoOn now.file.header.fields n table q
       may_go_on start out k under is =
-          let any = entries_some (state_in view old.file (pending_in view backing old (slice_set out k (Some p)))) is.sound.file.caches.kept.kept.guarded in
+          let any = entries_some (state_in view old.file (pending_in view backing old (slice_set out k (Some p)))) is.sound.file.caches.kept.kept.crash_invariant in
           let reach = rest_as (cluster_size h) (entries_per_cluster h) p.guest (pow_pos h.cluster_bits) any in
           let w = whole in
           let g = guest_same in
@@ -223,7 +223,7 @@ module _ {S F : Type 0} (view : S → StorageView) (backing : F → BackingView)
 
       -- and it is longer
       module _ (new : Qcow2 S F) (r : Prepared) (stays : ImageStays now new) (header : KeepsHeader now.file.header new.file.header) (next : IsNext now.file.header.fields n q r) (same : vec_capacity r.shares ≡ vec_capacity q.shares)
-          (goes : (out : List (Option Prepared)) (k : ℕ) → slice_get out k ≡ Some (Some q) → MayGoOn now.file.header.fields n table q → ImageInvariant view backing (pending_in view backing now out) now out → IsExtended view backing now new out k n overwrite q r) where
+          (image_step : (out : List (Option Prepared)) (k : ℕ) → slice_get out k ≡ Some (Some q) → MayGoOn now.file.header.fields n table q → ImageInvariant view backing (pending_in view backing now out) now out → IsExtended view backing now new out k n overwrite q r) where
         length_is : r.length ≡ min n (q.length + cluster_size h)
         length_is = ap (λ (x : Prepared). x.length) next.rest ∙ ap (λ s. min n (q.length + s)) size
 
@@ -256,9 +256,9 @@ module _ {S F : Type 0} (view : S → StorageView) (backing : F → BackingView)
             whole = r_whole;
           };
           room = subst (λ m. p.guest % cluster_size h + end < m * cluster_size h) (sym same) so.room;
-          goes = λ start out k free under is.
-              let before = so.goes start out k free under is in
-              readied_on view backing start now new out k n overwrite q free before r r_guest (goes (slice_set out k (Some q)) k (get_set_same out k (Some q) None free) (may_go_on start out k under is) before.sound);
+          image_step = λ start out k free under is.
+              let before = so.image_step start out k free under is in
+              readied_on view backing start now new out k n overwrite q free before r r_guest (image_step (slice_set out k (Some q)) k (get_set_same out k (Some q) None free) (may_go_on start out k under is) before.sound);
         }
 
       -- or nothing can stand behind it
@@ -266,14 +266,14 @@ module _ {S F : Type 0} (view : S → StorageView) (backing : F → BackingView)
           → (MayGoOn now.file.header.fields n table q → ImageInvariant view backing (pending_in view backing now (slice_set out k (Some q))) now (slice_set out k (Some q)) → UnseenCall view backing now new (slice_set out k (Some q)) × Ends view new q)
           → IsReadied view backing start new out k q.guest n overwrite q × (q.length < n → Ends view new q)
       so_far_ends new start out k free under is found =
-          let before = so.goes start out k free under is in
+          let before = so.image_step start out k free under is in
           let both = found (may_go_on start out k under is) before.sound in
           (readied_still view backing start now new out k n overwrite q free before both.0, λ short. both.1)
 
     -- it reaches to the end of its range, or of its table
     module _ (start : Qcow2 S F) (out : List (Option Prepared)) (k : ℕ) (free : slice_get out k ≡ Some None) (under : p.table ≡ Some table) (is : IsReadied view backing start old out k p.guest n overwrite p) (all : end ≤ q.length) where
       before : IsReadied view backing start now out k q.guest n overwrite q
-      before = so.goes start out k free under is
+      before = so.image_step start out k free under is
 
       abbrev hn : HeaderFields
       hn = now.file.header.fields
@@ -282,7 +282,7 @@ module _ {S F : Type 0} (view : S → StorageView) (backing : F → BackingView)
       reaches_end short =
           let sound = before.sound in
           let pending : IsPending hn (known_in view now.file) (contents_in view now.file) q table = subst (IsReadyWith hn (known_in view now.file) (contents_in view now.file) q) (so.longer.under ∙ under) (sound.ready k q (get_set_same out k (Some q) None free)).mapped in
-          let any = entries_some (state_in view now.file (pending_in view backing now (slice_set out k (Some q)))) sound.file.caches.kept.kept.guarded in
+          let any = entries_some (state_in view now.file (pending_in view backing now (slice_set out k (Some q)))) sound.file.caches.kept.kept.crash_invariant in
           let reach = rest_as (cluster_size hn) (entries_per_cluster hn) q.guest (pow_pos hn.cluster_bits) any in
           let rest : rest_of_table h p.guest ≡ rest_of_table hn q.guest = subst (λ (x : HeaderFields). rest_of_table h p.guest ≡ rest_of_table x q.guest) (sym format) (ap (rest_of_table h) (sym so.longer.guest)) in
           let few = pending.within in
@@ -329,4 +329,4 @@ module _ {S F : Type 0} (view : S → StorageView) (backing : F → BackingView)
     header = still.header;
     covers = still.covers;
   })
-  refused_free e (inr broke) = inr (record { fault = broke.fault; noted = broke.noted; works = works_free (record new { is_failed = true }) broke.works })
+  refused_free e (inr interruption) = inr (record { fault = interruption.fault; noted = interruption.noted; works = works_free (record new { is_failed = true }) interruption.works })

@@ -16,7 +16,7 @@ use Rattle.qcow2_metadata.specs.TableBytes.{entry_at}
 use Rattle.qcow2_metadata.proofs.MadeEntries.{cover_of-0}
 use Rattle.qcow2_laws.specs.CrashInvariant.{Pending}
 use Rattle.qcow2_laws.specs.Guests.{table_at}
-use Rattle.qcow2_laws.proofs.SafeSteps.{leads_none}
+use Rattle.qcow2_laws.proofs.SafeSteps.{safe_step_none}
 use Rattle.qcow2_laws.proofs.Places.{Sizes, Sizes-from, cover_none, cover_in}
 use Rattle.qcow2_laws.proofs.Tops.{IsTop-top}
 use Rattle.qcow2_alloc.specs.declared.cache.MetadataCaches.{MetadataCaches}
@@ -36,7 +36,7 @@ use Rattle.qcow2_image.specs.UnseenSteps.{NamesOwn, UnseenStep, RefusedStep, pen
 use Rattle.qcow2_image.specs.Found.{l1_index_of}
 use Rattle.qcow2_image.specs.ImageInvariant.{ImageInvariant}
 use Rattle.qcow2_image.proofs.Call.Called.{keeps_then}
-use Rattle.qcow2_image.proofs.Prepare.Entering.{keeps_none, as_following, breaks_on, same_l1, keeps_listed, given_up, freed_table}
+use Rattle.qcow2_image.proofs.Prepare.Entering.{keeps_none, as_listed_after, interrupted_on, same_l1, keeps_listed, given_up, freed_table}
 use Rattle.qcow2_image.proofs.Map.Loading.{caches_moved, with_caches}
 use Rattle.qcow2_image.proofs.Prepare.Naming.{table_alone}
 
@@ -54,13 +54,13 @@ module _ {S F : Type 0} (view : S → StorageView) (backing : F → BackingView)
 
   -- nothing was done
   pub left_alone : (e : ImageError) → RefusedStep view backing p old old out e
-  left_alone e = inl (as_following view backing out p old old refl (keeps_none view backing out p old sound))
+  left_alone e = inl (as_listed_after view backing out p old old refl (keeps_none view backing out p old sound))
 
   known_table : table_at h known index ≡ table_at h (contents_in view old.file) index
-  known_table = ap host_offset (sym (sound.file.caches.kept.kept.guarded.same_top.l1 index))
+  known_table = ap host_offset (sym (sound.file.caches.kept.kept.crash_invariant.same_top.l1 index))
 
   sizes : Sizes h
-  sizes = let guarded = sound.file.caches.kept.kept.guarded in Sizes-from h known (IsTop-top h (contents_in view old.file) known guarded.same_top guarded.top).header_reads
+  sizes = let crash_invariant = sound.file.caches.kept.kept.crash_invariant in Sizes-from h known (IsTop-top h (contents_in view old.file) known crash_invariant.same_top crash_invariant.top).header_reads
 
   -- ---- where there is no table
   module _ (none : table_at h (contents_in view old.file) index ≡ 0) where
@@ -84,7 +84,7 @@ module _ {S F : Type 0} (view : S → StorageView) (backing : F → BackingView)
 
   -- ---- where it is a table's own
   pub owns_already : (cluster : ℕ) → NamesCopied view old index cluster → OwnsTable view backing p old old out index (Ok cluster)
-  owns_already cluster named = (as_following view backing out p old old refl (keeps_none view backing out p old sound), named)
+  owns_already cluster named = (as_listed_after view backing out p old old refl (keeps_none view backing out p old sound), named)
 
   -- ---- where a copy takes the place of another
   module _ (former : ℕ) (shared : NamesShared view old index former) where
@@ -102,7 +102,7 @@ module _ {S F : Type 0} (view : S → StorageView) (backing : F → BackingView)
           subst (λ (r : Pending). UnseenStep view backing p r old final out)
               (freed_table view backing out p former old new final entry entered.0.list (ap (λ (e : ClustersToFreeEntry). e.first_cluster) is) (ap (λ (e : ClustersToFreeEntry). e.count) is) (ap (λ (e : ClustersToFreeEntry). e.kind) is) longer)
               (keeps_then view backing out old new final p q q (λ k some. some) first
-              (keeps_listed view backing out q q new list (entry ∷ []) first.sound longer (leads_none (state_in view new.file q) first.sound.file.caches.kept.kept.guarded))),
+              (keeps_listed view backing out q q new list (entry ∷ []) first.sound longer (safe_step_none (state_in view new.file q) first.sound.file.caches.kept.kept.crash_invariant))),
           record { place = entered.1.place; own = entered.1.own },
         )
 
@@ -139,7 +139,7 @@ module _ {S F : Type 0} (view : S → StorageView) (backing : F → BackingView)
     followed new keeps = subst (λ (q : Pending). UnseenStep view backing p q old new out) (ap (λ l. pending_with_listed p (record old { file = record old.file { free_list = l } }) new) list) (keeps_then view backing out old mid new p p (pending_with_listed p mid new) (λ k some. some) kept keeps)
 
     pub left_then : (new : Qcow2 S F) (e : ImageError) → RefusedStep view backing p mid new out e → RefusedStep view backing p old new out e
-    left_then new e left = elim left [ inl keeps ↦ inl (followed new keeps) | inr breaks ↦ inr (breaks_on view backing out p p old mid new e kept breaks) ]
+    left_then new e left = elim left [ inl keeps ↦ inl (followed new keeps) | inr interrupted ↦ inr (interrupted_on view backing out p p old mid new e kept interrupted) ]
 
     pub owned_then : (new : Qcow2 S F) (r : Result ℕ ImageError) → OwnsTable view backing p mid new out index r → OwnsTable view backing p old new out index r
     owned_then new (Ok cluster) owned = (followed new owned.0, owned.1)

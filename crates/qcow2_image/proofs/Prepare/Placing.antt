@@ -22,7 +22,7 @@ use Rattle.qcow2_alloc.specs.Allocation.{StandAt}
 use Rattle.qcow2_alloc.specs.CachePins.{l2_pins, CachesHaveRoom}
 use Rattle.qcow2_alloc.specs.declared.cache.MetadataCaches.{MetadataCaches}
 use Rattle.qcow2_laws.specs.Caches.{AreClean, BlocksMayGo}
-use Rattle.qcow2_alloc.proofs.PlacedBlocks.{IsFree, covers_written, in_own, known_there, moves_rewritten, reftable_rewritten}
+use Rattle.qcow2_alloc.proofs.PlacedBlocks.{IsFree, covers_written, in_own, known_there, file_step_rewritten, reftable_rewritten}
 use Rattle.qcow2_alloc.specs.KeptAllocators.{IsAllocatorOf}
 use Rattle.qcow2_image.proofs.Open.Reftables.{allocator_moved}
 use Rattle.qcow2_image.specs.declared.image.Qcow2.{Qcow2}
@@ -41,11 +41,11 @@ module _ {S F : Type 0} (view : S → StorageView) (backing : F → BackingView)
   -- nothing names it
   pub free_here : IsFree view p old.file at
   free_here =
-      let guarded = sound.file.caches.kept.kept.guarded in
-      let tally = (guarded.each_cluster at).tally in
-      let few = (guarded.each_cluster at).pending (omega (arith, some)) in
+      let crash_invariant = sound.file.caches.kept.kept.crash_invariant in
+      let tally = (crash_invariant.each_cluster at).tally in
+      let few = (crash_invariant.each_cluster at).pending (omega (arith, some)) in
       record {
-        unnamed = data_is_written.new_tables (state_in view old.file p) at guarded some (covers_written view p old.file sound.file stored.first);
+        unnamed = data_is_written.new_tables (state_in view old.file p) at crash_invariant some (covers_written view p old.file sound.file stored.first);
         unheld = omega (arith, tally, few, some);
       }
 
@@ -70,11 +70,11 @@ module _ {S F : Type 0} (view : S → StorageView) (backing : F → BackingView)
     full = long ∙ ap (λ n. 2 ^ n) format
 
     reftable : (a : Option Allocator) → IfSome a (IsAllocatorOf view old.file) → IfSome a (IsAllocatorOf view placed.file)
-    reftable = allocator_moved view old.file placed.file p (moves_rewritten view p old.file storage at bytes result sound.file free_here full writes calls)
+    reftable = allocator_moved view old.file placed.file p (file_step_rewritten view p old.file storage at bytes result sound.file free_here full writes calls)
         (reftable_rewritten view p old.file storage at bytes result sound.file free_here full writes calls)
 
     pub keeps_placed : UnseenStep view backing p p old placed out
-    keeps_placed = file_moved view backing old out p p sound placed.file old.allocator (moves_rewritten view p old.file storage at bytes result sound.file free_here full writes calls) (reftable old.allocator sound.reftable) (λ t. refl) refl
+    keeps_placed = file_moved view backing old out p p sound placed.file old.allocator (file_step_rewritten view p old.file storage at bytes result sound.file free_here full writes calls) (reftable old.allocator sound.reftable) (λ t. refl) refl
 
     pub stands_there : (x : Unit {0}) → result ≡ Ok x → StandAt (contents_in view placed.file) (at * cluster_size h) bytes
     stands_there x done i lt =

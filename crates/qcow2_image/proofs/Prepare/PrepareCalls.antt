@@ -16,7 +16,7 @@ use Rattle.qcow2_image.specs.CallParts.{IsExisting, IsReadied, PreparesRange}
 use Rattle.qcow2_image.proofs.Call.Marked.{MayMarkBy}
 use Rattle.qcow2_image.specs.ImageInvariant.{pending_in, abstract_of, meaning, ImageInvariant}
 use Rattle.qcow2_image.proofs.Prepare.Preparing.{readied_existing}
-use Rattle.qcow2_image.proofs.Call.Settled.{settled_does}
+use Rattle.qcow2_image.proofs.Call.CallOutcomes.{outcome_answered}
 use Rattle.qcow2_image.proofs.Call.Refused.{refuses_left}
 
 module _ {S F : Type 0} (view : S → StorageView) (backing : F → BackingView) (old : Qcow2 S F) (usable : is_failed old ≡ false) where
@@ -24,17 +24,17 @@ module _ {S F : Type 0} (view : S → StorageView) (backing : F → BackingView)
   pub prepares_nothing : (offset n : ℕ) (overwrite : Bool) (p : Prepared) → IsExisting p (number_of old) offset n → Prepares view backing old old offset n overwrite (Ok p)
   prepares_nothing offset n overwrite p existing = λ out k free.
       let ready : ImageInvariant view backing (pending_in view backing old out) old out → IsReadied view backing old old out k offset n overwrite p = λ sound. readied_existing view backing out old sound p offset n existing k free overwrite in
-      settled_does view backing old old out (slice_set out k (Some p)) [] (λ sound. (ready sound).works) (λ sound. (ready sound).sound) refl usable (λ sound. ((ready sound).prepared, (ready sound).is))
+      outcome_answered view backing old old out (slice_set out k (Some p)) [] (λ sound. (ready sound).works) (λ sound. (ready sound).sound) refl usable (λ sound. ((ready sound).prepared, (ready sound).is))
 
   module _ (new : Qcow2 S F) (marked : Bool) (number : number_of new ≡ number_of old) where
     abbrev failed_now : Qcow2 S F
     failed_now = record new { is_failed = marked }
 
-    pub prepares_settled : (offset n : ℕ) (overwrite : Bool) (r : Result Prepared ImageError) → MayMarkBy r (is_failed new) marked → IfErr r (λ e. e ≡ I.Memory → IsTrue new.file.caches.is_changed → IsTrue marked)
+    pub prepares_with_outcome : (offset n : ℕ) (overwrite : Bool) (r : Result Prepared ImageError) → MayMarkBy r (is_failed new) marked → IfErr r (λ e. e ≡ I.Memory → IsTrue new.file.caches.is_changed → IsTrue marked)
         → ((out : List (Option Prepared)) → ImageInvariant view backing (pending_in view backing old out) old out → PreparesRange view backing old new out offset n overwrite r) → Prepares view backing old failed_now offset n overwrite r
-    prepares_settled offset n overwrite (Ok p) marks memory readies = λ out k free.
+    prepares_with_outcome offset n overwrite (Ok p) marks memory readies = λ out k free.
         let ready : ImageInvariant view backing (pending_in view backing old out) old out → IsReadied view backing old new out k offset n overwrite p = λ sound. readies out sound k free in
         subst (λ (f : Bool). let v = abstract_of view backing old out in let w = abstract_of view backing (record new { is_failed = f }) (slice_set out k (Some p)) in
         AnsweredEffect v w [] [] (IsPrepared v.setting.cluster_size (guest_of v).disk offset n overwrite (meaning view backing (record new { is_failed = f }) p) × (guest_of w ≡ with_slot (guest_of v) k (Some (meaning view backing (record new { is_failed = f }) p))))) (sym marks)
-        (settled_does view backing old new out (slice_set out k (Some p)) [] (λ sound. (ready sound).works) (λ sound. (ready sound).sound) number usable (λ sound. ((ready sound).prepared, (ready sound).is)))
-    prepares_settled offset n overwrite (Err e) marks memory readies = λ out. refuses_left view backing out old usable new marked number e marks memory (readies out)
+        (outcome_answered view backing old new out (slice_set out k (Some p)) [] (λ sound. (ready sound).works) (λ sound. (ready sound).sound) number usable (λ sound. ((ready sound).prepared, (ready sound).is)))
+    prepares_with_outcome offset n overwrite (Err e) marks memory readies = λ out. refuses_left view backing out old usable new marked number e marks memory (readies out)

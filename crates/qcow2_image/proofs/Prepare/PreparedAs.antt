@@ -244,12 +244,12 @@ module _ {S F : Type 0} (view : S → StorageView) (backing : F → BackingView)
         let more = new_data_at p.shares.items index taken old_data is it.first in
         let all = over_all_at new_data_by out k p at it.first in (
           rest_is it.first it.place,
-          inl (subst (IsHeldAlone h now) (sym (cluster_is it.first it.place)) (new_data_alone (state_in view image.file (pending_in view backing image out)) sound.file.caches.kept.kept.guarded it.first (omega (arith, one, more, all)))),
+          inl (subst (IsHeldAlone h now) (sym (cluster_is it.first it.place)) (new_data_alone (state_in view image.file (pending_in view backing image out)) sound.file.caches.kept.kept.crash_invariant it.first (omega (arith, one, more, all)))),
         )
 
   -- how far its L2 table reaches
   reach_is : rest_of_table h p.guest ≡ (entries_per_cluster h - cluster_of h p % entries_per_cluster h) * cluster_size h - p.guest % cluster_size h
-  reach_is = rest_as (cluster_size h) (entries_per_cluster h) p.guest (pow_pos h.cluster_bits) (entries_some (state_in view image.file (pending_in view backing image out)) sound.file.caches.kept.kept.guarded)
+  reach_is = rest_as (cluster_size h) (entries_per_cluster h) p.guest (pow_pos h.cluster_bits) (entries_some (state_in view image.file (pending_in view backing image out)) sound.file.caches.kept.kept.crash_invariant)
 
   pub answered_out : ((place : ℕ) → IsWritableAt h now offset n place → ⊥) → IsAnswered h now p.guest n h now p (meaning view backing image p)
   answered_out never =

@@ -6,7 +6,7 @@ use Rattle.image_access.specs.Backing.{BackingView}
 use Rattle.image_access.specs.Moments.{StorageView}
 use Rattle.qcow2_disk.specs.Calls.{with_slot}
 use Rattle.qcow2_disk.specs.AbstractImages.{guest_of}
-use Rattle.qcow2_laws.proofs.SafeSteps.{leads_none, endures_none}
+use Rattle.qcow2_laws.proofs.SafeSteps.{safe_step_none, safe_throughout_none}
 use Rattle.qcow2_alloc.specs.ImageFile.{state_in, view_in, contents_in, known_in, nothing_given}
 use Rattle.qcow2_image.specs.declared.image.Qcow2.{Qcow2}
 use Rattle.qcow2_image.specs.declared.prepared.Prepared.{Prepared}
@@ -53,8 +53,8 @@ module _ {S F : Type 0} (view : S → StorageView) (backing : F → BackingView)
         once = λ c. let same = same_pins c in let once = sound.once c in omega arith;
       };
       only = record { new_data = λ c. sym (same_new_data c); new_tables = λ c. refl; old_tables = λ c. refl; old_data = λ c. refl };
-      leads = leads_none (state_in view image.file (pending_in view backing image out)) sound.file.caches.kept.kept.guarded;
-      since = endures_none (view_in view image.file) (known_in view image.file);
+      safe_step = safe_step_none (state_in view image.file (pending_in view backing image out)) sound.file.caches.kept.kept.crash_invariant;
+      since = safe_throughout_none (view_in view image.file) (known_in view image.file);
       header = refl;
       below = refl;
       surplus = refl;

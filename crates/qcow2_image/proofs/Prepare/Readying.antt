@@ -30,7 +30,7 @@ use Rattle.qcow2_image.specs.CallParts.{IsReadied}
 use Rattle.qcow2_image.specs.UnseenSteps.{UnseenFillingStep, HoldsTable}
 use Rattle.qcow2_image.specs.ImageInvariant.{to_free, of_data, of_tables, new_data_by, pins_by, pins_of, over_all, pending_in, abstract_of, meaning, is_private, backing_bytes, IsShareAt, IsPending, IsReadyWith, ImageInvariant}
 use Rattle.qcow2_image.proofs.Call.Answered.{same_guest}
-use Rattle.qcow2_image.proofs.Moved.{format_moves, format_stay}
+use Rattle.qcow2_image.proofs.Moved.{format_file_step, format_stay}
 use Rattle.qcow2_image.proofs.Shares.{private_shared}
 use Rattle.qcow2_image.proofs.Open.Reftables.{reftable_still}
 use Rattle.qcow2_image.proofs.Call.Slots.{get_set, over_all_put, slot_set}
@@ -69,7 +69,7 @@ pub record IsNowPending {S F : Type 0} (old : Qcow2 S F) (out : List (Option Pre
   pub surplus : q.surplus ≡ more
 
 module _ {S F : Type 0} (view : S → StorageView) (backing : F → BackingView) (old mid : Qcow2 S F) (out : List (Option Prepared)) (k : ℕ) (free : slice_get out k ≡ Some None) (q : Pending)
-    (goes : UnseenFillingStep view backing (pending_in view backing old out) q old mid out) (offset table host : ℕ) (share : Share) (like : Prepared) (one : like.shares.items ≡ share ∷ []) (holds : HoldsTable view backing mid offset table) (unpinned : l2_pins mid.file.caches table ≡ 0)
+    (image_step : UnseenFillingStep view backing (pending_in view backing old out) q old mid out) (offset table host : ℕ) (share : Share) (like : Prepared) (one : like.shares.items ≡ share ∷ []) (holds : HoldsTable view backing mid offset table) (unpinned : l2_pins mid.file.caches table ≡ 0)
     (stands : IsShareAt mid.file.header.fields (known_in view mid.file) (contents_in view mid.file) (mapping_at mid.file.header.fields (number_of mid) table offset host like) 0 share)
     (caches : MetadataCaches S) (tables : SameTables mid.file.caches caches) (pins : (c : ℕ) → l2_pins caches c ≡ l2_pins mid.file.caches c + pins_of (Some table) c)
     (is : IsNowPending mid out (mapping_at mid.file.header.fields (number_of mid) table offset host like) q (pending_in view backing old out).surplus) where
@@ -120,11 +120,11 @@ module _ {S F : Type 0} (view : S → StorageView) (backing : F → BackingView)
   ready_now : (j : ℕ) (r : Prepared) → slice_get now j ≡ Some (Some r) → IsReadyWith h (known_in view mid.file) (contents_in view mid.file) r r.table × (r.image ≡ number_of mid)
   ready_now j r at = ⊎_elim
       (λ (e : Some r ≡ Some p). let same : r ≡ p = cc in subst (λ (x : Prepared). IsReadyWith h (known_in view mid.file) (contents_in view mid.file) x x.table × (x.image ≡ number_of mid)) (sym same) (own_ready, refl))
-      (λ there. let ready = goes.sound.ready j r there in (ready.mapped, ready.own)) (get_set out k j (Some p) (Some r) at)
+      (λ there. let ready = image_step.sound.ready j r there in (ready.mapped, ready.own)) (get_set out k j (Some p) (Some r) at)
 
   -- its table wasn't pinned
   no_pins : over_all pins_by out table ≡ 0
-  no_pins = sym (goes.sound.pinned table) ∙ unpinned
+  no_pins = sym (image_step.sound.pinned table) ∙ unpinned
 
   pinned_few : (c : ℕ) → pins_of (Some table) c ≤ 1
   pinned_few c = elim (table == c) as (λ (b : Bool). cond b 1 0 ≤ 1) [ true ↦ omega arith | false ↦ omega arith ]
@@ -133,7 +133,7 @@ module _ {S F : Type 0} (view : S → StorageView) (backing : F → BackingView)
   pinned_once c =
       let more = over_all_put pins_by out k p free c in
       let few = pinned_few c in
-      let once = goes.sound.once c in
+      let once = image_step.sound.once c in
       elim (cases_eq table c) [
         | inl here ↦ let none : over_all pins_by out c ≡ 0 = ap (over_all pins_by out) (sym here) ∙ no_pins in omega arith
         | inr other ↦ let none : pins_of (Some table) c ≡ 0 = cond-false {A = ℕ} _ 1 0 (ne_eqb table c other) in omega arith
@@ -141,18 +141,18 @@ module _ {S F : Type 0} (view : S → StorageView) (backing : F → BackingView)
 
   sound_now : ImageInvariant view backing q new now
   sound_now = record {
-    works = goes.sound.works;
+    works = image_step.sound.works;
     file = record {
-      honest = goes.sound.file.honest;
-      caches = tables.sound h q (contents_in view mid.file) goes.sound.file.caches;
-      settled = subst (λ (ts : List CachedTable). AreNamedBlocks h ts (contents_in view mid.file)) (sym tables.refblocks) goes.sound.file.settled;
-      room = tables.room goes.sound.file.room;
+      honest = image_step.sound.file.honest;
+      caches = tables.sound h q (contents_in view mid.file) image_step.sound.file.caches;
+      named_blocks = subst (λ (ts : List CachedTable). AreNamedBlocks h ts (contents_in view mid.file)) (sym tables.refblocks) image_step.sound.file.named_blocks;
+      room = tables.room image_step.sound.file.room;
     };
-    l1_table = record { cluster = goes.sound.l1_table.cluster; bits = goes.sound.l1_table.bits; count = goes.sound.l1_table.count; entries = goes.sound.l1_table.entries };
-    reftable = reftable_still view mid.file new.file refl refl (λ k. ap (λ (b : Bytes). count h b k) (sym same_known)) mid.allocator goes.sound.reftable;
-    below = goes.sound.below;
+    l1_table = record { cluster = image_step.sound.l1_table.cluster; bits = image_step.sound.l1_table.bits; count = image_step.sound.l1_table.count; entries = image_step.sound.l1_table.entries };
+    reftable = reftable_still view mid.file new.file refl refl (λ k. ap (λ (b : Bytes). count h b k) (sym same_known)) mid.allocator image_step.sound.reftable;
+    below = image_step.sound.below;
     ready = λ j r at. let ready = ready_now j r at in record { own = ready.1; mapped = subst (λ (b : Bytes). IsReadyWith h b (contents_in view mid.file) r r.table) (sym same_known) ready.0 };
-    pinned = λ c. let more = over_all_put pins_by out k p free c in let was = goes.sound.pinned c in let n = pins c in omega arith;
+    pinned = λ c. let more = over_all_put pins_by out k p free c in let was = image_step.sound.pinned c in let n = pins c in omega arith;
     once = pinned_once;
   }
 
@@ -165,24 +165,24 @@ module _ {S F : Type 0} (view : S → StorageView) (backing : F → BackingView)
       old_tables = is.old_tables;
       old_data = is.old_data;
     };
-    leads = subst (λ s. SafeStep (state_in view old.file (pending_in view backing old out)) s nothing_given []) (sym same_stand) goes.leads;
-    since = goes.since;
-    header = goes.header;
-    below = goes.below;
+    safe_step = subst (λ s. SafeStep (state_in view old.file (pending_in view backing old out)) s nothing_given []) (sym same_stand) image_step.safe_step;
+    since = image_step.since;
+    header = image_step.header;
+    below = image_step.below;
     surplus = is.surplus;
   }
 
   seen_now : guest_of (abstract_of view backing new now) ≡ with_slot (guest_of (abstract_of view backing old out)) k (Some (meaning view backing new p))
   seen_now =
       same_guest _ (with_slot (guest_of (abstract_of view backing mid out)) k (Some (meaning view backing new p))) (ap (λ b. disk b (backing_bytes view backing mid.backing)) same_known) (fun_ext (λ j. slot_set (meaning view backing mid) out k (Some p) None free j))
-      ∙ ap (λ (x : Guest). with_slot x k (Some (meaning view backing new p))) goes.seen
+      ∙ ap (λ (x : Guest). with_slot x k (Some (meaning view backing new p))) image_step.seen
 
   pub readied : (n : ℕ) (overwrite : Bool) → IsPrepared (cluster_size old.file.header.fields) (guest_of (abstract_of view backing old out)).disk offset n overwrite (meaning view backing new p) → IsReadied view backing old new out k offset n overwrite p
   readied n overwrite prepared = record {
     works = stepped_works view backing old new out now nothing_given q steps;
     sound = stepped_sound view backing old new out now nothing_given q steps;
-    header = format_moves old.file.header.fields mid.file.header.fields goes.header;
-    covers = format_stay old.file.header.fields mid.file.header.fields (known_in view old.file) (known_in view new.file) goes.header (subst (λ (b : Bytes). SameCovers old.file.header.fields (known_in view old.file) b) (sym same_known) goes.covers);
+    header = format_file_step old.file.header.fields mid.file.header.fields image_step.header;
+    covers = format_stay old.file.header.fields mid.file.header.fields (known_in view old.file) (known_in view new.file) image_step.header (subst (λ (b : Bytes). SameCovers old.file.header.fields (known_in view old.file) b) (sym same_known) image_step.covers);
     prepared = prepared;
     is = seen_now;
   }
@@ -196,7 +196,7 @@ module _ {S F : Type 0} (view : S → StorageView) (backing : F → BackingView)
 
   pub prepared_by : (n : ℕ) (overwrite : Bool) → ((o : ℕ) → IsTrue (is_private view backing new p o) → (overwrite && is_within offset (min n (cluster_size h - offset % cluster_size h)) o ≡ false)
       → (meaning view backing new p).shown o ≡ (guest_of (abstract_of view backing old out)).disk.value o) → IsPrepared (cluster_size old.file.header.fields) (guest_of (abstract_of view backing old out)).disk offset n overwrite (meaning view backing new p)
-  prepared_by n overwrite olds = subst (λ (x : HeaderFields). IsPrepared (cluster_size x) (guest_of (abstract_of view backing old out)).disk offset n overwrite (meaning view backing new p)) goes.header (record {
+  prepared_by n overwrite olds = subst (λ (x : HeaderFields). IsPrepared (cluster_size x) (guest_of (abstract_of view backing old out)).disk offset n overwrite (meaning view backing new p)) image_step.header (record {
     from = refl;
     some = λ any. some_left;
     inside = λ o private.

@@ -37,8 +37,8 @@ use Rattle.qcow2_image.specs.UnseenSteps.{is_announced, IsFilled, UnseenFillingS
 use Rattle.qcow2_image.specs.ImageInvariant.{run_of, to_free, of_data, of_tables, new_data_in, listed_run, disk_of, pending_in, abstract_of, meaning, is_entered, is_private, cluster_of, host_begin_of, place_of, IsNewAt, IsShareAt, ImageInvariant}
 use Rattle.qcow2_image.proofs.Shares.{place_in, private_shared}
 use Rattle.qcow2_image.proofs.Formats.{entry_at_format, l1_shared}
-use Rattle.qcow2_image.proofs.Prepare.Gaining.{following_same, still_holds, taken_new_data}
-use Rattle.qcow2_image.proofs.Prepare.Filling.{goes_kept, goes_none, goes_then}
+use Rattle.qcow2_image.proofs.Prepare.Gaining.{listed_after_same, still_holds, taken_new_data}
+use Rattle.qcow2_image.proofs.Prepare.Filling.{image_step_kept, image_step_none, image_step_then}
 use Rattle.qcow2_image.proofs.Sound.{free_more}
 use Rattle.qcow2_image.proofs.Prepare.Readying.{mapping_at, one_share, IsNowPending, readied, prepared_by, private_inside}
 
@@ -105,28 +105,28 @@ first_stands view backing old p offset table guest bits cluster first found here
 module _ {S F : Type 0} (view : S → StorageView) (backing : F → BackingView) (out : List (Option Prepared)) where
   -- a table that is held and marked copied is named as before
   pub holds_still : (old new : Qcow2 S F) (p q : Pending) (offset table : ℕ) → ImageInvariant view backing p old out → UnseenFillingStep view backing p q old new out → HoldsTable view backing old offset table → IsSome (l2_at new.file.caches table) → HoldsTable view backing new offset table
-  holds_still old new p q offset table sound goes holds new_data =
+  holds_still old new p q offset table sound image_step holds new_data =
       let h = old.file.header.fields in
       let i = l1_index_of h offset in
       let on_storage = contents_in view new.file in
       let known = known_in view new.file in
       let moved : l1_entry h on_storage (l1_index_of h offset) ≡ l1_entry h (contents_in view old.file) (l1_index_of h offset) =
-      goes.copied (l1_index_of h offset) ((λ none. holds.entry.real (ap host_offset (sym (sound.file.caches.kept.kept.guarded.same_top.l1 (l1_index_of h offset))) ∙ none)), holds.copied) in
+      image_step.copied (l1_index_of h offset) ((λ none. holds.entry.real (ap host_offset (sym (sound.file.caches.kept.kept.crash_invariant.same_top.l1 (l1_index_of h offset))) ∙ none)), holds.copied) in
       let top : l1_entry h on_storage (l1_index_of h offset) ≡ l1_entry h known (l1_index_of h offset) =
-      l1_shared h new.file.header.fields goes.header on_storage known (l1_index_of h offset) (goes.sound.file.caches.kept.kept.guarded.same_top.l1 (l1_index_of h offset)) in
+      l1_shared h new.file.header.fields image_step.header on_storage known (l1_index_of h offset) (image_step.sound.file.caches.kept.kept.crash_invariant.same_top.l1 (l1_index_of h offset)) in
       let there : table_at h known (l1_index_of h offset) ≡ table_at h (known_in view old.file) (l1_index_of h offset) =
-      ap host_offset (sym top ∙ moved ∙ sound.file.caches.kept.kept.guarded.same_top.l1 (l1_index_of h offset)) in
+      ap host_offset (sym top ∙ moved ∙ sound.file.caches.kept.kept.crash_invariant.same_top.l1 (l1_index_of h offset)) in
       record {
-        entry = subst (λ (x : HeaderFields). IsEntryAt new.file.header.fields known (l1_index_of x offset) table (l2_index_of x offset)) (sym goes.header)
-            (entry_at_format h new.file.header.fields goes.header known on_storage (l1_index_of h offset) table (l2_index_of h offset)
+        entry = subst (λ (x : HeaderFields). IsEntryAt new.file.header.fields known (l1_index_of x offset) table (l2_index_of x offset)) (sym image_step.header)
+            (entry_at_format h new.file.header.fields image_step.header known on_storage (l1_index_of h offset) table (l2_index_of h offset)
             (record { real = λ none. holds.entry.real (sym there ∙ none); place = there ∙ holds.entry.place; within = holds.entry.within }));
-        copied = subst (λ (x : HeaderFields). is_copied (l1_entry new.file.header.fields on_storage (l1_index_of x offset)) ≡ true) (sym goes.header) (ap is_copied (l1_format h new.file.header.fields goes.header on_storage (l1_index_of h offset) ∙ moved) ∙ holds.copied);
+        copied = subst (λ (x : HeaderFields). is_copied (l1_entry new.file.header.fields on_storage (l1_index_of x offset)) ≡ true) (sym image_step.header) (ap is_copied (l1_format h new.file.header.fields image_step.header on_storage (l1_index_of h offset) ∙ moved) ∙ holds.copied);
         new_data = new_data;
       }
 
   -- a refusal that changed nothing
   pub back_none : (old : Qcow2 S F) (p : Pending) → ImageInvariant view backing p old out → (e : ImageError) → RefusedFillingStep view backing p old old out e
-  back_none old p sound e = inl (subst (λ q. UnseenFillingStep view backing p q old old out) (sym (following_same view backing out p old old refl)) (goes_none view backing out old p sound))
+  back_none old p sound e = inl (subst (λ q. UnseenFillingStep view backing p q old old out) (sym (listed_after_same view backing out p old old refl)) (image_step_none view backing out old p sound))
 
   -- nothing of a share in place is private
   never_private : (image : Qcow2 S F) (p : Prepared) → p.shares.items ≡ InPlace ∷ [] → (o : ℕ) → IsTrue (is_private view backing image p o) → ⊥
@@ -142,7 +142,7 @@ module _ {S F : Type 0} (view : S → StorageView) (backing : F → BackingView)
   readied_in_place old new like one k offset n table host overwrite free sound holds unpinned is pins =
       let p = mapping_at old.file.header.fields (number_of old) table offset host like in
       let q = pending_in view backing old out in
-      let goes = goes_none view backing out old q sound in
+      let image_step = image_step_none view backing out old q sound in
       let begin : host_begin_of old.file.header.fields (mapping_at old.file.header.fields (number_of old) table offset host like) 0 ≡ host = omega arith in
       let first : cluster_of old.file.header.fields (mapping_at old.file.header.fields (number_of old) table offset host like) + 0 ≡ offset / cluster_size old.file.header.fields = omega arith in
       let stands : IsShareAt old.file.header.fields (known_in view old.file) (contents_in view old.file) (mapping_at old.file.header.fields (number_of old) table offset host like) 0 InPlace =
@@ -152,8 +152,8 @@ module _ {S F : Type 0} (view : S → StorageView) (backing : F → BackingView)
       let caches = new.file.caches in
       let more = pins.pins holds.new_data unpinned in
       subst (λ (image : Qcow2 S F). IsReadied view backing old image out k offset n overwrite (mapping_at old.file.header.fields (number_of old) table offset host like)) (sym pins.rest)
-      (readied view backing old old out k free q goes offset table host InPlace like one holds unpinned stands new.file.caches pins.tables more now n overwrite
-      (prepared_by view backing old old out k free q goes offset table host InPlace like one holds unpinned stands new.file.caches pins.tables more now n overwrite (λ o private. absurd (never_private old p one o private))))
+      (readied view backing old old out k free q image_step offset table host InPlace like one holds unpinned stands new.file.caches pins.tables more now n overwrite
+      (prepared_by view backing old old out k free q image_step offset table host InPlace like one holds unpinned stands new.file.caches pins.tables more now n overwrite (λ o private. absurd (never_private old p one o private))))
 
   -- ---- in a new cluster
   module _ (old filled mid : Qcow2 S F) (n : ClustersToFreeEntry) (mapping : L2Mapping) (reach : IsInReach mapping) (other : is_copied_data mapping ≡ false) (taken old_data : List ClustersToFreeEntry) (taken_is : taken ≡ n ∷ []) (old_data_is : old_data ≡ listed_run (named_run old.file.header.fields.cluster_bits mapping)) (like : Prepared) (one : like.shares.items ≡ New taken old_data ∷ []) (k offset length table host : ℕ) (overwrite : Bool) (free : slice_get out k ≡ Some None) (sound : ImageInvariant view backing (pending_in view backing old out) old out)
@@ -171,9 +171,9 @@ module _ {S F : Type 0} (view : S → StorageView) (backing : F → BackingView)
     all_new_data : HoldsAll view backing before out
     all_new_data c = omega arith
 
-    pub goes_on : UnseenFillingStep view backing before q old mid out
-    goes_on = goes_then view backing out old filled mid before q q gained.goes
-        (goes_kept view backing out filled mid q q gained.goes.sound (still_holds view backing out old filled before n gained.one all_new_data gained.goes) (still_holds view backing out old filled before n gained.one all_new_data gained.goes) keeps)
+    pub image_step_on : UnseenFillingStep view backing before q old mid out
+    image_step_on = image_step_then view backing out old filled mid before q q gained.image_step
+        (image_step_kept view backing out filled mid q q gained.image_step.sound (still_holds view backing out old filled before n gained.one all_new_data gained.image_step) (still_holds view backing out old filled before n gained.one all_new_data gained.image_step) keeps)
 
     abbrev hm : HeaderFields
     hm = mid.file.header.fields
@@ -182,27 +182,27 @@ module _ {S F : Type 0} (view : S → StorageView) (backing : F → BackingView)
     p = mapping_at hm (number_of mid) table offset host like
 
     holds_now : HoldsTable view backing mid offset table
-    holds_now = holds_still old mid before q offset table sound goes_on holds found
+    holds_now = holds_still old mid before q offset table sound image_step_on holds found
 
     unpinned_now : l2_pins mid.file.caches table ≡ 0
-    unpinned_now = goes_on.sound.pinned table ∙ sym (sound.pinned table) ∙ unpinned
+    unpinned_now = image_step_on.sound.pinned table ∙ sym (sound.pinned table) ∙ unpinned
 
     first_cluster : cluster_of hm p + 0 ≡ offset / cluster_size hm
     first_cluster = omega arith
 
     stays_covered : cover hm (known_in view mid.file) (cluster_of hm p + 0) ≡ mapping
-    stays_covered = ap (cover hm (known_in view mid.file)) first_cluster ∙ ap (λ size. cover hm (known_in view mid.file) (offset / size)) (size_format old.file.header.fields hm goes_on.header)
-        ∙ cover_format old.file.header.fields hm goes_on.header (known_in view mid.file) (offset / cluster_size old.file.header.fields) ∙ sym (goes_on.covers (offset / cluster_size old.file.header.fields)) ∙ covered
+    stays_covered = ap (cover hm (known_in view mid.file)) first_cluster ∙ ap (λ size. cover hm (known_in view mid.file) (offset / size)) (size_format old.file.header.fields hm image_step_on.header)
+        ∙ cover_format old.file.header.fields hm image_step_on.header (known_in view mid.file) (offset / cluster_size old.file.header.fields) ∙ sym (image_step_on.covers (offset / cluster_size old.file.header.fields)) ∙ covered
 
     stands : IsNewAt hm (known_in view mid.file) (contents_in view mid.file) p 0 taken old_data
     stands = record {
       first = n.first_cluster;
       is = taken_is ∙ ap (λ (e : ClustersToFreeEntry). e ∷ []) (ap (λ c. record n { count = c }) gained.one ∙ ap (λ x. record n { count = 1; kind = x }) gained.kind);
       place = sym host_is ∙ omega arith;
-      nameable = subst (λ (x : HeaderFields). IsHostCluster x.cluster_bits n.first_cluster) (sym goes_on.header) nameable;
+      nameable = subst (λ (x : HeaderFields). IsHostCluster x.cluster_bits n.first_cluster) (sym image_step_on.header) nameable;
       entry = ap is_copied_data stays_covered ∙ other;
       reach = subst IsInReach (sym stays_covered) reach;
-      drops = old_data_is ∙ ap (λ (x : HeaderFields). listed_run (named_run x.cluster_bits mapping)) (sym goes_on.header) ∙ ap (λ v. listed_run (named_run hm.cluster_bits v)) (sym stays_covered);
+      drops = old_data_is ∙ ap (λ (x : HeaderFields). listed_run (named_run x.cluster_bits mapping)) (sym image_step_on.header) ∙ ap (λ v. listed_run (named_run hm.cluster_bits v)) (sym stays_covered);
     }
 
     now : IsNowPending mid out p q before.surplus
@@ -212,8 +212,8 @@ module _ {S F : Type 0} (view : S → StorageView) (backing : F → BackingView)
           let as_data : to_free of_data taken c ≡ run_of n c = ap (λ l. to_free of_data l c) taken_is ∙ ap (λ x. of_data x (run_of n c) + 0) gained.kind ∙ omega arith in
           omega arith;
       new_tables = λ c. refl;
-      old_tables = λ c. let same = ap (λ l. to_free of_tables l c) list in let more = ap (λ l. to_free of_tables l c) gained.goes.list.is ∙ free_more of_tables old.file.free_list gained.goes.list.more c in omega arith;
-      old_data = λ c. let same = ap (λ l. to_free of_data l c) list in let more = ap (λ l. to_free of_data l c) gained.goes.list.is ∙ free_more of_data old.file.free_list gained.goes.list.more c in omega arith;
+      old_tables = λ c. let same = ap (λ l. to_free of_tables l c) list in let more = ap (λ l. to_free of_tables l c) gained.image_step.list.is ∙ free_more of_tables old.file.free_list gained.image_step.list.more c in omega arith;
+      old_data = λ c. let same = ap (λ l. to_free of_data l c) list in let more = ap (λ l. to_free of_data l c) gained.image_step.list.is ∙ free_more of_data old.file.free_list gained.image_step.list.more c in omega arith;
       surplus = refl;
     }
 
@@ -224,22 +224,22 @@ module _ {S F : Type 0} (view : S → StorageView) (backing : F → BackingView)
 
       new_data_place : (o : ℕ) → 0 < q.new_data ((n.first_cluster * cluster_size hm + o % cluster_size hm) / cluster_size filled.file.header.fields)
       new_data_place o =
-          let size : cluster_size filled.file.header.fields ≡ cluster_size hm = size_format old.file.header.fields filled.file.header.fields gained.goes.header ∙ sym (size_format old.file.header.fields hm goes_on.header) in
+          let size : cluster_size filled.file.header.fields ≡ cluster_size hm = size_format old.file.header.fields filled.file.header.fields gained.image_step.header ∙ sym (size_format old.file.header.fields hm image_step_on.header) in
           let there = div-mul-add n.first_cluster (cluster_size hm) (o % cluster_size hm) (mod_below o (cluster_size hm) (pow_pos hm.cluster_bits)) in
-          subst (λ c. 0 < q.new_data c) (sym (ap (λ x. (n.first_cluster * cluster_size hm + o % cluster_size hm) / x) size ∙ there)) (taken_new_data view backing out old filled before n gained.one all_new_data gained.goes)
+          subst (λ c. 0 < q.new_data c) (sym (ap (λ x. (n.first_cluster * cluster_size hm + o % cluster_size hm) / x) size ∙ there)) (taken_new_data view backing out old filled before n gained.one all_new_data gained.image_step)
 
       old_values : (o : ℕ) → IsTrue (is_private view backing pinned p o) → (overwrite && is_within offset (min length (cluster_size hm - offset % cluster_size hm)) o ≡ false) → (meaning view backing pinned p).shown o ≡ (guest_of (abstract_of view backing old out)).disk.value o
       old_values o private opened =
           let more = pins.pins found unpinned_now in
-          let here = private_inside view backing old mid out k free q goes_on offset table host (New taken old_data) like one holds_now unpinned_now stands new.file.caches pins.tables more now o private in
+          let here = private_inside view backing old mid out k free q image_step_on offset table host (New taken old_data) like one holds_now unpinned_now stands new.file.caches pins.tables more now o private in
           let place = place_in hm p o 0 (here ∙ sym first_cluster) in
           let begin : place_of hm p o ≡ n.first_cluster * cluster_size hm + o % cluster_size hm = omega (arith, host_is, place) in
           ap known_byte (cond-true _ _ _ private ∙ ap (contents_in view mid.file) begin ∙ same (n.first_cluster * cluster_size hm + o % cluster_size hm) (new_data_place o))
-          ∙ filled_byte view backing old filled n.first_cluster offset length overwrite (gained.filled covered) (cluster_size hm) (ap (λ (x : HeaderFields). cluster_size x) goes_on.header) o here opened
+          ∙ filled_byte view backing old filled n.first_cluster offset length overwrite (gained.filled covered) (cluster_size hm) (ap (λ (x : HeaderFields). cluster_size x) image_step_on.header) o here opened
 
       pub readied_new : IsReadied view backing old new out k offset length overwrite p
       readied_new =
           let more = pins.pins found unpinned_now in
           subst (λ (image : Qcow2 S F). IsReadied view backing old image out k offset length overwrite p) (sym pins.rest)
-          (readied view backing old mid out k free q goes_on offset table host (New taken old_data) like one holds_now unpinned_now stands new.file.caches pins.tables more now length overwrite
-          (prepared_by view backing old mid out k free q goes_on offset table host (New taken old_data) like one holds_now unpinned_now stands new.file.caches pins.tables more now length overwrite old_values))
+          (readied view backing old mid out k free q image_step_on offset table host (New taken old_data) like one holds_now unpinned_now stands new.file.caches pins.tables more now length overwrite
+          (prepared_by view backing old mid out k free q image_step_on offset table host (New taken old_data) like one holds_now unpinned_now stands new.file.caches pins.tables more now length overwrite old_values))

@@ -61,14 +61,14 @@ module _ {S F : Type 0} (view : S → StorageView) (backing : F → BackingView)
     | inl same ↦ same
     | inr other ↦
         let on_storage = contents_in view image.file in
-        let guarded = sound.file.caches.kept.kept.guarded in
-        let e_i = ap host_offset (guarded.same_top.l1 i) in
-        let e_j = ap host_offset (guarded.same_top.l1 j) in
+        let crash_invariant = sound.file.caches.kept.kept.crash_invariant in
+        let e_i = ap host_offset (crash_invariant.same_top.l1 i) in
+        let e_j = ap host_offset (crash_invariant.same_top.l1 j) in
         let in_i : table_at h on_storage i / cluster_size h ≡ table = ap (λ n. n / cluster_size h) (e_i ∙ at_i.place) ∙ own_cluster h.cluster_bits table in
         let in_j : table_at h on_storage j / cluster_size h ≡ table = ap (λ n. n / cluster_size h) (e_j ∙ at_j.place) ∙ own_cluster h.cluster_bits table in
         let two = two_tables h on_storage table i j other (λ none. at_i.real (sym e_i ∙ none)) (λ none. at_j.real (sym e_j ∙ none)) in_i in_j in
         let parts = shares h on_storage table in
-        let once = table_once h (order_of image.file.caches) p on_storage (known_in view image.file) guarded table (omega (arith, two, parts)) in
+        let once = table_once h (order_of image.file.caches) p on_storage (known_in view image.file) crash_invariant table (omega (arith, two, parts)) in
         absurd (omega (arith, two, parts, once))
   ]
 

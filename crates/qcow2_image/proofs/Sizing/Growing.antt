@@ -34,7 +34,7 @@ use Rattle.qcow2_image.specs.Preallocation.{FillsGrown, RefusedGrown, filled_to,
 use Rattle.qcow2_image.proofs.Call.Marked.{MayMark, MayMarkBy}
 use Rattle.qcow2_image.specs.Resizing.{GrowsTo, RefusesUnchanged, SetsSize, WritesSize, WritesSizeLast, all_given_by_grow}
 use Rattle.qcow2_image.proofs.Call.Refused.{refused_then, refuses_left}
-use Rattle.qcow2_image.proofs.Call.Settled.{is_fault, outcome}
+use Rattle.qcow2_image.proofs.Call.CallOutcomes.{is_fault, outcome}
 use Rattle.qcow2_image.proofs.Grow.Grown.{reaches_so}
 use Rattle.qcow2_image.proofs.Sizes.{disk_size}
 use Rattle.qcow2_image.proofs.Sizing.Shrinking.{of_fault}
@@ -76,12 +76,12 @@ module _ {S F : Type 0} (view : S → StorageView) (backing : F → BackingView)
     pub last_not : (out : List (Option Prepared)) → ImageInvariant view backing (pending_in view backing old out) old out → WritesSizeLast view backing old (record mid { is_failed = marked })
     last_not out sound =
         let v = abstract_of view backing old out in
-        let guarded = sound.file.caches.kept.kept.guarded in
+        let crash_invariant = sound.file.caches.kept.kept.crash_invariant in
         let s = state_in view old.file (pending_in view backing old out) in
         let call = first out sound in
         elim (refused_then view backing out old begun mid call e (left out call.sound)) [
-          | inl stays ↦ passes_if (λ c. ((header (byte_at c)).size ≡ size_of old) ⊎ (c ≡ (view_in view mid.file).contents)) (λ c is. inl is) (size_stays_in_calls s v (abstract_of view backing mid out) [] guarded refl refl stays.works)
-          | inr breaks ↦ passes_if (λ c. ((header (byte_at c)).size ≡ size_of old) ⊎ (c ≡ (view_in view mid.file).contents)) (λ c is. inl is) (size_stays_in_calls s v (abstract_of view backing (record mid { is_failed = true }) out) [] guarded refl refl breaks.works)
+          | inl stays ↦ passes_if (λ c. ((header (byte_at c)).size ≡ size_of old) ⊎ (c ≡ (view_in view mid.file).contents)) (λ c is. inl is) (size_stays_in_calls s v (abstract_of view backing mid out) [] crash_invariant refl refl stays.works)
+          | inr interrupted ↦ passes_if (λ c. ((header (byte_at c)).size ≡ size_of old) ⊎ (c ≡ (view_in view mid.file).contents)) (λ c is. inl is) (size_stays_in_calls s v (abstract_of view backing (record mid { is_failed = true }) out) [] crash_invariant refl refl interrupted.works)
         ]
 
   -- ---- it was made, and zeros were put behind the end
@@ -131,14 +131,14 @@ module _ {S F : Type 0} (view : S → StorageView) (backing : F → BackingView)
           let call = longer out sound in
           elim (left out call.sound).left [
             | inl part ↦ flagged out part.sound (behind out call filled part.works)
-            | inr broke ↦ subst (λ (f : Bool). EffectOnSound (abstract_of view backing old out) (abstract_of view backing (record filled { is_failed = f }) out) given_bytes []) (sym (fault broke.fault)) (behind out call (record filled { is_failed = true }) broke.works)
+            | inr interruption ↦ subst (λ (f : Bool). EffectOnSound (abstract_of view backing old out) (abstract_of view backing (record filled { is_failed = f }) out) given_bytes []) (sym (fault interruption.fault)) (behind out call (record filled { is_failed = true }) interruption.works)
           ]
 
       part_answer : (out : List (Option Prepared)) → ImageInvariant view backing (pending_in view backing old out) old out → ((abstract_of view backing final out).is_sound × May final out) ⊎ (IsRefusalByFault (refusal_of e) × IsTrue marked)
       part_answer out sound =
           let call = longer out sound in
           elim (left out call.sound).left [
-            | inr broke ↦ inr (of_fault e broke.fault, fault broke.fault)
+            | inr interruption ↦ inr (of_fault e interruption.fault, fault interruption.fault)
             | inl part ↦ elim (outcome e (is_failed filled) marked marks) [
               | inl failed ↦ inr (of_fault e (inl failed.0), failed.1)
               | inr rest ↦ elim rest [
@@ -167,7 +167,7 @@ module _ {S F : Type 0} (view : S → StorageView) (backing : F → BackingView)
       pub last_in_part : (out : List (Option Prepared)) → ImageInvariant view backing (pending_in view backing old out) old out → WritesSizeLast view backing old final
       last_in_part out sound =
           passes_if (λ c. ((header (byte_at c)).size ≡ size_of old) ⊎ (c ≡ (view_in view filled.file).contents)) (λ c is. inl is)
-          (size_stays_in_calls (state_in view old.file (pending_in view backing old out)) (abstract_of view backing old out) (abstract_of view backing final out) given_bytes sound.file.caches.kept.kept.guarded refl refl (part_works out sound))
+          (size_stays_in_calls (state_in view old.file (pending_in view backing old out)) (abstract_of view backing old out) (abstract_of view backing final out) given_bytes sound.file.caches.kept.kept.crash_invariant refl refl (part_works out sound))
 
     -- it was done, and the size was written or refused
     module _ (filled : Qcow2 S F) (fills : (out : List (Option Prepared)) → ImageInvariant view backing (pending_in view backing mid out) mid out → FillsGrown view backing size mode mid filled out) where
@@ -239,7 +239,7 @@ module _ {S F : Type 0} (view : S → StorageView) (backing : F → BackingView)
         last_sized marked time out sound =
             passes_on (λ c. ((header (byte_at c)).size ≡ size_of old) ⊎ (c ≡ (view_in view new.file).contents))
             (passes_if (λ c. ((header (byte_at c)).size ≡ size_of old) ⊎ (c ≡ (view_in view new.file).contents)) (λ c is. inl is)
-            (size_stays_in_calls (state_in view old.file (pending_in view backing old out)) (abstract_of view backing old out) (abstract_of view backing filled out) given_bytes sound.file.caches.kept.kept.guarded refl refl (fills_works out sound)))
+            (size_stays_in_calls (state_in view old.file (pending_in view backing old out)) (abstract_of view backing old out) (abstract_of view backing filled out) given_bytes sound.file.caches.kept.kept.crash_invariant refl refl (fills_works out sound)))
             (time (fills_sound out sound).file.honest) (λ c is. inr is)
 
 -- the L1 table has an entry for the last byte

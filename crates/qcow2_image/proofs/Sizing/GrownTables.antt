@@ -52,10 +52,10 @@ zeros_stand None is = absurd cc
 zeros_stand (Some host) is = absurd cc
 
 covers_reach : (h h' : HeaderFields) (known known' : Bytes) (first from size : ℕ) → MovesTables h h' → Sizes h' → from < size → FilledCovers (cluster_size h) first from (rounded_up (cluster_size h) size) h known h' known' → ReachesSize (with_size h' size)
-covers_reach h h' known known' first from size moves sizes larger covers =
+covers_reach h h' known known' first from size file_step sizes larger covers =
     let cs = cluster_size h in
     let g = (size - 1) / cs in
-    let same = same_size h h' moves in
+    let same = same_size h h' file_step in
     let some : 0 < cs = let s = sizes.some in omega (arith, s, same) in
     let least = up_least cs size some in
     let parts : g * cs + (size - 1) % cs ≡ size - 1 = div-add-mod' (size - 1) cs in
@@ -85,10 +85,10 @@ module _ (mode : PreallocateMode) (size : ℕ) (h : HeaderFields) (k : Bytes) (l
   end = rounded_up cs size
 
   grown_between : MovesTables h long → CoversStay h k long kl → GrownCovers mode long.size size long kl filled kf → CoversStay filled kf new kn → GrownCovers mode h.size size h k new kn
-  grown_between moves before grown behind = record {
+  grown_between file_step before grown behind = record {
     filled = λ hides.
-        let was = subst (λ c. FilledCovers c (first_zeros c long.size size mode) long.size (rounded_up c size) long kl filled kf) (same_size h long moves) (grown.filled hides) in
-        let then = subst (λ n. FilledCovers cs (first_zeros cs n size mode) n end long kl filled kf) (ap (λ (x : HeaderFields). x.size) moves) was in
+        let was = subst (λ c. FilledCovers c (first_zeros c long.size size mode) long.size (rounded_up c size) long kl filled kf) (same_size h long file_step) (grown.filled hides) in
+        let then = subst (λ n. FilledCovers cs (first_zeros cs n size mode) n end long kl filled kf) (ap (λ (x : HeaderFields). x.size) file_step) was in
         let first = first_zeros cs h.size size mode in
         covers_stay cs (pow_pos h.cluster_bits) first h k filled kf new kn h.size end (stay_covers cs (pow_pos h.cluster_bits) first h k long kl filled kf h.size end before then) behind;
     same = λ shows g. before g ∙ grown.same shows g ∙ behind g;
@@ -96,12 +96,12 @@ module _ (mode : PreallocateMode) (size : ℕ) (h : HeaderFields) (k : Bytes) (l
 
 -- tables move, and then the size is written
 format_sized : (h m h' : HeaderFields) (size : ℕ) → MovesTables h m → h' ≡ with_size m size → SameFormat h h'
-format_sized h m h' size moves is =
-    let e : h' ≡ with_size (with_tables_of h m) size = is ∙ ap (λ (k : HeaderFields). with_size k size) moves in
+format_sized h m h' size file_step is =
+    let e : h' ≡ with_size (with_tables_of h m) size = is ∙ ap (λ (k : HeaderFields). with_size k size) file_step in
     subst (λ (k : HeaderFields). k ≡ with_places h (places_of k)) (sym e) refl
 
 autoclear_sized : (h m h' : HeaderFields) (size : ℕ) → MovesTables h m → h' ≡ with_size m size → h'.autoclear ≡ h.autoclear
-autoclear_sized h m h' size moves is = ap (λ (k : HeaderFields). k.autoclear) is ∙ ap (λ (k : HeaderFields). k.autoclear) moves
+autoclear_sized h m h' size file_step is = ap (λ (k : HeaderFields). k.autoclear) is ∙ ap (λ (k : HeaderFields). k.autoclear) file_step
 
 module _ {S F : Type 0} (view : S → StorageView) (backing : F → BackingView) (out : List (Option Prepared)) where
   -- what fills the range behind the old end leaves that
@@ -109,8 +109,8 @@ module _ {S F : Type 0} (view : S → StorageView) (backing : F → BackingView)
     filled_reaches : (first : ℕ) → MovesTables long.file.header.fields filled.file.header.fields → ImageInvariant view backing (pending_in view backing filled out) filled out
         → FilledCovers (cluster_size long.file.header.fields) first (size_of long) (rounded_up (cluster_size long.file.header.fields) size) long.file.header.fields (known_in view long.file) filled.file.header.fields (known_in view filled.file)
         → ReachesSize (with_size filled.file.header.fields size)
-    filled_reaches first moves filled_sound covers =
-        covers_reach long.file.header.fields filled.file.header.fields (known_in view long.file) (known_in view filled.file) first (size_of long) size moves
+    filled_reaches first file_step filled_sound covers =
+        covers_reach long.file.header.fields filled.file.header.fields (known_in view long.file) (known_in view filled.file) first (size_of long) size file_step
         (file_sizes view (pending_in view backing filled out) filled.file filled_sound.file) larger covers
 
     pub reaches_filled : (mode : PreallocateMode) → (mode ≡ Mode.None → filled ≡ long) → ReachesSize (with_size long.file.header.fields size) → FillsGrown view backing size mode long filled out → ReachesSize (with_size filled.file.header.fields size)
@@ -149,8 +149,8 @@ module _ {S F : Type 0} (view : S → StorageView) (backing : F → BackingView)
   -- the size is written last
   pub tables_sized : (old filled new : Qcow2 S F) (marked : Bool) (size : ℕ) (mode : PreallocateMode) (r : Result (Unit {0}) ImageError) → MovesTables old.file.header.fields filled.file.header.fields → IfErr r IsFaultOfTables → OnOk r (new.file.header ≡ with_fields filled.file.header (with_size filled.file.header.fields size))
       → ReachesSize (with_size filled.file.header.fields size) → ReachesOffset (size - 1) old.file.header.fields filled.file.header.fields → OnOk r (Leaves old new size mode) → GrowsTables view backing old (record new { is_failed = marked }) size mode out r
-  tables_sized old filled new marked size mode (Ok x) moves cause header reached length covers = record { autoclear = autoclear_sized old.file.header.fields filled.file.header.fields new.file.header.fields size moves (ap (λ (v : HeaderView). v.fields) header); format = format_sized old.file.header.fields filled.file.header.fields new.file.header.fields size moves (ap (λ (v : HeaderView). v.fields) header); reaches = subst (λ (v : HeaderView). ReachesSize v.fields) (sym header) reached; length = ap (λ (v : HeaderView). v.fields.l1_entries) header ∙ length; covers = covers }
-  tables_sized old filled new marked size mode (Err e) moves cause header reached length covers = λ is. absurd (elim cause [ inl fault ↦ (let no : I.TablePrepared ≡ I.Storage = sym is ∙ fault in cc) | inr fault ↦ (let no : I.TablePrepared ≡ I.Memory = sym is ∙ fault in cc) ])
+  tables_sized old filled new marked size mode (Ok x) file_step cause header reached length covers = record { autoclear = autoclear_sized old.file.header.fields filled.file.header.fields new.file.header.fields size file_step (ap (λ (v : HeaderView). v.fields) header); format = format_sized old.file.header.fields filled.file.header.fields new.file.header.fields size file_step (ap (λ (v : HeaderView). v.fields) header); reaches = subst (λ (v : HeaderView). ReachesSize v.fields) (sym header) reached; length = ap (λ (v : HeaderView). v.fields.l1_entries) header ∙ length; covers = covers }
+  tables_sized old filled new marked size mode (Err e) file_step cause header reached length covers = λ is. absurd (elim cause [ inl fault ↦ (let no : I.TablePrepared ≡ I.Storage = sym is ∙ fault in cc) | inr fault ↦ (let no : I.TablePrepared ≡ I.Memory = sym is ∙ fault in cc) ])
 
   -- ---- the entries can't tell zeros
   pub refuses_version : (old long filled : Qcow2 S F) (e : ImageError) (marked : Bool) → is_failed old ≡ false → UnseenCall view backing old long out → filled ≡ long → e ≡ I.Version → number_of filled ≡ number_of old → MayMark e (is_failed filled) marked

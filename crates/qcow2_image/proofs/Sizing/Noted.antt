@@ -28,7 +28,7 @@ module _ {S F : Type 0} (view : S → StorageView) (backing : F → BackingView)
       → ImageInvariant view backing (pending_in view backing (with_marks image noted (is_failed image)) out) (with_marks image noted (is_failed image)) out
   sound_noted image noted out s = record {
     works = s.works;
-    file = record { honest = s.file.honest; caches = s.file.caches; settled = s.file.settled; room = s.file.room };
+    file = record { honest = s.file.honest; caches = s.file.caches; named_blocks = s.file.named_blocks; room = s.file.room };
     l1_table = record { cluster = s.l1_table.cluster; bits = s.l1_table.bits; count = s.l1_table.count; entries = s.l1_table.entries };
     reftable = reftable_noted image noted image.allocator s.reftable;
     below = s.below;

@@ -35,7 +35,7 @@ use Rattle.qcow2_image.proofs.Call.Marked.{MayMark}
 use Rattle.qcow2_image.specs.Resizing.{CantUncover, IsFaultOrCantUncover, IsTurnEnd, SetsSize, ShowsBelow, Shrinks, UncoversNext, UncoversPart, UncoversTail, WritesSize, WritesSizeLast, boundary_in, all_given_by_shrink, all_given_by_shrunk, refuses_to_resize}
 use Rattle.qcow2_image.proofs.Call.Called.{Quietly, listed}
 use Rattle.qcow2_image.proofs.Call.Refused.{stays_kept}
-use Rattle.qcow2_image.proofs.Call.Settled.{is_fault, outcome}
+use Rattle.qcow2_image.proofs.Call.CallOutcomes.{is_fault, outcome}
 use Rattle.qcow2_image.proofs.Clear.Touched.{rounded_from}
 use Rattle.qcow2_image.proofs.Prepare.Entering.{may_still}
 use Rattle.qcow2_image.proofs.Sizes.{disk_size}
@@ -395,7 +395,7 @@ module _ {S F : Type 0} (view : S → StorageView) (backing : F → BackingView)
       let m = abstract_of view backing mid out in
       passes_on (λ c. ((header (byte_at c)).size ≡ size_of old) ⊎ (c ≡ (view_in view new.file).contents))
       (passes_if (λ c. ((header (byte_at c)).size ≡ size_of old) ⊎ (c ≡ (view_in view new.file).contents)) (λ c is. inl is)
-      (size_stays_in_calls (state_in view old.file (pending_in view backing old out)) v m works.0 sound.file.caches.kept.kept.guarded refl refl works.1))
+      (size_stays_in_calls (state_in view old.file (pending_in view backing old out)) v m works.0 sound.file.caches.kept.kept.crash_invariant refl refl works.1))
       time (λ c is. inr is)
 
 -- ---- why it stops early

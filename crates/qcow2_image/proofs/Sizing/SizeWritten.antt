@@ -24,7 +24,7 @@ use Rattle.qcow2_laws.specs.Tops.{WritesHeader, resized_places}
 use Rattle.qcow2_laws.specs.Unseen.{SameUsedBytes, used_by_guests}
 use Rattle.qcow2_laws.proofs.Headers.{header_elsewhere, header_fixed, header_l1, header_known_l1, header_known_covers, header_known_counts}
 use Rattle.qcow2_laws.proofs.Mixes.{tied}
-use Rattle.qcow2_laws.proofs.SafeSteps.{step_endures}
+use Rattle.qcow2_laws.proofs.SafeSteps.{step_safe_throughout}
 use Rattle.qcow2_laws.proofs.Steps.{header_is_written}
 use Rattle.qcow2_laws.proofs.Unseen.{known_header, named_some, table_bytes}
 use Rattle.qcow2_laws.proofs.Values.{guest_value-same, size_is, value_is}
@@ -53,7 +53,7 @@ use Rattle.qcow2_image.proofs.Call.Called.{listed}
 use Rattle.qcow2_image.proofs.Call.Refused.{stays_kept}
 use Rattle.qcow2_image.proofs.Map.Loading.{still_moved}
 use Rattle.qcow2_image.proofs.Prepare.Entering.{unlisted}
-use Rattle.qcow2_image.proofs.Open.HeaderKept.{resized_l1, resized_reftable, placed_settled, placed_sound}
+use Rattle.qcow2_image.proofs.Open.HeaderKept.{resized_l1, resized_reftable, placed_named_blocks, placed_sound}
 use Rattle.qcow2_image.proofs.Ready.{still_ready}
 use Rattle.qcow2_image.proofs.Shares.{private_used}
 use Rattle.qcow2_image.proofs.Sound.{pending_is}
@@ -104,20 +104,20 @@ module _ {S F : Type 0} (view : S → StorageView) (backing : F → BackingView)
   changed = size_written (with_size old.file.header.fields size) (view_in view old.file).contents
 
   -- what is there where it is written
-  leads_at : (b : Bytes) → WritesHeader h (resized_places h size h.autoclear) on_storage known b (known_of h old.file.caches b)
+  safe_step_at : (b : Bytes) → WritesHeader h (resized_places h size h.autoclear) on_storage known b (known_of h old.file.caches b)
       → SafeStep (state_in view old.file p) (record (state_in view old.file p) { header = with_size h size; on_storage = b; known = known_of h old.file.caches b }) nothing_given (size ∷ [])
-  leads_at b writes = header_is_written.size (state_in view old.file p) b (known_of h old.file.caches b) size h.autoclear sound.file.caches.kept.kept.guarded writes
+  safe_step_at b writes = header_is_written.size (state_in view old.file p) b (known_of h old.file.caches b) size h.autoclear sound.file.caches.kept.kept.crash_invariant writes
 
   -- whatever the storage answers
   pub lasts_resized : {T : Type 0} (result : Result T StorageError) (asked after : S) → asked ≡ storage_of old.file.storage → Changes (view asked) (view after) result (size_written (with_size old.file.header.fields size) (view asked).contents)
       → Calls (view asked) (view after) result → SafeThroughout (view_in view old.file) (view after) known nothing_given (size ∷ [])
   lasts_resized result asked after same wrote called =
       let writes = size_writes view p old.file sound.file size fits in
-      step_endures {result = result} (view_in view old.file) (view after) (state_in view old.file p) (record (state_in view old.file p) { header = with_size h size; on_storage = byte_at changed; known = known_of h old.file.caches (byte_at changed) })
+      step_safe_throughout {result = result} (view_in view old.file) (view after) (state_in view old.file p) (record (state_in view old.file p) { header = with_size h size; on_storage = byte_at changed; known = known_of h old.file.caches (byte_at changed) })
       nothing_given (size ∷ []) changed
       (subst (λ (s : S). Calls (view s) (view after) result) same called)
       (subst (λ (s : S). Changes (view s) (view after) result (size_written (with_size old.file.header.fields size) (view s).contents)) same wrote)
-      sound.file.honest refl refl (leads_at (byte_at changed) writes)
+      sound.file.honest refl refl (safe_step_at (byte_at changed) writes)
 
   module _ (storage : ImageStorage S) (is : (view (storage_of storage)).contents ≡ size_written (with_size old.file.header.fields size) (view_in view old.file).contents) (honest : (view (storage_of storage)).is_honest) where
     abbrev pub sized : Qcow2 S F
@@ -126,8 +126,8 @@ module _ {S F : Type 0} (view : S → StorageView) (backing : F → BackingView)
     writes_now : WritesHeader h (resized_places h size h.autoclear) on_storage known (contents_in view sized.file) (known_of h old.file.caches (contents_in view sized.file))
     writes_now = subst (λ (c : List ℕ). WritesHeader h (resized_places h size h.autoclear) on_storage known (byte_at c) (known_of h old.file.caches (byte_at c))) (sym is) (size_writes view p old.file sound.file size fits)
 
-    pub leads_now : SafeStep (state_in view old.file p) (state_in view sized.file p) nothing_given (size ∷ [])
-    leads_now = leads_at (contents_in view sized.file) writes_now
+    pub safe_step_now : SafeStep (state_in view old.file p) (state_in view sized.file p) nothing_given (size ∷ [])
+    safe_step_now = safe_step_at (contents_in view sized.file) writes_now
 
     -- counts don't go by the size
     counts_too : (b : Bytes) (k : ℕ) → count (with_size h size) b k ≡ count h b k
@@ -138,25 +138,25 @@ module _ {S F : Type 0} (view : S → StorageView) (backing : F → BackingView)
     reftable_now = allocator_kept view old.file sized.file
         (λ t has. record { cluster = has.cluster; bits = has.bits; count = has.count; entries = λ k. has.entries k ∙ sym (resized_reftable view p old.file sound.file size h.autoclear (contents_in view sized.file) writes_now k) })
         (λ k.
-        let same = header_known_counts h (resized_places h size h.autoclear) (order_of old.file.caches) p on_storage known (contents_in view sized.file) (known_of h old.file.caches (contents_in view sized.file)) sound.file.caches.kept.kept.guarded writes_now k in
+        let same = header_known_counts h (resized_places h size h.autoclear) (order_of old.file.caches) p on_storage known (contents_in view sized.file) (known_of h old.file.caches (contents_in view sized.file)) sound.file.caches.kept.kept.crash_invariant writes_now k in
         let e : count h known k ≡ count (with_size h size) (known_in view sized.file) k = same ∙ sym (counts_too (known_in view sized.file) k) in
         omega arith)
 
     -- the L1 entries and what stands for guest clusters stay
     l1_now : (i : ℕ) → l1_entry h (contents_in view sized.file) i ≡ l1_entry h on_storage i
-    l1_now i = sym (header_l1 h (resized_places h size h.autoclear) (order_of old.file.caches) p on_storage known (contents_in view sized.file) (known_in view sized.file) sound.file.caches.kept.kept.guarded writes_now i)
+    l1_now i = sym (header_l1 h (resized_places h size h.autoclear) (order_of old.file.caches) p on_storage known (contents_in view sized.file) (known_in view sized.file) sound.file.caches.kept.kept.crash_invariant writes_now i)
 
     known_l1_now : (i : ℕ) → l1_entry h known i ≡ l1_entry h (known_in view sized.file) i
-    known_l1_now i = header_known_l1 h (resized_places h size h.autoclear) (order_of old.file.caches) p on_storage known (contents_in view sized.file) (known_in view sized.file) sound.file.caches.kept.kept.guarded writes_now i
+    known_l1_now i = header_known_l1 h (resized_places h size h.autoclear) (order_of old.file.caches) p on_storage known (contents_in view sized.file) (known_in view sized.file) sound.file.caches.kept.kept.crash_invariant writes_now i
 
     covers_now : (g : ℕ) → cover h known g ≡ cover h (known_in view sized.file) g
-    covers_now g = header_known_covers h (resized_places h size h.autoclear) (order_of old.file.caches) p on_storage known (contents_in view sized.file) (known_in view sized.file) sound.file.caches.kept.kept.guarded writes_now g
+    covers_now g = header_known_covers h (resized_places h size h.autoclear) (order_of old.file.caches) p on_storage known (contents_in view sized.file) (known_in view sized.file) sound.file.caches.kept.kept.crash_invariant writes_now g
 
     pub covers_stay : CoversStay h known sized.file.header.fields (known_in view sized.file)
     covers_stay g = covers_now g ∙ cover_sized h size (known_in view sized.file) g
 
     top : (i : ℕ) → l1_entry h on_storage i ≡ l1_entry h known i
-    top = sound.file.caches.kept.kept.guarded.same_top.l1
+    top = sound.file.caches.kept.kept.crash_invariant.same_top.l1
 
     pub resized_sound : ImageInvariant view backing p sized out
     resized_sound =
@@ -165,8 +165,8 @@ module _ {S F : Type 0} (view : S → StorageView) (backing : F → BackingView)
           works = sound.works;
           file = record {
             honest = honest;
-            caches = placed_sound view p p old.file sound.file (resized_places h size h.autoclear) (contents_in view sized.file) writes_now leads_now.sound l1 blocks;
-            settled = placed_settled view p p old.file sound.file (resized_places h size h.autoclear) (contents_in view sized.file) writes_now leads_now.sound l1 blocks;
+            caches = placed_sound view p p old.file sound.file (resized_places h size h.autoclear) (contents_in view sized.file) writes_now safe_step_now.sound l1 blocks;
+            named_blocks = placed_named_blocks view p p old.file sound.file (resized_places h size h.autoclear) (contents_in view sized.file) writes_now safe_step_now.sound l1 blocks;
             room = sound.file.room;
           };
           l1_table = record { cluster = sound.l1_table.cluster; bits = sound.l1_table.bits; count = sound.l1_table.count; entries = λ i. sound.l1_table.entries i ∙ sym (l1 i) };
@@ -183,30 +183,30 @@ module _ {S F : Type 0} (view : S → StorageView) (backing : F → BackingView)
 
     -- what guests use stands elsewhere than the header
     used_bytes : SameUsedBytes (state_in view old.file p) (state_in view sized.file p)
-    used_bytes = table_bytes (state_in view old.file p) (state_in view sized.file p) sound.file.caches.kept.kept.guarded 0
-        (header_fixed h (resized_places h size h.autoclear) (order_of old.file.caches) p on_storage known (contents_in view sized.file) (known_in view sized.file) sound.file.caches.kept.kept.guarded writes_now) writes_now.known_others
+    used_bytes = table_bytes (state_in view old.file p) (state_in view sized.file p) sound.file.caches.kept.kept.crash_invariant 0
+        (header_fixed h (resized_places h size h.autoclear) (order_of old.file.caches) p on_storage known (contents_in view sized.file) (known_in view sized.file) sound.file.caches.kept.kept.crash_invariant writes_now) writes_now.known_others
 
     disk_now : (below : Bytes) → disk (known_in view sized.file) below ≡ record (disk known below) { size = size }
     unfolding disk_with
     disk_now below =
         let s = state_in view old.file p in
         let s' = state_in view sized.file p in
-        let guarded = sound.file.caches.kept.kept.guarded in
-        let was = known_header s guarded in
-        let is' = known_header s' leads_now.sound in
+        let crash_invariant = sound.file.caches.kept.kept.crash_invariant in
+        let was = known_header s crash_invariant in
+        let is' = known_header s' safe_step_now.sound in
         let now : (disk (known_in view sized.file) below).size ≡ size = size_is (with_size h size) (known_in view sized.file) below is' in
         let value : (disk (known_in view sized.file) below).value ≡ (disk known below).value = fun_ext (λ o.
         value_is (with_size h size) (known_in view sized.file) below o is'
         ∙ value_sized h size (known_in view sized.file) below o
-        ∙ sym (guest_value-same h known (known_in view sized.file) below o (covers_now (o / cluster_size h)) (guarded.known_aligned (o / cluster_size h))
-        (λ place some. sym (used_bytes place (let one = named_some s s' guarded (place / cluster_size h) (o / cluster_size h) some in omega arith))))
+        ∙ sym (guest_value-same h known (known_in view sized.file) below o (covers_now (o / cluster_size h)) (crash_invariant.known_aligned (o / cluster_size h))
+        (λ place some. sym (used_bytes place (let one = named_some s s' crash_invariant (place / cluster_size h) (o / cluster_size h) some in omega arith))))
         ∙ sym (value_is h known below o was)) in
         λ j. record { size = now j; value = value j }
 
     -- the same bytes stand where mappings have theirs
     module _ (holds : HoldsAll view backing p out) where
       elsewhere : (o : ℕ) → 0 < used_by_guests (state_in view old.file p) (o / cluster_size h) → o / cluster_size h ≢ 0
-      elsewhere o some = header_elsewhere h (resized_places h size h.autoclear) (order_of old.file.caches) p on_storage known (contents_in view sized.file) (known_in view sized.file) sound.file.caches.kept.kept.guarded writes_now o
+      elsewhere o some = header_elsewhere h (resized_places h size h.autoclear) (order_of old.file.caches) p on_storage known (contents_in view sized.file) (known_in view sized.file) sound.file.caches.kept.kept.crash_invariant writes_now o
           (let t = (tied h p on_storage known (o / cluster_size h)).known in omega arith)
 
       place_now : (k : ℕ) (q : Prepared) → slice_get out k ≡ Some (Some q) → (o : ℕ) → IsTrue (is_private view backing old q o) → contents_in view sized.file (place_of h q o) ≡ contents_in view old.file (place_of h q o)
@@ -236,15 +236,15 @@ module _ {S F : Type 0} (view : S → StorageView) (backing : F → BackingView)
     now = sized view backing out q old sound size fits storage is honest
 
     pending_now : q ≡ pending_in view backing now out
-    pending_now = pending_is view backing now out q (leads_now view backing out q old sound size fits storage is honest).sound (record { new_data = λ k. refl; new_tables = λ k. refl; old_tables = λ k. refl; old_data = λ k. refl })
+    pending_now = pending_is view backing now out q (safe_step_now view backing out q old sound size fits storage is honest).sound (record { new_data = λ k. refl; new_tables = λ k. refl; old_tables = λ k. refl; old_data = λ k. refl })
 
     pub sets_size : SetsSize view backing size old now out
     sets_size =
-        let leads = leads_now view backing out q old sound size fits storage is honest in record {
+        let safe_step = safe_step_now view backing out q old sound size fits storage is honest in record {
           works = record {
             setting = refl;
             surplus = λ still. ap (λ (x : Pending). x.surplus) (sym pending_now);
-            stops = stops_of (abstract_of view backing old out) (abstract_of view backing now out) nothing_given (size ∷ []) since (λ still. leads.known);
+            stops = stops_of (abstract_of view backing old out) (abstract_of view backing now out) nothing_given (size ∷ []) since (λ still. safe_step.known);
           };
           sound = subst (λ (x : Pending). ImageInvariant view backing x now out) pending_now (resized_sound view backing out q old sound size fits storage is honest);
           shows = guest_now view backing out q old sound size fits storage is honest (λ k. omega arith);
@@ -306,7 +306,7 @@ module _ {S F : Type 0} (view : S → StorageView) (backing : F → BackingView)
       let honest = calls.honest sound.file.honest in
       let final = sized view backing [] p old sound size fits storage contents honest in
       let extends : Extends view backing p p old (sized view backing [] p old sound size fits storage contents honest) (size ∷ []) =
-      record { sound = resized_sound view backing [] p old sound size fits storage contents honest; leads = leads_now view backing [] p old sound size fits storage contents honest; since = all_since; format = refl; autoclear = refl } in
+      record { sound = resized_sound view backing [] p old sound size fits storage contents honest; safe_step = safe_step_now view backing [] p old sound size fits storage contents honest; since = all_since; format = refl; autoclear = refl } in
       subst (λ (a : Qcow2 S F). Resizes view backing p old a size (Ok x)) (sym is)
       (subst (λ (r : Pending). Extends view backing p r old final (size ∷ [])) (unlisted view backing [] p old final refl) extends, refl)
 

@@ -75,7 +75,7 @@ module _ {S F : Type 0} (view : S → StorageView) (backing : F → BackingView)
     some = pow_pos h.cluster_bits
 
     rows : 0 < entries_per_cluster h
-    rows = (Sizes-from h (contents_in view old.file) sound.file.caches.kept.kept.guarded.top.header_reads).entries
+    rows = (Sizes-from h (contents_in view old.file) sound.file.caches.kept.kept.crash_invariant.top.header_reads).entries
 
     shown_end : size_of old ≡ d.size
     shown_end = disk_size view backing old out sound

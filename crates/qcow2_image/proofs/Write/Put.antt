@@ -153,16 +153,16 @@ module _ {S F : Type 0} (view : S → StorageView) (backing : F → BackingView)
   hosts i lt = (hosts_with q.table refl (sound.ready k q placed).mapped i lt).0
 
   no_table : (i : ℕ) → i < length bytes → named_for_tables h (contents_in view old.file) ((q.offset + at + i) / size) ≡ 0
-  no_table i lt = beside_tables s (hosting (q.guest + at + i)) (q.guest + at + i) (q.offset + at + i) sound.file.caches.kept.kept.guarded (hosts i lt)
+  no_table i lt = beside_tables s (hosting (q.guest + at + i)) (q.guest + at + i) (q.offset + at + i) sound.file.caches.kept.kept.crash_invariant (hosts i lt)
 
   -- ---- so one write goes over them
   run : WritesRun hosting (q.guest + at) (q.offset + at) bytes given_bytes s (state_in view new.file before)
-  run = run_written s (contents_in view new.file) (known_in view new.file) hosting (q.guest + at) (q.offset + at) bytes given_bytes sound.file.caches.kept.kept.guarded hosts
+  run = run_written s (contents_in view new.file) (known_in view new.file) hosting (q.guest + at) (q.offset + at) bytes given_bytes sound.file.caches.kept.kept.crash_invariant hosts
       (λ i lt. given_as (guest_of (abstract_of view backing old out)).disk m at bytes i lt (share_of h q ((q.guest + at + i) / size)) refl)
       (writes view backing old out sound storage (q.offset + at) bytes is no_table) (there view backing old out sound storage (q.offset + at) bytes is)
 
   steps : Steps view backing old new out out (λ _. given_bytes) before
-  steps = steps_written view backing old out sound storage (q.offset + at) bytes is no_table (λ _. given_bytes) honest time run.leads run.covers
+  steps = steps_written view backing old out sound storage (q.offset + at) bytes is no_table (λ _. given_bytes) honest time run.safe_step run.covers
 
   -- what stands for each guest cluster stays
   pub put_covers : (g : ℕ) → cover h (known_in view old.file) g ≡ cover h (known_in view new.file) g
@@ -239,7 +239,7 @@ module _ {S F : Type 0} (view : S → StorageView) (backing : F → BackingView)
         let never : (i : ℕ) → i < length bytes → IsHeld (hosting (q.guest + at + i)) → (q.offset + at + i) / size ≢ place / size = λ i lt new_data same. absurd (
         let mine : 0 < new_data_by q (place / size) = subst (λ c. 0 < new_data_by q c) same ((hosts_with q.table refl (sound.ready k q placed).mapped i lt).1 new_data) in
         let both = over_all_two new_data_by out k q j r placed apart there_is (place / size) in
-        let each_cluster = sound.file.caches.kept.kept.guarded.each_cluster (place / size) in
+        let each_cluster = sound.file.caches.kept.kept.crash_invariant.each_cluster (place / size) in
         let tally = each_cluster.tally in
         let few = each_cluster.pending (omega arith) in
         omega arith) in
@@ -259,13 +259,13 @@ module _ {S F : Type 0} (view : S → StorageView) (backing : F → BackingView)
       kept_kept : contents_in view new.file place ≡ contents_in view old.file place
       kept_kept =
           let rest = mod_below o size (pow_pos h.cluster_bits) in
-          let aligned = kept_aligned s sound.file.caches.kept.kept.guarded (o / size) host kept in
+          let aligned = kept_aligned s sound.file.caches.kept.kept.crash_invariant (o / size) host kept in
           let cluster : place / size ≡ host / size = ap (λ n. n / size) here ∙ in_one size host (o % size) aligned rest in
           let named : names h s.known (place / size) (o / size) ≡ 1 = ap (named_by_cover h (place / size)) kept ∙ ap (λ c. in_cluster h c host) cluster ∙ in_own h host in
           let known : known_in view new.file place ≡ s.known place = run.others (o / size) (elsewhere q.table refl (sound.ready k q placed).mapped) place (omega (arith, named)) in
           let kept_now : cover h (known_in view new.file) (o / size) ≡ Zero (Some (host, true)) = sym (run.covers (o / size)) ∙ kept in
-          ap (contents_in view new.file) here ∙ kept_unlaid (state_in view new.file before) run.leads.sound (o / size) host kept_now (o % size) rest ∙ ap (known_in view new.file) (sym here) ∙ known
-          ∙ ap s.known here ∙ sym (kept_unlaid s sound.file.caches.kept.kept.guarded (o / size) host kept (o % size) rest) ∙ ap (contents_in view old.file) (sym here)
+          ap (contents_in view new.file) here ∙ kept_unlaid (state_in view new.file before) run.safe_step.sound (o / size) host kept_now (o % size) rest ∙ ap (known_in view new.file) (sym here) ∙ known
+          ∙ ap s.known here ∙ sym (kept_unlaid s sound.file.caches.kept.kept.crash_invariant (o / size) host kept (o % size) rest) ∙ ap (contents_in view old.file) (sym here)
 
     by_standing : Standing h s.known r o → contents_in view new.file place ≡ contents_in view old.file place
     by_standing (in_new new_data) = kept_new_data new_data

@@ -32,7 +32,7 @@ use Rattle.qcow2_image.specs.CallParts.{put_guest, IsPut, IsWriteOutcome, PutsPa
 use Rattle.qcow2_image.specs.ImageInvariant.{ImageInvariant, pending_in, abstract_of, meaning}
 use Rattle.qcow2_image.proofs.Call.Called.{Quietly, quiet_works, quiet_sound, quiet_same}
 use Rattle.qcow2_image.proofs.Call.Called.{works_none}
-use Rattle.qcow2_image.proofs.Call.Settled.{settled_does, settled_refuses}
+use Rattle.qcow2_image.proofs.Call.CallOutcomes.{outcome_answered, outcome_refused}
 use Rattle.qcow2_image.proofs.Call.Answered.{same_guest}
 use Rattle.qcow2_disk.proofs.RunSteps.{acts_none}
 use Rattle.qcow2_image.specs.Calls.{Puts, all_given_by_put, refusal_of}
@@ -188,7 +188,7 @@ module _ {S F : Type 0} (view : S → StorageView) (backing : F → BackingView)
   pub puts_none : bytes ≡ [] → (done : Unit {0}) → Puts view backing old old p at bytes (Ok done)
   puts_none none done = λ out k placed.
       let v = abstract_of view backing old out in
-      settled_does view backing old old out out (all_given_by_put view backing old old v p at bytes)
+      outcome_answered view backing old old out out (all_given_by_put view backing old old v p at bytes)
       (λ sound. works_less v v [] (all_given_by_put view backing old old v p at bytes) [] (λ o w never. absurd never) (works_none v sound)) (λ sound. sound) refl usable
       (λ sound. sym (ap (λ b. put_guest (guest_of v) k (meaning view backing old p) at b) none ∙ put_none (guest_of v) k (meaning view backing old p) at (ap (meaning_at (meaning view backing old)) placed)))
 
@@ -199,13 +199,13 @@ module _ {S F : Type 0} (view : S → StorageView) (backing : F → BackingView)
       record { acts = acts_none v (all_given_by_put view backing old old v p at bytes) []; answer = λ sound. inl (sound, refl); fault = λ is. absurd (other is) }
 
   module _ (new : Qcow2 S F) (marked : Bool) (number : number_of new ≡ number_of old) where
-    pub puts_settled : (r : Result (Unit {0}) ImageError) → MayMarkBy r (is_failed new) marked
+    pub puts_with_outcome : (r : Result (Unit {0}) ImageError) → MayMarkBy r (is_failed new) marked
         → ((out : List (Option Prepared)) (k : ℕ) → slice_get out k ≡ Some (Some p) → ImageInvariant view backing (pending_in view backing old out) old out → PutsPart view backing old new out k p at bytes r)
         → Puts view backing old (record new { is_failed = marked }) p at bytes r
-    puts_settled (Ok done) marks part = λ out k placed.
+    puts_with_outcome (Ok done) marks part = λ out k placed.
         subst (λ (f : Bool). let v = abstract_of view backing old out in let w = abstract_of view backing (record new { is_failed = f }) out in
         AnsweredEffect v w (all_given_by_put view backing old new v p at bytes) [] (guest_of w ≡ put_guest (guest_of v) k (meaning view backing old p) at bytes)) (sym marks)
-        (settled_does view backing old new out out (all_given_by_put view backing old new (abstract_of view backing old out) p at bytes) (λ sound. (part out k placed sound).works) (λ sound. (part out k placed sound).sound) number usable (λ sound. (part out k placed sound).is))
-    puts_settled (Err e) marks part = λ out k placed.
-        settled_refuses view backing old new out out (all_given_by_put view backing old new (abstract_of view backing old out) p at bytes) (λ sound. (part out k placed sound).works) (λ sound. (part out k placed sound).sound) number usable marked e marks
+        (outcome_answered view backing old new out out (all_given_by_put view backing old new (abstract_of view backing old out) p at bytes) (λ sound. (part out k placed sound).works) (λ sound. (part out k placed sound).sound) number usable (λ sound. (part out k placed sound).is))
+    puts_with_outcome (Err e) marks part = λ out k placed.
+        outcome_refused view backing old new out out (all_given_by_put view backing old new (abstract_of view backing old out) p at bytes) (λ sound. (part out k placed sound).works) (λ sound. (part out k placed sound).sound) number usable marked e marks
         (λ sound. (part out k placed sound).is)

@@ -18,13 +18,13 @@ use Rattle.qcow2_laws.specs.Tops.{IsSameBut, WritesAt}
 use Rattle.qcow2_laws.proofs.Beside.{overwritten_but}
 use Rattle.qcow2_laws.proofs.Caches.{unnamed_free_l2, unnamed_free_rb}
 use Rattle.qcow2_laws.proofs.KeptSteps.{known_beside, still_agree}
-use Rattle.qcow2_laws.proofs.SafeSteps.{data_endures}
+use Rattle.qcow2_laws.proofs.SafeSteps.{data_safe_throughout}
 use Rattle.qcow2_alloc.specs.declared.allocation.Allocator.{Allocator}
 use Rattle.qcow2_alloc.specs.declared.image_storage.ImageStorage.{ImageStorage}
 use Rattle.qcow2_alloc.specs.ImageStorage.{storage_of}
 use Rattle.qcow2_alloc.specs.MetadataCaches.{order_of, l2_tables, refblocks}
 use Rattle.qcow2_alloc.specs.ImageFile.{state_in, view_in, contents_in, known_in}
-use Rattle.qcow2_alloc.proofs.KeptTables.Beside.{top_beside, settled_beside_write, sound_beside}
+use Rattle.qcow2_alloc.proofs.KeptTables.Beside.{top_beside, named_blocks_beside_write, sound_beside}
 use Rattle.qcow2_alloc.specs.KeptAllocators.{IsAllocatorOf}
 use Rattle.qcow2_alloc.proofs.KeptAllocators.{allocator_kept}
 use Rattle.qcow2_alloc.proofs.CountsStay.{counts_follow, fixed_more}
@@ -78,7 +78,7 @@ module _ {S F : Type 0} {p : Pending} (view : S → StorageView) (backing : F �
         | inl same ↦ inl same
         | inr none ↦ inr (
           unnamed_free_l2 h (order_of old.file.caches) p (l2_tables old.file.caches) (refblocks old.file.caches) (contents_in view old.file) sound.file.caches.kept.kept (o / cluster_size h) none o refl,
-          unnamed_free_rb h (order_of old.file.caches) p (l2_tables old.file.caches) (refblocks old.file.caches) (contents_in view old.file) sound.file.caches.kept.kept sound.file.settled
+          unnamed_free_rb h (order_of old.file.caches) p (l2_tables old.file.caches) (refblocks old.file.caches) (contents_in view old.file) sound.file.caches.kept.kept sound.file.named_blocks
               (o / cluster_size h) none o refl,
         )
       ]);
@@ -86,26 +86,26 @@ module _ {S F : Type 0} {p : Pending} (view : S → StorageView) (backing : F �
 
     -- a step that keeps what stands for each guest cluster
     module _ (given : Bytes → List GivenBytes) (honest : (view (storage_of storage)).is_honest) (time : EachMomentSince (view_in view old.file) (view (storage_of storage)) (λ c. c ≡ (view (storage_of storage)).contents))
-        (leads : SafeStep (state_in view old.file p) (state_in view written.file p) given [])
+        (safe_step : SafeStep (state_in view old.file p) (state_in view written.file p) given [])
         (covers : SameCovers h (known_in view old.file) (known_in view written.file)) where
       reftable_written : (a : Option Allocator) → IfSome a (IsAllocatorOf view old.file) → IfSome a (IsAllocatorOf view written.file)
       reftable_written =
-          let top = top_beside h p p old.file.caches (contents_in view old.file) (contents_in view written.file) sound.file.caches sound.file.settled tables_stay in
+          let top = top_beside h p p old.file.caches (contents_in view old.file) (contents_in view written.file) sound.file.caches sound.file.named_blocks tables_stay in
           allocator_kept view old.file written.file (λ t has. record { cluster = has.cluster; bits = has.bits; count = has.count; entries = λ k. has.entries k ∙ top.reftable k })
           (λ k.
-          let more = counts_follow h (order_of old.file.caches) (order_of old.file.caches) p p (contents_in view old.file) (contents_in view written.file) (known_in view old.file) (known_in view written.file) sound.file.caches.kept.kept.guarded leads.sound covers
+          let more = counts_follow h (order_of old.file.caches) (order_of old.file.caches) p p (contents_in view old.file) (contents_in view written.file) (known_in view old.file) (known_in view written.file) sound.file.caches.kept.kept.crash_invariant safe_step.sound covers
           (fixed_more h (contents_in view old.file) (contents_in view written.file) (λ i some. sym (top.reftable i)) (λ i. sym (top.l1 i))) k refl in
           omega arith)
 
       pub sound_written : ImageInvariant view backing p written out
       sound_written =
-          let top = top_beside h p p old.file.caches (contents_in view old.file) (contents_in view written.file) sound.file.caches sound.file.settled tables_stay in
+          let top = top_beside h p p old.file.caches (contents_in view old.file) (contents_in view written.file) sound.file.caches sound.file.named_blocks tables_stay in
           record {
             works = sound.works;
             file = record {
               honest = honest;
-              caches = sound_beside h p p old.file.caches (contents_in view old.file) (contents_in view written.file) sound.file.caches sound.file.settled tables_stay leads.sound;
-              settled = settled_beside_write h p p old.file.caches (contents_in view old.file) (contents_in view written.file) sound.file.caches sound.file.settled tables_stay;
+              caches = sound_beside h p p old.file.caches (contents_in view old.file) (contents_in view written.file) sound.file.caches sound.file.named_blocks tables_stay safe_step.sound;
+              named_blocks = named_blocks_beside_write h p p old.file.caches (contents_in view old.file) (contents_in view written.file) sound.file.caches sound.file.named_blocks tables_stay;
               room = sound.file.room;
             };
             l1_table = record { cluster = sound.l1_table.cluster; bits = sound.l1_table.bits; count = sound.l1_table.count; entries = λ i. sound.l1_table.entries i ∙ top.l1 i };
@@ -114,31 +114,31 @@ module _ {S F : Type 0} {p : Pending} (view : S → StorageView) (backing : F �
             ready = λ k q at. let r = sound.ready k q at in record {
               own = r.own;
               mapped = still_ready h (known_in view old.file) (contents_in view old.file) (known_in view written.file) (contents_in view written.file) q
-                  sound.file.caches.kept.kept.guarded.same_top.l1 leads.sound.same_top.l1 (λ i copied. sym (top.l1 i)) (λ i. covers (cluster_of h q + i)) q.table r.mapped;
+                  sound.file.caches.kept.kept.crash_invariant.same_top.l1 safe_step.sound.same_top.l1 (λ i copied. sym (top.l1 i)) (λ i. covers (cluster_of h q + i)) q.table r.mapped;
             };
             pinned = sound.pinned;
             once = sound.once;
           }
 
       pub since_written : SafeThroughout (view_in view old.file) (view_in view written.file) (known_in view old.file) given []
-      since_written = data_endures (view_in view old.file) (view_in view written.file) (state_in view old.file p) (state_in view written.file p) host bytes given time is refl refl leads
+      since_written = data_safe_throughout (view_in view old.file) (view_in view written.file) (state_in view old.file p) (state_in view written.file p) host bytes given time is refl refl safe_step
 
       pub same_l1_written : (i : ℕ) → l1_entry h (contents_in view written.file) i ≡ l1_entry h (contents_in view old.file) i
-      same_l1_written i = sym ((top_beside h p p old.file.caches (contents_in view old.file) (contents_in view written.file) sound.file.caches sound.file.settled tables_stay).l1 i)
+      same_l1_written i = sym ((top_beside h p p old.file.caches (contents_in view old.file) (contents_in view written.file) sound.file.caches sound.file.named_blocks tables_stay).l1 i)
 
 -- so where nothing but what mappings hold and what is to be freed is pending
 pub steps_written : {S F : Type 0} (view : S → StorageView) (backing : F → BackingView) (old : Qcow2 S F) (out : List (Option Prepared)) (sound : ImageInvariant view backing (pending_in view backing old out) old out)
     (storage : ImageStorage S) (host : ℕ) (bytes : List ℕ) (is : (view (storage_of storage)).contents ≡ overwritten (view_in view old.file).contents host bytes)
     (free : (i : ℕ) → i < length bytes → named_for_tables old.file.header.fields (contents_in view old.file) ((host + i) / cluster_size old.file.header.fields) ≡ 0)
     (given : Bytes → List GivenBytes) (honest : (view (storage_of storage)).is_honest) (time : EachMomentSince (view_in view old.file) (view (storage_of storage)) (λ c. c ≡ (view (storage_of storage)).contents))
-    (leads : SafeStep (state_in view old.file (pending_in view backing old out)) (state_in view (written view backing old out sound storage host bytes is).file (pending_in view backing old out)) given [])
+    (safe_step : SafeStep (state_in view old.file (pending_in view backing old out)) (state_in view (written view backing old out sound storage host bytes is).file (pending_in view backing old out)) given [])
     (covers : SameCovers old.file.header.fields (known_in view old.file) (known_in view (written view backing old out sound storage host bytes is).file))
     → Steps view backing old (written view backing old out sound storage host bytes is) out out given (pending_in view backing old out)
-steps_written view backing old out sound storage host bytes is free given honest time leads covers = record {
-  sound = sound_written view backing old out sound storage host bytes is free given honest time leads covers;
+steps_written view backing old out sound storage host bytes is free given honest time safe_step covers = record {
+  sound = sound_written view backing old out sound storage host bytes is free given honest time safe_step covers;
   only = record { new_data = λ k. refl; new_tables = λ k. refl; old_tables = λ k. refl; old_data = λ k. refl };
-  leads = leads;
-  since = since_written view backing old out sound storage host bytes is free given honest time leads covers;
+  safe_step = safe_step;
+  since = since_written view backing old out sound storage host bytes is free given honest time safe_step covers;
   header = refl;
   below = refl;
   surplus = refl;

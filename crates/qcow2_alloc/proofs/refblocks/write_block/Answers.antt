@@ -19,12 +19,12 @@ use Rattle.qcow2_alloc.specs.declared.allocation.Allocator.{Allocator}
 use Rattle.qcow2_alloc.specs.declared.error.ImageError.{ImageError}
 use Rattle.qcow2_alloc.specs.declared.image_file.ImageFile.{ImageFile}
 use Rattle.qcow2_alloc.specs.ImageFile.{contents_in, AllocatorInvariant}
-use Rattle.qcow2_alloc.proofs.FileSteps.{moves_then}
+use Rattle.qcow2_alloc.proofs.FileSteps.{file_step_then}
 use Rattle.qcow2_alloc.specs.ImageStorage.{storage_of}
 use Rattle.qcow2_alloc.specs.MetadataCaches.{order_of, l2_tables, rb_at, KeepSound, PutSound, PutRefusesBy}
 use Rattle.qcow2_alloc.specs.TableCaches.{IsBlockOf, cleared_rb}
-use Rattle.qcow2_alloc.proofs.AllocationSteps.{handed_on, fault_of_storage, becomes_then, becomes_cached, is_sound_now}
-use Rattle.qcow2_alloc.proofs.PlacedBlocks.{IsFree, is_free, moves_rewritten, reftable_rewritten, write_as, holds_known, still_stands}
+use Rattle.qcow2_alloc.proofs.AllocationSteps.{handed_on, fault_of_storage, allocator_step_then, allocator_step_cached, is_sound_now}
+use Rattle.qcow2_alloc.proofs.PlacedBlocks.{IsFree, is_free, file_step_rewritten, reftable_rewritten, write_as, holds_known, still_stands}
 use Rattle.qcow2_alloc.proofs.refblocks.write_block.Goals as goal
 
 -- all counts are written, and then the block's bytes, or they are not
@@ -40,7 +40,7 @@ module _ {S : Type 0} (view : S → StorageView) (d : Bool) (p : Pending) (range
   flushed = record old { storage = storage; caches = caches }
 
   counted : UnseenAllocatorStep view q old t flushed q
-  counted = becomes_cached view q old t storage caches sound (keeps h q sound.sound.honest sound.sound.caches) marks
+  counted = allocator_step_cached view q old t storage caches sound (keeps h q sound.sound.honest sound.sound.caches) marks
 
   module _ (asked : S) (after : ImageStorage S) (block : RefBlockView) (result : Result (Unit {0}) StorageError) (first : BlocksMayGo (order_of caches) (l2_tables caches)) (place : HasPlaceFor d h t.reftable range at)
       (fits : IsBlockOf h block) (is : block.cluster ≡ Some at) (whole : length block.bytes ≡ 2 ^ block.cluster_bits) (same : asked ≡ storage_of storage)
@@ -52,7 +52,7 @@ module _ {S : Type 0} (view : S → StorageView) (d : Bool) (p : Pending) (range
     there = record { none = place.none; first = place.first }
 
     free : IsFree view q flushed at
-    free = is_free view d p range at flushed t.reftable counted.moves.sound counted.reftable first there
+    free = is_free view d p range at flushed t.reftable counted.file_step.sound counted.reftable first there
 
     long : length block.bytes ≡ cluster_size h
     long = whole ∙ ap (λ n. 2 ^ n) fits.bits
@@ -66,28 +66,28 @@ module _ {S : Type 0} (view : S → StorageView) (d : Bool) (p : Pending) (range
     -- all is as sound as before, in either case
     still : UnseenAllocatorStep view q old t done q
     still = record {
-      moves = moves_then view q q q old flushed done (λ k some. some) counted.moves (moves_rewritten view q flushed after at block.bytes result counted.moves.sound free long writes calls_now);
-      reftable = reftable_rewritten view q flushed after at block.bytes result counted.moves.sound free long writes calls_now t.reftable counted.reftable;
+      file_step = file_step_then view q q q old flushed done (λ k some. some) counted.file_step (file_step_rewritten view q flushed after at block.bytes result counted.file_step.sound free long writes calls_now);
+      reftable = reftable_rewritten view q flushed after at block.bytes result counted.file_step.sound free long writes calls_now t.reftable counted.reftable;
     }
 
     stand_there : (x : Unit {0}) → result ≡ Ok x → StandAt (contents_in view done) (at * cluster_size h) block.bytes
     stand_there x ok i lt =
-        let now = rw ok at (writes counted.moves.sound.honest) in
+        let now = rw ok at (writes counted.file_step.sound.honest) in
         sym (ap (λ l. byte_at l (at * cluster_size h + i)) now ∙ byte_at-overwritten (view (storage_of storage)).contents (at * cluster_size h) block.bytes i lt)
 
 -- the answer at the end
 finish : {S : Type 0} (view : S → StorageView) (q : Pending) (old new : ImageFile S) (t : Allocator) (block : RefBlockView) (at : ℕ) (result : Result (Unit {0}) ImageError) → UnseenAllocatorStep view q old t new q → IfErr result IsFault
     → OnOk result (BlocksMayGo (order_of new.caches) (l2_tables new.caches)) → OnOk result (rb_at new.caches at ≡ Some (cleared_rb block))
     → (BlocksMayGo (order_of new.caches) (l2_tables new.caches) → StandAt (contents_in view new) (at * cluster_size new.header.fields) block.bytes) → WritesBlock view q old t new block at result
-finish view q old new t block at (Ok _) becomes faults first new_data stands = (becomes, record { new_data = new_data; stands = stands first })
-finish view q old new t block at (Err e) becomes faults first new_data stands = (faults, inl (becomes.moves, becomes.reftable))
+finish view q old new t block at (Ok _) allocator_step faults first new_data stands = (allocator_step, record { new_data = new_data; stands = stands first })
+finish view q old new t block at (Err e) allocator_step faults first new_data stands = (faults, inl (allocator_step.file_step, allocator_step.reftable))
 
 pub returns-in_err-flush_rb-clause-sound : goal.returns-in_err-flush_rb-clause-sound
 returns-in_err-flush_rb-clause-sound g c = λ p d t range at sound place fits is.
     let one = counted g.S.Storage.view d p range at c.args.file.now t c.flush_rb.new.storage c.flush_rb.new.self sound c.flush_rb.ensures.keeps c.flush_rb.ensures.marks in
     handed_on (WritesBlock g.S.Storage.view (placing d p at) c.args.file.now t (record c.args.file.now { storage = c.flush_rb.new.storage; caches = c.flush_rb.new.self }) c.args.block at)
     c.from_residual.result c.in_err-flush_rb.field-0.0 c.from_residual.ensures
-    (c.in_err-flush_rb.ensures.faults c.args.file.now.header.fields (placing d p at) sound.sound.honest sound.sound.caches sound.sound.settled, inl (one.moves, one.reftable))
+    (c.in_err-flush_rb.ensures.faults c.args.file.now.header.fields (placing d p at) sound.sound.honest sound.sound.caches sound.sound.named_blocks, inl (one.file_step, one.reftable))
 
 pub returns-in_err-write_new_refblock-clause-sound : goal.returns-in_err-write_new_refblock-clause-sound
 returns-in_err-write_new_refblock-clause-sound g c = λ p d t range at sound place fits is.
@@ -95,7 +95,7 @@ returns-in_err-write_new_refblock-clause-sound g c = λ p d t range at sound pla
     let two = still g.S.Storage.view d p range at c.args.file.now t c.flush_rb.new.storage c.flush_rb.new.self sound c.flush_rb.ensures.keeps c.flush_rb.ensures.marks (storage_of c.will_write.new.self) c.write_new_refblock.new.self
     c.args.block c.write_new_refblock.result c.in_ok-flush_rb.ensures.first place fits is whole c.will_write.ensures.storage c.write_new_refblock.ensures.written c.write_new_refblock.ensures.calls in
     handed_on (WritesBlock g.S.Storage.view (placing d p at) c.args.file.now t (record c.args.file.now { storage = c.write_new_refblock.new.self; caches = c.flush_rb.new.self }) c.args.block at)
-    c.from_residual-in_err-write_new_refblock.result (of_storage c.in_err-write_new_refblock.field-0.0) c.from_residual-in_err-write_new_refblock.ensures (fault_of_storage c.in_err-write_new_refblock.field-0.0, inl (two.moves, two.reftable))
+    c.from_residual-in_err-write_new_refblock.result (of_storage c.in_err-write_new_refblock.field-0.0) c.from_residual-in_err-write_new_refblock.ensures (fault_of_storage c.in_err-write_new_refblock.field-0.0, inl (two.file_step, two.reftable))
 
 pub returns-clause-sound : goal.returns-clause-sound
 returns-clause-sound g c = λ p d t range at sound place fits is.
@@ -109,15 +109,15 @@ returns-clause-sound g c = λ p d t range at sound place fits is.
     c.args.block c.write_new_refblock.result c.in_ok-flush_rb.ensures.first place fits is whole c.will_write.ensures.storage c.write_new_refblock.ensures.written c.write_new_refblock.ensures.calls c.in_ok-write_new_refblock.field-0 c.in_ok-write_new_refblock.was in
     let room : HasPlaceFor d h t.reftable range at = record { none = place.none; first = place.first } in
     let cleared : IsBlockOf h (cleared_rb c.args.block) = record { bits = fits.bits; order = fits.order } in
-    let known = holds_known g.S.Storage.view d p range at f2 t.reftable two.moves.sound two.reftable c.in_ok-flush_rb.ensures.first room c.args.block fits long stands in
+    let known = holds_known g.S.Storage.view d p range at f2 t.reftable two.file_step.sound two.reftable c.in_ok-flush_rb.ensures.first room c.args.block fits long stands in
     let keeps = subst (λ (b : RefBlockView). PutSound g.S.Storage.view c.write_new_refblock.new.self c.flush_rb.new.self c.rb_insert.new.storage c.rb_insert.new.self (λ h. IsBlockOf h b) b.cluster b.bytes b.is_modified) c.clear_modified.ensures c.rb_insert.ensures.keeps in
-    let faults = subst (λ (b : RefBlockView). PutRefusesBy IsFault g.S.Storage.view c.write_new_refblock.new.self c.flush_rb.new.self (λ h. IsBlockOf h b) b.cluster b.bytes b.is_modified c.rb_insert.result) c.clear_modified.ensures (c.rb_insert.ensures.faults two.moves.sound.room) in
-    let stays = keeps h (placing d p at) two.moves.sound.honest two.moves.sound.caches cleared refl (rw is known) in
-    let three = becomes_cached g.S.Storage.view (placing d p at) f2 t c.rb_insert.new.storage c.rb_insert.new.self (is_sound_now g.S.Storage.view (placing d p at) (placing d p at) c.args.file.now f2 t two) stays c.rb_insert.ensures.marks in
+    let faults = subst (λ (b : RefBlockView). PutRefusesBy IsFault g.S.Storage.view c.write_new_refblock.new.self c.flush_rb.new.self (λ h. IsBlockOf h b) b.cluster b.bytes b.is_modified c.rb_insert.result) c.clear_modified.ensures (c.rb_insert.ensures.faults two.file_step.sound.room) in
+    let stays = keeps h (placing d p at) two.file_step.sound.honest two.file_step.sound.caches cleared refl (rw is known) in
+    let three = allocator_step_cached g.S.Storage.view (placing d p at) f2 t c.rb_insert.new.storage c.rb_insert.new.self (is_sound_now g.S.Storage.view (placing d p at) (placing d p at) c.args.file.now f2 t two) stays c.rb_insert.ensures.marks in
     finish g.S.Storage.view (placing d p at) c.args.file.now (record f2 { storage = c.rb_insert.new.storage; caches = c.rb_insert.new.self }) t c.args.block at c.rb_insert.result
-    (becomes_then g.S.Storage.view (placing d p at) (placing d p at) c.args.file.now f2 (record f2 { storage = c.rb_insert.new.storage; caches = c.rb_insert.new.self }) t t two three)
-    (faults h (placing d p at) two.moves.sound.honest two.moves.sound.caches two.moves.sound.settled cleared refl (rw is known))
+    (allocator_step_then g.S.Storage.view (placing d p at) (placing d p at) c.args.file.now f2 (record f2 { storage = c.rb_insert.new.storage; caches = c.rb_insert.new.self }) t t two three)
+    (faults h (placing d p at) two.file_step.sound.honest two.file_step.sound.caches two.file_step.sound.named_blocks cleared refl (rw is known))
     (c.rb_insert.ensures.first c.in_ok-flush_rb.ensures.first)
     (subst (λ (o : Option ℕ). OnOk c.rb_insert.result (IfSome o (λ k. rb_at c.rb_insert.new.self k ≡ Some (cleared_rb c.args.block)))) is
     (subst (λ (b : RefBlockView). OnOk c.rb_insert.result (IfSome b.cluster (λ k. rb_at c.rb_insert.new.self k ≡ Some b))) c.clear_modified.ensures c.rb_insert.ensures.cached))
-    (λ first. still_stands g.S.Storage.view d p range at f2 t.reftable two.moves.sound two.reftable c.in_ok-flush_rb.ensures.first room c.args.block fits long stands c.rb_insert.new.storage c.rb_insert.new.self stays c.rb_insert.ensures.marks first)
+    (λ first. still_stands g.S.Storage.view d p range at f2 t.reftable two.file_step.sound two.reftable c.in_ok-flush_rb.ensures.first room c.args.block fits long stands c.rb_insert.new.storage c.rb_insert.new.self stays c.rb_insert.ensures.marks first)

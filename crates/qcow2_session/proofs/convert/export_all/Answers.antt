@@ -2,7 +2,7 @@ use Rattle.std.proofs.Common.{◌≡◌, ◌∙◌, [], length, take, subst, ari
 use Rattle.std.proofs.lemmas.Grind.{common_steps}
 use Rattle.qcow2_image.specs.ImageInvariant.{abstract_of}
 use Rattle.qcow2_session.specs.Conversions.{Fills}
-use Rattle.qcow2_session.proofs.Converting.{breaks_if, breaks_then}
+use Rattle.qcow2_session.proofs.Converting.{interrupted_if, interrupted_then}
 use Rattle.qcow2_session.proofs.Exporting.{unchanged_refused, fills_more}
 use Rattle.qcow2_session.proofs.Turns.{refused_is, none_within, does_if, does_then}
 use Rattle.qcow2_session.proofs.convert.export_all.Goals as goal
@@ -12,7 +12,7 @@ returns-in_err-export_at-clause-same g c =
     let view = g.S.Storage.view in
     let below = g.F.BackingDisk.backing in
     unchanged_refused view below c.args.image.now c.export_at.new.image c.in_err-export_at.field-0.0 _ (refused_is _ c.in_err-export_at.field-0.0 c.from_residual.ensures)
-    (λ out. breaks_if (λ h. h.1 ∙ h.0) (breaks_then {more = []} (λ _. none_within (abstract_of view below c.loop-at.image out) []) (c.loop-at.invariant.same out) (c.in_err-export_at.ensures.same out)))
+    (λ out. interrupted_if (λ h. h.1 ∙ h.0) (interrupted_then {more = []} (λ _. none_within (abstract_of view below c.loop-at.image out) []) (c.loop-at.invariant.same out) (c.in_err-export_at.ensures.same out)))
 
 pub loop-at-preserved : goal.loop-at-preserved
 loop-at-preserved g c =

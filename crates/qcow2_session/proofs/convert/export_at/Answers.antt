@@ -6,14 +6,14 @@ use Rattle.qcow2_disk.specs.AbstractImages.{guest_of}
 use Rattle.qcow2_image.specs.Calls.{refusal_of}
 use Rattle.qcow2_image.specs.ImageInvariant.{abstract_of}
 use Rattle.qcow2_session.specs.Conversions.{IsFilledUpTo}
-use Rattle.qcow2_session.proofs.Converting.{breaks, breaks_here}
+use Rattle.qcow2_session.proofs.Converting.{interrupted, interrupted_here}
 use Rattle.qcow2_session.proofs.Exporting.{filled_same, filled_more, unchanged_refused}
 use Rattle.qcow2_session.proofs.Turns.{refused_is, does_if}
 use Rattle.qcow2_session.proofs.convert.export_at.Goals as goal
 
 pub returns-in_err-read_into-clause-same : goal.returns-in_err-read_into-clause-same
 returns-in_err-read_into-clause-same g c =
-    unchanged_refused g.S.Storage.view g.F.BackingDisk.backing c.args.image.now c.read_into.new.image c.in_err-read_into.field-0.0 _ (refused_is _ c.in_err-read_into.field-0.0 c.from_residual.ensures) (λ out. breaks (c.in_err-read_into.ensures.sees out))
+    unchanged_refused g.S.Storage.view g.F.BackingDisk.backing c.args.image.now c.read_into.new.image c.in_err-read_into.field-0.0 _ (refused_is _ c.in_err-read_into.field-0.0 c.from_residual.ensures) (λ out. interrupted (c.in_err-read_into.ensures.sees out))
 
 pub returns-then-is_same-clause-same : goal.returns-then-is_same-clause-same
 returns-then-is_same-clause-same g c = λ out. does_if (λ h. h.1) (c.in_ok-read_into.ensures.sees out)
@@ -27,7 +27,7 @@ pub returns-in_err-write-clause-same : goal.returns-in_err-write-clause-same
 returns-in_err-write-clause-same g c =
     let e = of_storage c.in_err-write.field-0.0 in
     unchanged_refused g.S.Storage.view g.F.BackingDisk.backing c.args.image.now c.read_into.new.image e _ (refused_is _ e c.from_residual-in_err-write.ensures)
-    (λ out. breaks_here (refusal_of e) (does_if (λ h. h.1) (c.in_ok-read_into.ensures.sees out)))
+    (λ out. interrupted_here (refusal_of e) (does_if (λ h. h.1) (c.in_ok-read_into.ensures.sees out)))
 
 pub returns-clause-same : goal.returns-clause-same
 returns-clause-same g c = λ out. does_if (λ h. h.1) (c.in_ok-read_into.ensures.sees out)

@@ -1,18 +1,18 @@
 use Rattle.qcow2_alloc.specs.ImageError.{of_storage}
 use Rattle.qcow2_image.specs.ImageInvariant.{abstract_of}
-use Rattle.qcow2_session.proofs.Converting.{does_nothing, breaks, breaks_here, at_refused, at_shown, at_written, at_unwritten}
+use Rattle.qcow2_session.proofs.Converting.{does_nothing, interrupted, interrupted_here, at_refused, at_shown, at_written, at_unwritten}
 use Rattle.qcow2_session.proofs.Turns.{refused_is}
 use Rattle.qcow2_session.proofs.convert.import_at.Goals as goal
 
 pub returns-in_err-read-clause-sees : goal.returns-in_err-read-clause-sees
 returns-in_err-read-clause-sees g c = λ honest.
     at_refused g.S.Storage.view g.F.BackingDisk.backing c.args.image.now c.args.image.now c.args.at _ (of_storage c.in_err-read.field-0.0) _ (refused_is _ (of_storage c.in_err-read.field-0.0) c.from_residual.ensures)
-    (λ out. breaks_here _ (does_nothing (abstract_of g.S.Storage.view g.F.BackingDisk.backing c.args.image.now out)))
+    (λ out. interrupted_here _ (does_nothing (abstract_of g.S.Storage.view g.F.BackingDisk.backing c.args.image.now out)))
 
 pub returns-in_err-read_into-clause-sees : goal.returns-in_err-read_into-clause-sees
 returns-in_err-read_into-clause-sees g c = λ honest.
     at_refused g.S.Storage.view g.F.BackingDisk.backing c.args.image.now c.read_into.new.image c.args.at _ c.in_err-read_into.field-0.0 _ (refused_is _ c.in_err-read_into.field-0.0 c.from_residual-in_err-read_into.ensures)
-    (λ out. breaks (c.in_err-read_into.ensures.sees out))
+    (λ out. interrupted (c.in_err-read_into.ensures.sees out))
 
 pub returns-then-is_same-clause-sees : goal.returns-then-is_same-clause-sees
 returns-then-is_same-clause-sees g c = λ honest.

@@ -11,7 +11,7 @@ use Rattle.qcow2_disk.specs.AbstractImages.{abstract_image}
 use Rattle.qcow2_image.specs.Calls.{refusal_of, Commits}
 use Rattle.qcow2_image.proofs.Map.Unmodified.{read_none}
 use Rattle.qcow2_image.proofs.Sizing.Shrinking.{fault_of}
-use Rattle.qcow2_session.proofs.Unwritten.{existing_set, read_let_go}
+use Rattle.qcow2_session.proofs.Unwritten.{existing_set, read_release_prepared}
 use Rattle.qcow2_session.specs.Told.{AreExisting}
 use Rattle.qcow2_session.specs.declared.session.Command.TheVariants as C
 use Rattle.qcow2_session.specs.declared.session.Reply.TheVariants as R
@@ -23,8 +23,8 @@ use Rattle.std.specs.Prelude.{IsNone}
 use Rattle.qcow2_session.proofs.Causing.{is_done, is_misused, is_refused, kept_error, not_failed, not_free, same_mapping, where_failed}
 use Rattle.qcow2_session.proofs.session.commit.Goals as goal
 
-pub returns-in_default-clause-goes : goal.returns-in_default-clause-goes
-returns-in_default-clause-goes g c = λ x s stands founds.
+pub returns-in_default-clause-command_step : goal.returns-in_default-clause-command_step
+returns-in_default-clause-command_step g c = λ x s stands founds.
     let spec = image_abstraction g.S.Storage.view g.F.BackingDisk.backing in
     let out = c.args.slots.now.prepared.items in
     subst (λ (o : List (Option _)). RefinesCommand x (abstract_image spec c.args.image.now out) (abstract_image spec c.args.image.now o) s (commit c.args.slot) misuse) (sym (c.put.ensures.is ∙ set_found out c.args.slot None c.in_default.ensures.was))
@@ -34,16 +34,16 @@ pub fill-requires-clause-free : goal.fill-requires-clause-free
 fill-requires-clause-free g c =
     subst (λ (o : List (Option _)). slice_get o c.args.slot ≡ Some None) (sym c.put.ensures.is) (get_set_same c.args.slots.now.prepared.items c.args.slot None (Some c.in-Some.prepared) c.in-Some.ensures.was)
 
-pub returns-in-Ok-clause-goes : goal.returns-in-Ok-clause-goes
-returns-in-Ok-clause-goes g c = λ x s stands founds.
+pub returns-in-Ok-clause-command_step : goal.returns-in-Ok-clause-command_step
+returns-in-Ok-clause-command_step g c = λ x s stands founds.
     let spec = image_abstraction g.S.Storage.view g.F.BackingDisk.backing in
     let out = c.args.slots.now.prepared.items in
     subst (λ (o : List (Option _)). RefinesCommand x (abstract_image spec c.args.image.now out) (abstract_image spec c.commit_data_mapping.new.self o) s (commit c.args.slot) done) (sym c.put.ensures.is)
     (done_as x _ _ s _ _ _ refl stands (record { sized = λ _. tt; failed = λ f. absurd (not_both (c.in-Ok.ensures.failed (c.in-Some.ensures.own ∙ c.put.ensures.image ∙ c.requires) f)); may = λ _. tt }) (does_commit s.found c.args.slot _ (found_at spec c.args.image.now out c.args.slot c.in-Some.prepared c.in-Some.ensures.was)
     (c.in-Ok.ensures.sees out c.args.slot c.in-Some.ensures.was)) (λ _ _. refl) (λ _. tt))
 
-pub returns-in-Err-Spent-clause-goes : goal.returns-in-Err-Spent-clause-goes
-returns-in-Err-Spent-clause-goes g c = λ x s stands founds.
+pub returns-in-Err-Spent-clause-command_step : goal.returns-in-Err-Spent-clause-command_step
+returns-in-Err-Spent-clause-command_step g c = λ x s stands founds.
     let spec = image_abstraction g.S.Storage.view g.F.BackingDisk.backing in
     let out = c.args.slots.now.prepared.items in
     subst (λ (o : List (Option _)). RefinesCommand x (abstract_image spec c.args.image.now out) (abstract_image spec c.commit_data_mapping.new.self o) s (commit c.args.slot) (refused (refusal_of c.in-Err-Spent.refusal))) (sym c.put.ensures.is)
@@ -51,8 +51,8 @@ returns-in-Err-Spent-clause-goes g c = λ x s stands founds.
     (refuses_commit s.found c.args.slot _ (found_at spec c.args.image.now out c.args.slot c.in-Some.prepared c.in-Some.ensures.was)
     (subst (λ r. Commits g.S.Storage.view g.F.BackingDisk.backing c.args.image.now c.commit_data_mapping.new.self c.in-Some.prepared (Err r)) c.in-Err-Spent.field-0-is c.in-Err-Spent.ensures.sees out c.args.slot c.in-Some.ensures.was).1) (λ f. f) (λ _ _. refl) tt)
 
-pub returns-in-Err-Kept-clause-goes : goal.returns-in-Err-Kept-clause-goes
-returns-in-Err-Kept-clause-goes g c = λ x s stands founds.
+pub returns-in-Err-Kept-clause-command_step : goal.returns-in-Err-Kept-clause-command_step
+returns-in-Err-Kept-clause-command_step g c = λ x s stands founds.
     let spec = image_abstraction g.S.Storage.view g.F.BackingDisk.backing in
     let out = c.args.slots.now.prepared.items in
     subst (λ (o : List (Option _)). RefinesCommand x (abstract_image spec c.args.image.now out) (abstract_image spec c.commit_data_mapping.new.self o) s (commit c.args.slot) (refused (refusal_of c.in-Err-Kept.refusal)))
@@ -65,7 +65,7 @@ pub returns-in-Ok-clause-unwritten : goal.returns-in-Ok-clause-unwritten
 returns-in-Ok-clause-unwritten g c = λ reading sound clean existing.
     record {
       reading = c.commit_data_mapping.ensures.image.writable ∙ reading;
-      read = read_let_go g.S.Storage.view c.args.image.now c.commit_data_mapping.new.self (c.in-Ok.ensures.existing (c.in-Some.ensures.own ∙ c.put.ensures.image ∙ c.requires) sound.works (existing c.args.slot c.in-Some.prepared c.in-Some.ensures.was)).1 clean;
+      read = read_release_prepared g.S.Storage.view c.args.image.now c.commit_data_mapping.new.self (c.in-Ok.ensures.existing (c.in-Some.ensures.own ∙ c.put.ensures.image ∙ c.requires) sound.works (existing c.args.slot c.in-Some.prepared c.in-Some.ensures.was)).1 clean;
       existing = subst AreExisting (sym c.put.ensures.is) (existing_set c.args.slots.now.prepared.items c.args.slot None existing tt);
     }
 

@@ -7,22 +7,22 @@ use Rattle.qcow2_disk.specs.AbstractImages.{abstract_image}
 use Rattle.qcow2_session.proofs.Places.{set_found}
 use Rattle.qcow2_session.proofs.Meanings.{found_at, none_at, does_discard}
 use Rattle.qcow2_image.proofs.Map.Unmodified.{read_none}
-use Rattle.qcow2_session.proofs.Unwritten.{existing_set, read_let_go}
+use Rattle.qcow2_session.proofs.Unwritten.{existing_set, read_release_prepared}
 use Rattle.qcow2_session.specs.Told.{AreExisting}
 use Rattle.qcow2_session.specs.declared.session.Command.TheVariants as C
 use Rattle.qcow2_session.specs.declared.session.Reply.TheVariants as R
 use Rattle.qcow2_session.proofs.Causing.{is_done, is_misused, not_free}
 use Rattle.qcow2_session.proofs.session.discard.Goals as goal
 
-pub returns-in-None-clause-goes : goal.returns-in-None-clause-goes
-returns-in-None-clause-goes g c = λ x s stands founds.
+pub returns-in-None-clause-command_step : goal.returns-in-None-clause-command_step
+returns-in-None-clause-command_step g c = λ x s stands founds.
     let view = abstract_of g.S.Storage.view g.F.BackingDisk.backing c.args.image.now in
     let out = c.args.slots.now.prepared.items in
     subst (λ (o : List (Option _)). RefinesCommand x (view out) (view o) s (discard c.args.slot) misuse) (sym (c.put.ensures.is ∙ set_found out c.args.slot None c.in-None.ensures.was))
     (none_as x (view out) s _ _ misuse refl stands (record { sized = λ _. tt; failed = λ _. tt; may = λ _. tt }) (λ _. (none_at (image_abstraction g.S.Storage.view g.F.BackingDisk.backing) c.args.image.now out c.args.slot c.in-None.ensures.was, refl)) (λ _ _. refl) tt)
 
-pub returns-in-Some-clause-goes : goal.returns-in-Some-clause-goes
-returns-in-Some-clause-goes g c = λ x s stands founds.
+pub returns-in-Some-clause-command_step : goal.returns-in-Some-clause-command_step
+returns-in-Some-clause-command_step g c = λ x s stands founds.
     let spec = image_abstraction g.S.Storage.view g.F.BackingDisk.backing in
     let out = c.args.slots.now.prepared.items in
     subst (λ (o : List (Option _)). RefinesCommand x (abstract_image spec c.args.image.now out) (abstract_image spec c.release.new.image o) s (discard c.args.slot) done) (sym c.put.ensures.is)
@@ -32,7 +32,7 @@ pub returns-in-Some-clause-unwritten : goal.returns-in-Some-clause-unwritten
 returns-in-Some-clause-unwritten g c = λ reading sound clean existing.
     record {
       reading = c.release.ensures.image.writable ∙ reading;
-      read = read_let_go g.S.Storage.view c.args.image.now c.release.new.image c.release.ensures.rest clean;
+      read = read_release_prepared g.S.Storage.view c.args.image.now c.release.new.image c.release.ensures.rest clean;
       existing = subst AreExisting (sym c.put.ensures.is) (existing_set c.args.slots.now.prepared.items c.args.slot None existing tt);
     }
 

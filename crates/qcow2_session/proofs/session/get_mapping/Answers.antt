@@ -19,8 +19,8 @@ use Rattle.qcow2_image.proofs.Call.Slots.{length_set}
 use Rattle.qcow2_session.proofs.Unwritten.{set_or_was}
 use Rattle.qcow2_session.proofs.session.get_mapping.Goals as goal
 
-pub returns-in-Ok-clause-goes : goal.returns-in-Ok-clause-goes
-returns-in-Ok-clause-goes g c = λ x s stands founds.
+pub returns-in-Ok-clause-command_step : goal.returns-in-Ok-clause-command_step
+returns-in-Ok-clause-command_step g c = λ x s stands founds.
     done_as x _ _ s _ _ _ refl stands (record { sized = λ _. tt; failed = λ f. absurd (not_both (unusable_first c.args.image.now _ c.in-Ok.ensures.early f)); may = λ _. tt })
     (does_if (λ same. (c.in-Ok.ensures.own.1, omega (arith, c.in-Ok.ensures.own, c.in-Ok.ensures.within), same)) (c.in-Ok.ensures.sees c.args.slots.now.prepared.items)) (λ _ _. refl)
     (λ sound. (
@@ -35,8 +35,8 @@ returns-in-Ok-clause-finds g c = λ k.
     ap (λ n. found_in (slice_set mappings n (Some c.in-Ok.mapping)) k) c.from.ensures
     ∙ subst (λ n. found_in (slice_set mappings c.args.slot (Some c.in-Ok.mapping)) k ≡ (if k == c.args.slot then Some (record { from = n; length = c.in-Ok.mapping.length }) else found_in mappings k)) c.in-Ok.ensures.own.1 found
 
-pub returns-in-Err-clause-goes : goal.returns-in-Err-clause-goes
-returns-in-Err-clause-goes g c = λ x s stands founds. refused_as x _ _ s _ _ _ _ refl stands
+pub returns-in-Err-clause-command_step : goal.returns-in-Err-clause-command_step
+returns-in-Err-clause-command_step g c = λ x s stands founds. refused_as x _ _ s _ _ _ _ refl stands
     (lookup_answer g.S.Storage.view g.F.BackingDisk.backing c.args.image.now c.args.slots.now.prepared.items c.args.slot c.args.offset c.args.max _ (λ f. error_is (unusable_first c.args.image.now _ c.in-Err.ensures.early f))
     (λ usable past. let no = (c.in-Err.ensures.past usable past).0 in absurd cc)) (c.in-Err.ensures.sees c.args.slots.now.prepared.items) (λ f. f) (λ _ _. refl) tt
 

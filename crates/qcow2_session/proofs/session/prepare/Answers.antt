@@ -28,14 +28,14 @@ use Rattle.qcow2_session.proofs.Untaken.{prepared_untaken}
 use Rattle.qcow2_session.proofs.Causing.{begun_with, holds, is_answered, is_misused, is_refused, not_free, some_error}
 use Rattle.qcow2_session.proofs.session.prepare.Goals as goal
 
-pub returns-then-is_some-clause-goes : goal.returns-then-is_some-clause-goes
-returns-then-is_some-clause-goes g c = λ x s stands founds. none_as x _ s _ _ misuse refl stands (record { sized = λ _. tt; failed = λ _. tt; may = λ _. tt }) (λ _. (taken (image_abstraction g.S.Storage.view g.F.BackingDisk.backing) c.args.image.now c.args.slots.now.prepared.items c.args.slot c.get.result c.get.ensures (sym c.is_some.ensures ∙ c.if-is_some.true), refl)) (λ _ _. refl) tt
+pub returns-then-is_some-clause-command_step : goal.returns-then-is_some-clause-command_step
+returns-then-is_some-clause-command_step g c = λ x s stands founds. none_as x _ s _ _ misuse refl stands (record { sized = λ _. tt; failed = λ _. tt; may = λ _. tt }) (λ _. (taken (image_abstraction g.S.Storage.view g.F.BackingDisk.backing) c.args.image.now c.args.slots.now.prepared.items c.args.slot c.get.result c.get.ensures (sym c.is_some.ensures ∙ c.if-is_some.true), refl)) (λ _ _. refl) tt
 
-pub returns-in-Err-clause-goes : goal.returns-in-Err-clause-goes
-returns-in-Err-clause-goes g c = λ x s stands founds. refused_as x _ _ s _ _ _ _ refl stands (record { sized = λ _. tt; failed = λ f. error_is (preparing_first c.args.image.now _ c.args.offset c.args.length c.in-Err.ensures.early f); may = λ _. tt }) (c.in-Err.ensures.sees c.args.slots.now.prepared.items) (λ f. f) (λ _ _. refl) tt
+pub returns-in-Err-clause-command_step : goal.returns-in-Err-clause-command_step
+returns-in-Err-clause-command_step g c = λ x s stands founds. refused_as x _ _ s _ _ _ _ refl stands (record { sized = λ _. tt; failed = λ f. error_is (preparing_first c.args.image.now _ c.args.offset c.args.length c.in-Err.ensures.early f); may = λ _. tt }) (c.in-Err.ensures.sees c.args.slots.now.prepared.items) (λ f. f) (λ _ _. refl) tt
 
-pub returns-in-Ok-clause-goes : goal.returns-in-Ok-clause-goes
-returns-in-Ok-clause-goes g c = λ x s stands founds.
+pub returns-in-Ok-clause-command_step : goal.returns-in-Ok-clause-command_step
+returns-in-Ok-clause-command_step g c = λ x s stands founds.
     let spec = image_abstraction g.S.Storage.view g.F.BackingDisk.backing in
     let out = c.args.slots.now.prepared.items in
     let free = untaken spec c.args.image.now out c.args.slot c.get.result c.get.ensures (sym c.is_some.ensures ∙ c.if-is_some.false) in

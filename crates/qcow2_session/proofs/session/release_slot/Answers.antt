@@ -4,7 +4,7 @@ use Rattle.qcow2_session.specs.Sessions.{ReleasesMappings}
 use Rattle.qcow2_image.proofs.Free.{free_places}
 use Rattle.qcow2_session.proofs.Places.{last_none, last_release}
 use Rattle.qcow2_image.proofs.Map.Unmodified.{read_none}
-use Rattle.qcow2_session.proofs.Unwritten.{read_let_go}
+use Rattle.qcow2_session.proofs.Unwritten.{read_release_prepared}
 use Rattle.qcow2_session.proofs.session.release_slot.Goals as goal
 
 pub returns-in-Some-clause-sees : goal.returns-in-Some-clause-sees
@@ -23,7 +23,7 @@ returns-in_default-clause-sees g c = λ out.
     subst (λ (q : Option _). ReleasesMappings view below old old (out ++ q ∷ []) out) (sym c.in_default.is) (last_none (image_abstraction view below) has old out)
 
 pub returns-in-Some-clause-unwritten : goal.returns-in-Some-clause-unwritten
-returns-in-Some-clause-unwritten g c = λ clean. read_let_go g.S.Storage.view c.args.image.now c.release.new.image c.release.ensures.rest clean
+returns-in-Some-clause-unwritten g c = λ clean. read_release_prepared g.S.Storage.view c.args.image.now c.release.new.image c.release.ensures.rest clean
 
 pub returns-in_default-clause-unwritten : goal.returns-in_default-clause-unwritten
 returns-in_default-clause-unwritten g c = λ clean. read_none g.S.Storage.view c.args.image.now clean

@@ -5,13 +5,13 @@ use Rattle.std.proofs.lemmas.List.{take_more, take_all, map-append}
 use Rattle.qcow2_image.specs.ImageInvariant.{abstract_of, image_abstraction}
 use Rattle.qcow2_disk.specs.Runs.{RefinesWholeRun, begun, started}
 use Rattle.qcow2_disk.specs.AbstractImages.{guest_of}
-use Rattle.qcow2_disk.proofs.RunSteps.{begins, completes, means_the_disk}
+use Rattle.qcow2_disk.proofs.RunSteps.{begins, completes, refines_the_disk}
 use Rattle.qcow2_session.specs.Commands.{command_of, reply_of}
 use Rattle.qcow2_image.proofs.Free.{free_places, nothing_since, whole}
 use Rattle.qcow2_alloc.specs.ImageFile.{contents_in, view_in}
 use Rattle.qcow2_session.proofs.LookingUp.{looked_up, none_said}
 use Rattle.qcow2_session.proofs.Places.{surplus_none}
-use Rattle.qcow2_session.proofs.Runs.{GoesOn, first_of_all, free_stands, goes_on, map_more}
+use Rattle.qcow2_session.proofs.Runs.{GoesOn, first_of_all, free_stands, command_step_on, map_more}
 use Rattle.qcow2_session.specs.Told.{IsToldRun, RunPoint, first_point}
 use Rattle.qcow2_session.proofs.Told.{IsToldSoFar, first_told, image_itself, itself_then, same_itself, told_more}
 use Rattle.qcow2_session.specs.Sessions.{found_in}
@@ -54,8 +54,8 @@ loop-command-preserved g c = record {
       let split = take_more commands done c.command-item.result c.loop-command-test.true ∙ ap (λ q. take done commands ++ q ∷ []) (sym c.command-item.is) in
       subst (λ l. GoesOn spec x first free next out (begun s) (map command_of (take (done + 1) commands)) l found) (sym (ap (λ l. map reply_of l) c.push_reserved.ensures.items ∙ map-append reply_of replies (c.step-reply.result ∷ [])))
       (subst (λ k. GoesOn spec x first free next out (begun s) k (map reply_of replies ++ reply_of c.step-reply.result ∷ []) found) (sym (map_more command_of commands done c.command-item.result split))
-      (goes_on spec x first c.loop-command.image next free c.loop-command.slots.prepared.items out (begun s) (map command_of (take done commands)) (map reply_of replies)
-      c.loop-command.slots.mappings.items found (command_of c.command-item.result) (reply_of c.step-reply.result) (c.loop-command.invariant.ran x s stands) (c.step-reply.ensures.goes x) c.step-reply.ensures.finds));
+      (command_step_on spec x first c.loop-command.image next free c.loop-command.slots.prepared.items out (begun s) (map command_of (take done commands)) (map reply_of replies)
+      c.loop-command.slots.mappings.items found (command_of c.command-item.result) (reply_of c.step-reply.result) (c.loop-command.invariant.ran x s stands) (c.step-reply.ensures.command_step x) c.step-reply.ensures.finds));
   told =
       let view = g.S.Storage.view in
       let below = g.F.BackingDisk.backing in
@@ -68,7 +68,7 @@ loop-command-preserved g c = record {
       (subst (λ l. IsToldSoFar view below c.args.image.now now l (c.loop-command.replies.items ++ c.step-reply.result ∷ [])) (sym split)
       (told_more view below c.args.image.now before now (take done commands) c.loop-command.replies.items c.command-item.result c.step-reply.result c.loop-command.invariant.told
       (record { keeps = c.step-reply.ensures.keeps; tells = c.step-reply.ensures.tells; causes = c.step-reply.ensures.causes; finds = c.step-reply.ensures.finds; size = c.step-reply.ensures.size; unwritten = c.step-reply.ensures.unwritten })
-      c.step-reply.ensures.goes));
+      c.step-reply.ensures.command_step));
 }
 
 pub returns-clause-number : goal.returns-clause-number
@@ -96,7 +96,7 @@ returns-clause-means g c = λ opened.
     let before = abstract_of view below old [] in
     let stands = begins before opened.sound (whole view below old [] opened.sound) opened.clean in
     ⊎_elim (λ h. inl h)
-    (λ all. inr (means_the_disk (image_abstraction view below) old new (map command_of c.args.commands.now) (map reply_of c.loop-command.replies.items) (nothing_since view below g.S.Storage.only_now old) stands all))
+    (λ all. inr (refines_the_disk (image_abstraction view below) old new (map command_of c.args.commands.now) (map reply_of c.loop-command.replies.items) (nothing_since view below g.S.Storage.only_now old) stands all))
     (returns-clause-runs g c before.setting (started (guest_of before)) stands)
 
 pub returns-in_default-clause-maps : goal.returns-in_default-clause-maps

@@ -22,14 +22,14 @@ use Rattle.qcow2_session.proofs.Causing.{begun_with, is_answered, is_misused, is
 use Rattle.qcow2_session.proofs.session.write_mapped.Goals as goal
 use Rattle.qcow2_session.proofs.session.write_mapped.Goals.{then-at-length-via-then-at-length, then-at-length-via-else-at-length+then-len-length}
 
-pub returns-in_default-clause-goes : goal.returns-in_default-clause-goes
-returns-in_default-clause-goes g c = λ x s stands founds.
+pub returns-in_default-clause-command_step : goal.returns-in_default-clause-command_step
+returns-in_default-clause-command_step g c = λ x s stands founds.
     let spec = image_abstraction g.S.Storage.view g.F.BackingDisk.backing in
     let out = c.args.slots.now.prepared.items in
     none_as x _ s _ _ misuse refl stands (record { sized = λ _. tt; failed = λ _. tt; may = λ _. tt }) (λ _. (is_past (c.args.at) (length c.args.bytes.now.items) (none_at spec c.args.image.now out c.args.slot c.in_default.ensures) tt, refl)) (λ _ _. refl) tt
 
-pub returns-then-at-length-clause-goes : goal.returns-then-at-length-clause-goes
-returns-then-at-length-clause-goes g c = λ x s stands founds.
+pub returns-then-at-length-clause-command_step : goal.returns-then-at-length-clause-command_step
+returns-then-at-length-clause-command_step g c = λ x s stands founds.
     let spec = image_abstraction g.S.Storage.view g.F.BackingDisk.backing in
     let out = c.args.slots.now.prepared.items in
     none_as x _ s _ _ misuse refl stands (record { sized = λ _. tt; failed = λ _. tt; may = λ _. tt }) (λ _. (
@@ -41,15 +41,15 @@ returns-then-at-length-clause-goes g c = λ x s stands founds.
       refl,
     )) (λ _ _. refl) tt
 
-pub returns-in-Ok-clause-goes : goal.returns-in-Ok-clause-goes
-returns-in-Ok-clause-goes g c = λ x s stands founds.
+pub returns-in-Ok-clause-command_step : goal.returns-in-Ok-clause-command_step
+returns-in-Ok-clause-command_step g c = λ x s stands founds.
     let spec = image_abstraction g.S.Storage.view g.F.BackingDisk.backing in
     let out = c.args.slots.now.prepared.items in
     done_as x _ _ s _ _ _ refl stands (record { sized = λ _. tt; failed = λ f. absurd (not_both (mapping_first c.args.image.now _ _ c.in-Ok.ensures.early f)); may = λ _. tt }) (does_put s.found c.args.slot _ (found_at spec c.args.image.now out c.args.slot c.in-Some.prepared.now c.in-Some.ensures) c.args.at c.args.bytes.now.items (omega (arith, c.if-at-length.false, c.if-len-length.false, c.len.ensures, c.length-length.ensures))
     (rw c.deref.ensures.value at (c.in-Ok.ensures.sees out c.args.slot c.in-Some.ensures))) (λ _ _. refl) (λ _. tt)
 
-pub returns-in-Err-clause-goes : goal.returns-in-Err-clause-goes
-returns-in-Err-clause-goes g c = λ x s stands founds.
+pub returns-in-Err-clause-command_step : goal.returns-in-Err-clause-command_step
+returns-in-Err-clause-command_step g c = λ x s stands founds.
     let spec = image_abstraction g.S.Storage.view g.F.BackingDisk.backing in
     let out = c.args.slots.now.prepared.items in
     refused_as x _ _ s _ _ _ _ refl stands (record { sized = λ _. tt; failed = λ f. error_is (mapping_first c.args.image.now _ _ c.in-Err.ensures.early f); may = λ _. tt }) (refuses_put s.found c.args.slot _ (found_at spec c.args.image.now out c.args.slot c.in-Some.prepared.now c.in-Some.ensures) c.args.at c.args.bytes.now.items

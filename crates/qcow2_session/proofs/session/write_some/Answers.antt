@@ -14,7 +14,7 @@ use Rattle.qcow2_session.proofs.Writing.{chunk_ends}
 use Rattle.qcow2_image.proofs.Free.{free_places}
 use Rattle.qcow2_session.proofs.Turns.{refused_is, none_within, refuses_if, refuses_less, nothing_refused}
 use Rattle.qcow2_image.proofs.Map.Unmodified.{read_same, read_then}
-use Rattle.qcow2_session.proofs.Unwritten.{nothing_prepared, prepare_same, put_same, read_let_go}
+use Rattle.qcow2_session.proofs.Unwritten.{nothing_prepared, prepare_same, put_same, read_release_prepared}
 use Rattle.qcow2_image.specs.declared.image.Qcow2.{Qcow2}
 use Rattle.std.proofs.Common.{ℕ, ◌<◌, inl, inr, take}
 use Rattle.std.specs.Prelude.{IfErr}
@@ -119,7 +119,7 @@ returns-in-Err-clause-unwritten g c = λ reading out sound clean.
     let made = prepare_same old reading _ c.args.offset (length c.args.bytes.now) c.prepare_data_mapping.ensures.early c.prepare_data_mapping.ensures.nothing in
     let same : put ≡ old = put_same mid (ap is_writable made ∙ reading) _ (refuses_mapping mid (image_of p)) _ c.write_mapped.ensures.early c.write_mapped.ensures.read_only c.write_mapped.ensures.nothing ∙ made in
     let first = read_same view old put (ap (λ (image : Qcow2 _ _). image.file) same) clean in
-    read_then view first (read_let_go view put c.release.new.image c.release.ensures.rest first.unmodified)
+    read_then view first (read_release_prepared view put c.release.new.image c.release.ensures.rest first.unmodified)
 
 pub returns-in-Ok-clause-unwritten : goal.returns-in-Ok-clause-unwritten
 returns-in-Ok-clause-unwritten g c = λ reading out sound clean.
@@ -132,8 +132,8 @@ returns-in-Ok-clause-unwritten g c = λ reading out sound clean.
     let same : put ≡ old = put_same mid (ap is_writable made ∙ reading) _ (refuses_mapping mid (image_of p)) _ c.write_mapped.ensures.early c.write_mapped.ensures.read_only c.write_mapped.ensures.nothing ∙ made in
     let first = read_same view old put (ap (λ (image : Qcow2 _ _). image.file) same) clean in
     let none = nothing_prepared old reading _ p c.args.offset (length c.args.bytes.now) c.in_ok-prepared.ensures.early c.in_ok-prepared.ensures.nothing in
-    let goes = c.commit_data_mapping.ensures.existing (c.in_ok-prepared.ensures.own ∙ sym (ap number_of same)) (ap is_failed same ∙ sound.works) none.0 in
-    let second = read_then view first (read_let_go view put c.commit_data_mapping.new.self goes.1 first.unmodified) in
+    let command_step = c.commit_data_mapping.ensures.existing (c.in_ok-prepared.ensures.own ∙ sym (ap number_of same)) (ap is_failed same ∙ sound.works) none.0 in
+    let second = read_then view first (read_release_prepared view put c.commit_data_mapping.new.self command_step.1 first.unmodified) in
     second
 
 pub returns-in-Err-Spent-clause-unwritten : goal.returns-in-Err-Spent-clause-unwritten
@@ -147,8 +147,8 @@ returns-in-Err-Spent-clause-unwritten g c = λ reading out sound clean.
     let same : put ≡ old = put_same mid (ap is_writable made ∙ reading) _ (refuses_mapping mid (image_of p)) _ c.write_mapped.ensures.early c.write_mapped.ensures.read_only c.write_mapped.ensures.nothing ∙ made in
     let first = read_same view old put (ap (λ (image : Qcow2 _ _). image.file) same) clean in
     let none = nothing_prepared old reading _ p c.args.offset (length c.args.bytes.now) c.in_ok-prepared.ensures.early c.in_ok-prepared.ensures.nothing in
-    let goes = c.commit_data_mapping.ensures.existing (c.in_ok-prepared.ensures.own ∙ sym (ap number_of same)) (ap is_failed same ∙ sound.works) none.0 in
-    let second = read_then view first (read_let_go view put c.commit_data_mapping.new.self goes.1 first.unmodified) in
+    let command_step = c.commit_data_mapping.ensures.existing (c.in_ok-prepared.ensures.own ∙ sym (ap number_of same)) (ap is_failed same ∙ sound.works) none.0 in
+    let second = read_then view first (read_release_prepared view put c.commit_data_mapping.new.self command_step.1 first.unmodified) in
     second
 
 pub returns-in-Err-Kept-clause-unwritten : goal.returns-in-Err-Kept-clause-unwritten
@@ -162,9 +162,9 @@ returns-in-Err-Kept-clause-unwritten g c = λ reading out sound clean.
     let same : put ≡ old = put_same mid (ap is_writable made ∙ reading) _ (refuses_mapping mid (image_of p)) _ c.write_mapped.ensures.early c.write_mapped.ensures.read_only c.write_mapped.ensures.nothing ∙ made in
     let first = read_same view old put (ap (λ (image : Qcow2 _ _). image.file) same) clean in
     let none = nothing_prepared old reading _ p c.args.offset (length c.args.bytes.now) c.in_ok-prepared.ensures.early c.in_ok-prepared.ensures.nothing in
-    let goes = c.commit_data_mapping.ensures.existing (c.in_ok-prepared.ensures.own ∙ sym (ap number_of same)) (ap is_failed same ∙ sound.works) none.0 in
-    let second = read_then view first (read_let_go view put c.commit_data_mapping.new.self goes.1 first.unmodified) in
-    read_then view second (read_let_go view c.commit_data_mapping.new.self c.release-in-Err-Kept.new.image c.release-in-Err-Kept.ensures.rest second.unmodified)
+    let command_step = c.commit_data_mapping.ensures.existing (c.in_ok-prepared.ensures.own ∙ sym (ap number_of same)) (ap is_failed same ∙ sound.works) none.0 in
+    let second = read_then view first (read_release_prepared view put c.commit_data_mapping.new.self command_step.1 first.unmodified) in
+    read_then view second (read_release_prepared view c.commit_data_mapping.new.self c.release-in-Err-Kept.new.image c.release-in-Err-Kept.ensures.rest second.unmodified)
 
 -- more than none
 some_bytes : (n : ℕ) → (n ≡ 0 → ⊥) → 0 < n

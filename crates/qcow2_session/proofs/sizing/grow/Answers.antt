@@ -12,13 +12,13 @@ use Rattle.qcow2_image.specs.Resizing.{takes_over}
 use Rattle.qcow2_session.proofs.Causing.{begun_with, grow_meets, is_answered, is_refused, same_error, some_error, takes_larger, then_early, then_none}
 use Rattle.qcow2_session.proofs.sizing.grow.Goals as goal
 
-pub returns-in-Ok-clause-goes : goal.returns-in-Ok-clause-goes
-returns-in-Ok-clause-goes g c = λ slots x s stands founds.
+pub returns-in-Ok-clause-command_step : goal.returns-in-Ok-clause-command_step
+returns-in-Ok-clause-command_step g c = λ slots x s stands founds.
     grow_done g.S.Storage.view g.F.BackingDisk.backing c.args.image.now c.resize_grow.new.self c.args.size slots.prepared.items x s stands c.in-Ok.ensures.last c.args.mode c.in-Ok.ensures.early
     (λ sound larger. (c.in-Ok.ensures.tables (none_early _ tt _ c.in-Ok.ensures.early) larger slots.prepared.items sound).covers) c.in-Ok.ensures.sees
 
-pub returns-in-Err-clause-goes : goal.returns-in-Err-clause-goes
-returns-in-Err-clause-goes g c = λ slots x s stands founds.
+pub returns-in-Err-clause-command_step : goal.returns-in-Err-clause-command_step
+returns-in-Err-clause-command_step g c = λ slots x s stands founds.
     grow_refused g.S.Storage.view g.F.BackingDisk.backing c.args.image.now c.resize_grow.new.self c.args.size slots.prepared.items x s stands c.in-Err.ensures.last c.args.mode _ c.in-Err.ensures.early c.in-Err.ensures.no_larger c.in-Err.ensures.sees
 
 pub returns-in-Ok-clause-keeps : goal.returns-in-Ok-clause-keeps

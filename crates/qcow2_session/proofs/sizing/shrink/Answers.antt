@@ -9,12 +9,12 @@ use Rattle.std.proofs.Common.{refl}
 use Rattle.qcow2_session.proofs.Causing.{begun_with, is_answered, is_refused, some_error}
 use Rattle.qcow2_session.proofs.sizing.shrink.Goals as goal
 
-pub returns-in-Ok-clause-goes : goal.returns-in-Ok-clause-goes
-returns-in-Ok-clause-goes g c = λ slots x s stands founds.
+pub returns-in-Ok-clause-command_step : goal.returns-in-Ok-clause-command_step
+returns-in-Ok-clause-command_step g c = λ slots x s stands founds.
     shrink_done g.S.Storage.view g.F.BackingDisk.backing c.args.image.now c.resize_shrink.new.self c.args.size slots.prepared.items x s stands c.in-Ok.ensures.last _ c.in-Ok.ensures.early c.in-Ok.ensures.sees
 
-pub returns-in-Err-clause-goes : goal.returns-in-Err-clause-goes
-returns-in-Err-clause-goes g c = λ slots x s stands founds.
+pub returns-in-Err-clause-command_step : goal.returns-in-Err-clause-command_step
+returns-in-Err-clause-command_step g c = λ slots x s stands founds.
     shrink_refused g.S.Storage.view g.F.BackingDisk.backing c.args.image.now c.resize_shrink.new.self c.args.size slots.prepared.items x s stands c.in-Err.ensures.last _ c.in-Err.ensures.early c.in-Err.ensures.no_smaller c.in-Err.ensures.sees
 
 pub returns-in-Ok-clause-keeps : goal.returns-in-Ok-clause-keeps

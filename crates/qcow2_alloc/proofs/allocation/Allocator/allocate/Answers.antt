@@ -7,7 +7,7 @@ use Rattle.qcow2_alloc.proofs.AllocationSteps.{of_equal}
 use Rattle.qcow2_alloc.specs.Limits.{IsFaultOr, HasNoPlace}
 use Rattle.qcow2_alloc.proofs.FormerReftables.{former_none}
 use Rattle.qcow2_alloc.proofs.CachePins.{marks_none}
-use Rattle.qcow2_alloc.proofs.Following.{header_same, lists_none}
+use Rattle.qcow2_alloc.proofs.ListedAfter.{header_same, lists_none}
 use Rattle.qcow2_alloc.proofs.Faults.{told_ok}
 use Rattle.qcow2_alloc.proofs.Outcomes.{told_memory, told_err}
 use Rattle.std.proofs.Math.Nat.{le_refl}

@@ -6,8 +6,8 @@ use Rattle.qcow2_alloc.specs.Allocation.{UnseenAllocatorGrowth, Allocates}
 use Rattle.qcow2_alloc.specs.FreeList.{pending_then}
 use Rattle.qcow2_alloc.specs.LowestRuns.{KeepsNoFreeBelowHint}
 use Rattle.qcow2_alloc.proofs.Hints.{hint_stays}
-use Rattle.qcow2_alloc.proofs.AllocationSteps.{handed_on, on_of, becomes_cached, is_sound_now, allocates_then}
-use Rattle.qcow2_alloc.proofs.Following.{following_same, header_same, lists_none}
+use Rattle.qcow2_alloc.proofs.AllocationSteps.{handed_on, on_of, allocator_step_cached, is_sound_now, allocates_then}
+use Rattle.qcow2_alloc.proofs.ListedAfter.{listed_after_same, header_same, lists_none}
 use Rattle.std.specs.Prelude.{IfErr}
 use Rattle.qcow2_alloc.specs.declared.error.ImageError.{ImageError}
 use Rattle.qcow2_alloc.specs.declared.clusters_to_free.ClustersToFreeEntry.{ClustersToFreeEntry}
@@ -20,33 +20,33 @@ use Rattle.qcow2_alloc.proofs.allocation.Allocator.allocate_data.Goals as goal
 
 pub returns-in_err-l2_depends_on_rb-clause-sound : goal.returns-in_err-l2_depends_on_rb-clause-sound
 returns-in_err-l2_depends_on_rb-clause-sound g c = λ p sound.
-    let one = becomes_cached g.S.Storage.view p c.args.file.now c.args.self.now c.l2_depends_on_rb.new.storage c.l2_depends_on_rb.new.self sound (c.l2_depends_on_rb.ensures.keeps c.args.file.now.header.fields p sound.sound.honest sound.sound.caches) c.l2_depends_on_rb.ensures.marks in
+    let one = allocator_step_cached g.S.Storage.view p c.args.file.now c.args.self.now c.l2_depends_on_rb.new.storage c.l2_depends_on_rb.new.self sound (c.l2_depends_on_rb.ensures.keeps c.args.file.now.header.fields p sound.sound.honest sound.sound.caches) c.l2_depends_on_rb.ensures.marks in
     let file : ImageFile g.row.S.Denot = record c.args.file.now { storage = c.l2_depends_on_rb.new.storage; caches = c.l2_depends_on_rb.new.self } in
     handed_on (Allocates g.S.Storage.view p c.args.file.now c.args.self.now file (pending_then p c.args.file.now.free_list c.args.file.now.free_list) Data c.args.count) c.from_residual.result c.in_err-l2_depends_on_rb.field-0.0 c.from_residual.ensures
-    (inl (subst (λ (r : Pending). UnseenAllocatorGrowth g.S.Storage.view p c.args.file.now c.args.self.now file r) (sym (following_same p c.args.file.now.free_list c.args.file.now.free_list refl)) (on_of g.S.Storage.view p p c.args.file.now file c.args.self.now one)))
+    (inl (subst (λ (r : Pending). UnseenAllocatorGrowth g.S.Storage.view p c.args.file.now c.args.self.now file r) (sym (listed_after_same p c.args.file.now.free_list c.args.file.now.free_list refl)) (on_of g.S.Storage.view p p c.args.file.now file c.args.self.now one)))
 
 pub returns-clause-sound : goal.returns-clause-sound
 returns-clause-sound g c = λ p sound.
-    let one = becomes_cached g.S.Storage.view p c.args.file.now c.args.self.now c.l2_depends_on_rb.new.storage c.l2_depends_on_rb.new.self sound (c.l2_depends_on_rb.ensures.keeps c.args.file.now.header.fields p sound.sound.honest sound.sound.caches) c.l2_depends_on_rb.ensures.marks in
+    let one = allocator_step_cached g.S.Storage.view p c.args.file.now c.args.self.now c.l2_depends_on_rb.new.storage c.l2_depends_on_rb.new.self sound (c.l2_depends_on_rb.ensures.keeps c.args.file.now.header.fields p sound.sound.honest sound.sound.caches) c.l2_depends_on_rb.ensures.marks in
     let file : ImageFile g.row.S.Denot = record c.args.file.now { storage = c.l2_depends_on_rb.new.storage; caches = c.l2_depends_on_rb.new.self } in
     allocates_then g.S.Storage.view p (pending_then p c.args.file.now.free_list c.allocate.new.file.free_list) c.args.file.now file c.allocate.new.file c.args.self.now c.allocate.new.self Data c.args.count c.allocate.result (on_of g.S.Storage.view p p c.args.file.now file c.args.self.now one)
     (c.allocate.ensures.sound p (is_sound_now g.S.Storage.view p p c.args.file.now file c.args.self.now one) c.in_ok-l2_depends_on_rb.ensures.order)
 
 pub returns-in_err-l2_depends_on_rb-clause-hint : goal.returns-in_err-l2_depends_on_rb-clause-hint
 returns-in_err-l2_depends_on_rb-clause-hint g c = λ p kept.
-    let one = becomes_cached g.S.Storage.view p c.args.file.now c.args.self.now c.l2_depends_on_rb.new.storage c.l2_depends_on_rb.new.self kept.sound (c.l2_depends_on_rb.ensures.keeps c.args.file.now.header.fields p kept.sound.sound.honest kept.sound.sound.caches) c.l2_depends_on_rb.ensures.marks in
+    let one = allocator_step_cached g.S.Storage.view p c.args.file.now c.args.self.now c.l2_depends_on_rb.new.storage c.l2_depends_on_rb.new.self kept.sound (c.l2_depends_on_rb.ensures.keeps c.args.file.now.header.fields p kept.sound.sound.honest kept.sound.sound.caches) c.l2_depends_on_rb.ensures.marks in
     let file : ImageFile g.row.S.Denot = record c.args.file.now { storage = c.l2_depends_on_rb.new.storage; caches = c.l2_depends_on_rb.new.self } in
     handed_on (KeepsNoFreeBelowHint g.S.Storage.view c.args.self.now file) c.from_residual.result c.in_err-l2_depends_on_rb.field-0.0 c.from_residual.ensures (inl (hint_stays g.S.Storage.view p c.args.file.now file c.args.self.now c.args.self.now one refl kept.hint))
 
 pub returns-clause-lowest : goal.returns-clause-lowest
 returns-clause-lowest g c = λ p kept.
-    let one = becomes_cached g.S.Storage.view p c.args.file.now c.args.self.now c.l2_depends_on_rb.new.storage c.l2_depends_on_rb.new.self kept.sound (c.l2_depends_on_rb.ensures.keeps c.args.file.now.header.fields p kept.sound.sound.honest kept.sound.sound.caches) c.l2_depends_on_rb.ensures.marks in
+    let one = allocator_step_cached g.S.Storage.view p c.args.file.now c.args.self.now c.l2_depends_on_rb.new.storage c.l2_depends_on_rb.new.self kept.sound (c.l2_depends_on_rb.ensures.keeps c.args.file.now.header.fields p kept.sound.sound.honest kept.sound.sound.caches) c.l2_depends_on_rb.ensures.marks in
     let file : ImageFile g.row.S.Denot = record c.args.file.now { storage = c.l2_depends_on_rb.new.storage; caches = c.l2_depends_on_rb.new.self } in
     c.allocate.ensures.lowest p (is_sound_now g.S.Storage.view p p c.args.file.now file c.args.self.now one) c.in_ok-l2_depends_on_rb.ensures.order (hint_stays g.S.Storage.view p c.args.file.now file c.args.self.now c.args.self.now one refl kept.hint)
 
 pub returns-clause-hint : goal.returns-clause-hint
 returns-clause-hint g c = λ p kept.
-    let one = becomes_cached g.S.Storage.view p c.args.file.now c.args.self.now c.l2_depends_on_rb.new.storage c.l2_depends_on_rb.new.self kept.sound (c.l2_depends_on_rb.ensures.keeps c.args.file.now.header.fields p kept.sound.sound.honest kept.sound.sound.caches) c.l2_depends_on_rb.ensures.marks in
+    let one = allocator_step_cached g.S.Storage.view p c.args.file.now c.args.self.now c.l2_depends_on_rb.new.storage c.l2_depends_on_rb.new.self kept.sound (c.l2_depends_on_rb.ensures.keeps c.args.file.now.header.fields p kept.sound.sound.honest kept.sound.sound.caches) c.l2_depends_on_rb.ensures.marks in
     let file : ImageFile g.row.S.Denot = record c.args.file.now { storage = c.l2_depends_on_rb.new.storage; caches = c.l2_depends_on_rb.new.self } in
     c.allocate.ensures.hint p (is_sound_now g.S.Storage.view p p c.args.file.now file c.args.self.now one) c.in_ok-l2_depends_on_rb.ensures.order (hint_stays g.S.Storage.view p c.args.file.now file c.args.self.now c.args.self.now one refl kept.hint)
 
@@ -54,11 +54,11 @@ pub returns-in_err-l2_depends_on_rb-clause-limit : goal.returns-in_err-l2_depend
 returns-in_err-l2_depends_on_rb-clause-limit g c = λ p kept some.
     let file : ImageFile g.row.S.Denot = record c.args.file.now { storage = c.l2_depends_on_rb.new.storage; caches = c.l2_depends_on_rb.new.self } in
     handed_on (λ (r : Result ClustersToFreeEntry ImageError). IfErr r (IsFaultOr (HasNoPlace g.S.Storage.view file c.args.self.now c.args.count))) c.from_residual.result c.in_err-l2_depends_on_rb.field-0.0 c.from_residual.ensures
-    (inl (c.in_err-l2_depends_on_rb.ensures.faults c.args.file.now.header.fields p kept.sound.sound.honest kept.sound.sound.caches kept.sound.sound.settled))
+    (inl (c.in_err-l2_depends_on_rb.ensures.faults c.args.file.now.header.fields p kept.sound.sound.honest kept.sound.sound.caches kept.sound.sound.named_blocks))
 
 pub returns-clause-limit : goal.returns-clause-limit
 returns-clause-limit g c = λ p kept some.
-    let one = becomes_cached g.S.Storage.view p c.args.file.now c.args.self.now c.l2_depends_on_rb.new.storage c.l2_depends_on_rb.new.self kept.sound (c.l2_depends_on_rb.ensures.keeps c.args.file.now.header.fields p kept.sound.sound.honest kept.sound.sound.caches) c.l2_depends_on_rb.ensures.marks in
+    let one = allocator_step_cached g.S.Storage.view p c.args.file.now c.args.self.now c.l2_depends_on_rb.new.storage c.l2_depends_on_rb.new.self kept.sound (c.l2_depends_on_rb.ensures.keeps c.args.file.now.header.fields p kept.sound.sound.honest kept.sound.sound.caches) c.l2_depends_on_rb.ensures.marks in
     let file : ImageFile g.row.S.Denot = record c.args.file.now { storage = c.l2_depends_on_rb.new.storage; caches = c.l2_depends_on_rb.new.self } in
     c.allocate.ensures.limit p (is_sound_now g.S.Storage.view p p c.args.file.now file c.args.self.now one) c.in_ok-l2_depends_on_rb.ensures.order (hint_stays g.S.Storage.view p c.args.file.now file c.args.self.now c.args.self.now one refl kept.hint) some
 

@@ -22,14 +22,14 @@ pub returns-then-is_some-clause-sound : goal.returns-then-is_some-clause-sound
 returns-then-is_some-clause-sound g c = λ p sound. (c.in_ok-load_block.ensures.sound p sound).0
 
 pub returns-then-not-can_name-clause-sound : goal.returns-then-not-can_name-clause-sound
-returns-then-not-can_name-clause-sound g c = λ p sound. let one = (c.in_ok-load_block.ensures.sound p sound).0 in inl (one.moves, one.reftable)
+returns-then-not-can_name-clause-sound g c = λ p sound. let one = (c.in_ok-load_block.ensures.sound p sound).0 in inl (one.file_step, one.reftable)
 
 pub returns-clause-sound : goal.returns-clause-sound
 returns-clause-sound g c = λ p sound.
     let l = c.in_ok-load_block.ensures.sound p sound in
     let e : c.args.range * 2 ^ c.rb_bits.result ≡ c.args.range * counts_per_block c.load_block.new.file.header.fields = ap (λ n. c.args.range * n) (sym c.rb_bits.ensures.counts) in
     let same : c.args.range * counts_per_block c.load_block.new.file.header.fields ≡ c.args.range * counts_per_block c.args.file.now.header.fields = ap (λ h. c.args.range * counts_per_block h.fields) c.load_block.ensures.header in
-    let none = none_in_memory g.S.Storage.view p c.load_block.new.file c.args.self.now.reftable l.0.moves.sound l.0.reftable c.args.range (stands_none g.S.Storage.view c.load_block.new.file c.args.range c.in_ok-load_block.field-0 (sym c.is_some.ensures ∙ c.if-is_some.false) l.1) in
+    let none = none_in_memory g.S.Storage.view p c.load_block.new.file c.args.self.now.reftable l.0.file_step.sound l.0.reftable c.args.range (stands_none g.S.Storage.view c.load_block.new.file c.args.range c.in_ok-load_block.field-0 (sym c.is_some.ensures ∙ c.if-is_some.false) l.1) in
     gets_then g.S.Storage.view p c.args.file.now c.load_block.new.file c.place_block.new.file c.args.self.now c.place_block.new.self c.place_block.result l.0
     (gets_placed g.S.Storage.view p c.load_block.new.file c.place_block.new.file c.place_block.new.self c.args.range _ c.place_block.result
     (c.place_block.ensures.sound p (is_sound_now g.S.Storage.view p p c.args.file.now c.load_block.new.file c.args.self.now l.0) (record { none = none; first = omega (arith, e, same, c.requires) })))
@@ -37,14 +37,14 @@ returns-clause-sound g c = λ p sound.
 pub returns-then-is_some-clause-has : goal.returns-then-is_some-clause-has
 returns-then-is_some-clause-has g c = λ p sound.
     let l = c.in_ok-load_block.ensures.sound p sound in
-    has_block g.S.Storage.view p c.load_block.new.file c.args.self.now.reftable c.args.range c.in_ok-load_block.field-0 l.0.moves.sound l.0.reftable (sym c.is_some.ensures ∙ c.if-is_some.true) l.1
+    has_block g.S.Storage.view p c.load_block.new.file c.args.self.now.reftable c.args.range c.in_ok-load_block.field-0 l.0.file_step.sound l.0.reftable (sym c.is_some.ensures ∙ c.if-is_some.true) l.1
 
 pub returns-clause-has : goal.returns-clause-has
 returns-clause-has g c = λ p sound.
     let l = c.in_ok-load_block.ensures.sound p sound in
     let e : c.args.range * 2 ^ c.rb_bits.result ≡ c.args.range * counts_per_block c.load_block.new.file.header.fields = ap (λ n. c.args.range * n) (sym c.rb_bits.ensures.counts) in
     let same : c.args.range * counts_per_block c.load_block.new.file.header.fields ≡ c.args.range * counts_per_block c.args.file.now.header.fields = ap (λ h. c.args.range * counts_per_block h.fields) c.load_block.ensures.header in
-    let none = none_in_memory g.S.Storage.view p c.load_block.new.file c.args.self.now.reftable l.0.moves.sound l.0.reftable c.args.range (stands_none g.S.Storage.view c.load_block.new.file c.args.range c.in_ok-load_block.field-0 (sym c.is_some.ensures ∙ c.if-is_some.false) l.1) in
+    let none = none_in_memory g.S.Storage.view p c.load_block.new.file c.args.self.now.reftable l.0.file_step.sound l.0.reftable c.args.range (stands_none g.S.Storage.view c.load_block.new.file c.args.range c.in_ok-load_block.field-0 (sym c.is_some.ensures ∙ c.if-is_some.false) l.1) in
     placed_block g.S.Storage.view p p c.load_block.new.file c.place_block.new.file c.place_block.new.self c.args.range _ c.place_block.result
     (c.place_block.ensures.sound p (is_sound_now g.S.Storage.view p p c.args.file.now c.load_block.new.file c.args.self.now l.0) (record { none = none; first = omega (arith, e, same, c.requires) }))
 
@@ -56,7 +56,7 @@ returns-clause-fault g c = λ p sound within near.
     let l = c.in_ok-load_block.ensures.sound p sound in
     let e : c.args.range * 2 ^ c.rb_bits.result ≡ c.args.range * counts_per_block c.load_block.new.file.header.fields = ap (λ n. c.args.range * n) (sym c.rb_bits.ensures.counts) in
     let same : c.args.range * counts_per_block c.load_block.new.file.header.fields ≡ c.args.range * counts_per_block c.args.file.now.header.fields = ap (λ h. c.args.range * counts_per_block h.fields) c.load_block.ensures.header in
-    let none = none_in_memory g.S.Storage.view p c.load_block.new.file c.args.self.now.reftable l.0.moves.sound l.0.reftable c.args.range (stands_none g.S.Storage.view c.load_block.new.file c.args.range c.in_ok-load_block.field-0 (sym c.is_some.ensures ∙ c.if-is_some.false) l.1) in
+    let none = none_in_memory g.S.Storage.view p c.load_block.new.file c.args.self.now.reftable l.0.file_step.sound l.0.reftable c.args.range (stands_none g.S.Storage.view c.load_block.new.file c.args.range c.in_ok-load_block.field-0 (sym c.is_some.ensures ∙ c.if-is_some.false) l.1) in
     placed_fault g.S.Storage.view p p c.load_block.new.file c.place_block.new.file c.place_block.new.self c.args.range _ c.place_block.result
     (c.place_block.ensures.sound p (is_sound_now g.S.Storage.view p p c.args.file.now c.load_block.new.file c.args.self.now l.0) (record { none = none; first = omega (arith, e, same, c.requires) }))
 
@@ -64,7 +64,7 @@ pub returns-then-not-can_name-clause-fault : goal.returns-then-not-can_name-clau
 returns-then-not-can_name-clause-fault g c = λ p sound within near.
     let counts : c.args.range * 2 ^ c.rb_bits.result ≡ c.args.range * counts_per_block c.args.file.now.header.fields = ap (λ n. c.args.range * n) (sym c.rb_bits.ensures.counts) ∙ ap (λ h. c.args.range * counts_per_block h.fields) c.load_block.ensures.header in
     let l = c.in_ok-load_block.ensures.sound p sound in
-    let above = lacking_above g.S.Storage.view p c.load_block.new.file c.args.range l.0.moves.sound (stands_none g.S.Storage.view c.load_block.new.file c.args.range c.in_ok-load_block.field-0 (sym c.is_some.ensures ∙ c.if-is_some.false) l.1) in
+    let above = lacking_above g.S.Storage.view p c.load_block.new.file c.args.range l.0.file_step.sound (stands_none g.S.Storage.view c.load_block.new.file c.args.range c.in_ok-load_block.field-0 (sym c.is_some.ensures ∙ c.if-is_some.false) l.1) in
     let some : 0 < c.args.range * 2 ^ c.rb_bits.result = mul-pos above (pow_pos c.rb_bits.result) in
     let elsewhere : 0 < c.new.result = let is = c.new.ensures in let small = c.requires in omega (arith, is, counts, some, small) in
     let here = host_below c.args.file.now.header.fields.cluster_bits c.new.result (c.args.range * counts_per_block c.args.file.now.header.fields) (let is = c.new.ensures in omega (arith, is, counts)) near in

@@ -7,7 +7,7 @@ use Rattle.qcow2_alloc.specs.ImageFile.{IsFault}
 use Rattle.qcow2_alloc.specs.LowestRuns.{KeepsNoFreeBelowHint}
 use Rattle.qcow2_alloc.proofs.FileSteps.{leaves_then}
 use Rattle.qcow2_alloc.proofs.Hints.{has_block, lacking_above, hint_got, hint_placed, hint_refused, hint_stays, ok_as, placed_block, range_as, not_broken}
-use Rattle.qcow2_alloc.proofs.AllocationSteps.{handed_on, becomes_then, gets_then, gets_taken, is_sound_now, none_in_memory, stands_none, still_sound}
+use Rattle.qcow2_alloc.proofs.AllocationSteps.{handed_on, allocator_step_then, gets_then, gets_taken, is_sound_now, none_in_memory, stands_none, still_sound}
 use Rattle.std.specs.Prelude.{IfErr, IsSome}
 use Rattle.std.proofs.Math.Nat.{div-mul-le_self}
 use Rattle.std.proofs.lemmas.Nat.{pow_pos}
@@ -44,24 +44,24 @@ pub returns-then-is_some-clause-sound : goal.returns-then-is_some-clause-sound
 returns-then-is_some-clause-sound g c = λ p sound. (c.in_ok-load_block.ensures.sound p sound).0
 
 pub returns-then-not-can_name-clause-sound : goal.returns-then-not-can_name-clause-sound
-returns-then-not-can_name-clause-sound g c = λ p sound. let one = (c.in_ok-load_block.ensures.sound p sound).0 in inl (one.moves, one.reftable)
+returns-then-not-can_name-clause-sound g c = λ p sound. let one = (c.in_ok-load_block.ensures.sound p sound).0 in inl (one.file_step, one.reftable)
 
 pub returns-then-is_fault-clause-sound : goal.returns-then-is_fault-clause-sound
 returns-then-is_fault-clause-sound g c = λ p sound.
     let one = (c.in_ok-load_block.ensures.sound p sound).0 in
-    leaves_then g.S.Storage.view p c.args.file.now c.load_block.new.file c.take_lowest_below.new.file c.take_lowest_below.new.self c.in-Err.refusal one.moves (c.in-Err.ensures.sound p (is_sound_now g.S.Storage.view p p c.args.file.now c.load_block.new.file c.args.self.now one))
+    leaves_then g.S.Storage.view p c.args.file.now c.load_block.new.file c.take_lowest_below.new.file c.take_lowest_below.new.self c.in-Err.refusal one.file_step (c.in-Err.ensures.sound p (is_sound_now g.S.Storage.view p p c.args.file.now c.load_block.new.file c.args.self.now one))
 
 pub returns-in-Ok-Some-clause-sound : goal.returns-in-Ok-Some-clause-sound
 returns-in-Ok-Some-clause-sound g c = λ p sound.
     let l = c.in_ok-load_block.ensures.sound p sound in
-    let none = none_in_memory g.S.Storage.view p c.load_block.new.file c.args.self.now.reftable l.0.moves.sound l.0.reftable _ (stands_none g.S.Storage.view c.load_block.new.file _ c.in_ok-load_block.field-0 (sym c.is_some.ensures ∙ c.if-is_some.false) l.1) in
+    let none = none_in_memory g.S.Storage.view p c.load_block.new.file c.args.self.now.reftable l.0.file_step.sound l.0.reftable _ (stands_none g.S.Storage.view c.load_block.new.file _ c.in_ok-load_block.field-0 (sym c.is_some.ensures ∙ c.if-is_some.false) l.1) in
     let two = rw c.in-Ok-Some.field-0-is at (c.in-Ok-Some.ensures.sound p (is_sound_now g.S.Storage.view p p c.args.file.now c.load_block.new.file c.args.self.now l.0)) in
     let noted = rw c.in-Ok-Some.field-0-is at c.in-Ok-Some.ensures.noted in
     let counts : counts_per_block c.load_block.new.file.header.fields ≡ 2 ^ c.rb_bits-bits.result = ap (λ h. counts_per_block h.fields) c.load_block.ensures.header ∙ c.rb_bits-bits.ensures.counts in
     let e = ap (λ n. c.args.cluster / 2 ^ c.rb_bits-bits.result * n) counts in
     let past : c.args.cluster / 2 ^ c.rb_bits-bits.result * 2 ^ c.rb_bits-bits.result % 18446744073709551616 ≤ c.args.cluster / 2 ^ c.rb_bits-bits.result * counts_per_block c.load_block.new.file.header.fields = omega (arith, e) in
     let still : HasNone c.take_lowest_below.new.self.reftable (c.args.cluster / 2 ^ c.rb_bits-bits.result) = ap block_offset (c.in-Ok-Some.ensures.entries.others (c.args.cluster / 2 ^ c.rb_bits-bits.result) past) ∙ none in
-    let taken = becomes_then g.S.Storage.view p (taken_as false p (one_at c.in-Ok-Some.at)) c.args.file.now c.load_block.new.file c.take_lowest_below.new.file c.args.self.now c.take_lowest_below.new.self l.0 two in
+    let taken = allocator_step_then g.S.Storage.view p (taken_as false p (one_at c.in-Ok-Some.at)) c.args.file.now c.load_block.new.file c.take_lowest_below.new.file c.args.self.now c.take_lowest_below.new.self l.0 two in
     gets_taken g.S.Storage.view p c.args.file.now c.take_lowest_below.new.file c.place_block.new.file c.take_lowest_below.new.self c.place_block.new.self _ c.in-Ok-Some.at c.place_block.result taken (c.place_block.ensures.marks.changed (noted refl))
     (c.place_block.ensures.sound p (is_sound_now g.S.Storage.view p (taken_as false p (one_at c.in-Ok-Some.at)) c.args.file.now c.take_lowest_below.new.file c.take_lowest_below.new.self taken) (record { none = still; first = tt }))
 
@@ -69,7 +69,7 @@ pub returns-in-Ok-None-clause-sound : goal.returns-in-Ok-None-clause-sound
 returns-in-Ok-None-clause-sound g c = λ p sound.
     let one = (c.in_ok-load_block.ensures.sound p sound).0 in
     let two = rw c.in-Ok-None.field-0-is at (c.in-Ok-None.ensures.sound p (is_sound_now g.S.Storage.view p p c.args.file.now c.load_block.new.file c.args.self.now one)) in
-    let before = becomes_then g.S.Storage.view p p c.args.file.now c.load_block.new.file c.take_lowest_below.new.file c.args.self.now c.take_lowest_below.new.self one two in
+    let before = allocator_step_then g.S.Storage.view p p c.args.file.now c.load_block.new.file c.take_lowest_below.new.file c.args.self.now c.take_lowest_below.new.self one two in
     gets_then g.S.Storage.view p c.args.file.now c.take_lowest_below.new.file c.cover_range.new.file c.take_lowest_below.new.self c.cover_range.new.self c.cover_range.result before
     (c.cover_range.ensures.sound p (is_sound_now g.S.Storage.view p p c.args.file.now c.take_lowest_below.new.file c.take_lowest_below.new.self before))
 
@@ -78,7 +78,7 @@ returns-else-is_fault-clause-sound g c = λ p sound.
     let one = (c.in_ok-load_block.ensures.sound p sound).0 in
     let two = still_sound g.S.Storage.view p c.load_block.new.file c.take_lowest_below.new.file c.take_lowest_below.new.self c.in-Err.refusal (λ fault. not_both c.is_fault.result (c.is_fault.ensures.1 fault) c.if-is_fault.false)
     (c.in-Err.ensures.sound p (is_sound_now g.S.Storage.view p p c.args.file.now c.load_block.new.file c.args.self.now one)) in
-    let before = becomes_then g.S.Storage.view p p c.args.file.now c.load_block.new.file c.take_lowest_below.new.file c.args.self.now c.take_lowest_below.new.self one two in
+    let before = allocator_step_then g.S.Storage.view p p c.args.file.now c.load_block.new.file c.take_lowest_below.new.file c.args.self.now c.take_lowest_below.new.self one two in
     gets_then g.S.Storage.view p c.args.file.now c.take_lowest_below.new.file c.cover_range-in-Err.new.file c.take_lowest_below.new.self c.cover_range-in-Err.new.self c.cover_range-in-Err.result before
     (c.cover_range-in-Err.ensures.sound p (is_sound_now g.S.Storage.view p p c.args.file.now c.take_lowest_below.new.file c.take_lowest_below.new.self before))
 
@@ -91,7 +91,7 @@ pub returns-then-is_some-clause-has : goal.returns-then-is_some-clause-has
 returns-then-is_some-clause-has g c = λ p sound.
     let l = c.in_ok-load_block.ensures.sound p sound in
     range_as c.args.self.now.reftable c.args.cluster (2 ^ c.rb_bits-bits.result) (counts_per_block c.args.file.now.header.fields) c.rb_bits-bits.ensures.counts
-    (has_block g.S.Storage.view p c.load_block.new.file c.args.self.now.reftable (c.args.cluster / 2 ^ c.rb_bits-bits.result) c.in_ok-load_block.field-0 l.0.moves.sound l.0.reftable (sym c.is_some.ensures ∙ c.if-is_some.true) l.1)
+    (has_block g.S.Storage.view p c.load_block.new.file c.args.self.now.reftable (c.args.cluster / 2 ^ c.rb_bits-bits.result) c.in_ok-load_block.field-0 l.0.file_step.sound l.0.reftable (sym c.is_some.ensures ∙ c.if-is_some.true) l.1)
 
 pub returns-then-is_some-clause-hint : goal.returns-then-is_some-clause-hint
 returns-then-is_some-clause-hint g c = λ p sound hint. hint_stays g.S.Storage.view p c.args.file.now c.load_block.new.file c.args.self.now c.args.self.now (c.in_ok-load_block.ensures.sound p sound).0 refl hint
@@ -142,13 +142,13 @@ returns-else-is_fault-clause-hint g c = λ p sound hint.
 pub returns-in-Ok-Some-clause-has : goal.returns-in-Ok-Some-clause-has
 returns-in-Ok-Some-clause-has g c = λ p sound.
     let l = c.in_ok-load_block.ensures.sound p sound in
-    let none = none_in_memory g.S.Storage.view p c.load_block.new.file c.args.self.now.reftable l.0.moves.sound l.0.reftable _ (stands_none g.S.Storage.view c.load_block.new.file _ c.in_ok-load_block.field-0 (sym c.is_some.ensures ∙ c.if-is_some.false) l.1) in
+    let none = none_in_memory g.S.Storage.view p c.load_block.new.file c.args.self.now.reftable l.0.file_step.sound l.0.reftable _ (stands_none g.S.Storage.view c.load_block.new.file _ c.in_ok-load_block.field-0 (sym c.is_some.ensures ∙ c.if-is_some.false) l.1) in
     let two = rw c.in-Ok-Some.field-0-is at (c.in-Ok-Some.ensures.sound p (is_sound_now g.S.Storage.view p p c.args.file.now c.load_block.new.file c.args.self.now l.0)) in
     let counts : counts_per_block c.load_block.new.file.header.fields ≡ 2 ^ c.rb_bits-bits.result = ap (λ h. counts_per_block h.fields) c.load_block.ensures.header ∙ c.rb_bits-bits.ensures.counts in
     let e = ap (λ n. c.args.cluster / 2 ^ c.rb_bits-bits.result * n) counts in
     let past : c.args.cluster / 2 ^ c.rb_bits-bits.result * 2 ^ c.rb_bits-bits.result % 18446744073709551616 ≤ c.args.cluster / 2 ^ c.rb_bits-bits.result * counts_per_block c.load_block.new.file.header.fields = omega (arith, e) in
     let still : HasNone c.take_lowest_below.new.self.reftable (c.args.cluster / 2 ^ c.rb_bits-bits.result) = ap block_offset (c.in-Ok-Some.ensures.entries.others (c.args.cluster / 2 ^ c.rb_bits-bits.result) past) ∙ none in
-    let taken = becomes_then g.S.Storage.view p (taken_as false p (one_at c.in-Ok-Some.at)) c.args.file.now c.load_block.new.file c.take_lowest_below.new.file c.args.self.now c.take_lowest_below.new.self l.0 two in
+    let taken = allocator_step_then g.S.Storage.view p (taken_as false p (one_at c.in-Ok-Some.at)) c.args.file.now c.load_block.new.file c.take_lowest_below.new.file c.args.self.now c.take_lowest_below.new.self l.0 two in
     ok_as _ _ c.place_block.result (range_as c.place_block.new.self.reftable c.args.cluster (2 ^ c.rb_bits-bits.result) (counts_per_block c.args.file.now.header.fields) c.rb_bits-bits.ensures.counts)
     (placed_block g.S.Storage.view (taken_as false p (one_at c.in-Ok-Some.at)) p c.take_lowest_below.new.file c.place_block.new.file c.place_block.new.self (c.args.cluster / 2 ^ c.rb_bits-bits.result) c.in-Ok-Some.at c.place_block.result
     (c.place_block.ensures.sound p (is_sound_now g.S.Storage.view p (taken_as false p (one_at c.in-Ok-Some.at)) c.args.file.now c.take_lowest_below.new.file c.take_lowest_below.new.self taken) (record { none = still; first = tt })))
@@ -156,13 +156,13 @@ returns-in-Ok-Some-clause-has g c = λ p sound.
 pub returns-in-Ok-Some-clause-hint : goal.returns-in-Ok-Some-clause-hint
 returns-in-Ok-Some-clause-hint g c = λ p sound hint.
     let l = c.in_ok-load_block.ensures.sound p sound in
-    let none = none_in_memory g.S.Storage.view p c.load_block.new.file c.args.self.now.reftable l.0.moves.sound l.0.reftable _ (stands_none g.S.Storage.view c.load_block.new.file _ c.in_ok-load_block.field-0 (sym c.is_some.ensures ∙ c.if-is_some.false) l.1) in
+    let none = none_in_memory g.S.Storage.view p c.load_block.new.file c.args.self.now.reftable l.0.file_step.sound l.0.reftable _ (stands_none g.S.Storage.view c.load_block.new.file _ c.in_ok-load_block.field-0 (sym c.is_some.ensures ∙ c.if-is_some.false) l.1) in
     let two = rw c.in-Ok-Some.field-0-is at (c.in-Ok-Some.ensures.sound p (is_sound_now g.S.Storage.view p p c.args.file.now c.load_block.new.file c.args.self.now l.0)) in
     let counts : counts_per_block c.load_block.new.file.header.fields ≡ 2 ^ c.rb_bits-bits.result = ap (λ h. counts_per_block h.fields) c.load_block.ensures.header ∙ c.rb_bits-bits.ensures.counts in
     let e = ap (λ n. c.args.cluster / 2 ^ c.rb_bits-bits.result * n) counts in
     let past : c.args.cluster / 2 ^ c.rb_bits-bits.result * 2 ^ c.rb_bits-bits.result % 18446744073709551616 ≤ c.args.cluster / 2 ^ c.rb_bits-bits.result * counts_per_block c.load_block.new.file.header.fields = omega (arith, e) in
     let still : HasNone c.take_lowest_below.new.self.reftable (c.args.cluster / 2 ^ c.rb_bits-bits.result) = ap block_offset (c.in-Ok-Some.ensures.entries.others (c.args.cluster / 2 ^ c.rb_bits-bits.result) past) ∙ none in
-    let taken = becomes_then g.S.Storage.view p (taken_as false p (one_at c.in-Ok-Some.at)) c.args.file.now c.load_block.new.file c.take_lowest_below.new.file c.args.self.now c.take_lowest_below.new.self l.0 two in
+    let taken = allocator_step_then g.S.Storage.view p (taken_as false p (one_at c.in-Ok-Some.at)) c.args.file.now c.load_block.new.file c.take_lowest_below.new.file c.args.self.now c.take_lowest_below.new.self l.0 two in
     let here = hint_stays g.S.Storage.view p c.args.file.now c.load_block.new.file c.args.self.now c.args.self.now l.0 refl hint in
     hint_placed g.S.Storage.view p c.take_lowest_below.new.file c.place_block.new.file c.take_lowest_below.new.self c.place_block.new.self (c.args.cluster / 2 ^ c.rb_bits-bits.result) c.in-Ok-Some.at c.place_block.result c.place_block.ensures.first
     (c.place_block.ensures.sound p (is_sound_now g.S.Storage.view p (taken_as false p (one_at c.in-Ok-Some.at)) c.args.file.now c.take_lowest_below.new.file c.take_lowest_below.new.self taken) (record { none = still; first = tt }))
@@ -179,7 +179,7 @@ returns-then-not-can_name-clause-fault g c = λ p sound within near.
     let here = host_below c.args.file.now.header.fields.cluster_bits c.new-first.result c.args.cluster (let is = c.new-first.ensures in let le = div-mul-le_self c.args.cluster (2 ^ c.rb_bits-bits.result) in omega (arith, is, le)) near in
     let range = ap (λ n. c.args.cluster / n) c.rb_bits-bits.ensures.counts in
     let l = c.in_ok-load_block.ensures.sound p sound in
-    let above = lacking_above g.S.Storage.view p c.load_block.new.file (c.args.cluster / 2 ^ c.rb_bits-bits.result) l.0.moves.sound (stands_none g.S.Storage.view c.load_block.new.file _ c.in_ok-load_block.field-0 (sym c.is_some.ensures ∙ c.if-is_some.false) l.1) in
+    let above = lacking_above g.S.Storage.view p c.load_block.new.file (c.args.cluster / 2 ^ c.rb_bits-bits.result) l.0.file_step.sound (stands_none g.S.Storage.view c.load_block.new.file _ c.in_ok-load_block.field-0 (sym c.is_some.ensures ∙ c.if-is_some.false) l.1) in
     let some : 0 < c.args.cluster / 2 ^ c.rb_bits-bits.result * 2 ^ c.rb_bits-bits.result = mul-pos above (pow_pos c.rb_bits-bits.result) in
     let elsewhere : 0 < c.new-first.result = let is = c.new-first.ensures in let le = div-mul-le_self c.args.cluster (2 ^ c.rb_bits-bits.result) in let small = c.requires in omega (arith, is, le, some, small) in
     let able = is_able g.S.Storage.view p c.args.file.now c.args.self.now c.cluster_bits.result c.new-first.result (IsTrue c.can_name.result) sound
@@ -211,13 +211,13 @@ returns-else-is_fault-clause-fault g c = λ p sound within near.
 pub returns-in-Ok-Some-clause-fault : goal.returns-in-Ok-Some-clause-fault
 returns-in-Ok-Some-clause-fault g c = λ p sound within near.
     let l = c.in_ok-load_block.ensures.sound p sound in
-    let none = none_in_memory g.S.Storage.view p c.load_block.new.file c.args.self.now.reftable l.0.moves.sound l.0.reftable _ (stands_none g.S.Storage.view c.load_block.new.file _ c.in_ok-load_block.field-0 (sym c.is_some.ensures ∙ c.if-is_some.false) l.1) in
+    let none = none_in_memory g.S.Storage.view p c.load_block.new.file c.args.self.now.reftable l.0.file_step.sound l.0.reftable _ (stands_none g.S.Storage.view c.load_block.new.file _ c.in_ok-load_block.field-0 (sym c.is_some.ensures ∙ c.if-is_some.false) l.1) in
     let two = rw c.in-Ok-Some.field-0-is at (c.in-Ok-Some.ensures.sound p (is_sound_now g.S.Storage.view p p c.args.file.now c.load_block.new.file c.args.self.now l.0)) in
     let counts : counts_per_block c.load_block.new.file.header.fields ≡ 2 ^ c.rb_bits-bits.result = ap (λ h. counts_per_block h.fields) c.load_block.ensures.header ∙ c.rb_bits-bits.ensures.counts in
     let e = ap (λ n. c.args.cluster / 2 ^ c.rb_bits-bits.result * n) counts in
     let past : c.args.cluster / 2 ^ c.rb_bits-bits.result * 2 ^ c.rb_bits-bits.result % 18446744073709551616 ≤ c.args.cluster / 2 ^ c.rb_bits-bits.result * counts_per_block c.load_block.new.file.header.fields = omega (arith, e) in
     let still : HasNone c.take_lowest_below.new.self.reftable (c.args.cluster / 2 ^ c.rb_bits-bits.result) = ap block_offset (c.in-Ok-Some.ensures.entries.others (c.args.cluster / 2 ^ c.rb_bits-bits.result) past) ∙ none in
-    let taken = becomes_then g.S.Storage.view p (taken_as false p (one_at c.in-Ok-Some.at)) c.args.file.now c.load_block.new.file c.take_lowest_below.new.file c.args.self.now c.take_lowest_below.new.self l.0 two in
+    let taken = allocator_step_then g.S.Storage.view p (taken_as false p (one_at c.in-Ok-Some.at)) c.args.file.now c.load_block.new.file c.take_lowest_below.new.file c.args.self.now c.take_lowest_below.new.self l.0 two in
     placed_fault g.S.Storage.view (taken_as false p (one_at c.in-Ok-Some.at)) p c.take_lowest_below.new.file c.place_block.new.file c.place_block.new.self (c.args.cluster / 2 ^ c.rb_bits-bits.result) c.in-Ok-Some.at c.place_block.result
     (c.place_block.ensures.sound p (is_sound_now g.S.Storage.view p (taken_as false p (one_at c.in-Ok-Some.at)) c.args.file.now c.take_lowest_below.new.file c.take_lowest_below.new.self taken) (record { none = still; first = tt }))
 

@@ -15,13 +15,13 @@ use Rattle.qcow2_alloc.specs.ImageFile.{AllocatorInvariant, KeepsHeader}
 use Rattle.qcow2_alloc.specs.Limits.{IsFaultOr, nameable_clusters, HasNoRoomBelow, HasNoRoomFor, LiesLowest}
 use Rattle.qcow2_alloc.specs.LowestRuns.{KeepsUsed}
 use Rattle.qcow2_alloc.specs.Rooms.{IsLonger, room_length, opened}
-use Rattle.qcow2_alloc.proofs.AllocationSteps.{handed_on, becomes_marked, is_sound_now, leaves_as}
-use Rattle.qcow2_alloc.proofs.Freeing.{becomes_on}
+use Rattle.qcow2_alloc.proofs.AllocationSteps.{handed_on, allocator_step_marked, is_sound_now, leaves_as}
+use Rattle.qcow2_alloc.proofs.Freeing.{allocator_step_on}
 use Rattle.qcow2_alloc.proofs.FullRooms.{no_room_for, lies_lowest, lowest_room_stays, lowest_entered}
 use Rattle.qcow2_alloc.proofs.Limits.{cause_as}
 use Rattle.qcow2_alloc.proofs.GrownReftables.{clone_clusters, clone_is_longer, entered, uses_entered, names_fault, room_now}
 use Rattle.qcow2_alloc.proofs.Hints.{uses_refused, used_stays}
-use Rattle.qcow2_alloc.proofs.Following.{header_same, header_then, header_counts}
+use Rattle.qcow2_alloc.proofs.ListedAfter.{header_same, header_then, header_counts}
 use Rattle.qcow2_alloc.proofs.CachePins.{marks_then}
 use Rattle.qcow2_alloc.proofs.Faults.{told_on, told_since}
 use Rattle.qcow2_alloc.proofs.Outcomes.{on_no_ok, handed_cause, on_err, on_ok}
@@ -55,8 +55,8 @@ returns-clause-enters g c = λ p sound clone whole.
     let q : Pending = with_run p c.args.file.now.header.fields c.args.self.now.reftable first n in
     let b : ImageFile g.row.S.Denot = record c.take_room.new.file { caches = c.note_change.new.self } in
     let taken = c.in_ok-room.ensures.sound p sound in
-    let marked = becomes_marked view q c.take_room.new.file u c.note_change.new.self (is_sound_now view p q a c.take_room.new.file u taken) c.note_change.ensures.tables c.note_change.ensures.marks in
-    let room : UnseenAllocatorStep view p a c.take_room.new.self b q = becomes_on view p q q a c.take_room.new.file b u u (λ k some. some) taken marked in
+    let marked = allocator_step_marked view q c.take_room.new.file u c.note_change.new.self (is_sound_now view p q a c.take_room.new.file u taken) c.note_change.ensures.tables c.note_change.ensures.marks in
+    let room : UnseenAllocatorStep view p a c.take_room.new.self b q = allocator_step_on view p q q a c.take_room.new.file b u u (λ k some. some) taken marked in
     let now = is_sound_now view p (with_run p b.header.fields t first n) a b u (room_now view p a b c.write_reftable.new.file u c.write_reftable.new.self t first n c.take_room.ensures.header room) in
     let same = c.take_room.ensures.reftable in
     let longer : IsLonger b.header.fields c.take_room.new.self.reftable c.args.table c.in_ok-room.room.clusters =
@@ -77,8 +77,8 @@ returns-clause-uses g c = λ p sound clone whole.
     let q : Pending = with_run p c.args.file.now.header.fields c.args.self.now.reftable first n in
     let b : ImageFile g.row.S.Denot = record c.take_room.new.file { caches = c.note_change.new.self } in
     let taken = c.in_ok-room.ensures.sound p sound in
-    let marked = becomes_marked view q c.take_room.new.file u c.note_change.new.self (is_sound_now view p q a c.take_room.new.file u taken) c.note_change.ensures.tables c.note_change.ensures.marks in
-    let room : UnseenAllocatorStep view p a c.take_room.new.self b q = becomes_on view p q q a c.take_room.new.file b u u (λ k some. some) taken marked in
+    let marked = allocator_step_marked view q c.take_room.new.file u c.note_change.new.self (is_sound_now view p q a c.take_room.new.file u taken) c.note_change.ensures.tables c.note_change.ensures.marks in
+    let room : UnseenAllocatorStep view p a c.take_room.new.self b q = allocator_step_on view p q q a c.take_room.new.file b u u (λ k some. some) taken marked in
     let now = is_sound_now view p (with_run p b.header.fields t first n) a b u (room_now view p a b c.write_reftable.new.file u c.write_reftable.new.self t first n c.take_room.ensures.header room) in
     let same = c.take_room.ensures.reftable in
     let longer : IsLonger b.header.fields c.take_room.new.self.reftable c.args.table c.in_ok-room.room.clusters =
@@ -119,8 +119,8 @@ returns-clause-limit g c = λ p sound hint clone whole.
     let q : Pending = with_run p c.args.file.now.header.fields c.args.self.now.reftable first n in
     let b : ImageFile g.row.S.Denot = record c.take_room.new.file { caches = c.note_change.new.self } in
     let taken = c.in_ok-room.ensures.sound p sound in
-    let marked = becomes_marked view q c.take_room.new.file u c.note_change.new.self (is_sound_now view p q a c.take_room.new.file u taken) c.note_change.ensures.tables c.note_change.ensures.marks in
-    let room : UnseenAllocatorStep view p a c.take_room.new.self b q = becomes_on view p q q a c.take_room.new.file b u u (λ k some. some) taken marked in
+    let marked = allocator_step_marked view q c.take_room.new.file u c.note_change.new.self (is_sound_now view p q a c.take_room.new.file u taken) c.note_change.ensures.tables c.note_change.ensures.marks in
+    let room : UnseenAllocatorStep view p a c.take_room.new.self b q = allocator_step_on view p q q a c.take_room.new.file b u u (λ k some. some) taken marked in
     let now = is_sound_now view p (with_run p b.header.fields t first n) a b u (room_now view p a b c.write_reftable.new.file u c.write_reftable.new.self t first n c.take_room.ensures.header room) in
     let same = c.take_room.ensures.reftable in
     let longer : IsLonger b.header.fields c.take_room.new.self.reftable c.args.table c.in_ok-room.room.clusters =
@@ -144,8 +144,8 @@ returns-clause-lowest g c = λ p sound hint clone whole.
     let q : Pending = with_run p c.args.file.now.header.fields c.args.self.now.reftable first n in
     let b : ImageFile g.row.S.Denot = record c.take_room.new.file { caches = c.note_change.new.self } in
     let taken = c.in_ok-room.ensures.sound p sound in
-    let marked = becomes_marked view q c.take_room.new.file u c.note_change.new.self (is_sound_now view p q a c.take_room.new.file u taken) c.note_change.ensures.tables c.note_change.ensures.marks in
-    let room : UnseenAllocatorStep view p a c.take_room.new.self b q = becomes_on view p q q a c.take_room.new.file b u u (λ k some. some) taken marked in
+    let marked = allocator_step_marked view q c.take_room.new.file u c.note_change.new.self (is_sound_now view p q a c.take_room.new.file u taken) c.note_change.ensures.tables c.note_change.ensures.marks in
+    let room : UnseenAllocatorStep view p a c.take_room.new.self b q = allocator_step_on view p q q a c.take_room.new.file b u u (λ k some. some) taken marked in
     let now = is_sound_now view p (with_run p b.header.fields t first n) a b u (room_now view p a b c.write_reftable.new.file u c.write_reftable.new.self t first n c.take_room.ensures.header room) in
     let same = c.take_room.ensures.reftable in
     let longer : IsLonger b.header.fields c.take_room.new.self.reftable c.args.table c.in_ok-room.room.clusters =

@@ -5,9 +5,9 @@ use Rattle.qcow2_alloc.specs.declared.image_file.ImageFile.{ImageFile}
 use Rattle.qcow2_alloc.specs.Allocation.{Frees}
 use Rattle.qcow2_alloc.specs.FreeList.{with_listed, but}
 use Rattle.qcow2_alloc.specs.LowestRuns.{KeepsNoFreeBelowHint}
-use Rattle.qcow2_alloc.proofs.AllocationSteps.{handed_on, is_sound_now, becomes_cached}
+use Rattle.qcow2_alloc.proofs.AllocationSteps.{handed_on, is_sound_now, allocator_step_cached}
 use Rattle.qcow2_alloc.proofs.Hints.{hint_stays}
-use Rattle.qcow2_alloc.proofs.Freeing.{but_both, on_ok, becomes_on, frees_then}
+use Rattle.qcow2_alloc.proofs.Freeing.{but_both, on_ok, allocator_step_on, frees_then}
 use Rattle.qcow2_alloc.proofs.CachePins.{marks_then}
 use Rattle.qcow2_alloc.proofs.Faults.{told_on, told_ok, told_since}
 use Rattle.qcow2_alloc.proofs.Outcomes.{told_after, on_no_ok, handed_cause}
@@ -29,13 +29,13 @@ returns-in_err-rb_depends_on_l2-clause-sound g c = λ p sound.
     let now : Pending = with_listed p c.free_kind.new.file.free_list in
     let one = c.in_ok-free_kind.ensures.sound p sound tt in
     let h = c.free_kind.new.file.header.fields in
-    let s = one.moves.sound in
+    let s = one.file_step.sound in
     let turned : ImageFile g.row.S.Denot = record c.free_kind.new.file { storage = c.rb_depends_on_l2.new.storage; caches = c.rb_depends_on_l2.new.self } in
-    let two = becomes_cached view now c.free_kind.new.file c.free_kind.new.self c.rb_depends_on_l2.new.storage c.rb_depends_on_l2.new.self (is_sound_now view q now c.args.file.now c.free_kind.new.file c.free_kind.new.self one)
+    let two = allocator_step_cached view now c.free_kind.new.file c.free_kind.new.self c.rb_depends_on_l2.new.storage c.rb_depends_on_l2.new.self (is_sound_now view q now c.args.file.now c.free_kind.new.file c.free_kind.new.self one)
     (c.rb_depends_on_l2.ensures.keeps h now s.honest s.caches) c.rb_depends_on_l2.ensures.marks in
     handed_on (Frees view q c.args.file.now c.free_kind.new.self turned now) c.from_residual-in_err-rb_depends_on_l2.result c.in_err-rb_depends_on_l2.field-0.0 c.from_residual-in_err-rb_depends_on_l2.ensures (
-      c.in_err-rb_depends_on_l2.ensures.faults h now s.honest s.caches s.settled,
-      inl (becomes_on view q now now c.args.file.now c.free_kind.new.file turned c.free_kind.new.self c.free_kind.new.self (λ k some. some) one two),
+      c.in_err-rb_depends_on_l2.ensures.faults h now s.honest s.caches s.named_blocks,
+      inl (allocator_step_on view q now now c.args.file.now c.free_kind.new.file turned c.free_kind.new.self c.free_kind.new.self (λ k some. some) one two),
     )
 
 pub returns-clause-emptied : goal.returns-clause-emptied
@@ -49,11 +49,11 @@ returns-clause-sound g c = λ p sound.
     let now : Pending = with_listed p c.free_kind.new.file.free_list in
     let one = c.in_ok-free_kind.ensures.sound p sound tt in
     let h = c.free_kind.new.file.header.fields in
-    let s = one.moves.sound in
+    let s = one.file_step.sound in
     let turned : ImageFile g.row.S.Denot = record c.free_kind.new.file { storage = c.rb_depends_on_l2.new.storage; caches = c.rb_depends_on_l2.new.self } in
-    let two = becomes_cached view now c.free_kind.new.file c.free_kind.new.self c.rb_depends_on_l2.new.storage c.rb_depends_on_l2.new.self (is_sound_now view q now c.args.file.now c.free_kind.new.file c.free_kind.new.self one)
+    let two = allocator_step_cached view now c.free_kind.new.file c.free_kind.new.self c.rb_depends_on_l2.new.storage c.rb_depends_on_l2.new.self (is_sound_now view q now c.args.file.now c.free_kind.new.file c.free_kind.new.self one)
     (c.rb_depends_on_l2.ensures.keeps h now s.honest s.caches) c.rb_depends_on_l2.ensures.marks in
-    let both = becomes_on view q now now c.args.file.now c.free_kind.new.file turned c.free_kind.new.self c.free_kind.new.self (λ k some. some) one two in
+    let both = allocator_step_on view q now now c.args.file.now c.free_kind.new.file turned c.free_kind.new.self c.free_kind.new.self (λ k some. some) one two in
     frees_then view q now (with_listed p c.free_kind-2.new.file.free_list) c.args.file.now turned c.free_kind-2.new.file c.free_kind.new.self c.free_kind-2.new.self c.free_kind-2.result (λ k some. some) both
     (c.free_kind-2.ensures.sound p (is_sound_now view q now c.args.file.now turned c.free_kind.new.self both) c.in_ok-rb_depends_on_l2.ensures.order)
 
@@ -68,9 +68,9 @@ returns-in_err-rb_depends_on_l2-clause-hint g c = λ p kept.
     let now : Pending = with_listed p c.free_kind.new.file.free_list in
     let one = c.in_ok-free_kind.ensures.sound p kept.sound tt in
     let h = c.free_kind.new.file.header.fields in
-    let s = one.moves.sound in
+    let s = one.file_step.sound in
     let turned : ImageFile g.row.S.Denot = record c.free_kind.new.file { storage = c.rb_depends_on_l2.new.storage; caches = c.rb_depends_on_l2.new.self } in
-    let two = becomes_cached view now c.free_kind.new.file c.free_kind.new.self c.rb_depends_on_l2.new.storage c.rb_depends_on_l2.new.self (is_sound_now view q now c.args.file.now c.free_kind.new.file c.free_kind.new.self one)
+    let two = allocator_step_cached view now c.free_kind.new.file c.free_kind.new.self c.rb_depends_on_l2.new.storage c.rb_depends_on_l2.new.self (is_sound_now view q now c.args.file.now c.free_kind.new.file c.free_kind.new.self one)
     (c.rb_depends_on_l2.ensures.keeps h now s.honest s.caches) c.rb_depends_on_l2.ensures.marks in
     handed_on (KeepsNoFreeBelowHint view c.free_kind.new.self turned) c.from_residual-in_err-rb_depends_on_l2.result c.in_err-rb_depends_on_l2.field-0.0 c.from_residual-in_err-rb_depends_on_l2.ensures
     (inl (hint_stays view now c.free_kind.new.file turned c.free_kind.new.self c.free_kind.new.self two refl (c.in_ok-free_kind.ensures.hint p kept.sound tt kept.hint)))
@@ -85,11 +85,11 @@ returns-clause-hint g c = λ p kept.
     let now : Pending = with_listed p c.free_kind.new.file.free_list in
     let one = c.in_ok-free_kind.ensures.sound p kept.sound tt in
     let h = c.free_kind.new.file.header.fields in
-    let s = one.moves.sound in
+    let s = one.file_step.sound in
     let turned : ImageFile g.row.S.Denot = record c.free_kind.new.file { storage = c.rb_depends_on_l2.new.storage; caches = c.rb_depends_on_l2.new.self } in
-    let two = becomes_cached view now c.free_kind.new.file c.free_kind.new.self c.rb_depends_on_l2.new.storage c.rb_depends_on_l2.new.self (is_sound_now view q now c.args.file.now c.free_kind.new.file c.free_kind.new.self one)
+    let two = allocator_step_cached view now c.free_kind.new.file c.free_kind.new.self c.rb_depends_on_l2.new.storage c.rb_depends_on_l2.new.self (is_sound_now view q now c.args.file.now c.free_kind.new.file c.free_kind.new.self one)
     (c.rb_depends_on_l2.ensures.keeps h now s.honest s.caches) c.rb_depends_on_l2.ensures.marks in
-    let both = becomes_on view q now now c.args.file.now c.free_kind.new.file turned c.free_kind.new.self c.free_kind.new.self (λ k some. some) one two in
+    let both = allocator_step_on view q now now c.args.file.now c.free_kind.new.file turned c.free_kind.new.self c.free_kind.new.self (λ k some. some) one two in
     let still = hint_stays view now c.free_kind.new.file turned c.free_kind.new.self c.free_kind.new.self two refl (c.in_ok-free_kind.ensures.hint p kept.sound tt kept.hint) in
     c.free_kind-2.ensures.hint p (is_sound_now view q now c.args.file.now turned c.free_kind.new.self both) c.in_ok-rb_depends_on_l2.ensures.order still
 
@@ -103,11 +103,11 @@ returns-clause-leaks g c = λ p sound.
     let now : Pending = with_listed p c.free_kind.new.file.free_list in
     let one = c.in_ok-free_kind.ensures.sound p sound tt in
     let h = c.free_kind.new.file.header.fields in
-    let s = one.moves.sound in
+    let s = one.file_step.sound in
     let turned : ImageFile g.row.S.Denot = record c.free_kind.new.file { storage = c.rb_depends_on_l2.new.storage; caches = c.rb_depends_on_l2.new.self } in
-    let two = becomes_cached view now c.free_kind.new.file c.free_kind.new.self c.rb_depends_on_l2.new.storage c.rb_depends_on_l2.new.self (is_sound_now view q now c.args.file.now c.free_kind.new.file c.free_kind.new.self one)
+    let two = allocator_step_cached view now c.free_kind.new.file c.free_kind.new.self c.rb_depends_on_l2.new.storage c.rb_depends_on_l2.new.self (is_sound_now view q now c.args.file.now c.free_kind.new.file c.free_kind.new.self one)
     (c.rb_depends_on_l2.ensures.keeps h now s.honest s.caches) c.rb_depends_on_l2.ensures.marks in
-    let both = becomes_on view q now now c.args.file.now c.free_kind.new.file turned c.free_kind.new.self c.free_kind.new.self (λ k some. some) one two in
+    let both = allocator_step_on view q now now c.args.file.now c.free_kind.new.file turned c.free_kind.new.self c.free_kind.new.self (λ k some. some) one two in
     c.free_kind-2.ensures.leaks p (is_sound_now view q now c.args.file.now turned c.free_kind.new.self both) c.in_ok-rb_depends_on_l2.ensures.order ∙ c.free_kind.ensures.leaks p sound tt
 
 pub returns-in_err-free_kind-clause-leaks : goal.returns-in_err-free_kind-clause-leaks

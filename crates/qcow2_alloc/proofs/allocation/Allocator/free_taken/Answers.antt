@@ -5,7 +5,7 @@ use Rattle.qcow2_alloc.specs.FreeList.{with_listed, but}
 use Rattle.qcow2_alloc.specs.LowestRuns.{KeepsNoFreeBelowHint}
 use Rattle.qcow2_alloc.proofs.AllocationSteps.{handed_on, may_lower_still, is_sound_now}
 use Rattle.qcow2_alloc.proofs.CachePins.{marks_then}
-use Rattle.qcow2_alloc.proofs.Freeing.{but_first, but_step, entry_sound, entry_goes}
+use Rattle.qcow2_alloc.proofs.Freeing.{but_first, but_step, entry_sound, entry_eviction}
 use Rattle.qcow2_alloc.proofs.Faults.{told_ok}
 use Rattle.qcow2_alloc.proofs.Outcomes.{told_after, on_no_ok, handed_cause}
 use Rattle.std.proofs.Math.Nat.{le_trans}
@@ -27,7 +27,7 @@ freeing-preserved g c = record {
       let q : Pending = with_listed p (c.args.file.now.free_list ++ c.args.taken.now) in
       let now : Pending = with_listed p (c.freeing.file.free_list ++ c.freeing.taken) in
       let before = c.freeing.invariant.sound p sound may in
-      entry_goes g.S.Storage.view p c.freeing.taken c.next_pending.new.self c.in-Some.pending c.in-Some.ensures.some q c.args.file.now c.freeing.file c.free_or_list.new.file c.freeing.self c.free_or_list.new.self (Ok tt) (λ k some. some) before
+      entry_eviction g.S.Storage.view p c.freeing.taken c.next_pending.new.self c.in-Some.pending c.in-Some.ensures.some q c.args.file.now c.freeing.file c.free_or_list.new.file c.freeing.self c.free_or_list.new.self (Ok tt) (λ k some. some) before
       (c.in_ok-free_or_list.ensures.sound (with_listed p c.next_pending.new.self)
       (entry_sound g.S.Storage.view p c.freeing.taken c.next_pending.new.self c.in-Some.pending c.in-Some.ensures.some c.freeing.file c.freeing.self (is_sound_now g.S.Storage.view q now c.args.file.now c.freeing.file c.freeing.self before))
       (may_lower_still (Listed c.args.kind) c.args.file.now c.freeing.file c.freeing.invariant.order may));
@@ -55,7 +55,7 @@ returns-in_err-free_or_list-clause-sound g c = λ p sound may.
     let before = c.freeing.invariant.sound p sound may in
     handed_on (Frees g.S.Storage.view q c.args.file.now c.free_or_list.new.self c.free_or_list.new.file (with_listed p (c.free_or_list.new.file.free_list ++ c.next_pending.new.self)))
     c.from_residual.result c.in_err-free_or_list.field-0.0 c.from_residual.ensures
-    (entry_goes g.S.Storage.view p c.freeing.taken c.next_pending.new.self c.in-Some.pending c.in-Some.ensures.some q c.args.file.now c.freeing.file c.free_or_list.new.file c.freeing.self c.free_or_list.new.self (Err c.in_err-free_or_list.field-0.0) (λ k some. some) before
+    (entry_eviction g.S.Storage.view p c.freeing.taken c.next_pending.new.self c.in-Some.pending c.in-Some.ensures.some q c.args.file.now c.freeing.file c.free_or_list.new.file c.freeing.self c.free_or_list.new.self (Err c.in_err-free_or_list.field-0.0) (λ k some. some) before
     (c.in_err-free_or_list.ensures.sound (with_listed p c.next_pending.new.self)
     (entry_sound g.S.Storage.view p c.freeing.taken c.next_pending.new.self c.in-Some.pending c.in-Some.ensures.some c.freeing.file c.freeing.self (is_sound_now g.S.Storage.view q now c.args.file.now c.freeing.file c.freeing.self before))
     (may_lower_still (Listed c.args.kind) c.args.file.now c.freeing.file c.freeing.invariant.order may)))

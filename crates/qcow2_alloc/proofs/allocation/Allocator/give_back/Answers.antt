@@ -5,7 +5,7 @@ use Rattle.qcow2_alloc.specs.Allocation.{run_at, taken_as, Taken, UnseenAllocato
 use Rattle.qcow2_alloc.specs.ImageFile.{AllocatorInvariant, UnseenFileGrowth}
 use Rattle.qcow2_alloc.specs.LowestRuns.{KeepsNoFreeBelowHint, KeepsUsedBut}
 use Rattle.qcow2_alloc.proofs.CachePins.{marks_none, marks_then}
-use Rattle.qcow2_alloc.proofs.FileSteps.{moves_on, on_then, on_breaks_after}
+use Rattle.qcow2_alloc.proofs.FileSteps.{file_step_on, on_then, on_interrupted_after}
 use Rattle.qcow2_alloc.proofs.AllocationSteps.{handed_on, is_sound_now}
 use Rattle.qcow2_alloc.proofs.Hints.{kept_refused, not_in_run, taken_pending, used_stays}
 use Rattle.qcow2_alloc.proofs.Runs.{taken_first, taken_none, new_data_more}
@@ -27,8 +27,8 @@ lowering-init g c = record {
   reftable = refl;
   sound = λ p p' d start new_data b.
       let whole : c.args.n ≡ c.args.first + c.args.n - c.args.first = omega arith in
-      let moves = subst (λ m. UnseenFileGrowth g.S.Storage.view p (taken_as d p' (run_at c.args.first m)) start c.args.file.now) whole b.moves in
-      record { moves = moves; reftable = b.reftable };
+      let file_step = subst (λ m. UnseenFileGrowth g.S.Storage.view p (taken_as d p' (run_at c.args.first m)) start c.args.file.now) whole b.file_step in
+      record { file_step = file_step; reftable = b.reftable };
   hint = λ p d sound hint. hint;
   kept = λ p d sound.
       let whole : c.args.n ≡ c.args.first + c.args.n - c.args.first = omega arith in
@@ -40,11 +40,11 @@ returns-in_err-lower-clause-sound g c = λ p p' d start new_data b noted.
     let one = c.lowering.invariant.sound p p' d start new_data b in
     let q : Pending = (taken_as d p' (run_at (c.lowering.cluster + 1) ((c.args.first + c.args.n) - (c.lowering.cluster + 1)))) in
     let same = taken_first d p' c.lowering.cluster (c.args.first + c.args.n) c.lowering-test.true in
-    let moved = subst (λ (r : Pending). UnseenFileGrowth g.S.Storage.view p r start c.lowering.file) (sym same) one.moves in
+    let moved = subst (λ (r : Pending). UnseenFileGrowth g.S.Storage.view p r start c.lowering.file) (sym same) one.file_step in
     let low = c.in_err-lower.ensures.sound q (Taken d) (record { sound = moved.sound; reftable = one.reftable }) tt in
     handed_on (GivesBackAs g.S.Storage.view p start c.lower.new.self c.lower.new.file p') c.from_residual.result c.in_err-lower.field-0.0 c.from_residual.ensures (
       low.0,
-      inr (on_breaks_after g.S.Storage.view p (taken_as d q (one_at c.lowering.cluster)) start c.lowering.file c.lower.new.file c.lower.new.self c.in_err-lower.field-0.0 moved low.0
+      inr (on_interrupted_after g.S.Storage.view p (taken_as d q (one_at c.lowering.cluster)) start c.lowering.file c.lower.new.file c.lower.new.self c.in_err-lower.field-0.0 moved low.0
           (c.lower.ensures.marks.changed (c.lowering.invariant.marks.changed (noted (let lt = c.lowering-test.true in let le = c.lowering.auto.cluster in omega arith)))) low.1),
     )
 
@@ -60,11 +60,11 @@ lowering-preserved g c = record {
       let one = c.lowering.invariant.sound p p' d start new_data b in
       let q : Pending = (taken_as d p' (run_at (c.lowering.cluster + 1) ((c.args.first + c.args.n) - (c.lowering.cluster + 1)))) in
       let same = taken_first d p' c.lowering.cluster (c.args.first + c.args.n) c.lowering-test.true in
-      let moved = subst (λ (r : Pending). UnseenFileGrowth g.S.Storage.view p r start c.lowering.file) (sym same) one.moves in
+      let moved = subst (λ (r : Pending). UnseenFileGrowth g.S.Storage.view p r start c.lowering.file) (sym same) one.file_step in
       let low = c.in_ok-lower.ensures.sound q (Taken d) (record { sound = moved.sound; reftable = one.reftable }) tt in
       record {
-        moves = on_then g.S.Storage.view p (taken_as d q (one_at c.lowering.cluster)) q start c.lowering.file c.lower.new.file
-            (λ k some. subst (λ (r : Pending). 0 < r.new_data k) (sym same) (new_data_more d p' (run_at c.lowering.cluster ((c.args.first + c.args.n) - c.lowering.cluster)) k (new_data k some))) moved (moves_on g.S.Storage.view (taken_as d q (one_at c.lowering.cluster)) q c.lowering.file c.lower.new.file low.moves);
+        file_step = on_then g.S.Storage.view p (taken_as d q (one_at c.lowering.cluster)) q start c.lowering.file c.lower.new.file
+            (λ k some. subst (λ (r : Pending). 0 < r.new_data k) (sym same) (new_data_more d p' (run_at c.lowering.cluster ((c.args.first + c.args.n) - c.lowering.cluster)) k (new_data k some))) moved (file_step_on g.S.Storage.view (taken_as d q (one_at c.lowering.cluster)) q c.lowering.file c.lower.new.file low.file_step);
         reftable = low.reftable;
       };
   hint = λ p d sound hint.

@@ -12,7 +12,7 @@ use Rattle.qcow2_alloc.specs.Limits.{IsFaultOr, HasNoRoomFor, CantGrow}
 use Rattle.qcow2_alloc.proofs.AllocationSteps.{handed_on, behind_same, behind_then}
 use Rattle.qcow2_alloc.proofs.FullRooms.{cant_grow}
 use Rattle.qcow2_alloc.proofs.Limits.{cause_as}
-use Rattle.qcow2_alloc.proofs.Following.{following_same}
+use Rattle.qcow2_alloc.proofs.ListedAfter.{listed_after_same}
 use Rattle.qcow2_alloc.proofs.GrownReftables.{grown}
 use Rattle.qcow2_alloc.proofs.FormerReftables.{former_none, former_one, former_still}
 use Rattle.qcow2_alloc.proofs.allocation.Allocator.grow_reftable.Goals as goal
@@ -22,11 +22,11 @@ returns-in-Ok-clause-sound g c = λ p sound.
     let view = g.S.Storage.view in
     let old = c.args.file.now in
     let former = c.in_ok-former.former in
-    let becomes = c.in-Ok.ensures.enters p sound c.in_ok-table.ensures.entries c.in_ok-table.ensures.length.enough.whole in
+    let allocator_step = c.in-Ok.ensures.enters p sound c.in_ok-table.ensures.entries c.in_ok-table.ensures.length.enough.whole in
     let run = rw sound.reftable.cluster at c.in_ok-former.ensures.run in
     let list = c.hand_back.ensures ∙ ap (λ (l : List ClustersToFreeEntry). l ++ former ∷ []) c.enter_reftable.ensures.list in
     subst (λ (l : List ClustersToFreeEntry). UnseenAllocatorGrowth view p old c.enter_reftable.new.self (record c.enter_reftable.new.file { free_list = l }) (pending_then p old.free_list l)) (sym list)
-    (grown view p old c.enter_reftable.new.file c.enter_reftable.new.self c.args.self.now.reftable _ former sound.sound sound.reftable c.in_ok-former.ensures.is_table sound.reftable.cluster run becomes old.free_list)
+    (grown view p old c.enter_reftable.new.file c.enter_reftable.new.self c.args.self.now.reftable _ former sound.sound sound.reftable c.in_ok-former.ensures.is_table sound.reftable.cluster run allocator_step old.free_list)
 
 pub returns-in-Ok-clause-uses : goal.returns-in-Ok-clause-uses
 returns-in-Ok-clause-uses g c = λ p sound. c.in-Ok.ensures.uses p sound c.in_ok-table.ensures.entries c.in_ok-table.ensures.length.enough.whole
@@ -34,7 +34,7 @@ returns-in-Ok-clause-uses g c = λ p sound. c.in-Ok.ensures.uses p sound c.in_ok
 pub returns-in-Err-clause-sound : goal.returns-in-Err-clause-sound
 returns-in-Err-clause-sound g c = λ p sound.
     subst (λ (q : Pending). RefusedGrowth g.S.Storage.view p c.args.file.now c.enter_reftable.new.self c.enter_reftable.new.file q c.in-Err.refusal)
-    (sym (following_same p c.args.file.now.free_list c.enter_reftable.new.file.free_list c.enter_reftable.ensures.list))
+    (sym (listed_after_same p c.args.file.now.free_list c.enter_reftable.new.file.free_list c.enter_reftable.ensures.list))
     (c.in-Err.ensures.enters p sound c.in_ok-table.ensures.entries c.in_ok-table.ensures.length.enough.whole)
 
 pub returns-in-Err-clause-uses : goal.returns-in-Err-clause-uses

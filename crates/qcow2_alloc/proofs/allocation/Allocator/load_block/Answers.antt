@@ -1,6 +1,6 @@
 use Rattle.std.proofs.Common.{inl}
 use Rattle.qcow2_alloc.specs.Allocation.{LoadsBlock}
-use Rattle.qcow2_alloc.proofs.FileSteps.{moves_cached, reftable_cached}
+use Rattle.qcow2_alloc.proofs.FileSteps.{file_step_cached, reftable_cached}
 use Rattle.qcow2_alloc.proofs.AllocationSteps.{handed_on, place_fits, stands}
 use Rattle.qcow2_alloc.proofs.allocation.Allocator.load_block.Goals as goal
 
@@ -10,15 +10,15 @@ returns-in_err-rb_get_or_insert-clause-sound g c = λ p sound.
     c.from_residual.result c.in_err-rb_get_or_insert.field-0.0 c.from_residual.ensures (
       c.in_err-rb_get_or_insert.ensures.faults sound.sound.room c.args.file.now.header.fields
           (place_fits g.S.Storage.view _ c.in-Some.offset c.in-Some-checked_cluster.cluster c.cluster_bits.result c.args.file.now.header.fields.cluster_bits c.in-Some.ensures.offset c.in-Some-checked_cluster.ensures.cluster c.cluster_bits.ensures.value)
-          p sound.sound.honest sound.sound.caches sound.sound.settled,
-      inl (moves_cached g.S.Storage.view p c.args.file.now c.rb_get_or_insert.new.storage c.rb_get_or_insert.new.self sound.sound (c.rb_get_or_insert.ensures.keeps c.args.file.now.header.fields p sound.sound.honest sound.sound.caches) c.rb_get_or_insert.ensures.marks, reftable_cached g.S.Storage.view p c.args.file.now c.rb_get_or_insert.new.storage c.rb_get_or_insert.new.self sound.sound (c.rb_get_or_insert.ensures.keeps c.args.file.now.header.fields p sound.sound.honest sound.sound.caches) c.args.self.now.reftable sound.reftable),
+          p sound.sound.honest sound.sound.caches sound.sound.named_blocks,
+      inl (file_step_cached g.S.Storage.view p c.args.file.now c.rb_get_or_insert.new.storage c.rb_get_or_insert.new.self sound.sound (c.rb_get_or_insert.ensures.keeps c.args.file.now.header.fields p sound.sound.honest sound.sound.caches) c.rb_get_or_insert.ensures.marks, reftable_cached g.S.Storage.view p c.args.file.now c.rb_get_or_insert.new.storage c.rb_get_or_insert.new.self sound.sound (c.rb_get_or_insert.ensures.keeps c.args.file.now.header.fields p sound.sound.honest sound.sound.caches) c.args.self.now.reftable sound.reftable),
     )
 
 pub returns-clause-sound : goal.returns-clause-sound
 returns-clause-sound g c = λ p sound.
-    let moves = moves_cached g.S.Storage.view p c.args.file.now c.rb_get_or_insert.new.storage c.rb_get_or_insert.new.self sound.sound (c.rb_get_or_insert.ensures.keeps c.args.file.now.header.fields p sound.sound.honest sound.sound.caches) c.rb_get_or_insert.ensures.marks in
+    let file_step = file_step_cached g.S.Storage.view p c.args.file.now c.rb_get_or_insert.new.storage c.rb_get_or_insert.new.self sound.sound (c.rb_get_or_insert.ensures.keeps c.args.file.now.header.fields p sound.sound.honest sound.sound.caches) c.rb_get_or_insert.ensures.marks in
     let reftable = reftable_cached g.S.Storage.view p c.args.file.now c.rb_get_or_insert.new.storage c.rb_get_or_insert.new.self sound.sound (c.rb_get_or_insert.ensures.keeps c.args.file.now.header.fields p sound.sound.honest sound.sound.caches) c.args.self.now.reftable sound.reftable in (
-      record { moves = moves; reftable = reftable },
-      stands g.S.Storage.view p (record c.args.file.now { storage = c.rb_get_or_insert.new.storage; caches = c.rb_get_or_insert.new.self }) c.args.self.now.reftable moves.sound reftable c.args.range c.in-Some.offset c.in-Some-checked_cluster.cluster c.cluster_bits.result
+      record { file_step = file_step; reftable = reftable },
+      stands g.S.Storage.view p (record c.args.file.now { storage = c.rb_get_or_insert.new.storage; caches = c.rb_get_or_insert.new.self }) c.args.self.now.reftable file_step.sound reftable c.args.range c.in-Some.offset c.in-Some-checked_cluster.cluster c.cluster_bits.result
           c.in-Some.ensures.offset c.in-Some.ensures.some c.in-Some-checked_cluster.ensures.cluster c.cluster_bits.ensures.value c.in_ok-rb_get_or_insert.ensures.cached,
     )

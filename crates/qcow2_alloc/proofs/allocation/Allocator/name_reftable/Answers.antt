@@ -3,9 +3,9 @@ use Rattle.qcow2_alloc.specs.GrownTables.{with_run, NamesReftable}
 use Rattle.qcow2_alloc.specs.ImageError.{of_storage, of_metadata}
 use Rattle.qcow2_alloc.specs.ImageStorage.{storage_of}
 use Rattle.qcow2_alloc.proofs.AllocationSteps.{handed_on, fault_of_storage}
-use Rattle.qcow2_alloc.proofs.NamedReftables.{within_limit, breaks_named, becomes_named, keeps_used}
+use Rattle.qcow2_alloc.proofs.NamedReftables.{within_limit, interrupted_named, allocator_step_named, keeps_used}
 use Rattle.qcow2_alloc.proofs.CachePins.{marks_none}
-use Rattle.qcow2_alloc.proofs.Following.{header_same}
+use Rattle.qcow2_alloc.proofs.ListedAfter.{header_same}
 use Rattle.qcow2_alloc.proofs.Outcomes.{told_limit, on_no_ok, handed_cause, on_err}
 use Rattle.std.proofs.Math.Nat.{le_refl}
 use Rattle.qcow2_alloc.proofs.TableErrors.{storage_of_tables, metadata_of_tables}
@@ -22,7 +22,7 @@ returns-in_err-write_reftable_pointer-clause-names g c = λ p first blocks clust
     handed_on (NamesReftable g.S.Storage.view (with_run p c.args.file.now.header.fields c.args.self.now.reftable first (blocks + clusters)) p c.args.file.now c.args.self.now
     (record c.args.file.now { storage = c.write_reftable_pointer.new.self; header = c.set_reftable.new.self; caches = c.note_change.new.self }))
     c.from_residual-in_err-write_reftable_pointer.result (of_storage c.in_err-write_reftable_pointer.field-0.0) c.from_residual-in_err-write_reftable_pointer.ensures
-    (breaks_named g.S.Storage.view p first blocks clusters c.args.file.now c.args.self.now c.args.table c.in-Some.cluster c.offset-offset.result c.value-clusters.result
+    (interrupted_named g.S.Storage.view p first blocks clusters c.args.file.now c.args.self.now c.args.table c.in-Some.cluster c.offset-offset.result c.value-clusters.result
     sound ready c.in-Some.ensures.is_table (sym c.in-Some.ensures.value) (c.offset-offset.ensures ∙ ap (λ b. c.in-Some.cluster * 2 ^ b) c.cluster_bits.ensures.value) (c.value-clusters.ensures ∙ c.cluster_count.ensures)
     c.set_reftable.new.self c.note_change.new.self c.write_reftable_pointer.new.self (storage_of c.will_write.new.self) c.write_reftable_pointer.result c.in_ok-set_reftable.ensures.ok
     c.note_change.ensures.same c.note_change.ensures.tables c.note_change.ensures.marks c.will_write.ensures.storage c.write_reftable_pointer.ensures.written c.write_reftable_pointer.ensures.calls
@@ -30,7 +30,7 @@ returns-in_err-write_reftable_pointer-clause-names g c = λ p first blocks clust
 
 pub returns-clause-names : goal.returns-clause-names
 returns-clause-names g c = λ p first blocks clusters sound ready.
-    becomes_named g.S.Storage.view p first blocks clusters c.args.file.now c.args.self.now c.args.table c.in-Some.cluster c.offset-offset.result c.value-clusters.result
+    allocator_step_named g.S.Storage.view p first blocks clusters c.args.file.now c.args.self.now c.args.table c.in-Some.cluster c.offset-offset.result c.value-clusters.result
     sound ready c.in-Some.ensures.is_table (sym c.in-Some.ensures.value) (c.offset-offset.ensures ∙ ap (λ b. c.in-Some.cluster * 2 ^ b) c.cluster_bits.ensures.value) (c.value-clusters.ensures ∙ c.cluster_count.ensures)
     c.set_reftable.new.self c.note_change.new.self c.write_reftable_pointer.new.self (storage_of c.will_write.new.self) c.write_reftable_pointer.result c.in_ok-set_reftable.ensures.ok
     c.note_change.ensures.same c.note_change.ensures.tables c.note_change.ensures.marks c.will_write.ensures.storage c.write_reftable_pointer.ensures.written c.write_reftable_pointer.ensures.calls

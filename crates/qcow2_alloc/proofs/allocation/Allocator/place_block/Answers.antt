@@ -25,9 +25,9 @@ use Rattle.qcow2_alloc.specs.ImageFile.{view_in}
 use Rattle.qcow2_alloc.specs.ImageStorage.{storage_of}
 use Rattle.qcow2_alloc.specs.MetadataCaches.{order_of, l2_tables, refblocks, rb_at}
 use Rattle.qcow2_alloc.specs.TableCaches.{cleared_rb, IsBlockOf}
-use Rattle.qcow2_alloc.proofs.FileSteps.{moves_then, breaks_then}
-use Rattle.qcow2_alloc.proofs.AllocationSteps.{handed_on, entries_entered, fault_of_storage, becomes_then, becomes_marked, is_sound_now, stands}
-use Rattle.qcow2_alloc.proofs.NamedBlocks.{entry_write_as, real, endures_named, named_so}
+use Rattle.qcow2_alloc.proofs.FileSteps.{file_step_then, interrupted_then}
+use Rattle.qcow2_alloc.proofs.AllocationSteps.{handed_on, entries_entered, fault_of_storage, allocator_step_then, allocator_step_marked, is_sound_now, stands}
+use Rattle.qcow2_alloc.proofs.NamedBlocks.{entry_write_as, real, safe_throughout_named, named_so}
 use Rattle.qcow2_alloc.proofs.CachePins.{marks_then}
 use Rattle.qcow2_alloc.proofs.Faults.{told_on}
 use Rattle.qcow2_alloc.proofs.Outcomes.{on_no_ok, handed_cause, entries_none}
@@ -61,14 +61,14 @@ module _ {S : Type 0} (view : S → StorageView) (d : Bool) (p : Pending) (range
   named = record marked { storage = storage }
 
   now : UnseenAllocatorStep view q file t marked q
-  now = becomes_marked view q file t caches (is_sound_now view q q old file t before.0) tables marks
+  now = allocator_step_marked view q file t caches (is_sound_now view q q old file t before.0) tables marks
 
   four : UnseenAllocatorStep view q old t marked q
-  four = becomes_then view q q old file marked t t before.0 now
+  four = allocator_step_then view q q old file marked t t before.0 now
 
   changes : Changes (view_in view marked) (view (storage_of storage)) result (overwritten (view_in view marked).contents (h.reftable_offset + 8 * range) (to_be_bytes w64 (entry_at t'.bytes range)))
   changes =
-      let aligned = now.moves.sound.caches.kept.kept.guarded.top.reftable_aligned in
+      let aligned = now.file_step.sound.caches.kept.kept.crash_invariant.top.reftable_aligned in
       let e = div-add-mod' h.reftable_offset (cluster_size h) in
       let begins : h.reftable_offset / cluster_size h * cluster_size h ≡ h.reftable_offset = omega (arith, e, aligned) in
       entry_write_as view (storage_of file.storage) asked (storage_of storage) t'.cluster (h.reftable_offset / cluster_size h) t'.cluster_bits h.cluster_bits h.reftable_offset (8 * range) (to_be_bytes w64 (entry_at t'.bytes range)) result same
@@ -98,18 +98,18 @@ module _ {S : Type 0} (view : S → StorageView) (d : Bool) (p : Pending) (range
   not_placed : IsTrue caches.is_changed → (e : ImageError) → IsFault e → PlacesBlock view q old (record t { reftable = t' }) named p range at (Err e)
   not_placed changed e fault = (
     fault,
-    inr (breaks_then view q q old marked named e four.moves (record {
+    inr (interrupted_then view q q old marked named e four.file_step (record {
       fault = fault;
       noted = λ _. changed;
-      since = endures_named view d p range at marked t.reftable t' block now.moves.sound now.reftable clean may there within rest entered at_place fits whole format counts new_data before.1.stands storage result calls_now changes;
+      since = safe_throughout_named view d p range at marked t.reftable t' block now.file_step.sound now.reftable clean may there within rest entered at_place fits whole format counts new_data before.1.stands storage result calls_now changes;
     })),
   )
 
   is_placed : (x : Unit {0}) → result ≡ Ok x → UnseenAllocatorStep view q old (record t { reftable = t' }) named p × RefblockAt view named range (Some at)
   is_placed x done =
-      let so = named_so view d p range at marked t.reftable t' block now.moves.sound now.reftable clean may there within rest entered at_place fits whole format counts new_data before.1.stands storage result calls_now changes x done in
-      let some : 0 < at * cluster_size h = real view d p range at marked t.reftable t' block now.moves.sound now.reftable clean may there within rest entered at_place fits whole format counts new_data before.1.stands in (
-        record { moves = moves_then view q q p old marked named (λ k some. some) four.moves so.0; reftable = so.1 },
+      let so = named_so view d p range at marked t.reftable t' block now.file_step.sound now.reftable clean may there within rest entered at_place fits whole format counts new_data before.1.stands storage result calls_now changes x done in
+      let some : 0 < at * cluster_size h = real view d p range at marked t.reftable t' block now.file_step.sound now.reftable clean may there within rest entered at_place fits whole format counts new_data before.1.stands in (
+        record { file_step = file_step_then view q q p old marked named (λ k some. some) four.file_step so.0; reftable = so.1 },
         stands view p named t' so.0.sound so.1 range (at * cluster_size h) at h.cluster_bits (sym at_place) some refl refl (rw new_data.1 refl),
       )
 

@@ -17,7 +17,7 @@ use Rattle.qcow2_alloc.specs.MetadataCaches.{order_of, l2_tables, refblocks, rb_
 use Rattle.qcow2_alloc.specs.Rooms.{opens, opened, room_length, PlacesBlocks}
 use Rattle.qcow2_alloc.specs.TableCaches.{IsBlockOf}
 use Rattle.qcow2_alloc.proofs.CachePins.{marks_none, marks_then}
-use Rattle.qcow2_alloc.proofs.AllocationSteps.{handed_on, behind_none, behind_then, entries_entered, becomes_none, becomes_then, is_sound_now}
+use Rattle.qcow2_alloc.proofs.AllocationSteps.{handed_on, behind_none, behind_then, entries_entered, allocator_step_none, allocator_step_then, is_sound_now}
 use Rattle.qcow2_alloc.proofs.FileSteps.{leaves_then}
 use Rattle.qcow2_alloc.proofs.Rooms.{opened_none, empty_run}
 use Rattle.qcow2_alloc.proofs.Runs.{run_in}
@@ -53,7 +53,7 @@ placing-init g c =
       high = omega arith;
       placed = none ∙ sym (ap (λ m. opened t (counts_per_block h) first m) none ∙ opened_none t (counts_per_block h) first);
       sound = λ p sound may longer. (
-        becomes_none view (with_run p h t first (room_length c.args.room)) c.args.file.now c.args.self.now sound,
+        allocator_step_none view (with_run p h t first (room_length c.args.room)) c.args.file.now c.args.self.now sound,
         subst (λ m. EntersSo h t c.args.table.now c.args.table.now first m first) (sym none)
             (enters_first h t c.args.table.now first longer.entries (entries_aligned view (with_run p h t first (room_length c.args.room)) c.args.file.now t sound.sound sound.reftable)),
         counting_first h (contents_in view c.args.file.now) t c.args.table.now first (room_length c.args.room) longer.entries,
@@ -67,7 +67,7 @@ returns-in_err-block-clause-sound g c = λ p sound may longer.
     let q = with_run p c.args.file.now.header.fields c.args.self.now.reftable c.args.room.first (room_length c.args.room) in
     let before = c.placing.invariant.sound p sound may longer in
     handed_on (PlacesBlocks view q c.args.file.now c.args.self.now c.placing.file c.args.self.now.reftable c.placing.table c.args.room) c.from_residual.result c.in_err-block.field-0.0 c.from_residual.ensures
-    (inr c.in_err-block.ensures.memory, inl (before.0.moves, before.0.reftable))
+    (inr c.in_err-block.ensures.memory, inl (before.0.file_step, before.0.reftable))
 
 pub returns-in_err-write_new_block-clause-sound : goal.returns-in_err-write_new_block-clause-sound
 returns-in_err-write_new_block-clause-sound g c = λ p sound may longer.
@@ -85,7 +85,7 @@ returns-in_err-write_new_block-clause-sound g c = λ p sound may longer.
     let back = wrote_err view p first n a c.placing.file c.write_new_block.new.file c.new-place.result c.in_ok-block.block h (ap (λ x. x.fields) c.placing.invariant.header) c.in_err-write_new_block.field-0.0
     (λ s fits. c.in_err-write_new_block.ensures.sound p first n a s may_now at_in fits) (is_sound_now view q q c.args.file.now c.placing.file a before.0) c.in_ok-block.ensures.format in
     handed_on (PlacesBlocks view q c.args.file.now a c.write_new_block.new.file a.reftable c.placing.table c.args.room) c.from_residual-in_err-write_new_block.result c.in_err-write_new_block.field-0.0 c.from_residual-in_err-write_new_block.ensures
-    (back.0, leaves_then view q c.args.file.now c.placing.file c.write_new_block.new.file a c.in_err-write_new_block.field-0.0 before.0.moves back.1)
+    (back.0, leaves_then view q c.args.file.now c.placing.file c.write_new_block.new.file a c.in_err-write_new_block.field-0.0 before.0.file_step back.1)
 
 pub placing-preserved : goal.placing-preserved
 placing-preserved g c =
@@ -149,7 +149,7 @@ placing-preserved g c =
             let open_here = sym opens_at ∙ w.if-opens_range.true in
             of_three (λ f x m. UnseenAllocatorStep view q old a f q × EntersSo h t c.args.table.now x first (m - first) (c.placing.cluster + 1) × Counting h (contents_in view f) t x first n × ((k : ℕ) → 0 < run_at first (m - first) k → rb_at f.caches k ≡ None))
             c.if-opens_range.file w.write_new_block.new.file c.if-opens_range.table w.enter_refblock.new.self c.if-opens_range.at (c.placing.at + 1) w.file-is w.table-is w.at-is (
-              becomes_then view q q old c.placing.file w.write_new_block.new.file a a before.0 wrote.0,
+              allocator_step_then view q q old c.placing.file w.write_new_block.new.file a a before.0 wrote.0,
               room_enters view h sizes t c.args.table.now c.placing.table w.enter_refblock.new.self c.placing.file w.write_new_block.new.file first n c.placing.at c.placing.cluster c.rb_bits-bits.result w.in_ok-block.block
                   c.requires.above inv.low from inv.counts t_bits longer.entries open_here within enter offset before.1 before.2 before.3 w.in_ok-block.ensures.whole format counts stands outside gone others,
               room_counts view h sizes t c.args.table.now c.placing.table w.enter_refblock.new.self c.placing.file w.write_new_block.new.file first n c.placing.at c.placing.cluster c.rb_bits-bits.result w.in_ok-block.block
@@ -198,7 +198,7 @@ returns-clause-sound g c = λ p sound may longer.
     let blocks : c.placing.at - first ≡ c.args.room.blocks = inv.placed ∙ ap (opened t (counts_per_block h) first) (let e : c.placing.cluster - first ≡ n = omega (arith, at_end) in e) ∙ sym c.requires.blocks in
     let enters = subst (λ m. EntersSo h t c.args.table.now c.placing.table first m c.placing.cluster) blocks before.1 in
     record {
-      becomes = before.0;
+      allocator_step = before.0;
       grown = record {
         cluster = refl;
         bits = ap (λ (x : EntryTableView). x.cluster_bits) inv.rest ∙ c.requires.bits;

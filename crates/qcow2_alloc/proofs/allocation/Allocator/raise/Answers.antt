@@ -33,8 +33,8 @@ returns-clause-sound g c = λ p is_data sound may.
     elim c.if-rb_is_zero.branch [
       | then-rb_is_zero w ↦
           let zero = zero_of (count c.load_block.new.file.header.fields (known_in g.S.Storage.view c.load_block.new.file) c.args.cluster)
-          (sym (c.rb_is_zero.ensures c.load_block.new.file.header.fields p (contents_in g.S.Storage.view c.load_block.new.file) c.args.cluster l.0.moves.sound.caches at l.1.2) ∙ w.if-rb_is_zero.true) in
-          let raised = w.rb_increment.ensures.made c.load_block.new.file.header.fields p (contents_in g.S.Storage.view c.load_block.new.file) c.args.cluster l.0.moves.sound.caches at l.1.2 zero in
+          (sym (c.rb_is_zero.ensures c.load_block.new.file.header.fields p (contents_in g.S.Storage.view c.load_block.new.file) c.args.cluster l.0.file_step.sound.caches at l.1.2) ∙ w.if-rb_is_zero.true) in
+          let raised = w.rb_increment.ensures.made c.load_block.new.file.header.fields p (contents_in g.S.Storage.view c.load_block.new.file) c.args.cluster l.0.file_step.sound.caches at l.1.2 zero in
           of_equal (λ f r. TakesOne g.S.Storage.view p c.args.file.now c.args.self.now f is_data c.args.cluster (Ok r)) c.if-rb_is_zero.file (record c.load_block.new.file { caches = w.rb_increment.new.self }) c.if-rb_is_zero.result true w.file-is (w.result-is ∙ raised)
           (taken_one g.S.Storage.view p c.args.file.now c.load_block.new.file c.args.self.now l.0 c.args.cluster c.in-Some.block c.rb_index-index.result at w.rb_increment.new.self w.rb_increment.ensures.order w.rb_increment.ensures.marks
           is_data may c.load_block.ensures.order zero (w.rb_increment.ensures.counted raised))
@@ -45,17 +45,17 @@ pub returns-in_default-clause-used : goal.returns-in_default-clause-used
 returns-in_default-clause-used g c = λ p sound has none.
     let l = rw c.in_default.is at (c.in_ok-block.ensures.sound p sound) in
     absurd (has (ap (λ n. block_offset (entry_at c.args.self.now.reftable.bytes (c.args.cluster / n))) c.rb_bits-bits.ensures.counts
-    ∙ none_in_memory g.S.Storage.view p c.load_block.new.file c.args.self.now.reftable l.0.moves.sound l.0.reftable (c.args.cluster / 2 ^ c.rb_bits-bits.result) l.1))
+    ∙ none_in_memory g.S.Storage.view p c.load_block.new.file c.args.self.now.reftable l.0.file_step.sound l.0.reftable (c.args.cluster / 2 ^ c.rb_bits-bits.result) l.1))
 
 pub returns-clause-used : goal.returns-clause-used
 returns-clause-used g c = λ p sound has none.
     let l = rw c.in-Some.is at (c.in_ok-block.ensures.sound p sound) in
     let at = counted_at g.S.Storage.view c.load_block.new.file c.args.file.now.header.fields (ap (λ x. x.fields) c.load_block.ensures.header) c.args.cluster _ c.in-Some.block c.rb_index-index.result c.rb_bits-bits.result l.1 c.rb_bits-bits.ensures.counts refl (c.rb_index-index.ensures.value ∙ ap (λ n. n % 2 ^ c.rb_bits-bits.result) c.new.ensures) in
-    let tells = c.rb_is_zero.ensures c.load_block.new.file.header.fields p (contents_in g.S.Storage.view c.load_block.new.file) c.args.cluster l.0.moves.sound.caches at l.1.2 in
+    let tells = c.rb_is_zero.ensures c.load_block.new.file.header.fields p (contents_in g.S.Storage.view c.load_block.new.file) c.args.cluster l.0.file_step.sound.caches at l.1.2 in
     elim c.if-rb_is_zero.branch [
       | then-rb_is_zero w ↦
           let zero = zero_of (count c.load_block.new.file.header.fields (known_in g.S.Storage.view c.load_block.new.file) c.args.cluster) (sym tells ∙ w.if-rb_is_zero.true) in
-          let raised = w.rb_increment.ensures.made c.load_block.new.file.header.fields p (contents_in g.S.Storage.view c.load_block.new.file) c.args.cluster l.0.moves.sound.caches at l.1.2 zero in
+          let raised = w.rb_increment.ensures.made c.load_block.new.file.header.fields p (contents_in g.S.Storage.view c.load_block.new.file) c.args.cluster l.0.file_step.sound.caches at l.1.2 zero in
           absurd (not_both c.if-rb_is_zero.result (w.result-is ∙ raised) none)
       | else-rb_is_zero w ↦
           subst (λ f. IsUsed g.S.Storage.view f c.args.cluster) (sym w.file-is)
@@ -66,7 +66,7 @@ pub returns-clause-free : goal.returns-clause-free
 returns-clause-free g c = λ p sound taken used.
     let l = rw c.in-Some.is at (c.in_ok-block.ensures.sound p sound) in
     let at = counted_at g.S.Storage.view c.load_block.new.file c.args.file.now.header.fields (ap (λ x. x.fields) c.load_block.ensures.header) c.args.cluster _ c.in-Some.block c.rb_index-index.result c.rb_bits-bits.result l.1 c.rb_bits-bits.ensures.counts refl (c.rb_index-index.ensures.value ∙ ap (λ n. n % 2 ^ c.rb_bits-bits.result) c.new.ensures) in
-    let tells = c.rb_is_zero.ensures c.load_block.new.file.header.fields p (contents_in g.S.Storage.view c.load_block.new.file) c.args.cluster l.0.moves.sound.caches at l.1.2 in
+    let tells = c.rb_is_zero.ensures c.load_block.new.file.header.fields p (contents_in g.S.Storage.view c.load_block.new.file) c.args.cluster l.0.file_step.sound.caches at l.1.2 in
     elim c.if-rb_is_zero.branch [
       | then-rb_is_zero w ↦
           used_stays g.S.Storage.view p p c.args.file.now c.load_block.new.file c.args.self.now c.args.cluster l.0 (omega arith) used

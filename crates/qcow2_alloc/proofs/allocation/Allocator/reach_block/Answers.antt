@@ -5,8 +5,8 @@ use Rattle.qcow2_alloc.specs.Allocation.{GrowsTable}
 use Rattle.qcow2_alloc.specs.FreeList.{pending_then}
 use Rattle.qcow2_alloc.specs.LowestRuns.{KeepsNoFreeBelowHint, KeepsUsed}
 use Rattle.qcow2_alloc.proofs.AllocationSteps.{handed_on, is_sound_on}
-use Rattle.qcow2_alloc.proofs.Following.{following_same, grows_none, grows_on, header_counts, header_bits, header_then, header_same, lists_then, lists_same}
-use Rattle.qcow2_alloc.proofs.Hints.{hint_used, ok_as, range_as, uses_got, uses_then, hint_or_broke}
+use Rattle.qcow2_alloc.proofs.ListedAfter.{listed_after_same, grows_none, grows_on, header_counts, header_bits, header_then, header_same, lists_then, lists_same}
+use Rattle.qcow2_alloc.proofs.Hints.{hint_used, ok_as, range_as, uses_got, uses_then, hint_or_interruption}
 use Rattle.qcow2_alloc.specs.Limits.{CantCount, IsFaultOr}
 use Rattle.qcow2_alloc.proofs.Limits.{fault_or, grown_why, not_below}
 use Rattle.std.specs.Prelude.{IfErr}
@@ -22,7 +22,7 @@ use Rattle.qcow2_alloc.proofs.allocation.Allocator.reach_block.Goals as goal
 pub returns-then-in_bounds-clause-sound : goal.returns-then-in_bounds-clause-sound
 returns-then-in_bounds-clause-sound g c = λ p sound.
     subst (λ (q : Pending). GrowsTable g.S.Storage.view p c.args.file.now c.ensure_block.new.self c.ensure_block.new.file q c.ensure_block.result)
-    (sym (following_same p c.args.file.now.free_list c.ensure_block.new.file.free_list c.ensure_block.ensures.list))
+    (sym (listed_after_same p c.args.file.now.free_list c.ensure_block.new.file.free_list c.ensure_block.ensures.list))
     (grows_none g.S.Storage.view p c.args.file.now c.ensure_block.new.file c.ensure_block.new.self c.ensure_block.result (c.ensure_block.ensures.sound p sound))
 
 pub returns-in_err-grow_reftable-clause-sound : goal.returns-in_err-grow_reftable-clause-sound
@@ -36,7 +36,7 @@ returns-then-in_bounds-clause-uses g c = λ p sound. uses_got g.S.Storage.view p
 pub returns-in_err-grow_reftable-clause-hint : goal.returns-in_err-grow_reftable-clause-hint
 returns-in_err-grow_reftable-clause-hint g c = λ p sound hint.
     handed_on (KeepsNoFreeBelowHint g.S.Storage.view c.grow_reftable.new.self c.grow_reftable.new.file) c.from_residual.result c.in_err-grow_reftable.field-0.0 c.from_residual.ensures
-    (hint_or_broke g.S.Storage.view c.args.file.now c.grow_reftable.new.file c.args.self.now c.grow_reftable.new.self c.in_err-grow_reftable.field-0.0 c.grow_reftable.ensures.first (c.in_err-grow_reftable.ensures.uses p sound) hint)
+    (hint_or_interruption g.S.Storage.view c.args.file.now c.grow_reftable.new.file c.args.self.now c.grow_reftable.new.self c.in_err-grow_reftable.field-0.0 c.grow_reftable.ensures.first (c.in_err-grow_reftable.ensures.uses p sound) hint)
 
 pub returns-in_err-grow_reftable-clause-uses : goal.returns-in_err-grow_reftable-clause-uses
 returns-in_err-grow_reftable-clause-uses g c = λ p sound.

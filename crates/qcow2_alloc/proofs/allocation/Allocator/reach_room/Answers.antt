@@ -5,7 +5,7 @@ use Rattle.qcow2_alloc.specs.Allocation.{UnseenAllocatorStep}
 use Rattle.qcow2_alloc.specs.GrownTables.{with_run}
 use Rattle.qcow2_alloc.specs.Rooms.{lacks, opens, ReachesRoom}
 use Rattle.qcow2_alloc.proofs.CachePins.{marks_none, marks_then}
-use Rattle.qcow2_alloc.proofs.AllocationSteps.{handed_on, becomes_none, is_sound_now}
+use Rattle.qcow2_alloc.proofs.AllocationSteps.{handed_on, allocator_step_none, is_sound_now}
 use Rattle.qcow2_alloc.proofs.Rooms.{counted_few, run_none, run_taken, run_not_taken, ends_room, opened_none, opened_more, more_short, is_flag, flag_few, noted_more, still_noted}
 use Rattle.qcow2_alloc.proofs.allocation.Allocator.reach_room.Goals.{then-reaching-test+else-taken-end, else-reaching-test}
 use Rattle.qcow2_alloc.proofs.Faults.{told_ok}
@@ -26,7 +26,7 @@ reaching-init g c = record {
   sound = λ p sound.
       subst (λ (r : Pending). UnseenAllocatorStep g.S.Storage.view p c.args.file.now c.args.self.now c.args.file.now r)
       (sym (run_none c.args.file.now.header.fields c.args.self.now.reftable p c.args.first 0 (λ k. counted_few c.args.file.now.header.fields c.args.self.now.reftable c.args.first 0 k refl)))
-      (becomes_none g.S.Storage.view p c.args.file.now c.args.self.now sound);
+      (allocator_step_none g.S.Storage.view p c.args.file.now c.args.self.now sound);
   noted = inl (λ k. counted_few c.args.file.now.header.fields c.args.self.now.reftable c.args.first 0 k refl);
   blocks = sym (opened_none c.args.self.now.reftable (counts_per_block c.args.file.now.header.fields) c.args.first);
   within = let lt = c.requires.below in omega (arith, lt);

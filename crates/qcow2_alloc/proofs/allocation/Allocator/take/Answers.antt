@@ -7,7 +7,7 @@ use Rattle.qcow2_alloc.specs.FreeList.{pending_then}
 use Rattle.qcow2_alloc.specs.LowestRuns.{NoFreeBelowHint, KeepsNoFreeBelowHint, KeepsUsed}
 use Rattle.qcow2_alloc.proofs.Hints.{hint_more, hint_raised, hint_refused, raised_used, range_as, uses_raised, uses_refused}
 use Rattle.qcow2_alloc.proofs.AllocationSteps.{handed_on, leaves_as, leaves_on, may_still, is_sound_on, takes_on}
-use Rattle.qcow2_alloc.proofs.Following.{header_counts, header_then, header_same, lists_then, lists_same}
+use Rattle.qcow2_alloc.proofs.ListedAfter.{header_counts, header_then, header_same, lists_then, lists_same}
 use Rattle.qcow2_alloc.proofs.allocation.Allocator.take.Goals.{then-cluster-self, else-cluster-self}
 use Rattle.std.specs.Prelude.{IfErr}
 use Rattle.qcow2_alloc.specs.declared.error.ImageError.{ImageError}
@@ -92,7 +92,7 @@ returns-in_err-taken-clause-uses g c = λ p d sound may.
     handed_on (KeepsUsed g.S.Storage.view c.args.file.now c.raise.new.file) c.from_residual-in_err-taken.result c.in_err-taken.field-0.0 c.from_residual-in_err-taken.ensures
     (elim (uses_refused g.S.Storage.view q c.reach_block.new.file c.raise.new.file c.raise.new.self c.in_err-taken.field-0.0
     (c.in_err-taken.ensures.sound q d now (may_still d c.args.file.now c.reach_block.new.file c.reach_block.ensures.order may)))
-    [ inl kept ↦ inl (λ k used. kept k (c.in_ok-reach_block.ensures.uses p sound k used)) | inr broke ↦ inr broke ])
+    [ inl kept ↦ inl (λ k used. kept k (c.in_ok-reach_block.ensures.uses p sound k used)) | inr interruption ↦ inr interruption ])
 
 pub returns-clause-uses : goal.returns-clause-uses
 returns-clause-uses g c = λ p d sound may k used.

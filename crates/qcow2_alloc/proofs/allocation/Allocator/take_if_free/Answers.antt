@@ -6,7 +6,7 @@ use Rattle.qcow2_metadata.specs.TableBytes.{entry_at}
 use Rattle.qcow2_laws.specs.CrashInvariant.{Pending}
 use Rattle.qcow2_alloc.specs.Allocation.{UnseenAllocatorStep}
 use Rattle.qcow2_alloc.specs.Rooms.{lacks}
-use Rattle.qcow2_alloc.proofs.AllocationSteps.{becomes_none, still_sound}
+use Rattle.qcow2_alloc.proofs.AllocationSteps.{allocator_step_none, still_sound}
 use Rattle.qcow2_alloc.proofs.Rooms.{one_none, free_taken}
 use Rattle.qcow2_alloc.proofs.CachePins.{marks_none}
 use Rattle.qcow2_alloc.proofs.Faults.{told_ok}
@@ -19,7 +19,7 @@ returns-then-lacks_block-clause-sound g c = λ p sound.
     let t = c.args.self.now.reftable in
     let none = ap (λ n. lacks t (c.args.cluster / n)) c.requires.counts ∙ sym c.lacks_block.ensures ∙ c.if-lacks_block.true in
     subst (λ (r : Pending). UnseenAllocatorStep g.S.Storage.view p c.args.file.now c.args.self.now c.args.file.now r) (sym (one_none c.args.file.now.header.fields t p c.args.cluster none))
-    (becomes_none g.S.Storage.view p c.args.file.now c.args.self.now sound)
+    (allocator_step_none g.S.Storage.view p c.args.file.now c.args.self.now sound)
 
 pub returns-in-Ok-clause-sound : goal.returns-in-Ok-clause-sound
 returns-in-Ok-clause-sound g c = λ p sound.

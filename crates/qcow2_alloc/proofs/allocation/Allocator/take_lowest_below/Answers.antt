@@ -7,7 +7,7 @@ use Rattle.qcow2_alloc.proofs.CachePins.{marks_none, marks_then}
 use Rattle.qcow2_alloc.specs.LowestRuns.{KeepsNoFreeBelowHint}
 use Rattle.qcow2_alloc.proofs.FileSteps.{one_here, leaves_then}
 use Rattle.qcow2_alloc.proofs.Hints.{hint_header, hint_stays, hint_taken, hint_more, hint_refused, range_as, taken_used}
-use Rattle.qcow2_alloc.proofs.AllocationSteps.{becomes_none, behind_none, handed_on, entries_then, entries_less, other_range, becomes_as, becomes_then, is_sound_now}
+use Rattle.qcow2_alloc.proofs.AllocationSteps.{allocator_step_none, behind_none, handed_on, entries_then, entries_less, other_range, allocator_step_as, allocator_step_then, is_sound_now}
 use Rattle.qcow2_alloc.proofs.Faults.{told_ok}
 use Rattle.qcow2_alloc.proofs.Outcomes.{told_after, if_no_ok, handed_cause}
 use Rattle.std.proofs.Math.Nat.{le_trans}
@@ -24,22 +24,22 @@ pub returns-in_err-cover_range-clause-sound : goal.returns-in_err-cover_range-cl
 returns-in_err-cover_range-clause-sound g c = λ p sound.
     let before = c.search.invariant.sound p sound in
     handed_on (TakesLowest g.S.Storage.view p c.args.file.now c.cover_range.new.self c.cover_range.new.file) c.from_residual.result c.in_err-cover_range.field-0.0 c.from_residual.ensures
-    (leaves_then g.S.Storage.view p c.args.file.now c.search.file c.cover_range.new.file c.cover_range.new.self c.in_err-cover_range.field-0.0 before.moves (c.in_err-cover_range.ensures.sound p (is_sound_now g.S.Storage.view p p c.args.file.now c.search.file c.search.self before)))
+    (leaves_then g.S.Storage.view p c.args.file.now c.search.file c.cover_range.new.file c.cover_range.new.self c.in_err-cover_range.field-0.0 before.file_step (c.in_err-cover_range.ensures.sound p (is_sound_now g.S.Storage.view p p c.args.file.now c.search.file c.search.self before)))
 
 pub returns-in_err-taken-clause-sound : goal.returns-in_err-taken-clause-sound
 returns-in_err-taken-clause-sound g c = λ p sound.
     let before = c.search.invariant.sound p sound in
-    let covered = becomes_then g.S.Storage.view p p c.args.file.now c.search.file c.cover_range.new.file c.search.self c.cover_range.new.self before (c.in_ok-cover_range.ensures.sound p (is_sound_now g.S.Storage.view p p c.args.file.now c.search.file c.search.self before)) in
+    let covered = allocator_step_then g.S.Storage.view p p c.args.file.now c.search.file c.cover_range.new.file c.search.self c.cover_range.new.self before (c.in_ok-cover_range.ensures.sound p (is_sound_now g.S.Storage.view p p c.args.file.now c.search.file c.search.self before)) in
     handed_on (TakesLowest g.S.Storage.view p c.args.file.now c.raise.new.self c.raise.new.file) c.from_residual-in_err-taken.result c.in_err-taken.field-0.0 c.from_residual-in_err-taken.ensures
-    (leaves_then g.S.Storage.view p c.args.file.now c.cover_range.new.file c.raise.new.file c.raise.new.self c.in_err-taken.field-0.0 covered.moves (c.in_err-taken.ensures.sound p false (is_sound_now g.S.Storage.view p p c.args.file.now c.cover_range.new.file c.cover_range.new.self covered) tt))
+    (leaves_then g.S.Storage.view p c.args.file.now c.cover_range.new.file c.raise.new.file c.raise.new.self c.in_err-taken.field-0.0 covered.file_step (c.in_err-taken.ensures.sound p false (is_sound_now g.S.Storage.view p p c.args.file.now c.cover_range.new.file c.cover_range.new.self covered) tt))
 
 pub returns-then-taken-clause-sound : goal.returns-then-taken-clause-sound
 returns-then-taken-clause-sound g c = λ p sound.
     let before = c.search.invariant.sound p sound in
-    let covered = becomes_then g.S.Storage.view p p c.args.file.now c.search.file c.cover_range.new.file c.search.self c.cover_range.new.self before (c.in_ok-cover_range.ensures.sound p (is_sound_now g.S.Storage.view p p c.args.file.now c.search.file c.search.self before)) in
+    let covered = allocator_step_then g.S.Storage.view p p c.args.file.now c.search.file c.cover_range.new.file c.search.self c.cover_range.new.self before (c.in_ok-cover_range.ensures.sound p (is_sound_now g.S.Storage.view p p c.args.file.now c.search.file c.search.self before)) in
     let taken = rw c.if-taken.true at (c.in_ok-taken.ensures.sound p false (is_sound_now g.S.Storage.view p p c.args.file.now c.cover_range.new.file c.cover_range.new.self covered) tt) in
-    becomes_as g.S.Storage.view p (taken_as false p (one_at c.search.self.first_free_cluster)) c.args.file.now c.raise.new.file c.raise.new.self _ refl
-    (becomes_then g.S.Storage.view p (taken_as false p (one_at c.search.self.first_free_cluster)) c.args.file.now c.cover_range.new.file c.raise.new.file c.cover_range.new.self c.raise.new.self covered taken)
+    allocator_step_as g.S.Storage.view p (taken_as false p (one_at c.search.self.first_free_cluster)) c.args.file.now c.raise.new.file c.raise.new.self _ refl
+    (allocator_step_then g.S.Storage.view p (taken_as false p (one_at c.search.self.first_free_cluster)) c.args.file.now c.cover_range.new.file c.raise.new.file c.cover_range.new.self c.raise.new.self covered taken)
 
 pub search-init : goal.search-init
 search-init g c = record {
@@ -50,7 +50,7 @@ search-init g c = record {
   order = refl;
   above = let first = c.max-self.ensures in omega (arith, first);
   entries = record { cluster = refl; bits = refl; count = refl; others = λ k past. refl; behind = behind_none c.args.self.now.reftable };
-  sound = λ p sound. becomes_none g.S.Storage.view p c.args.file.now (record c.args.self.now { first_free_cluster = c.max-self.result }) (record { sound = sound.sound; reftable = sound.reftable });
+  sound = λ p sound. allocator_step_none g.S.Storage.view p c.args.file.now (record c.args.self.now { first_free_cluster = c.max-self.result }) (record { sound = sound.sound; reftable = sound.reftable });
   hint = λ p sound hint. hint_header g.S.Storage.view p c.args.file.now c.args.self.now (record c.args.self.now { first_free_cluster = c.max-self.result }) sound.sound (λ k some below. let first = c.max-self.ensures in omega (arith, first, some, below)) hint;
 }
 
@@ -68,10 +68,10 @@ search-preserved g c = record {
   above = omega arith;
   sound = λ p sound.
       let before = c.search.invariant.sound p sound in
-      let covered = becomes_then g.S.Storage.view p p c.args.file.now c.search.file c.cover_range.new.file c.search.self c.cover_range.new.self before (c.in_ok-cover_range.ensures.sound p (is_sound_now g.S.Storage.view p p c.args.file.now c.search.file c.search.self before)) in
+      let covered = allocator_step_then g.S.Storage.view p p c.args.file.now c.search.file c.cover_range.new.file c.search.self c.cover_range.new.self before (c.in_ok-cover_range.ensures.sound p (is_sound_now g.S.Storage.view p p c.args.file.now c.search.file c.search.self before)) in
       let taken = rw c.if-taken.false at (c.in_ok-taken.ensures.sound p false (is_sound_now g.S.Storage.view p p c.args.file.now c.cover_range.new.file c.cover_range.new.self covered) tt) in
-      becomes_as g.S.Storage.view p p c.args.file.now c.raise.new.file c.raise.new.self _ refl
-      (becomes_then g.S.Storage.view p p c.args.file.now c.cover_range.new.file c.raise.new.file c.cover_range.new.self c.raise.new.self covered taken);
+      allocator_step_as g.S.Storage.view p p c.args.file.now c.raise.new.file c.raise.new.self _ refl
+      (allocator_step_then g.S.Storage.view p p c.args.file.now c.cover_range.new.file c.raise.new.file c.cover_range.new.self c.raise.new.self covered taken);
   hint = λ p sound hint.
       let now = is_sound_now g.S.Storage.view p p c.args.file.now c.search.file c.search.self (c.search.invariant.sound p sound) in
       let covered = c.in_ok-cover_range.ensures.sound p now in

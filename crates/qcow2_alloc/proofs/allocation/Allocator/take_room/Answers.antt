@@ -11,7 +11,7 @@ use Rattle.qcow2_alloc.specs.Limits.{IsFaultOr, HasNoRoomBelow}
 use Rattle.qcow2_alloc.specs.Rooms.{opened, TakesRoom}
 use Rattle.qcow2_alloc.proofs.CachePins.{marks_none, marks_then}
 use Rattle.qcow2_alloc.proofs.FileSteps.{leaves_then}
-use Rattle.qcow2_alloc.proofs.AllocationSteps.{handed_on, becomes_none, becomes_then, is_sound_now}
+use Rattle.qcow2_alloc.proofs.AllocationSteps.{handed_on, allocator_step_none, allocator_step_then, is_sound_now}
 use Rattle.qcow2_alloc.proofs.Runs.{run_after}
 use Rattle.qcow2_alloc.proofs.Hints.{used_stays}
 use Rattle.qcow2_alloc.proofs.FullRooms.{full_behind, full_stays, IsFullBelow}
@@ -33,7 +33,7 @@ search-init g c = record {
   first_free = refl;
   low = let first = c.max-first.ensures in omega (arith, first);
   some = let first = c.max-first.ensures in omega (arith, first);
-  sound = λ p sound. becomes_none g.S.Storage.view p c.args.file.now c.args.self.now sound;
+  sound = λ p sound. allocator_step_none g.S.Storage.view p c.args.file.now c.args.self.now sound;
   full = λ p sound hint start n above below is within.
       let first = c.max-first.ensures in
       let some = c.requires.some in
@@ -45,7 +45,7 @@ returns-in_err-reach-clause-sound g c = λ p sound.
     let view = g.S.Storage.view in
     let before = c.search.invariant.sound p sound in
     handed_on (TakesRoom view p c.args.file.now c.reach_room.new.self c.reach_room.new.file c.args.self.now.reftable) c.from_residual.result c.in_err-reach.field-0.0 c.from_residual.ensures
-    (leaves_then view p c.args.file.now c.search.file c.reach_room.new.file c.reach_room.new.self c.in_err-reach.field-0.0 before.moves
+    (leaves_then view p c.args.file.now c.search.file c.reach_room.new.file c.reach_room.new.self c.in_err-reach.field-0.0 before.file_step
     (c.in_err-reach.ensures.sound p (is_sound_now view p p c.args.file.now c.search.file c.search.self before)).1)
 
 pub returns-then-reach-clusters-clause-sound : goal.returns-then-reach-clusters-clause-sound
@@ -56,7 +56,7 @@ returns-then-reach-clusters-clause-sound g c = λ p sound.
     let h = c.args.file.now.header.fields in
     let t = c.args.self.now.reftable in
     let same = run_of_same p c.search.file.header.fields h c.search.self.reftable t c.search.first c.in_ok-reach.reach.taken (c.in_ok-reach.reach.blocks + c.args.clusters) (ap (λ x. x.fields) c.search.invariant.header) c.search.invariant.reftable c.if-reach-clusters.true in
-    becomes_then view p (with_run p h t c.search.first (c.in_ok-reach.reach.blocks + c.args.clusters)) c.args.file.now c.search.file c.reach_room.new.file c.search.self c.reach_room.new.self before
+    allocator_step_then view p (with_run p h t c.search.first (c.in_ok-reach.reach.blocks + c.args.clusters)) c.args.file.now c.search.file c.reach_room.new.file c.search.self c.reach_room.new.self before
     (subst (λ (r : Pending). UnseenAllocatorStep view p c.search.file c.reach_room.new.self c.reach_room.new.file r) same reached)
 
 pub returns-in_err-leave_run-clause-sound : goal.returns-in_err-leave_run-clause-sound
@@ -69,7 +69,7 @@ returns-in_err-leave_run-clause-sound g c = λ p sound.
     let noted = noted_of_same c.search.file.header.fields c.search.self.reftable c.reach_room.new.self.reftable c.search.first c.in_ok-reach.reach.taken c.reach_room.new.file.caches.is_changed t_same c.in_ok-reach.ensures.noted in
     let back = c.in_err-leave_run.ensures.sound p c.search.file (sym c.reach_room.ensures.header) (subst (λ (r : Pending). UnseenAllocatorStep view p c.search.file c.reach_room.new.self c.reach_room.new.file r) same reached) noted in
     handed_on (TakesRoom view p c.args.file.now c.leave_run.new.self c.leave_run.new.file c.args.self.now.reftable) c.from_residual-in_err-leave_run.result c.in_err-leave_run.field-0.0 c.from_residual-in_err-leave_run.ensures
-    (leaves_then view p c.args.file.now c.search.file c.leave_run.new.file c.leave_run.new.self c.in_err-leave_run.field-0.0 before.moves back.1)
+    (leaves_then view p c.args.file.now c.search.file c.leave_run.new.file c.leave_run.new.self c.in_err-leave_run.field-0.0 before.file_step back.1)
 
 pub search-preserved : goal.search-preserved
 search-preserved g c = record {
@@ -90,7 +90,7 @@ search-preserved g c = record {
       let same = run_of_same p c.search.file.header.fields c.search.file.header.fields c.search.self.reftable c.reach_room.new.self.reftable c.search.first c.in_ok-reach.reach.taken c.in_ok-reach.reach.taken refl t_same refl in
       let noted = noted_of_same c.search.file.header.fields c.search.self.reftable c.reach_room.new.self.reftable c.search.first c.in_ok-reach.reach.taken c.reach_room.new.file.caches.is_changed t_same c.in_ok-reach.ensures.noted in
       let back = c.in_ok-leave_run.ensures.sound p c.search.file (sym c.reach_room.ensures.header) (subst (λ (r : Pending). UnseenAllocatorStep view p c.search.file c.reach_room.new.self c.reach_room.new.file r) same reached) noted in
-      becomes_then view p p c.args.file.now c.search.file c.leave_run.new.file c.search.self c.leave_run.new.self before back;
+      allocator_step_then view p p c.args.file.now c.search.file c.leave_run.new.file c.search.self c.leave_run.new.self before back;
   full = λ p sound hint.
       let view = g.S.Storage.view in
       let t = c.args.self.now.reftable in
@@ -115,7 +115,7 @@ search-preserved g c = record {
 }
 
 pub returns-clause-sound : goal.returns-clause-sound
-returns-clause-sound g c = λ p sound. let before = c.search.invariant.sound p sound in inl (before.moves, before.reftable)
+returns-clause-sound g c = λ p sound. let before = c.search.invariant.sound p sound in inl (before.file_step, before.reftable)
 
 pub returns-in_err-reach-clause-room : goal.returns-in_err-reach-clause-room
 returns-in_err-reach-clause-room g c = λ p sound hint.

@@ -10,7 +10,7 @@ use Rattle.qcow2_alloc.specs.FreeList.{pending_then, ListsTables}
 use Rattle.qcow2_alloc.specs.ImageFile.{IsFault, KeepsHeader}
 use Rattle.qcow2_alloc.proofs.CachePins.{marks_none, marks_then}
 use Rattle.qcow2_alloc.proofs.AllocationSteps.{handed_on, of_equal, may_still, on_none, is_sound_on, still_as}
-use Rattle.qcow2_alloc.proofs.Following.{header_same, header_then, lists_none, lists_then, following_same, still_taken, more_taken, ends_taken, then_leaves, header_bits}
+use Rattle.qcow2_alloc.proofs.ListedAfter.{header_same, header_then, lists_none, lists_then, listed_after_same, still_taken, more_taken, ends_taken, then_leaves, header_bits}
 use Rattle.qcow2_alloc.specs.LowestRuns.{NoFreeBelowHint, IsUsed, KeepsNoFreeBelowHint, KeepsUsed, BrokeOff}
 use Rattle.qcow2_alloc.proofs.Hints.{kept_then, not_broken}
 use Rattle.qcow2_alloc.proofs.Runs.{none_there, run_after, run_last, run_none, taken_none}
@@ -58,7 +58,7 @@ taking-init g c = record {
   free = λ p d sound may k some used. let none = run_none c.args.first k in omega (arith, none, some);
   sound = λ p d sound may.
       subst (λ (r : Pending). UnseenAllocatorGrowth g.S.Storage.view p c.args.file.now c.args.self.now c.args.file.now r)
-      (sym (taken_none d (pending_then p c.args.file.now.free_list c.args.file.now.free_list) c.args.first 0 refl ∙ following_same p c.args.file.now.free_list c.args.file.now.free_list refl)) (on_none g.S.Storage.view p c.args.file.now c.args.self.now sound);
+      (sym (taken_none d (pending_then p c.args.file.now.free_list c.args.file.now.free_list) c.args.first 0 refl ∙ listed_after_same p c.args.file.now.free_list c.args.file.now.free_list refl)) (on_none g.S.Storage.view p c.args.file.now c.args.self.now sound);
 }
 
 pub returns-in_err-give_back-in-Ok-false-clause-sound : goal.returns-in_err-give_back-in-Ok-false-clause-sound
@@ -289,7 +289,7 @@ returns-in-Err-clause-uses g c = λ p d sound may.
     let now = is_sound_on g.S.Storage.view p q c.args.file.now c.taking.file c.taking.self before in
     let may_now = may_still d c.args.file.now c.taking.file c.taking.invariant.order may in
     let here : ((k : ℕ) → IsUsed g.S.Storage.view c.args.file.now k → IsUsed g.S.Storage.view c.take.new.file k) ⊎ BrokeOff c.take.new.file c.in-Err.refusal =
-    elim (c.in-Err.ensures.uses q d now may_now) [ inl kept ↦ inl (λ k used. kept k (c.taking.invariant.uses p d sound may k used)) | inr broke ↦ inr broke ] in
+    elim (c.in-Err.ensures.uses q d now may_now) [ inl kept ↦ inl (λ k used. kept k (c.taking.invariant.uses p d sound may k used)) | inr interruption ↦ inr interruption ] in
     elim c.if-not-is_fault.branch [
       | then-not-is_fault+in_ok-give_back-in-Err w ↦
           let no_fault : IsFault c.in-Err.refusal → ⊥ = λ fault. not_both c.is_fault.result (c.is_fault.ensures.1 fault) w.if-not-is_fault.true in

@@ -5,7 +5,7 @@ use Rattle.qcow2_alloc.specs.Allocation.{owed_as, LowersOne}
 use Rattle.qcow2_alloc.specs.LowestRuns.{KeepsNoFreeBelowHint}
 use Rattle.qcow2_alloc.specs.ImageFile.{contents_in, known_in}
 use Rattle.qcow2_alloc.proofs.Hints.{hint_lowered, is_zero, lowered_so, stands_still, hint_refused}
-use Rattle.qcow2_alloc.proofs.AllocationSteps.{handed_on, of_equal, becomes_as, may_lower_still, counted_at, given_one, owed_counted, owed_has_block}
+use Rattle.qcow2_alloc.proofs.AllocationSteps.{handed_on, of_equal, allocator_step_as, may_lower_still, counted_at, given_one, owed_counted, owed_has_block}
 use Rattle.std.proofs.Common.{sym}
 use Rattle.qcow2_metadata.specs.Header.{counts_per_block}
 use Rattle.qcow2_alloc.proofs.Leaks.{tried}
@@ -19,17 +19,17 @@ returns-in_err-block-clause-sound g c = λ p owed sound may.
 pub returns-in_default-clause-sound : goal.returns-in_default-clause-sound
 returns-in_default-clause-sound g c = λ p owed sound may.
     let l = rw c.in_default.is at (c.in_ok-block.ensures.sound (owed_as owed p (one_at c.args.cluster)) sound) in
-    owed_has_block g.S.Storage.view owed p c.args.cluster _ c.rb_bits-bits.result (owed_as owed p (one_at c.args.cluster)) c.load_block.new.file c.args.file.now.header.fields (ap (λ x. x.fields) c.load_block.ensures.header) refl l.0.moves.sound
+    owed_has_block g.S.Storage.view owed p c.args.cluster _ c.rb_bits-bits.result (owed_as owed p (one_at c.args.cluster)) c.load_block.new.file c.args.file.now.header.fields (ap (λ x. x.fields) c.load_block.ensures.header) refl l.0.file_step.sound
     c.rb_bits-bits.ensures.counts refl l.1
 
 pub returns-clause-sound : goal.returns-clause-sound
 returns-clause-sound g c = λ p owed sound may.
     let l = rw c.in-Some.is at (c.in_ok-block.ensures.sound (owed_as owed p (one_at c.args.cluster)) sound) in
     let at = counted_at g.S.Storage.view c.load_block.new.file c.args.file.now.header.fields (ap (λ x. x.fields) c.load_block.ensures.header) c.args.cluster _ c.in-Some.block c.rb_index-index.result c.rb_bits-bits.result l.1 c.rb_bits-bits.ensures.counts refl (c.rb_index-index.ensures.value ∙ ap (λ n. n % 2 ^ c.rb_bits-bits.result) c.new.ensures) in
-    let some = owed_counted g.S.Storage.view owed p c.args.cluster (owed_as owed p (one_at c.args.cluster)) c.load_block.new.file refl l.0.moves.sound in
-    let lowered = c.rb_decrement-lowered.ensures.made c.load_block.new.file.header.fields (owed_as owed p (one_at c.args.cluster)) (contents_in g.S.Storage.view c.load_block.new.file) c.args.cluster l.0.moves.sound.caches at l.1.2 some in
+    let some = owed_counted g.S.Storage.view owed p c.args.cluster (owed_as owed p (one_at c.args.cluster)) c.load_block.new.file refl l.0.file_step.sound in
+    let lowered = c.rb_decrement-lowered.ensures.made c.load_block.new.file.header.fields (owed_as owed p (one_at c.args.cluster)) (contents_in g.S.Storage.view c.load_block.new.file) c.args.cluster l.0.file_step.sound.caches at l.1.2 some in
     of_equal (λ f r. LowersOne g.S.Storage.view (owed_as owed p (one_at c.args.cluster)) c.args.file.now c.note_lowered.new.self f p (Ok r)) (record c.load_block.new.file { caches = c.rb_decrement-lowered.new.self }) (record c.load_block.new.file { caches = c.rb_decrement-lowered.new.self }) c.rb_decrement-lowered.result true refl lowered
-    (becomes_as g.S.Storage.view (owed_as owed p (one_at c.args.cluster)) p c.args.file.now (record c.load_block.new.file { caches = c.rb_decrement-lowered.new.self }) c.args.self.now c.note_lowered.new.self c.note_lowered.ensures.reftable
+    (allocator_step_as g.S.Storage.view (owed_as owed p (one_at c.args.cluster)) p c.args.file.now (record c.load_block.new.file { caches = c.rb_decrement-lowered.new.self }) c.args.self.now c.note_lowered.new.self c.note_lowered.ensures.reftable
     (given_one g.S.Storage.view (owed_as owed p (one_at c.args.cluster)) c.args.file.now c.load_block.new.file c.args.self.now l.0 c.args.cluster c.in-Some.block c.rb_index-index.result at c.rb_decrement-lowered.new.self c.rb_decrement-lowered.ensures.order c.rb_decrement-lowered.ensures.marks
     owed p (may_lower_still owed c.args.file.now c.load_block.new.file c.load_block.ensures.order may) refl (c.rb_decrement-lowered.ensures.counted lowered)))
 
@@ -45,14 +45,14 @@ pub returns-clause-hint : goal.returns-clause-hint
 returns-clause-hint g c = λ p owed sound may hint.
     let l = rw c.in-Some.is at (c.in_ok-block.ensures.sound (owed_as owed p (one_at c.args.cluster)) sound) in
     let at = counted_at g.S.Storage.view c.load_block.new.file c.args.file.now.header.fields (ap (λ x. x.fields) c.load_block.ensures.header) c.args.cluster _ c.in-Some.block c.rb_index-index.result c.rb_bits-bits.result l.1 c.rb_bits-bits.ensures.counts refl (c.rb_index-index.ensures.value ∙ ap (λ n. n % 2 ^ c.rb_bits-bits.result) c.new.ensures) in
-    let some = owed_counted g.S.Storage.view owed p c.args.cluster (owed_as owed p (one_at c.args.cluster)) c.load_block.new.file refl l.0.moves.sound in
-    let lowered = c.rb_decrement-lowered.ensures.made c.load_block.new.file.header.fields (owed_as owed p (one_at c.args.cluster)) (contents_in g.S.Storage.view c.load_block.new.file) c.args.cluster l.0.moves.sound.caches at l.1.2 some in
+    let some = owed_counted g.S.Storage.view owed p c.args.cluster (owed_as owed p (one_at c.args.cluster)) c.load_block.new.file refl l.0.file_step.sound in
+    let lowered = c.rb_decrement-lowered.ensures.made c.load_block.new.file.header.fields (owed_as owed p (one_at c.args.cluster)) (contents_in g.S.Storage.view c.load_block.new.file) c.args.cluster l.0.file_step.sound.caches at l.1.2 some in
     let file = record c.load_block.new.file { caches = c.rb_decrement-lowered.new.self } in
     let now = lowered_so g.S.Storage.view (owed_as owed p (one_at c.args.cluster)) p c.args.file.now file c.note_lowered.new.self c.rb_decrement-lowered.result lowered (returns-clause-sound g c p owed sound may) in
-    let stands = stands_still g.S.Storage.view (owed_as owed p (one_at c.args.cluster)) p c.load_block.new.file c.rb_decrement-lowered.new.self (c.args.cluster / 2 ^ c.rb_bits-bits.result) c.in-Some.block l.0.moves.sound now.moves.sound (c.rb_decrement-lowered.ensures.cached lowered) l.1 in
+    let stands = stands_still g.S.Storage.view (owed_as owed p (one_at c.args.cluster)) p c.load_block.new.file c.rb_decrement-lowered.new.self (c.args.cluster / 2 ^ c.rb_bits-bits.result) c.in-Some.block l.0.file_step.sound now.file_step.sound (c.rb_decrement-lowered.ensures.cached lowered) l.1 in
     let at_now = counted_at g.S.Storage.view file c.args.file.now.header.fields (ap (λ x. x.fields) c.load_block.ensures.header) c.args.cluster _ c.in-Some.block c.rb_index-index.result c.rb_bits-bits.result stands c.rb_bits-bits.ensures.counts refl (c.rb_index-index.ensures.value ∙ ap (λ n. n % 2 ^ c.rb_bits-bits.result) c.new.ensures) in
     hint_lowered g.S.Storage.view owed p c.args.cluster c.args.file.now file c.args.self.now c.note_lowered.new.self now c.note_lowered.ensures.first
-    (λ zero. c.note_lowered.ensures.free (c.rb_is_zero.ensures file.header.fields p (contents_in g.S.Storage.view file) c.args.cluster now.moves.sound.caches at_now (c.rb_decrement-lowered.ensures.cached lowered) ∙ is_zero (count file.header.fields (known_in g.S.Storage.view file) c.args.cluster) zero)) hint
+    (λ zero. c.note_lowered.ensures.free (c.rb_is_zero.ensures file.header.fields p (contents_in g.S.Storage.view file) c.args.cluster now.file_step.sound.caches at_now (c.rb_decrement-lowered.ensures.cached lowered) ∙ is_zero (count file.header.fields (known_in g.S.Storage.view file) c.args.cluster) zero)) hint
 
 pub returns-clause-tries : goal.returns-clause-tries
 returns-clause-tries g c =

@@ -10,15 +10,15 @@ use Rattle.qcow2_alloc.specs.ImageFile.{contents_in, AllocatorInvariant}
 use Rattle.qcow2_alloc.specs.LowestRuns.{KeepsUsed}
 use Rattle.qcow2_alloc.specs.MetadataCaches.{order_of, l2_tables, refblocks, rb_at}
 use Rattle.qcow2_alloc.specs.Rooms.{room_length, placed_at}
-use Rattle.qcow2_alloc.proofs.AllocationSteps.{handed_on, behind_same, behind_then, becomes_cached, becomes_then, is_sound_now}
-use Rattle.qcow2_alloc.proofs.FileSteps.{breaks_after}
+use Rattle.qcow2_alloc.proofs.AllocationSteps.{handed_on, behind_same, behind_then, allocator_step_cached, allocator_step_then, is_sound_now}
+use Rattle.qcow2_alloc.proofs.FileSteps.{interrupted_after}
 use Rattle.qcow2_alloc.proofs.PlacedBlocks.{file_sizes}
 use Rattle.qcow2_alloc.proofs.PlacedRooms.{Counting}
 use Rattle.qcow2_alloc.proofs.RoomSteps.{may_go}
 use Rattle.qcow2_alloc.proofs.RoomTables.{counting_beside, table_err, table_ok, stands_ready, names_then, uses_after}
 use Rattle.qcow2_alloc.proofs.Hints.{ok_as}
 use Rattle.qcow2_alloc.proofs.CachePins.{marks_then}
-use Rattle.qcow2_alloc.proofs.Following.{header_then, header_same}
+use Rattle.qcow2_alloc.proofs.ListedAfter.{header_then, header_same}
 use Rattle.qcow2_alloc.proofs.Faults.{told_on, told_since}
 use Rattle.qcow2_alloc.proofs.Outcomes.{told_after, on_no_ok, handed_cause, on_err}
 use Rattle.std.proofs.Math.Nat.{le_trans}
@@ -34,12 +34,12 @@ returns-in_err-flush_rb-clause-sound g c = λ p sound longer.
     let first = c.args.room.first in
     let n = room_length c.args.room in
     let q = with_run p c.args.file.now.header.fields c.args.self.now.reftable c.args.room.first (room_length c.args.room) in
-    let one = becomes_cached view q old a c.flush_rb.new.storage c.flush_rb.new.self sound (c.flush_rb.ensures.keeps h q sound.sound.honest sound.sound.caches) c.flush_rb.ensures.marks in
+    let one = allocator_step_cached view q old a c.flush_rb.new.storage c.flush_rb.new.self sound (c.flush_rb.ensures.keeps h q sound.sound.honest sound.sound.caches) c.flush_rb.ensures.marks in
     let f1 = record old { storage = c.flush_rb.new.storage; caches = c.flush_rb.new.self } in
     handed_on (NamesReftable view q p old a f1) c.from_residual.result c.in_err-flush_rb.field-0.0 c.from_residual.ensures (record {
-      fault = c.in_err-flush_rb.ensures.faults h q sound.sound.honest sound.sound.caches sound.sound.settled;
+      fault = c.in_err-flush_rb.ensures.faults h q sound.sound.honest sound.sound.caches sound.sound.named_blocks;
       noted = λ _. c.flush_rb.ensures.marks.changed c.requires.noted;
-      since = one.moves.since;
+      since = one.file_step.since;
     })
 
 pub returns-in_err-flush_rb-clause-uses : goal.returns-in_err-flush_rb-clause-uses
@@ -51,10 +51,10 @@ returns-in_err-flush_rb-clause-uses g c = λ p sound longer.
     let first = c.args.room.first in
     let n = room_length c.args.room in
     let q = with_run p c.args.file.now.header.fields c.args.self.now.reftable c.args.room.first (room_length c.args.room) in
-    let one = becomes_cached view q old a c.flush_rb.new.storage c.flush_rb.new.self sound (c.flush_rb.ensures.keeps h q sound.sound.honest sound.sound.caches) c.flush_rb.ensures.marks in
+    let one = allocator_step_cached view q old a c.flush_rb.new.storage c.flush_rb.new.self sound (c.flush_rb.ensures.keeps h q sound.sound.honest sound.sound.caches) c.flush_rb.ensures.marks in
     let f1 = record old { storage = c.flush_rb.new.storage; caches = c.flush_rb.new.self } in
     handed_on (KeepsUsed view old f1) c.from_residual.result c.in_err-flush_rb.field-0.0 c.from_residual.ensures
-    (inr (c.in_err-flush_rb.ensures.faults h q sound.sound.honest sound.sound.caches sound.sound.settled, λ _. c.flush_rb.ensures.marks.changed c.requires.noted))
+    (inr (c.in_err-flush_rb.ensures.faults h q sound.sound.honest sound.sound.caches sound.sound.named_blocks, λ _. c.flush_rb.ensures.marks.changed c.requires.noted))
 
 pub returns-in_err-place_blocks-clause-sound : goal.returns-in_err-place_blocks-clause-sound
 returns-in_err-place_blocks-clause-sound g c = λ p sound longer.
@@ -65,12 +65,12 @@ returns-in_err-place_blocks-clause-sound g c = λ p sound longer.
     let first = c.args.room.first in
     let n = room_length c.args.room in
     let q = with_run p c.args.file.now.header.fields c.args.self.now.reftable c.args.room.first (room_length c.args.room) in
-    let one = becomes_cached view q old a c.flush_rb.new.storage c.flush_rb.new.self sound (c.flush_rb.ensures.keeps h q sound.sound.honest sound.sound.caches) c.flush_rb.ensures.marks in
+    let one = allocator_step_cached view q old a c.flush_rb.new.storage c.flush_rb.new.self sound (c.flush_rb.ensures.keeps h q sound.sound.honest sound.sound.caches) c.flush_rb.ensures.marks in
     let f1 = record old { storage = c.flush_rb.new.storage; caches = c.flush_rb.new.self } in
     let noted = c.place_blocks.ensures.marks.changed (c.flush_rb.ensures.marks.changed c.requires.noted) in
     let refused = c.in_err-place_blocks.ensures.sound p (is_sound_now view q q old f1 a one) c.in_ok-flush_rb.ensures.first longer in
     handed_on (NamesReftable view q p old a c.place_blocks.new.file) c.from_residual-in_err-place_blocks.result c.in_err-place_blocks.field-0.0 c.from_residual-in_err-place_blocks.ensures
-    (breaks_after view q q old f1 c.place_blocks.new.file a c.in_err-place_blocks.field-0.0 one.moves refused.0 noted refused.1)
+    (interrupted_after view q q old f1 c.place_blocks.new.file a c.in_err-place_blocks.field-0.0 one.file_step refused.0 noted refused.1)
 
 pub returns-in_err-place_blocks-clause-uses : goal.returns-in_err-place_blocks-clause-uses
 returns-in_err-place_blocks-clause-uses g c = λ p sound longer.
@@ -81,7 +81,7 @@ returns-in_err-place_blocks-clause-uses g c = λ p sound longer.
     let first = c.args.room.first in
     let n = room_length c.args.room in
     let q = with_run p c.args.file.now.header.fields c.args.self.now.reftable c.args.room.first (room_length c.args.room) in
-    let one = becomes_cached view q old a c.flush_rb.new.storage c.flush_rb.new.self sound (c.flush_rb.ensures.keeps h q sound.sound.honest sound.sound.caches) c.flush_rb.ensures.marks in
+    let one = allocator_step_cached view q old a c.flush_rb.new.storage c.flush_rb.new.self sound (c.flush_rb.ensures.keeps h q sound.sound.honest sound.sound.caches) c.flush_rb.ensures.marks in
     let f1 = record old { storage = c.flush_rb.new.storage; caches = c.flush_rb.new.self } in
     let refused = c.in_err-place_blocks.ensures.sound p (is_sound_now view q q old f1 a one) c.in_ok-flush_rb.ensures.first longer in
     handed_on (KeepsUsed view old c.place_blocks.new.file) c.from_residual-in_err-place_blocks.result c.in_err-place_blocks.field-0.0 c.from_residual-in_err-place_blocks.ensures
@@ -96,12 +96,12 @@ returns-in_err-place_table-clause-sound g c = λ p sound longer.
     let first = c.args.room.first in
     let n = room_length c.args.room in
     let q = with_run p c.args.file.now.header.fields c.args.self.now.reftable c.args.room.first (room_length c.args.room) in
-    let one = becomes_cached view q old a c.flush_rb.new.storage c.flush_rb.new.self sound (c.flush_rb.ensures.keeps h q sound.sound.honest sound.sound.caches) c.flush_rb.ensures.marks in
+    let one = allocator_step_cached view q old a c.flush_rb.new.storage c.flush_rb.new.self sound (c.flush_rb.ensures.keeps h q sound.sound.honest sound.sound.caches) c.flush_rb.ensures.marks in
     let f1 = record old { storage = c.flush_rb.new.storage; caches = c.flush_rb.new.self } in
     let noted = c.place_blocks.ensures.marks.changed (c.flush_rb.ensures.marks.changed c.requires.noted) in
     let placed = c.in_ok-place_blocks.ensures.sound p (is_sound_now view q q old f1 a one) c.in_ok-flush_rb.ensures.first longer in
     let f2 = c.place_blocks.new.file in
-    let two = becomes_then view q q old f1 f2 a a one placed.becomes in
+    let two = allocator_step_then view q q old f1 f2 a a one placed.allocator_step in
     let header_two = ap (λ x. x.fields) c.place_blocks.ensures.header in
     let may_two = may_go f1 f2 c.place_blocks.ensures.order c.place_blocks.ensures.tables c.in_ok-flush_rb.ensures.first in
     let at_is = c.new.ensures in
@@ -113,7 +113,7 @@ returns-in_err-place_table-clause-sound g c = λ p sound longer.
     (λ s. c.in_err-place_table.ensures.sound p first n c.args.room.clusters a s may_two low high bits long) (is_sound_now view q q old f2 a two) in
     let still = subst (λ (x : MetadataCaches _). IsTrue x.is_changed) (sym c.place_table.ensures.caches) noted in
     handed_on (NamesReftable view q p old a c.place_table.new.file) c.from_residual-in_err-place_table.result c.in_err-place_table.field-0.0 c.from_residual-in_err-place_table.ensures
-    (breaks_after view q q old f2 c.place_table.new.file a c.in_err-place_table.field-0.0 two.moves refused.0 still refused.1)
+    (interrupted_after view q q old f2 c.place_table.new.file a c.in_err-place_table.field-0.0 two.file_step refused.0 still refused.1)
 
 pub returns-in_err-place_table-clause-uses : goal.returns-in_err-place_table-clause-uses
 returns-in_err-place_table-clause-uses g c = λ p sound longer.
@@ -124,11 +124,11 @@ returns-in_err-place_table-clause-uses g c = λ p sound longer.
     let first = c.args.room.first in
     let n = room_length c.args.room in
     let q = with_run p c.args.file.now.header.fields c.args.self.now.reftable c.args.room.first (room_length c.args.room) in
-    let one = becomes_cached view q old a c.flush_rb.new.storage c.flush_rb.new.self sound (c.flush_rb.ensures.keeps h q sound.sound.honest sound.sound.caches) c.flush_rb.ensures.marks in
+    let one = allocator_step_cached view q old a c.flush_rb.new.storage c.flush_rb.new.self sound (c.flush_rb.ensures.keeps h q sound.sound.honest sound.sound.caches) c.flush_rb.ensures.marks in
     let f1 = record old { storage = c.flush_rb.new.storage; caches = c.flush_rb.new.self } in
     let placed = c.in_ok-place_blocks.ensures.sound p (is_sound_now view q q old f1 a one) c.in_ok-flush_rb.ensures.first longer in
     let f2 = c.place_blocks.new.file in
-    let two = becomes_then view q q old f1 f2 a a one placed.becomes in
+    let two = allocator_step_then view q q old f1 f2 a a one placed.allocator_step in
     let header_two = ap (λ x. x.fields) c.place_blocks.ensures.header in
     let may_two = may_go f1 f2 c.place_blocks.ensures.order c.place_blocks.ensures.tables c.in_ok-flush_rb.ensures.first in
     let at_is = c.new.ensures in
@@ -150,11 +150,11 @@ returns-clause-sound g c = λ p sound longer.
     let first = c.args.room.first in
     let n = room_length c.args.room in
     let q = with_run p c.args.file.now.header.fields c.args.self.now.reftable c.args.room.first (room_length c.args.room) in
-    let one = becomes_cached view q old a c.flush_rb.new.storage c.flush_rb.new.self sound (c.flush_rb.ensures.keeps h q sound.sound.honest sound.sound.caches) c.flush_rb.ensures.marks in
+    let one = allocator_step_cached view q old a c.flush_rb.new.storage c.flush_rb.new.self sound (c.flush_rb.ensures.keeps h q sound.sound.honest sound.sound.caches) c.flush_rb.ensures.marks in
     let f1 = record old { storage = c.flush_rb.new.storage; caches = c.flush_rb.new.self } in
     let placed = c.in_ok-place_blocks.ensures.sound p (is_sound_now view q q old f1 a one) c.in_ok-flush_rb.ensures.first longer in
     let f2 = c.place_blocks.new.file in
-    let two = becomes_then view q q old f1 f2 a a one placed.becomes in
+    let two = allocator_step_then view q q old f1 f2 a a one placed.allocator_step in
     let header_two = ap (λ x. x.fields) c.place_blocks.ensures.header in
     let may_two = may_go f1 f2 c.place_blocks.ensures.order c.place_blocks.ensures.tables c.in_ok-flush_rb.ensures.first in
     let at_is = c.new.ensures in
@@ -165,7 +165,7 @@ returns-clause-sound g c = λ p sound longer.
     let wrote = table_ok view p first n a f2 c.place_table.new.file c.new.result c.args.room.clusters c.place_blocks.new.table.bytes h header_two c.in_ok-place_table.field-0
     (λ s. c.in_ok-place_table.ensures.sound p first n c.args.room.clusters a s may_two low high bits long) (is_sound_now view q q old f2 a two) in
     let f3 = c.place_table.new.file in
-    let three = becomes_then view q q old f2 f3 a a two wrote.0 in
+    let three = allocator_step_then view q q old f2 f3 a a two wrote.0 in
     let header_three = ap (λ x. x.fields) c.place_table.ensures.header ∙ header_two in
     let sizes = file_sizes view q old sound.sound in
     let t' = placed_at c.place_blocks.new.table (c.args.room.first + c.args.room.blocks) in
@@ -192,11 +192,11 @@ returns-clause-uses g c = λ p sound longer.
     let first = c.args.room.first in
     let n = room_length c.args.room in
     let q = with_run p c.args.file.now.header.fields c.args.self.now.reftable c.args.room.first (room_length c.args.room) in
-    let one = becomes_cached view q old a c.flush_rb.new.storage c.flush_rb.new.self sound (c.flush_rb.ensures.keeps h q sound.sound.honest sound.sound.caches) c.flush_rb.ensures.marks in
+    let one = allocator_step_cached view q old a c.flush_rb.new.storage c.flush_rb.new.self sound (c.flush_rb.ensures.keeps h q sound.sound.honest sound.sound.caches) c.flush_rb.ensures.marks in
     let f1 = record old { storage = c.flush_rb.new.storage; caches = c.flush_rb.new.self } in
     let placed = c.in_ok-place_blocks.ensures.sound p (is_sound_now view q q old f1 a one) c.in_ok-flush_rb.ensures.first longer in
     let f2 = c.place_blocks.new.file in
-    let two = becomes_then view q q old f1 f2 a a one placed.becomes in
+    let two = allocator_step_then view q q old f1 f2 a a one placed.allocator_step in
     let header_two = ap (λ x. x.fields) c.place_blocks.ensures.header in
     let may_two = may_go f1 f2 c.place_blocks.ensures.order c.place_blocks.ensures.tables c.in_ok-flush_rb.ensures.first in
     let at_is = c.new.ensures in
@@ -207,7 +207,7 @@ returns-clause-uses g c = λ p sound longer.
     let wrote = table_ok view p first n a f2 c.place_table.new.file c.new.result c.args.room.clusters c.place_blocks.new.table.bytes h header_two c.in_ok-place_table.field-0
     (λ s. c.in_ok-place_table.ensures.sound p first n c.args.room.clusters a s may_two low high bits long) (is_sound_now view q q old f2 a two) in
     let f3 = c.place_table.new.file in
-    let three = becomes_then view q q old f2 f3 a a two wrote.0 in
+    let three = allocator_step_then view q q old f2 f3 a a two wrote.0 in
     let header_three = ap (λ x. x.fields) c.place_table.ensures.header ∙ header_two in
     let sizes = file_sizes view q old sound.sound in
     let t' = placed_at c.place_blocks.new.table (c.args.room.first + c.args.room.blocks) in

@@ -2,7 +2,7 @@ use Rattle.std.proofs.Common.{◌≡◌, None, sym, ap, ◌∙◌, arith}
 use Rattle.std.specs.Map.{lookup}
 use Rattle.lru.specs.LruCache.{LruCache}
 use Rattle.qcow2_alloc.specs.declared.async_lru_cache.slot.Slot.{Slot}
-use Rattle.qcow2_alloc.proofs.CachedEntries.Going.{front-promoted, hit_goes, gets_goes}
+use Rattle.qcow2_alloc.proofs.CachedEntries.Evictions.{front-promoted, hit_eviction, gets_eviction}
 use Rattle.qcow2_alloc.proofs.CachedEntries.Knowing.{hit_keeps, gets_keeps}
 use Rattle.qcow2_alloc.proofs.CachedEntries.Lists.{length-promoted, none_of, promoted_none}
 use Rattle.qcow2_alloc.proofs.CachedEntries.Pins.{pins_promoted, gets_keep_pins}
@@ -18,9 +18,9 @@ pub returns-then-promote-clause-front : goal.returns-then-promote-clause-front
 returns-then-promote-clause-front g c =
     rw c.promote.ensures.entries (λ _. front-promoted (g.B.Key.PartialEq.eq c.args.key) c.self.inside.entries.entries (sym c.promote.ensures.value ∙ c.if-promote.true))
 
-pub returns-then-promote-clause-goes : goal.returns-then-promote-clause-goes
-returns-then-promote-clause-goes g c =
-    rw (← c.self.view_is, c.promote.ensures.entries) (hit_goes (g.B.AsyncLruCacheBackend.steps c.self.inside.backend) g.met.B.Key.Eq.laws c.args.store.now c.self.inside.entries.entries c.args.key)
+pub returns-then-promote-clause-eviction : goal.returns-then-promote-clause-eviction
+returns-then-promote-clause-eviction g c =
+    rw (← c.self.view_is, c.promote.ensures.entries) (hit_eviction (g.B.AsyncLruCacheBackend.steps c.self.inside.backend) g.met.B.Key.Eq.laws c.args.store.now c.self.inside.entries.entries c.args.key)
 
 pub returns-then-promote-clause-known : goal.returns-then-promote-clause-known
 returns-then-promote-clause-known g c =
@@ -47,14 +47,14 @@ returns-clause-miss g c =
     let h = rw same at c.load_new.ensures.loads in
     rw (← c.self.view_is) (λ _. h)
 
-pub returns-clause-goes : goal.returns-clause-goes
-returns-clause-goes g c =
+pub returns-clause-eviction : goal.returns-clause-eviction
+returns-clause-eviction g c =
     let test = g.B.Key.PartialEq.eq c.args.key in
     let es = c.self.inside.entries.entries in
     let m : lookup test es ≡ None = none_of (sym (c.if-promote.false) ∙ c.promote.ensures.value) in
     let same : c.promote.new.self.entries ≡ es = ap (λ (x : LruCache g.row.B-Key.Denot (Slot g.row.B-Value.Denot)). x.entries) c.promote.ensures.entries ∙ promoted_none test es m in
     let h = rw same at c.load_new.ensures.loads in
-    rw (← c.self.view_is) (gets_goes (g.B.AsyncLruCacheBackend.steps c.self.inside.backend) g.met.B.Key.Eq.laws c.args.store.now c.self.inside.size c.args.may_flush c.args.key c.load_new.new.store es c.load_new.new.entries.entries c.load_new.result h)
+    rw (← c.self.view_is) (gets_eviction (g.B.AsyncLruCacheBackend.steps c.self.inside.backend) g.met.B.Key.Eq.laws c.args.store.now c.self.inside.size c.args.may_flush c.args.key c.load_new.new.store es c.load_new.new.entries.entries c.load_new.result h)
 
 pub returns-clause-known : goal.returns-clause-known
 returns-clause-known g c =

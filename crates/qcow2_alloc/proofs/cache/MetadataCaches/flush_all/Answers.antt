@@ -22,7 +22,7 @@ returns-in_err-write_tables-in-None g c = record {
   order = search rules;
   written = search rules;
   marks = search rules;
-  faults = λ h p honest sound settled. given_err c.from_residual.result c.in_err-write_tables-in-None.field-0.0 IsFault c.from_residual.ensures (c.in_err-write_tables-in-None.ensures.faults h p honest sound settled);
+  faults = λ h p honest sound named_blocks. given_err c.from_residual.result c.in_err-write_tables-in-None.field-0.0 IsFault c.from_residual.ensures (c.in_err-write_tables-in-None.ensures.faults h p honest sound named_blocks);
   keeps = c.write_tables.ensures.keeps (tables_free c.args.self.now c.in-None.is);
   ordered = c.write_tables.ensures.ordered (tables_free c.args.self.now c.in-None.is);
   quiet = λ written. c.write_tables.ensures.quiet written.0;
@@ -41,9 +41,9 @@ returns-in_ok-write_tables-in-None g c = record {
   order = search rules;
   written = both_written c.write_tables.new.self c.write_blocks.new.self c.write_blocks.result c.write_blocks.ensures.tables c.in_ok-write_tables-in-None.ensures.written c.write_blocks.ensures.written;
   marks = marks_then c.args.self.now c.write_tables.new.self c.write_blocks.new.self c.write_tables.ensures.marks c.write_blocks.ensures.marks;
-  faults = λ h p honest sound settled.
+  faults = λ h p honest sound named_blocks.
       let one = c.write_tables.ensures.keeps (tables_free c.args.self.now c.in-None.is) h p honest sound in
-      c.write_blocks.ensures.faults h p one.honest one.sound (one.settled settled);
+      c.write_blocks.ensures.faults h p one.honest one.sound (one.named_blocks named_blocks);
   keeps =
       keep_then g.S.Storage.view c.args.storage.now c.write_tables.new.storage c.write_blocks.new.storage c.args.self.now c.write_tables.new.self c.write_blocks.new.self
       (c.write_tables.ensures.keeps (tables_free c.args.self.now c.in-None.is))
@@ -59,12 +59,12 @@ returns-in_ok-write_tables-in-None g c = record {
 }
 
 pub returns-in_err-write_blocks-in-L2DependsOnRb-clause-faults : goal.returns-in_err-write_blocks-in-L2DependsOnRb-clause-faults
-returns-in_err-write_blocks-in-L2DependsOnRb-clause-faults g c = λ h p honest sound settled. given_err c.from_residual-in_err-write_blocks-in-L2DependsOnRb.result c.in_err-write_blocks-in-L2DependsOnRb.field-0.0 IsFault c.from_residual-in_err-write_blocks-in-L2DependsOnRb.ensures (c.in_err-write_blocks-in-L2DependsOnRb.ensures.faults h p honest sound settled)
+returns-in_err-write_blocks-in-L2DependsOnRb-clause-faults g c = λ h p honest sound named_blocks. given_err c.from_residual-in_err-write_blocks-in-L2DependsOnRb.result c.in_err-write_blocks-in-L2DependsOnRb.field-0.0 IsFault c.from_residual-in_err-write_blocks-in-L2DependsOnRb.ensures (c.in_err-write_blocks-in-L2DependsOnRb.ensures.faults h p honest sound named_blocks)
 
 pub returns-in_ok-write_blocks-in-L2DependsOnRb-clause-faults : goal.returns-in_ok-write_blocks-in-L2DependsOnRb-clause-faults
-returns-in_ok-write_blocks-in-L2DependsOnRb-clause-faults g c = λ h p honest sound settled.
+returns-in_ok-write_blocks-in-L2DependsOnRb-clause-faults g c = λ h p honest sound named_blocks.
     let one = c.write_blocks-in-L2DependsOnRb.ensures.keeps (blocks_free c.args.self.now (inr c.in-L2DependsOnRb.is)) h p honest sound in
-    c.write_tables-in-L2DependsOnRb.ensures.faults h p one.honest one.sound (one.settled settled)
+    c.write_tables-in-L2DependsOnRb.ensures.faults h p one.honest one.sound (one.named_blocks named_blocks)
 
 pub returns-in_err-write_blocks-in-L2DependsOnRb-clause-ordered : goal.returns-in_err-write_blocks-in-L2DependsOnRb-clause-ordered
 returns-in_err-write_blocks-in-L2DependsOnRb-clause-ordered g c = c.write_blocks-in-L2DependsOnRb.ensures.ordered (blocks_free c.args.self.now (inr c.in-L2DependsOnRb.is))

@@ -38,12 +38,12 @@ returns-in-None g c = record {
 }
 
 pub returns-in_err-write_tables-in-RbDependsOnL2-clause-faults : goal.returns-in_err-write_tables-in-RbDependsOnL2-clause-faults
-returns-in_err-write_tables-in-RbDependsOnL2-clause-faults g c = λ h p honest sound settled. given_err c.from_residual.result c.in_err-write_tables-in-RbDependsOnL2.field-0.0 IsFault c.from_residual.ensures (c.in_err-write_tables-in-RbDependsOnL2.ensures.faults h p honest sound settled)
+returns-in_err-write_tables-in-RbDependsOnL2-clause-faults g c = λ h p honest sound named_blocks. given_err c.from_residual.result c.in_err-write_tables-in-RbDependsOnL2.field-0.0 IsFault c.from_residual.ensures (c.in_err-write_tables-in-RbDependsOnL2.ensures.faults h p honest sound named_blocks)
 
 pub returns-in_ok-write_tables-in-RbDependsOnL2-clause-faults : goal.returns-in_ok-write_tables-in-RbDependsOnL2-clause-faults
-returns-in_ok-write_tables-in-RbDependsOnL2-clause-faults g c = λ h p honest sound settled.
+returns-in_ok-write_tables-in-RbDependsOnL2-clause-faults g c = λ h p honest sound named_blocks.
     let one = c.write_tables.ensures.keeps (tables_free c.args.self.now (inr c.in-RbDependsOnL2.is)) h p honest sound in
-    c.write_blocks.ensures.faults h p one.honest one.sound (one.settled settled)
+    c.write_blocks.ensures.faults h p one.honest one.sound (one.named_blocks named_blocks)
 
 pub returns-in_err-write_tables-in-RbDependsOnL2-clause-ordered : goal.returns-in_err-write_tables-in-RbDependsOnL2-clause-ordered
 returns-in_err-write_tables-in-RbDependsOnL2-clause-ordered g c = c.write_tables.ensures.ordered (tables_free c.args.self.now (inr c.in-RbDependsOnL2.is))

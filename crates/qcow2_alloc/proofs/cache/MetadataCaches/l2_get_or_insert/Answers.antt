@@ -65,12 +65,12 @@ returns-clause-marks g c =
     (marks_tables c.before_l2.new.self c.get_or_insert-2.new.self c.get_or_insert-2.ensures.others c.get_or_insert-2.ensures.pins)
 
 pub returns-in_err-before_l2-clause-refusals : goal.returns-in_err-before_l2-clause-refusals
-returns-in_err-before_l2-clause-refusals g c = λ h here p honest sound settled.
+returns-in_err-before_l2-clause-refusals g c = λ h here p honest sound named_blocks.
     let one = table_got g.S.Storage.view c.args.storage.now c.get_or_insert.new.store c.args.self.now false c.args.cluster c.get_or_insert.new.self c.get_or_insert.ensures.others c.get_or_insert.result c.get_or_insert.ensures.hit c.get_or_insert.ensures.miss (λ flush. never flush) h p honest sound in
-    given_err c.from_residual-in_err-before_l2.result c.in_err-before_l2.field-0.0 (IsInUseOrFault c.args.self.now) c.from_residual-in_err-before_l2.ensures (inr (c.in_err-before_l2.ensures.faults h p one.honest one.sound (one.settled settled)))
+    given_err c.from_residual-in_err-before_l2.result c.in_err-before_l2.field-0.0 (IsInUseOrFault c.args.self.now) c.from_residual-in_err-before_l2.ensures (inr (c.in_err-before_l2.ensures.faults h p one.honest one.sound (one.named_blocks named_blocks)))
 
 pub returns-in_err-get_or_insert-2-clause-refusals : goal.returns-in_err-get_or_insert-2-clause-refusals
-returns-in_err-get_or_insert-2-clause-refusals g c = λ h here p honest sound settled.
+returns-in_err-get_or_insert-2-clause-refusals g c = λ h here p honest sound named_blocks.
     let one = table_got g.S.Storage.view c.args.storage.now c.get_or_insert.new.store c.args.self.now false c.args.cluster c.get_or_insert.new.self c.get_or_insert.ensures.others c.get_or_insert.result c.get_or_insert.ensures.hit c.get_or_insert.ensures.miss (λ flush. never flush) h p honest sound in
     let two = c.before_l2.ensures.keeps h p one.honest one.sound in
     let same = c.get_or_insert.ensures.others ∙ ap (with_entries c.args.self.now.l2) (not_fetched (l2_steps (λ s. g.S.Storage.view (storage_of s)) c.args.self.now.l2.backend.header.fields) c.args.self.now.l2.size false c.args.cluster c.args.storage.now c.get_or_insert.new.store c.args.self.now.l2.entries c.get_or_insert.new.self.entries c.get_or_insert.result (c.in_ok-get_or_insert.was ∙ ap Ok c.if-branch.false) c.get_or_insert.ensures.hit c.get_or_insert.ensures.miss) in
@@ -109,26 +109,26 @@ returns-then-branch-clause-quiet g c = λ may. table_got_quietly g.S.Storage.vie
 
 pub returns-in_err-before_l2-clause-quiet : goal.returns-in_err-before_l2-clause-quiet
 returns-in_err-before_l2-clause-quiet g c = λ may honest.
-    let goes = table_waits g.S.Storage.view c.args.storage.now c.get_or_insert.new.store c.args.self.now false c.args.cluster c.get_or_insert.new.self c.get_or_insert.result c.get_or_insert.ensures.hit c.get_or_insert.ensures.miss (c.in_ok-get_or_insert.was ∙ ap Ok c.if-branch.false) may in
+    let eviction = table_waits g.S.Storage.view c.args.storage.now c.get_or_insert.new.store c.args.self.now false c.args.cluster c.get_or_insert.new.self c.get_or_insert.result c.get_or_insert.ensures.hit c.get_or_insert.ensures.miss (c.in_ok-get_or_insert.was ∙ ap Ok c.if-branch.false) may in
     let one = table_got_quietly g.S.Storage.view c.args.storage.now c.get_or_insert.new.store c.args.self.now false c.args.cluster c.get_or_insert.new.self c.get_or_insert.result c.get_or_insert.ensures.hit c.get_or_insert.ensures.miss (λ flush. never flush) honest in
-    quiet_then (g.S.Storage.view (storage_of c.args.storage.now)) (g.S.Storage.view (storage_of c.get_or_insert.new.store)) (g.S.Storage.view (storage_of c.before_l2.new.storage)) one (c.before_l2.ensures.quiet goes.0 one.honest)
+    quiet_then (g.S.Storage.view (storage_of c.args.storage.now)) (g.S.Storage.view (storage_of c.get_or_insert.new.store)) (g.S.Storage.view (storage_of c.before_l2.new.storage)) one (c.before_l2.ensures.quiet eviction.0 one.honest)
 
 pub returns-in_err-get_or_insert-2-clause-quiet : goal.returns-in_err-get_or_insert-2-clause-quiet
 returns-in_err-get_or_insert-2-clause-quiet g c = λ may honest.
-    let goes = table_waits g.S.Storage.view c.args.storage.now c.get_or_insert.new.store c.args.self.now false c.args.cluster c.get_or_insert.new.self c.get_or_insert.result c.get_or_insert.ensures.hit c.get_or_insert.ensures.miss (c.in_ok-get_or_insert.was ∙ ap Ok c.if-branch.false) may in
+    let eviction = table_waits g.S.Storage.view c.args.storage.now c.get_or_insert.new.store c.args.self.now false c.args.cluster c.get_or_insert.new.self c.get_or_insert.result c.get_or_insert.ensures.hit c.get_or_insert.ensures.miss (c.in_ok-get_or_insert.was ∙ ap Ok c.if-branch.false) may in
     let one = table_got_quietly g.S.Storage.view c.args.storage.now c.get_or_insert.new.store c.args.self.now false c.args.cluster c.get_or_insert.new.self c.get_or_insert.result c.get_or_insert.ensures.hit c.get_or_insert.ensures.miss (λ flush. never flush) honest in
-    let two = c.before_l2.ensures.quiet goes.0 one.honest in
+    let two = c.before_l2.ensures.quiet eviction.0 one.honest in
     let same = c.before_l2.ensures.tables ∙ table_got_same g.S.Storage.view c.args.storage.now c.get_or_insert.new.store c.args.self.now false c.args.cluster c.get_or_insert.new.self c.get_or_insert.result c.get_or_insert.ensures.hit c.get_or_insert.ensures.miss c.get_or_insert.ensures.others (c.in_ok-get_or_insert.was ∙ ap Ok c.if-branch.false) in
-    let next = next_table c.args.self.now.l2 c.before_l2.new.self.l2 same goes.1 in
+    let next = next_table c.args.self.now.l2 c.before_l2.new.self.l2 same eviction.1 in
     quiet_then (g.S.Storage.view (storage_of c.args.storage.now)) (g.S.Storage.view (storage_of c.before_l2.new.storage)) (g.S.Storage.view (storage_of c.get_or_insert-2.new.store)) (quiet_then (g.S.Storage.view (storage_of c.args.storage.now)) (g.S.Storage.view (storage_of c.get_or_insert.new.store)) (g.S.Storage.view (storage_of c.before_l2.new.storage)) one two) (table_got_quietly g.S.Storage.view c.before_l2.new.storage c.get_or_insert-2.new.store c.before_l2.new.self true c.args.cluster c.get_or_insert-2.new.self c.get_or_insert-2.result c.get_or_insert-2.ensures.hit c.get_or_insert-2.ensures.miss (λ _. next) two.honest)
 
 pub returns-clause-quiet : goal.returns-clause-quiet
 returns-clause-quiet g c = λ may honest.
-    let goes = table_waits g.S.Storage.view c.args.storage.now c.get_or_insert.new.store c.args.self.now false c.args.cluster c.get_or_insert.new.self c.get_or_insert.result c.get_or_insert.ensures.hit c.get_or_insert.ensures.miss (c.in_ok-get_or_insert.was ∙ ap Ok c.if-branch.false) may in
+    let eviction = table_waits g.S.Storage.view c.args.storage.now c.get_or_insert.new.store c.args.self.now false c.args.cluster c.get_or_insert.new.self c.get_or_insert.result c.get_or_insert.ensures.hit c.get_or_insert.ensures.miss (c.in_ok-get_or_insert.was ∙ ap Ok c.if-branch.false) may in
     let one = table_got_quietly g.S.Storage.view c.args.storage.now c.get_or_insert.new.store c.args.self.now false c.args.cluster c.get_or_insert.new.self c.get_or_insert.result c.get_or_insert.ensures.hit c.get_or_insert.ensures.miss (λ flush. never flush) honest in
-    let two = c.before_l2.ensures.quiet goes.0 one.honest in
+    let two = c.before_l2.ensures.quiet eviction.0 one.honest in
     let same = c.before_l2.ensures.tables ∙ table_got_same g.S.Storage.view c.args.storage.now c.get_or_insert.new.store c.args.self.now false c.args.cluster c.get_or_insert.new.self c.get_or_insert.result c.get_or_insert.ensures.hit c.get_or_insert.ensures.miss c.get_or_insert.ensures.others (c.in_ok-get_or_insert.was ∙ ap Ok c.if-branch.false) in
-    let next = next_table c.args.self.now.l2 c.before_l2.new.self.l2 same goes.1 in
+    let next = next_table c.args.self.now.l2 c.before_l2.new.self.l2 same eviction.1 in
     quiet_then (g.S.Storage.view (storage_of c.args.storage.now)) (g.S.Storage.view (storage_of c.before_l2.new.storage)) (g.S.Storage.view (storage_of c.get_or_insert-2.new.store)) (quiet_then (g.S.Storage.view (storage_of c.args.storage.now)) (g.S.Storage.view (storage_of c.get_or_insert.new.store)) (g.S.Storage.view (storage_of c.before_l2.new.storage)) one two) (table_got_quietly g.S.Storage.view c.before_l2.new.storage c.get_or_insert-2.new.store c.before_l2.new.self true c.args.cluster c.get_or_insert-2.new.self c.get_or_insert-2.result c.get_or_insert-2.ensures.hit c.get_or_insert-2.ensures.miss (λ _. next) two.honest)
 
 pub returns-in_err-get_or_insert-clause-tables_stay : goal.returns-in_err-get_or_insert-clause-tables_stay

@@ -16,7 +16,7 @@ use Rattle.qcow2_alloc.specs.MetadataCaches.{laid_at, order_of, l2_tables}
 use Rattle.qcow2_alloc.proofs.KeptTables.Putting.{on_err, put_at_last, laid_then, table_kept, table_laid}
 use Rattle.qcow2_alloc.proofs.KeptTables.Clean.{blocks_go, tables_as, table_put_clean}
 use Rattle.qcow2_alloc.proofs.KeptTables.InOrder.{order_then, table_put_in_order}
-use Rattle.qcow2_alloc.proofs.KeptTables.Quiet.{quiet_then, table_goes, table_put_quietly, table_put_waits, table_put_same}
+use Rattle.qcow2_alloc.proofs.KeptTables.Quiet.{quiet_then, table_eviction, table_put_quietly, table_put_waits, table_put_same}
 use Rattle.std.proofs.Common.{eqb}
 use Rattle.qcow2_alloc.proofs.CachedEntries.Staying.{stays_same, stays_then, values_stay}
 use Rattle.qcow2_alloc.specs.Faults.{faults_of}
@@ -80,17 +80,17 @@ returns-clause-marks g c =
     (marks_tables c.before_l2.new.self c.insert-2.new.self c.insert-2.ensures.others c.insert-2.ensures.pins)
 
 pub returns-in_err-insert-clause-refusals : goal.returns-in_err-insert-clause-refusals
-returns-in_err-insert-clause-refusals g c = λ h p honest sound settled fits clean holds.
+returns-in_err-insert-clause-refusals g c = λ h p honest sound named_blocks fits clean holds.
     given_err c.from_residual.result (of_cache c.in_err-insert.field-0.0) (IsInUseOrFault c.args.self.now) c.from_residual.ensures
     (table_put_refused g.S.Storage.view c.args.storage.now c.insert.new.store c.args.self.now h p (byte_at (g.S.Storage.view (storage_of c.args.storage.now)).contents) sound false c.in-Some.cluster c.insert.result c.in_err-insert.field-0.0 c.in_err-insert.was c.insert.new.self c.args.table (Some c.args.table) c.insert.new.value refl c.insert.ensures.there c.insert.ensures.missing)
 
 pub returns-in_err-before_l2-clause-refusals : goal.returns-in_err-before_l2-clause-refusals
-returns-in_err-before_l2-clause-refusals g c = λ h p honest sound settled fits clean holds.
+returns-in_err-before_l2-clause-refusals g c = λ h p honest sound named_blocks fits clean holds.
     let one = table_put g.S.Storage.view c.args.storage.now c.insert.new.store c.args.self.now false c.in-Some.cluster c.insert.new.self c.insert.ensures.others c.args.table (Some c.args.table) c.insert.new.value refl c.insert.result c.insert.ensures.there c.insert.ensures.missing (λ flush. never flush) h p honest sound fits clean (rw (sym c.get_cluster.ensures.value ∙ c.in-Some.is) at holds) in
-    given_err c.from_residual-in_err-before_l2.result c.in_err-before_l2.field-0.0 (IsInUseOrFault c.args.self.now) c.from_residual-in_err-before_l2.ensures (inr (c.in_err-before_l2.ensures.faults h p one.honest one.sound (one.settled settled)))
+    given_err c.from_residual-in_err-before_l2.result c.in_err-before_l2.field-0.0 (IsInUseOrFault c.args.self.now) c.from_residual-in_err-before_l2.ensures (inr (c.in_err-before_l2.ensures.faults h p one.honest one.sound (one.named_blocks named_blocks)))
 
 pub returns-in_err-insert-2-clause-refusals : goal.returns-in_err-insert-2-clause-refusals
-returns-in_err-insert-2-clause-refusals g c = λ h p honest sound settled fits clean holds.
+returns-in_err-insert-2-clause-refusals g c = λ h p honest sound named_blocks fits clean holds.
     let one = table_put g.S.Storage.view c.args.storage.now c.insert.new.store c.args.self.now false c.in-Some.cluster c.insert.new.self c.insert.ensures.others c.args.table (Some c.args.table) c.insert.new.value refl c.insert.result c.insert.ensures.there c.insert.ensures.missing (λ flush. never flush) h p honest sound fits clean (rw (sym c.get_cluster.ensures.value ∙ c.in-Some.is) at holds) in
     let two = c.before_l2.ensures.keeps h p one.honest one.sound in
     let same = c.insert.ensures.others ∙ ap (with_entries c.args.self.now.l2) (not_put (l2_steps (λ s. g.S.Storage.view (storage_of s)) c.args.self.now.l2.backend.header.fields) c.args.self.now.l2.size false c.in-Some.cluster c.args.storage.now c.insert.new.store c.args.self.now.l2.entries c.insert.new.self.entries c.insert.result (c.in_ok-insert.was ∙ ap Ok c.if-branch.false) c.args.table (Some c.args.table) c.insert.new.value refl c.insert.ensures.there c.insert.ensures.missing) in
@@ -204,26 +204,26 @@ returns-then-branch-clause-quiet g c = if_some _ c.args.table.cluster c.in-Some.
 
 pub returns-in_err-before_l2-clause-quiet : goal.returns-in_err-before_l2-clause-quiet
 returns-in_err-before_l2-clause-quiet g c = if_some _ c.args.table.cluster c.in-Some.cluster (sym c.get_cluster.ensures.value ∙ c.in-Some.is) (λ may honest.
-    let goes = table_put_waits g.S.Storage.view c.args.storage.now c.insert.new.store c.args.self.now false c.in-Some.cluster c.insert.new.self c.args.table (Some c.args.table) c.insert.new.value refl c.insert.result c.insert.ensures.there c.insert.ensures.missing (c.in_ok-insert.was ∙ ap Ok c.if-branch.false) may in
+    let eviction = table_put_waits g.S.Storage.view c.args.storage.now c.insert.new.store c.args.self.now false c.in-Some.cluster c.insert.new.self c.args.table (Some c.args.table) c.insert.new.value refl c.insert.result c.insert.ensures.there c.insert.ensures.missing (c.in_ok-insert.was ∙ ap Ok c.if-branch.false) may in
     let one = table_put_quietly g.S.Storage.view c.args.storage.now c.insert.new.store c.args.self.now false c.in-Some.cluster c.insert.new.self c.args.table (Some c.args.table) c.insert.new.value refl c.insert.result c.insert.ensures.there c.insert.ensures.missing (λ flush. never flush) honest in
-    quiet_then (g.S.Storage.view (storage_of c.args.storage.now)) (g.S.Storage.view (storage_of c.insert.new.store)) (g.S.Storage.view (storage_of c.before_l2.new.storage)) one (c.before_l2.ensures.quiet goes.0 one.honest))
+    quiet_then (g.S.Storage.view (storage_of c.args.storage.now)) (g.S.Storage.view (storage_of c.insert.new.store)) (g.S.Storage.view (storage_of c.before_l2.new.storage)) one (c.before_l2.ensures.quiet eviction.0 one.honest))
 
 pub returns-in_err-insert-2-clause-quiet : goal.returns-in_err-insert-2-clause-quiet
 returns-in_err-insert-2-clause-quiet g c = if_some _ c.args.table.cluster c.in-Some.cluster (sym c.get_cluster.ensures.value ∙ c.in-Some.is) (λ may honest.
-    let goes = table_put_waits g.S.Storage.view c.args.storage.now c.insert.new.store c.args.self.now false c.in-Some.cluster c.insert.new.self c.args.table (Some c.args.table) c.insert.new.value refl c.insert.result c.insert.ensures.there c.insert.ensures.missing (c.in_ok-insert.was ∙ ap Ok c.if-branch.false) may in
+    let eviction = table_put_waits g.S.Storage.view c.args.storage.now c.insert.new.store c.args.self.now false c.in-Some.cluster c.insert.new.self c.args.table (Some c.args.table) c.insert.new.value refl c.insert.result c.insert.ensures.there c.insert.ensures.missing (c.in_ok-insert.was ∙ ap Ok c.if-branch.false) may in
     let one = table_put_quietly g.S.Storage.view c.args.storage.now c.insert.new.store c.args.self.now false c.in-Some.cluster c.insert.new.self c.args.table (Some c.args.table) c.insert.new.value refl c.insert.result c.insert.ensures.there c.insert.ensures.missing (λ flush. never flush) honest in
-    let two = c.before_l2.ensures.quiet goes.0 one.honest in
+    let two = c.before_l2.ensures.quiet eviction.0 one.honest in
     let same = c.before_l2.ensures.tables ∙ table_put_same g.S.Storage.view c.args.storage.now c.insert.new.store c.args.self.now false c.in-Some.cluster c.insert.new.self c.args.table (Some c.args.table) c.insert.new.value refl c.insert.result c.insert.ensures.there c.insert.ensures.missing c.insert.ensures.others (c.in_ok-insert.was ∙ ap Ok c.if-branch.false) in
-    let next = table_goes c.args.self.now.l2 c.before_l2.new.self.l2 c.in-Some.cluster same goes.1 in
+    let next = table_eviction c.args.self.now.l2 c.before_l2.new.self.l2 c.in-Some.cluster same eviction.1 in
     quiet_then (g.S.Storage.view (storage_of c.args.storage.now)) (g.S.Storage.view (storage_of c.before_l2.new.storage)) (g.S.Storage.view (storage_of c.insert-2.new.store)) (quiet_then (g.S.Storage.view (storage_of c.args.storage.now)) (g.S.Storage.view (storage_of c.insert.new.store)) (g.S.Storage.view (storage_of c.before_l2.new.storage)) one two) (table_put_quietly g.S.Storage.view c.before_l2.new.storage c.insert-2.new.store c.before_l2.new.self true c.in-Some.cluster c.insert-2.new.self c.args.table c.insert.new.value c.insert-2.new.value ((l2_taken g.S.Storage.view c.args.storage.now c.insert.new.store c.args.self.now false c.in-Some.cluster c.insert.new.self c.insert.ensures.others c.args.table (Some c.args.table) c.insert.new.value refl c.insert.result c.insert.ensures.there c.insert.ensures.missing).kept (c.in_ok-insert.was ∙ ap Ok c.if-branch.false)) c.insert-2.result c.insert-2.ensures.there c.insert-2.ensures.missing (λ _. next) two.honest))
 
 pub returns-clause-quiet : goal.returns-clause-quiet
 returns-clause-quiet g c = if_some _ c.args.table.cluster c.in-Some.cluster (sym c.get_cluster.ensures.value ∙ c.in-Some.is) (λ may honest.
-    let goes = table_put_waits g.S.Storage.view c.args.storage.now c.insert.new.store c.args.self.now false c.in-Some.cluster c.insert.new.self c.args.table (Some c.args.table) c.insert.new.value refl c.insert.result c.insert.ensures.there c.insert.ensures.missing (c.in_ok-insert.was ∙ ap Ok c.if-branch.false) may in
+    let eviction = table_put_waits g.S.Storage.view c.args.storage.now c.insert.new.store c.args.self.now false c.in-Some.cluster c.insert.new.self c.args.table (Some c.args.table) c.insert.new.value refl c.insert.result c.insert.ensures.there c.insert.ensures.missing (c.in_ok-insert.was ∙ ap Ok c.if-branch.false) may in
     let one = table_put_quietly g.S.Storage.view c.args.storage.now c.insert.new.store c.args.self.now false c.in-Some.cluster c.insert.new.self c.args.table (Some c.args.table) c.insert.new.value refl c.insert.result c.insert.ensures.there c.insert.ensures.missing (λ flush. never flush) honest in
-    let two = c.before_l2.ensures.quiet goes.0 one.honest in
+    let two = c.before_l2.ensures.quiet eviction.0 one.honest in
     let same = c.before_l2.ensures.tables ∙ table_put_same g.S.Storage.view c.args.storage.now c.insert.new.store c.args.self.now false c.in-Some.cluster c.insert.new.self c.args.table (Some c.args.table) c.insert.new.value refl c.insert.result c.insert.ensures.there c.insert.ensures.missing c.insert.ensures.others (c.in_ok-insert.was ∙ ap Ok c.if-branch.false) in
-    let next = table_goes c.args.self.now.l2 c.before_l2.new.self.l2 c.in-Some.cluster same goes.1 in
+    let next = table_eviction c.args.self.now.l2 c.before_l2.new.self.l2 c.in-Some.cluster same eviction.1 in
     quiet_then (g.S.Storage.view (storage_of c.args.storage.now)) (g.S.Storage.view (storage_of c.before_l2.new.storage)) (g.S.Storage.view (storage_of c.insert-2.new.store)) (quiet_then (g.S.Storage.view (storage_of c.args.storage.now)) (g.S.Storage.view (storage_of c.insert.new.store)) (g.S.Storage.view (storage_of c.before_l2.new.storage)) one two) (table_put_quietly g.S.Storage.view c.before_l2.new.storage c.insert-2.new.store c.before_l2.new.self true c.in-Some.cluster c.insert-2.new.self c.args.table c.insert.new.value c.insert-2.new.value ((l2_taken g.S.Storage.view c.args.storage.now c.insert.new.store c.args.self.now false c.in-Some.cluster c.insert.new.self c.insert.ensures.others c.args.table (Some c.args.table) c.insert.new.value refl c.insert.result c.insert.ensures.there c.insert.ensures.missing).kept (c.in_ok-insert.was ∙ ap Ok c.if-branch.false)) c.insert-2.result c.insert-2.ensures.there c.insert-2.ensures.missing (λ _. next) two.honest))
 
 pub returns-in_err-insert-clause-tables_stay : goal.returns-in_err-insert-clause-tables_stay

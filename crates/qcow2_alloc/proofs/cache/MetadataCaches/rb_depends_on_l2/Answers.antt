@@ -22,7 +22,7 @@ returns-clause-keeps g c = elim c.match-self.branch [
 ]
 
 pub returns-in_err-write_blocks-in-L2DependsOnRb-clause-faults : goal.returns-in_err-write_blocks-in-L2DependsOnRb-clause-faults
-returns-in_err-write_blocks-in-L2DependsOnRb-clause-faults g c = λ h p honest sound settled. given_err c.from_residual.result c.in_err-write_blocks-in-L2DependsOnRb.field-0.0 IsFault c.from_residual.ensures (c.in_err-write_blocks-in-L2DependsOnRb.ensures.faults h p honest sound settled)
+returns-in_err-write_blocks-in-L2DependsOnRb-clause-faults g c = λ h p honest sound named_blocks. given_err c.from_residual.result c.in_err-write_blocks-in-L2DependsOnRb.field-0.0 IsFault c.from_residual.ensures (c.in_err-write_blocks-in-L2DependsOnRb.ensures.faults h p honest sound named_blocks)
 
 pub returns-in_err-write_blocks-in-L2DependsOnRb-clause-ordered : goal.returns-in_err-write_blocks-in-L2DependsOnRb-clause-ordered
 returns-in_err-write_blocks-in-L2DependsOnRb-clause-ordered g c = c.write_blocks.ensures.ordered (blocks_free c.args.self.now (inr c.in-L2DependsOnRb.is))

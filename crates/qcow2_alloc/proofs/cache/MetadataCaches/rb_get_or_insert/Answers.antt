@@ -62,17 +62,17 @@ returns-clause-marks g c =
     (marks_blocks c.before_rb.new.self c.get_or_insert-2.new.self c.get_or_insert-2.ensures.others c.get_or_insert-2.ensures.pins)
 
 pub returns-in_err-before_rb-clause-faults : goal.returns-in_err-before_rb-clause-faults
-returns-in_err-before_rb-clause-faults g c = λ room h here p honest sound settled.
+returns-in_err-before_rb-clause-faults g c = λ room h here p honest sound named_blocks.
     let one = block_got g.S.Storage.view c.args.storage.now c.get_or_insert.new.store c.args.self.now false c.args.cluster c.get_or_insert.new.self c.get_or_insert.ensures.others c.get_or_insert.result c.get_or_insert.ensures.hit c.get_or_insert.ensures.miss (λ flush. never flush) h p honest sound in
-    given_err c.from_residual-in_err-before_rb.result c.in_err-before_rb.field-0.0 IsFault c.from_residual-in_err-before_rb.ensures ((c.in_err-before_rb.ensures.faults h p one.honest one.sound (one.settled settled)))
+    given_err c.from_residual-in_err-before_rb.result c.in_err-before_rb.field-0.0 IsFault c.from_residual-in_err-before_rb.ensures ((c.in_err-before_rb.ensures.faults h p one.honest one.sound (one.named_blocks named_blocks)))
 
 pub returns-in_err-get_or_insert-2-clause-faults : goal.returns-in_err-get_or_insert-2-clause-faults
-returns-in_err-get_or_insert-2-clause-faults g c = λ room h here p honest sound settled.
+returns-in_err-get_or_insert-2-clause-faults g c = λ room h here p honest sound named_blocks.
     let one = block_got g.S.Storage.view c.args.storage.now c.get_or_insert.new.store c.args.self.now false c.args.cluster c.get_or_insert.new.self c.get_or_insert.ensures.others c.get_or_insert.result c.get_or_insert.ensures.hit c.get_or_insert.ensures.miss (λ flush. never flush) h p honest sound in
     let two = c.before_rb.ensures.keeps h p one.honest one.sound in
     let marks = marks_then c.args.self.now (record c.args.self.now { rb = c.get_or_insert.new.self }) c.before_rb.new.self (marks_blocks c.args.self.now c.get_or_insert.new.self c.get_or_insert.ensures.others c.get_or_insert.ensures.pins) c.before_rb.ensures.marks in
     given_err c.from_residual-in_err-get_or_insert-2.result (of_cache c.in_err-get_or_insert-2.field-0.0) IsFault c.from_residual-in_err-get_or_insert-2.ensures
-    (block_load_refused g.S.Storage.view c.before_rb.new.storage c.get_or_insert-2.new.store c.before_rb.new.self h p (byte_at (g.S.Storage.view (storage_of c.before_rb.new.storage)).contents) two.sound true c.args.cluster c.get_or_insert-2.result c.in_err-get_or_insert-2.field-0.0 c.in_err-get_or_insert-2.was (marks.room room) (two.settled (one.settled settled)) c.get_or_insert-2.new.self here c.get_or_insert-2.ensures.hit c.get_or_insert-2.ensures.miss)
+    (block_load_refused g.S.Storage.view c.before_rb.new.storage c.get_or_insert-2.new.store c.before_rb.new.self h p (byte_at (g.S.Storage.view (storage_of c.before_rb.new.storage)).contents) two.sound true c.args.cluster c.get_or_insert-2.result c.in_err-get_or_insert-2.field-0.0 c.in_err-get_or_insert-2.was (marks.room room) (two.named_blocks (one.named_blocks named_blocks)) c.get_or_insert-2.new.self here c.get_or_insert-2.ensures.hit c.get_or_insert-2.ensures.miss)
 
 pub returns-in_err-get_or_insert-clause-ordered : goal.returns-in_err-get_or_insert-clause-ordered
 returns-in_err-get_or_insert-clause-ordered g c = block_got_in_order g.S.Storage.view c.args.storage.now c.get_or_insert.new.store c.args.self.now false c.args.cluster c.get_or_insert.new.self c.get_or_insert.result c.get_or_insert.ensures.hit c.get_or_insert.ensures.miss (λ flush. never flush)
@@ -106,26 +106,26 @@ returns-then-branch-clause-quiet g c = λ may. block_got_quietly g.S.Storage.vie
 
 pub returns-in_err-before_rb-clause-quiet : goal.returns-in_err-before_rb-clause-quiet
 returns-in_err-before_rb-clause-quiet g c = λ may honest.
-    let goes = block_waits g.S.Storage.view c.args.storage.now c.get_or_insert.new.store c.args.self.now false c.args.cluster c.get_or_insert.new.self c.get_or_insert.result c.get_or_insert.ensures.hit c.get_or_insert.ensures.miss (c.in_ok-get_or_insert.was ∙ ap Ok c.if-branch.false) may in
+    let eviction = block_waits g.S.Storage.view c.args.storage.now c.get_or_insert.new.store c.args.self.now false c.args.cluster c.get_or_insert.new.self c.get_or_insert.result c.get_or_insert.ensures.hit c.get_or_insert.ensures.miss (c.in_ok-get_or_insert.was ∙ ap Ok c.if-branch.false) may in
     let one = block_got_quietly g.S.Storage.view c.args.storage.now c.get_or_insert.new.store c.args.self.now false c.args.cluster c.get_or_insert.new.self c.get_or_insert.result c.get_or_insert.ensures.hit c.get_or_insert.ensures.miss (λ flush. never flush) honest in
-    quiet_then (g.S.Storage.view (storage_of c.args.storage.now)) (g.S.Storage.view (storage_of c.get_or_insert.new.store)) (g.S.Storage.view (storage_of c.before_rb.new.storage)) one (c.before_rb.ensures.quiet goes.0 one.honest)
+    quiet_then (g.S.Storage.view (storage_of c.args.storage.now)) (g.S.Storage.view (storage_of c.get_or_insert.new.store)) (g.S.Storage.view (storage_of c.before_rb.new.storage)) one (c.before_rb.ensures.quiet eviction.0 one.honest)
 
 pub returns-in_err-get_or_insert-2-clause-quiet : goal.returns-in_err-get_or_insert-2-clause-quiet
 returns-in_err-get_or_insert-2-clause-quiet g c = λ may honest.
-    let goes = block_waits g.S.Storage.view c.args.storage.now c.get_or_insert.new.store c.args.self.now false c.args.cluster c.get_or_insert.new.self c.get_or_insert.result c.get_or_insert.ensures.hit c.get_or_insert.ensures.miss (c.in_ok-get_or_insert.was ∙ ap Ok c.if-branch.false) may in
+    let eviction = block_waits g.S.Storage.view c.args.storage.now c.get_or_insert.new.store c.args.self.now false c.args.cluster c.get_or_insert.new.self c.get_or_insert.result c.get_or_insert.ensures.hit c.get_or_insert.ensures.miss (c.in_ok-get_or_insert.was ∙ ap Ok c.if-branch.false) may in
     let one = block_got_quietly g.S.Storage.view c.args.storage.now c.get_or_insert.new.store c.args.self.now false c.args.cluster c.get_or_insert.new.self c.get_or_insert.result c.get_or_insert.ensures.hit c.get_or_insert.ensures.miss (λ flush. never flush) honest in
-    let two = c.before_rb.ensures.quiet goes.0 one.honest in
+    let two = c.before_rb.ensures.quiet eviction.0 one.honest in
     let same = c.before_rb.ensures.refblocks ∙ block_got_same g.S.Storage.view c.args.storage.now c.get_or_insert.new.store c.args.self.now false c.args.cluster c.get_or_insert.new.self c.get_or_insert.result c.get_or_insert.ensures.hit c.get_or_insert.ensures.miss c.get_or_insert.ensures.others (c.in_ok-get_or_insert.was ∙ ap Ok c.if-branch.false) in
-    let next = next_block c.args.self.now.rb c.before_rb.new.self.rb same goes.1 in
+    let next = next_block c.args.self.now.rb c.before_rb.new.self.rb same eviction.1 in
     quiet_then (g.S.Storage.view (storage_of c.args.storage.now)) (g.S.Storage.view (storage_of c.before_rb.new.storage)) (g.S.Storage.view (storage_of c.get_or_insert-2.new.store)) (quiet_then (g.S.Storage.view (storage_of c.args.storage.now)) (g.S.Storage.view (storage_of c.get_or_insert.new.store)) (g.S.Storage.view (storage_of c.before_rb.new.storage)) one two) (block_got_quietly g.S.Storage.view c.before_rb.new.storage c.get_or_insert-2.new.store c.before_rb.new.self true c.args.cluster c.get_or_insert-2.new.self c.get_or_insert-2.result c.get_or_insert-2.ensures.hit c.get_or_insert-2.ensures.miss (λ _. next) two.honest)
 
 pub returns-clause-quiet : goal.returns-clause-quiet
 returns-clause-quiet g c = λ may honest.
-    let goes = block_waits g.S.Storage.view c.args.storage.now c.get_or_insert.new.store c.args.self.now false c.args.cluster c.get_or_insert.new.self c.get_or_insert.result c.get_or_insert.ensures.hit c.get_or_insert.ensures.miss (c.in_ok-get_or_insert.was ∙ ap Ok c.if-branch.false) may in
+    let eviction = block_waits g.S.Storage.view c.args.storage.now c.get_or_insert.new.store c.args.self.now false c.args.cluster c.get_or_insert.new.self c.get_or_insert.result c.get_or_insert.ensures.hit c.get_or_insert.ensures.miss (c.in_ok-get_or_insert.was ∙ ap Ok c.if-branch.false) may in
     let one = block_got_quietly g.S.Storage.view c.args.storage.now c.get_or_insert.new.store c.args.self.now false c.args.cluster c.get_or_insert.new.self c.get_or_insert.result c.get_or_insert.ensures.hit c.get_or_insert.ensures.miss (λ flush. never flush) honest in
-    let two = c.before_rb.ensures.quiet goes.0 one.honest in
+    let two = c.before_rb.ensures.quiet eviction.0 one.honest in
     let same = c.before_rb.ensures.refblocks ∙ block_got_same g.S.Storage.view c.args.storage.now c.get_or_insert.new.store c.args.self.now false c.args.cluster c.get_or_insert.new.self c.get_or_insert.result c.get_or_insert.ensures.hit c.get_or_insert.ensures.miss c.get_or_insert.ensures.others (c.in_ok-get_or_insert.was ∙ ap Ok c.if-branch.false) in
-    let next = next_block c.args.self.now.rb c.before_rb.new.self.rb same goes.1 in
+    let next = next_block c.args.self.now.rb c.before_rb.new.self.rb same eviction.1 in
     quiet_then (g.S.Storage.view (storage_of c.args.storage.now)) (g.S.Storage.view (storage_of c.before_rb.new.storage)) (g.S.Storage.view (storage_of c.get_or_insert-2.new.store)) (quiet_then (g.S.Storage.view (storage_of c.args.storage.now)) (g.S.Storage.view (storage_of c.get_or_insert.new.store)) (g.S.Storage.view (storage_of c.before_rb.new.storage)) one two) (block_got_quietly g.S.Storage.view c.before_rb.new.storage c.get_or_insert-2.new.store c.before_rb.new.self true c.args.cluster c.get_or_insert-2.new.self c.get_or_insert-2.result c.get_or_insert-2.ensures.hit c.get_or_insert-2.ensures.miss (λ _. next) two.honest)
 
 pub returns-in_err-get_or_insert-clause-blocks_stay : goal.returns-in_err-get_or_insert-clause-blocks_stay

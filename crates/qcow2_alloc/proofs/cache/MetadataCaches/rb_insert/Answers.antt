@@ -18,7 +18,7 @@ use Rattle.qcow2_alloc.specs.MetadataCaches.{laid_at}
 use Rattle.qcow2_alloc.proofs.KeptTables.Putting.{on_err, put_at_last, laid_then}
 use Rattle.qcow2_alloc.proofs.KeptTables.PuttingBlocks.{block_kept, block_laid}
 use Rattle.qcow2_alloc.proofs.KeptTables.InOrder.{order_then, block_put_in_order}
-use Rattle.qcow2_alloc.proofs.KeptTables.Quiet.{quiet_then, block_goes, block_put_quietly, block_put_waits, block_put_same}
+use Rattle.qcow2_alloc.proofs.KeptTables.Quiet.{quiet_then, block_eviction, block_put_quietly, block_put_waits, block_put_same}
 use Rattle.std.proofs.Common.{eqb}
 use Rattle.qcow2_alloc.proofs.CachedEntries.Staying.{stays_same, stays_then, values_stay}
 use Rattle.qcow2_alloc.specs.Faults.{faults_of}
@@ -82,22 +82,22 @@ returns-clause-marks g c =
     (marks_blocks c.before_rb.new.self c.insert-2.new.self c.insert-2.ensures.others c.insert-2.ensures.pins)
 
 pub returns-in_err-insert-clause-faults : goal.returns-in_err-insert-clause-faults
-returns-in_err-insert-clause-faults g c = λ room h p honest sound settled fits clean holds.
+returns-in_err-insert-clause-faults g c = λ room h p honest sound named_blocks fits clean holds.
     given_err c.from_residual.result (of_cache c.in_err-insert.field-0.0) IsFault c.from_residual.ensures
-    (block_put_refused g.S.Storage.view c.args.storage.now c.insert.new.store c.args.self.now h p (byte_at (g.S.Storage.view (storage_of c.args.storage.now)).contents) sound false c.in-Some.cluster c.insert.result c.in_err-insert.field-0.0 c.in_err-insert.was room settled c.insert.new.self c.args.block (Some c.args.block) c.insert.new.value refl c.insert.ensures.there c.insert.ensures.missing)
+    (block_put_refused g.S.Storage.view c.args.storage.now c.insert.new.store c.args.self.now h p (byte_at (g.S.Storage.view (storage_of c.args.storage.now)).contents) sound false c.in-Some.cluster c.insert.result c.in_err-insert.field-0.0 c.in_err-insert.was room named_blocks c.insert.new.self c.args.block (Some c.args.block) c.insert.new.value refl c.insert.ensures.there c.insert.ensures.missing)
 
 pub returns-in_err-before_rb-clause-faults : goal.returns-in_err-before_rb-clause-faults
-returns-in_err-before_rb-clause-faults g c = λ room h p honest sound settled fits clean holds.
+returns-in_err-before_rb-clause-faults g c = λ room h p honest sound named_blocks fits clean holds.
     let one = block_put g.S.Storage.view c.args.storage.now c.insert.new.store c.args.self.now false c.in-Some.cluster c.insert.new.self c.insert.ensures.others c.args.block (Some c.args.block) c.insert.new.value refl c.insert.result c.insert.ensures.there c.insert.ensures.missing (λ flush. never flush) h p honest sound fits clean (rw (sym c.get_cluster.ensures.value ∙ c.in-Some.is) at holds) in
-    given_err c.from_residual-in_err-before_rb.result c.in_err-before_rb.field-0.0 IsFault c.from_residual-in_err-before_rb.ensures ((c.in_err-before_rb.ensures.faults h p one.honest one.sound (one.settled settled)))
+    given_err c.from_residual-in_err-before_rb.result c.in_err-before_rb.field-0.0 IsFault c.from_residual-in_err-before_rb.ensures ((c.in_err-before_rb.ensures.faults h p one.honest one.sound (one.named_blocks named_blocks)))
 
 pub returns-in_err-insert-2-clause-faults : goal.returns-in_err-insert-2-clause-faults
-returns-in_err-insert-2-clause-faults g c = λ room h p honest sound settled fits clean holds.
+returns-in_err-insert-2-clause-faults g c = λ room h p honest sound named_blocks fits clean holds.
     let one = block_put g.S.Storage.view c.args.storage.now c.insert.new.store c.args.self.now false c.in-Some.cluster c.insert.new.self c.insert.ensures.others c.args.block (Some c.args.block) c.insert.new.value refl c.insert.result c.insert.ensures.there c.insert.ensures.missing (λ flush. never flush) h p honest sound fits clean (rw (sym c.get_cluster.ensures.value ∙ c.in-Some.is) at holds) in
     let two = c.before_rb.ensures.keeps h p one.honest one.sound in
     let marks = marks_then c.args.self.now (record c.args.self.now { rb = c.insert.new.self }) c.before_rb.new.self (marks_blocks c.args.self.now c.insert.new.self c.insert.ensures.others c.insert.ensures.pins) c.before_rb.ensures.marks in
     given_err c.from_residual-in_err-insert-2.result (of_cache c.in_err-insert-2.field-0.0) IsFault c.from_residual-in_err-insert-2.ensures
-    (block_put_refused g.S.Storage.view c.before_rb.new.storage c.insert-2.new.store c.before_rb.new.self h p (byte_at (g.S.Storage.view (storage_of c.before_rb.new.storage)).contents) two.sound true c.in-Some.cluster c.insert-2.result c.in_err-insert-2.field-0.0 c.in_err-insert-2.was (marks.room room) (two.settled (one.settled settled)) c.insert-2.new.self c.args.block c.insert.new.value c.insert-2.new.value ((rb_taken g.S.Storage.view c.args.storage.now c.insert.new.store c.args.self.now false c.in-Some.cluster c.insert.new.self c.insert.ensures.others c.args.block (Some c.args.block) c.insert.new.value refl c.insert.result c.insert.ensures.there c.insert.ensures.missing).kept (c.in_ok-insert.was ∙ ap Ok c.if-branch.false)) c.insert-2.ensures.there c.insert-2.ensures.missing)
+    (block_put_refused g.S.Storage.view c.before_rb.new.storage c.insert-2.new.store c.before_rb.new.self h p (byte_at (g.S.Storage.view (storage_of c.before_rb.new.storage)).contents) two.sound true c.in-Some.cluster c.insert-2.result c.in_err-insert-2.field-0.0 c.in_err-insert-2.was (marks.room room) (two.named_blocks (one.named_blocks named_blocks)) c.insert-2.new.self c.args.block c.insert.new.value c.insert-2.new.value ((rb_taken g.S.Storage.view c.args.storage.now c.insert.new.store c.args.self.now false c.in-Some.cluster c.insert.new.self c.insert.ensures.others c.args.block (Some c.args.block) c.insert.new.value refl c.insert.result c.insert.ensures.there c.insert.ensures.missing).kept (c.in_ok-insert.was ∙ ap Ok c.if-branch.false)) c.insert-2.ensures.there c.insert-2.ensures.missing)
 
 pub returns-then-branch-clause-clean : goal.returns-then-branch-clause-clean
 returns-then-branch-clause-clean g c = λ all clean.
@@ -181,26 +181,26 @@ returns-then-branch-clause-quiet g c = if_some _ c.args.block.cluster c.in-Some.
 
 pub returns-in_err-before_rb-clause-quiet : goal.returns-in_err-before_rb-clause-quiet
 returns-in_err-before_rb-clause-quiet g c = if_some _ c.args.block.cluster c.in-Some.cluster (sym c.get_cluster.ensures.value ∙ c.in-Some.is) (λ may honest.
-    let goes = block_put_waits g.S.Storage.view c.args.storage.now c.insert.new.store c.args.self.now false c.in-Some.cluster c.insert.new.self c.args.block (Some c.args.block) c.insert.new.value refl c.insert.result c.insert.ensures.there c.insert.ensures.missing (c.in_ok-insert.was ∙ ap Ok c.if-branch.false) may in
+    let eviction = block_put_waits g.S.Storage.view c.args.storage.now c.insert.new.store c.args.self.now false c.in-Some.cluster c.insert.new.self c.args.block (Some c.args.block) c.insert.new.value refl c.insert.result c.insert.ensures.there c.insert.ensures.missing (c.in_ok-insert.was ∙ ap Ok c.if-branch.false) may in
     let one = block_put_quietly g.S.Storage.view c.args.storage.now c.insert.new.store c.args.self.now false c.in-Some.cluster c.insert.new.self c.args.block (Some c.args.block) c.insert.new.value refl c.insert.result c.insert.ensures.there c.insert.ensures.missing (λ flush. never flush) honest in
-    quiet_then (g.S.Storage.view (storage_of c.args.storage.now)) (g.S.Storage.view (storage_of c.insert.new.store)) (g.S.Storage.view (storage_of c.before_rb.new.storage)) one (c.before_rb.ensures.quiet goes.0 one.honest))
+    quiet_then (g.S.Storage.view (storage_of c.args.storage.now)) (g.S.Storage.view (storage_of c.insert.new.store)) (g.S.Storage.view (storage_of c.before_rb.new.storage)) one (c.before_rb.ensures.quiet eviction.0 one.honest))
 
 pub returns-in_err-insert-2-clause-quiet : goal.returns-in_err-insert-2-clause-quiet
 returns-in_err-insert-2-clause-quiet g c = if_some _ c.args.block.cluster c.in-Some.cluster (sym c.get_cluster.ensures.value ∙ c.in-Some.is) (λ may honest.
-    let goes = block_put_waits g.S.Storage.view c.args.storage.now c.insert.new.store c.args.self.now false c.in-Some.cluster c.insert.new.self c.args.block (Some c.args.block) c.insert.new.value refl c.insert.result c.insert.ensures.there c.insert.ensures.missing (c.in_ok-insert.was ∙ ap Ok c.if-branch.false) may in
+    let eviction = block_put_waits g.S.Storage.view c.args.storage.now c.insert.new.store c.args.self.now false c.in-Some.cluster c.insert.new.self c.args.block (Some c.args.block) c.insert.new.value refl c.insert.result c.insert.ensures.there c.insert.ensures.missing (c.in_ok-insert.was ∙ ap Ok c.if-branch.false) may in
     let one = block_put_quietly g.S.Storage.view c.args.storage.now c.insert.new.store c.args.self.now false c.in-Some.cluster c.insert.new.self c.args.block (Some c.args.block) c.insert.new.value refl c.insert.result c.insert.ensures.there c.insert.ensures.missing (λ flush. never flush) honest in
-    let two = c.before_rb.ensures.quiet goes.0 one.honest in
+    let two = c.before_rb.ensures.quiet eviction.0 one.honest in
     let same = c.before_rb.ensures.refblocks ∙ block_put_same g.S.Storage.view c.args.storage.now c.insert.new.store c.args.self.now false c.in-Some.cluster c.insert.new.self c.args.block (Some c.args.block) c.insert.new.value refl c.insert.result c.insert.ensures.there c.insert.ensures.missing c.insert.ensures.others (c.in_ok-insert.was ∙ ap Ok c.if-branch.false) in
-    let next = block_goes c.args.self.now.rb c.before_rb.new.self.rb c.in-Some.cluster same goes.1 in
+    let next = block_eviction c.args.self.now.rb c.before_rb.new.self.rb c.in-Some.cluster same eviction.1 in
     quiet_then (g.S.Storage.view (storage_of c.args.storage.now)) (g.S.Storage.view (storage_of c.before_rb.new.storage)) (g.S.Storage.view (storage_of c.insert-2.new.store)) (quiet_then (g.S.Storage.view (storage_of c.args.storage.now)) (g.S.Storage.view (storage_of c.insert.new.store)) (g.S.Storage.view (storage_of c.before_rb.new.storage)) one two) (block_put_quietly g.S.Storage.view c.before_rb.new.storage c.insert-2.new.store c.before_rb.new.self true c.in-Some.cluster c.insert-2.new.self c.args.block c.insert.new.value c.insert-2.new.value ((rb_taken g.S.Storage.view c.args.storage.now c.insert.new.store c.args.self.now false c.in-Some.cluster c.insert.new.self c.insert.ensures.others c.args.block (Some c.args.block) c.insert.new.value refl c.insert.result c.insert.ensures.there c.insert.ensures.missing).kept (c.in_ok-insert.was ∙ ap Ok c.if-branch.false)) c.insert-2.result c.insert-2.ensures.there c.insert-2.ensures.missing (λ _. next) two.honest))
 
 pub returns-clause-quiet : goal.returns-clause-quiet
 returns-clause-quiet g c = if_some _ c.args.block.cluster c.in-Some.cluster (sym c.get_cluster.ensures.value ∙ c.in-Some.is) (λ may honest.
-    let goes = block_put_waits g.S.Storage.view c.args.storage.now c.insert.new.store c.args.self.now false c.in-Some.cluster c.insert.new.self c.args.block (Some c.args.block) c.insert.new.value refl c.insert.result c.insert.ensures.there c.insert.ensures.missing (c.in_ok-insert.was ∙ ap Ok c.if-branch.false) may in
+    let eviction = block_put_waits g.S.Storage.view c.args.storage.now c.insert.new.store c.args.self.now false c.in-Some.cluster c.insert.new.self c.args.block (Some c.args.block) c.insert.new.value refl c.insert.result c.insert.ensures.there c.insert.ensures.missing (c.in_ok-insert.was ∙ ap Ok c.if-branch.false) may in
     let one = block_put_quietly g.S.Storage.view c.args.storage.now c.insert.new.store c.args.self.now false c.in-Some.cluster c.insert.new.self c.args.block (Some c.args.block) c.insert.new.value refl c.insert.result c.insert.ensures.there c.insert.ensures.missing (λ flush. never flush) honest in
-    let two = c.before_rb.ensures.quiet goes.0 one.honest in
+    let two = c.before_rb.ensures.quiet eviction.0 one.honest in
     let same = c.before_rb.ensures.refblocks ∙ block_put_same g.S.Storage.view c.args.storage.now c.insert.new.store c.args.self.now false c.in-Some.cluster c.insert.new.self c.args.block (Some c.args.block) c.insert.new.value refl c.insert.result c.insert.ensures.there c.insert.ensures.missing c.insert.ensures.others (c.in_ok-insert.was ∙ ap Ok c.if-branch.false) in
-    let next = block_goes c.args.self.now.rb c.before_rb.new.self.rb c.in-Some.cluster same goes.1 in
+    let next = block_eviction c.args.self.now.rb c.before_rb.new.self.rb c.in-Some.cluster same eviction.1 in
     quiet_then (g.S.Storage.view (storage_of c.args.storage.now)) (g.S.Storage.view (storage_of c.before_rb.new.storage)) (g.S.Storage.view (storage_of c.insert-2.new.store)) (quiet_then (g.S.Storage.view (storage_of c.args.storage.now)) (g.S.Storage.view (storage_of c.insert.new.store)) (g.S.Storage.view (storage_of c.before_rb.new.storage)) one two) (block_put_quietly g.S.Storage.view c.before_rb.new.storage c.insert-2.new.store c.before_rb.new.self true c.in-Some.cluster c.insert-2.new.self c.args.block c.insert.new.value c.insert-2.new.value ((rb_taken g.S.Storage.view c.args.storage.now c.insert.new.store c.args.self.now false c.in-Some.cluster c.insert.new.self c.insert.ensures.others c.args.block (Some c.args.block) c.insert.new.value refl c.insert.result c.insert.ensures.there c.insert.ensures.missing).kept (c.in_ok-insert.was ∙ ap Ok c.if-branch.false)) c.insert-2.result c.insert-2.ensures.there c.insert-2.ensures.missing (λ _. next) two.honest))
 
 pub returns-in_err-insert-clause-blocks_stay : goal.returns-in_err-insert-clause-blocks_stay

@@ -23,9 +23,9 @@ pub returns-clause-keeps : goal.returns-clause-keeps
 returns-clause-keeps g c = blocks_flushed g.S.Storage.view c.args.storage.now c.flush.new.store c.args.self.now c.flush.new.self c.flush.ensures.others c.flush.result c.flush.ensures.flushed
 
 pub returns-in_err-flush-clause-faults : goal.returns-in_err-flush-clause-faults
-returns-in_err-flush-clause-faults g c = λ h p honest sound settled.
+returns-in_err-flush-clause-faults g c = λ h p honest sound named_blocks.
     given_err c.from_residual.result (of_cache c.in_err-flush.field-0.0) IsFault c.from_residual.ensures
-    (blocks_flush_refused g.S.Storage.view c.args.storage.now c.flush.new.store c.args.self.now h p (byte_at (g.S.Storage.view (storage_of c.args.storage.now)).contents) sound settled c.flush.new.self c.flush.result c.flush.ensures.flushed c.in_err-flush.field-0.0 c.in_err-flush.was)
+    (blocks_flush_refused g.S.Storage.view c.args.storage.now c.flush.new.store c.args.self.now h p (byte_at (g.S.Storage.view (storage_of c.args.storage.now)).contents) sound named_blocks c.flush.new.self c.flush.result c.flush.ensures.flushed c.in_err-flush.field-0.0 c.in_err-flush.was)
 
 pub returns-in_err-flush-clause-clean : goal.returns-in_err-flush-clause-clean
 returns-in_err-flush-clause-clean g c = λ all.

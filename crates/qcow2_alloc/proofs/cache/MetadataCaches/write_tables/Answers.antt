@@ -27,7 +27,7 @@ pub returns-clause-keeps : goal.returns-clause-keeps
 returns-clause-keeps g c = tables_flushed g.S.Storage.view c.args.storage.now c.flush.new.store c.args.self.now c.flush.new.self c.flush.ensures.others c.flush.result c.flush.ensures.flushed
 
 pub returns-in_err-flush-clause-faults : goal.returns-in_err-flush-clause-faults
-returns-in_err-flush-clause-faults g c = λ h p honest sound settled.
+returns-in_err-flush-clause-faults g c = λ h p honest sound named_blocks.
     given_err c.from_residual.result (of_cache c.in_err-flush.field-0.0) IsFault c.from_residual.ensures
     (tables_flush_refused g.S.Storage.view c.args.storage.now c.flush.new.store c.args.self.now h p (byte_at (g.S.Storage.view (storage_of c.args.storage.now)).contents) sound c.flush.new.self c.flush.result c.flush.ensures.flushed c.in_err-flush.field-0.0 c.in_err-flush.was)
 

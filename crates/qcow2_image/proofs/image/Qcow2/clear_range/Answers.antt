@@ -12,9 +12,9 @@ use Rattle.qcow2_image.specs.L1Entries.{ReachesOffset}
 use Rattle.qcow2_image.proofs.Call.Marked.{MayMarkBy, marks_memory, may_mark, may_mark_refused}
 use Rattle.qcow2_image.proofs.Call.Called.{Quietly}
 use Rattle.qcow2_image.proofs.Grow.Lengths.{reaches_begun, same_length}
-use Rattle.qcow2_image.proofs.Call.Settled.{is_fault, outcome}
+use Rattle.qcow2_image.proofs.Call.CallOutcomes.{is_fault, outcome}
 use Rattle.qcow2_image.proofs.Sizing.Shrinking.{fault_of}
-use Rattle.qcow2_image.proofs.Clear.ClearCalls.{begins, clear_broke, clear_covers, clear_done, clear_refused, clear_works, clears_early, clears_nothing, err_is, fault_broke, if_some, not_refused, refused_for, under_after, under_before, ungiven_broke, ungiven_early, ungiven_refused, whole_in}
+use Rattle.qcow2_image.proofs.Clear.ClearCalls.{begins, clear_interruption, clear_covers, clear_done, clear_refused, clear_works, clears_early, clears_nothing, err_is, fault_interruption, if_some, not_refused, refused_for, under_after, under_before, ungiven_interruption, ungiven_early, ungiven_refused, whole_in}
 use Rattle.qcow2_image.proofs.Call.FaultCounts.{counted_marked, counted_ok, counted_on, fewer_then, untouched}
 use Rattle.qcow2_image.proofs.image.Qcow2.clear_range.Goals as goal
 
@@ -109,7 +109,7 @@ returns-in_err-end_freeing-clause-sees g c =
     let number = c.end_freeing.ensures.image.number ∙ c.mark_failure.ensures.image.number ∙ c.clear_between-cleared.ensures.stays.image.number ∙ c.begin.ensures.stays.image.number in
     let x = c.in_err-end_freeing.field-0.0 in
     subst (λ (r : Result _ _). Clears view below how old freed offset n r) (sym (err_is c.from_residual-in_err-end_freeing.result c.from_residual-in_err-end_freeing.ensures))
-    (clear_broke view below old how offset n works begun entries quiet parts freed c.end_freeing.result ends number x c.in_err-end_freeing.was
+    (clear_interruption view below old how offset n works begun entries quiet parts freed c.end_freeing.result ends number x c.in_err-end_freeing.was
     (is_fault x (is_failed c.mark_failure.new.self) (is_failed freed) (outcome x (is_failed c.mark_failure.new.self) (is_failed freed) (may_mark_refused c.mark_failure.new.self c.end_freeing.new.self x c.in_err-end_freeing.ensures.marks))))
 
 pub returns-clause-under : goal.returns-clause-under
@@ -257,8 +257,8 @@ returns-in_err-end_freeing-clause-refused g c =
     let number = c.end_freeing.ensures.image.number ∙ c.mark_failure.ensures.image.number ∙ c.clear_between-cleared.ensures.stays.image.number ∙ c.begin.ensures.stays.image.number in
     let x = c.in_err-end_freeing.field-0.0 in
     subst (λ (r : Result _ _). IfErr r (RefusesClearing view below how old freed offset n)) (sym (err_is c.from_residual-in_err-end_freeing.result c.from_residual-in_err-end_freeing.ensures)) (record {
-      ungiven = ungiven_broke view below old how offset n works begun entries quiet parts freed c.end_freeing.result ends number x c.in_err-end_freeing.was;
-      lacks = λ none out sound unprepared. inl (fault_of x (fault_broke view below old how offset n works begun entries quiet parts freed c.end_freeing.result ends number x c.in_err-end_freeing.was out sound));
+      ungiven = ungiven_interruption view below old how offset n works begun entries quiet parts freed c.end_freeing.result ends number x c.in_err-end_freeing.was;
+      lacks = λ none out sound unprepared. inl (fault_of x (fault_interruption view below old how offset n works begun entries quiet parts freed c.end_freeing.result ends number x c.in_err-end_freeing.was out sound));
     })
 
 pub returns-in_err-mark_failure-clause-faults : goal.returns-in_err-mark_failure-clause-faults

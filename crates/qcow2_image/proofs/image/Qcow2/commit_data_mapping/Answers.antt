@@ -9,8 +9,8 @@ use Rattle.qcow2_image.specs.Calls.{Commits, refusal_of}
 use Rattle.qcow2_image.specs.Image.{is_failed}
 use Rattle.qcow2_image.specs.ImageInvariant.{abstract_of, pending_in}
 use Rattle.qcow2_image.proofs.Call.Marked.{may_mark_refused}
-use Rattle.qcow2_image.proofs.Call.Settled.{is_fault, outcome}
-use Rattle.qcow2_image.proofs.Commit.CommitCalls.{commit_broke, commit_broke_off, commit_done, commit_existing, commit_kept, refuses_unsound, true_or_false}
+use Rattle.qcow2_image.proofs.Call.CallOutcomes.{is_fault, outcome}
+use Rattle.qcow2_image.proofs.Commit.CommitCalls.{commit_interruption, commit_break_off, commit_done, commit_existing, commit_kept, refuses_unsound, true_or_false}
 use Rattle.qcow2_image.proofs.Call.FaultCounts.{counted_as, fewer_then}
 use Rattle.qcow2_image.specs.Faults.{CountsImageFaults}
 use Rattle.qcow2_image.proofs.image.Qcow2.commit_data_mapping.Goals.{then-entered, else-entered}
@@ -25,19 +25,19 @@ returns-then-prepared-self-clause-sees g c = λ out k placed.
 pub returns-then-is_none-clause-sees : goal.returns-then-is_none-clause-sees
 returns-then-is_none-clause-sees g c = λ out k placed.
     let none : c.args.prepared.table ≡ None = search rules in
-    commit_existing g.S.Storage.view g.F.BackingDisk.backing c.args.self.now c.args.prepared none c.let_go.new.self c.if-self.false c.let_go.ensures.sees out k placed
+    commit_existing g.S.Storage.view g.F.BackingDisk.backing c.args.self.now c.args.prepared none c.release_prepared.new.self c.if-self.false c.release_prepared.ensures.sees out k placed
 
 pub returns-in-Ok-clause-sees : goal.returns-in-Ok-clause-sees
 returns-in-Ok-clause-sees g c = λ out k placed.
     let some : IsSome c.args.prepared.table = search rules in
     commit_done g.S.Storage.view g.F.BackingDisk.backing c.args.self.now c.args.prepared c.begin.new.self c.enter_shares-entered.new.self c.end_freeing.new.self c.enter_shares-entered.new.prepared c.enter_shares-entered.result c.if-self.false some c.end_freeing.result
-    (λ out sound. record { keeps = c.begin.ensures.keeps (pending_in g.S.Storage.view g.F.BackingDisk.backing c.args.self.now out) out sound; list = c.begin.ensures.list }) c.enter_shares-entered.ensures.enters c.end_freeing.ensures.frees out k placed c.in-Ok.is c.let_go-in-Ok.new.self c.let_go-in-Ok.ensures.sees
-    (c.let_go-in-Ok.ensures.stays.image.number ∙ c.end_freeing.ensures.image.number ∙ c.enter_shares-entered.ensures.stays.image.number ∙ c.begin.ensures.stays.image.number)
+    (λ out sound. record { keeps = c.begin.ensures.keeps (pending_in g.S.Storage.view g.F.BackingDisk.backing c.args.self.now out) out sound; list = c.begin.ensures.list }) c.enter_shares-entered.ensures.enters c.end_freeing.ensures.frees out k placed c.in-Ok.is c.release_prepared-in-Ok.new.self c.release_prepared-in-Ok.ensures.sees
+    (c.release_prepared-in-Ok.ensures.stays.image.number ∙ c.end_freeing.ensures.image.number ∙ c.enter_shares-entered.ensures.stays.image.number ∙ c.begin.ensures.stays.image.number)
 
 pub returns-in-Ok-clause-emptied : goal.returns-in-Ok-clause-emptied
 returns-in-Ok-clause-emptied g c = λ own some writable.
     let freed : c.end_freeing.new.self.file.free_list ≡ [] = c.in-Ok.ensures.emptied (c.enter_shares-entered.ensures.stays.image.writable ∙ c.begin.ensures.stays.image.writable ∙ writable) in
-    c.let_go-in-Ok.ensures.list ∙ ap (λ l. c.end_freeing.new.self.file.free_list ++ l) c.enter_shares-entered.ensures.left ∙ ap (λ l. l ++ []) freed
+    c.release_prepared-in-Ok.ensures.list ∙ ap (λ l. c.end_freeing.new.self.file.free_list ++ l) c.enter_shares-entered.ensures.left ∙ ap (λ l. l ++ []) freed
 
 pub returns-after-entered-clause-sees : goal.returns-after-entered-clause-sees
 returns-after-entered-clause-sees g c =
@@ -57,12 +57,12 @@ returns-after-entered-clause-sees g c =
     elim c.if-entered.branch [
       | then-entered w ↦
           subst (λ (r : CommitRefused). Commits view below old freed p (Err r)) (sym (c.refused_commit.ensures.failed (w.refused_commit-is ∙ w.if-entered.true)))
-          (λ out k placed. commit_broke_off view below old p begun entered freed q c.enter_shares-entered.result c.if-self.false some c.end_freeing.result
+          (λ out k placed. commit_break_off view below old p begun entered freed q c.enter_shares-entered.result c.if-self.false some c.end_freeing.result
           (λ out sound. record { keeps = c.begin.ensures.keeps (pending_in view below old out) out sound; list = c.begin.ensures.list }) c.enter_shares-entered.ensures.enters c.end_freeing.ensures.frees out k placed number x c.in-Err.is marked w.if-entered.true)
       | else-entered w ↦ elim (true_or_false (is_failed freed)) [
         | inl failed ↦
             subst (λ (r : CommitRefused). Commits view below old freed p (Err r)) (sym (c.refused_commit.ensures.failed (w.refused_commit-is ∙ failed)))
-            (λ out k placed. commit_broke view below old p begun entered freed q c.enter_shares-entered.result c.if-self.false some c.end_freeing.result
+            (λ out k placed. commit_interruption view below old p begun entered freed q c.enter_shares-entered.result c.if-self.false some c.end_freeing.result
             (λ out sound. record { keeps = c.begin.ensures.keeps (pending_in view below old out) out sound; list = c.begin.ensures.list }) c.enter_shares-entered.ensures.enters c.end_freeing.ensures.frees out k placed number x c.in-Err.is marked (λ _. failed))
         | inr works ↦
             let same = c.enter_shares-entered.ensures.none w.if-entered.false in
@@ -73,11 +73,11 @@ returns-after-entered-clause-sees g c =
     ]
 
 pub returns-then-is_none-clause-quiet : goal.returns-then-is_none-clause-quiet
-returns-then-is_none-clause-quiet g c = λ nothing none. ap (λ (image : Qcow2 _ _). storage_of image.file.storage) c.let_go.ensures.rest.rest
+returns-then-is_none-clause-quiet g c = λ nothing none. ap (λ (image : Qcow2 _ _). storage_of image.file.storage) c.release_prepared.ensures.rest.rest
 
 pub returns-in-Ok-clause-quiet : goal.returns-in-Ok-clause-quiet
 returns-in-Ok-clause-quiet g c = λ nothing none.
-    ap (λ (image : Qcow2 _ _). storage_of image.file.storage) c.let_go-in-Ok.ensures.rest.rest
+    ap (λ (image : Qcow2 _ _). storage_of image.file.storage) c.release_prepared-in-Ok.ensures.rest.rest
     ∙ ap (λ (image : Qcow2 _ _). storage_of image.file.storage) (c.end_freeing.ensures.idle (c.enter_shares-entered.ensures.quiet none ∙ c.begin.ensures.list ∙ nothing)).1
     ∙ ap storage_of c.enter_shares-entered.ensures.storage ∙ c.begin.ensures.storage
 
@@ -94,7 +94,7 @@ returns-in-Ok-clause-faults g c =
     let entered = c.enter_shares-entered.new.self in
     let freed = c.end_freeing.new.self in
     let first = fewer_then view below old c.begin.new.self entered c.begin.ensures.faults c.enter_shares-entered.ensures.faults in
-    (fewer_then view below old freed c.let_go-in-Ok.new.self (fewer_then view below old entered freed first c.end_freeing.ensures.faults.no_fewer) c.let_go-in-Ok.ensures.faults, tt)
+    (fewer_then view below old freed c.release_prepared-in-Ok.new.self (fewer_then view below old entered freed first c.end_freeing.ensures.faults.no_fewer) c.release_prepared-in-Ok.ensures.faults, tt)
 
 pub returns-after-entered-clause-faults : goal.returns-after-entered-clause-faults
 returns-after-entered-clause-faults g c =

@@ -7,16 +7,16 @@ use Rattle.qcow2_image.proofs.image.Qcow2.commit_filled.Goals as goal
 pub returns-then-is_none-clause-commits : goal.returns-then-is_none-clause-commits
 returns-then-is_none-clause-commits g c = λ out k placed sound.
     let none : c.args.prepared.table ≡ None = search rules in
-    commits_existing g.S.Storage.view g.F.BackingDisk.backing c.args.self.now c.args.prepared c.let_go.new.self out k placed sound none c.let_go.ensures.sees c.let_go.ensures.rest
+    commits_existing g.S.Storage.view g.F.BackingDisk.backing c.args.self.now c.args.prepared c.release_prepared.new.self out k placed sound none c.release_prepared.ensures.sees c.release_prepared.ensures.rest
 
 pub returns-clause-commits : goal.returns-clause-commits
 returns-clause-commits g c = λ out k placed sound.
     let some : IsSome c.args.prepared.table = search rules in
-    commits_entered g.S.Storage.view g.F.BackingDisk.backing c.args.self.now c.args.prepared c.let_go-2.new.self out k placed sound c.enter_shares-entered.new.self c.enter_shares-entered.new.prepared c.enter_shares-entered.result some
-    c.enter_shares-entered.ensures.enters c.enter_shares-entered.ensures.in_place c.let_go-2.ensures.sees c.let_go-2.ensures.rest
+    commits_entered g.S.Storage.view g.F.BackingDisk.backing c.args.self.now c.args.prepared c.release_prepared-2.new.self out k placed sound c.enter_shares-entered.new.self c.enter_shares-entered.new.prepared c.enter_shares-entered.result some
+    c.enter_shares-entered.ensures.enters c.enter_shares-entered.ensures.in_place c.release_prepared-2.ensures.sees c.release_prepared-2.ensures.rest
 
 pub returns-then-is_none-clause-header : goal.returns-then-is_none-clause-header
-returns-then-is_none-clause-header g c = ap (λ (image : Qcow2 _ _). image.file.header) c.let_go.ensures.rest.rest
+returns-then-is_none-clause-header g c = ap (λ (image : Qcow2 _ _). image.file.header) c.release_prepared.ensures.rest.rest
 
 pub returns-clause-header : goal.returns-clause-header
-returns-clause-header g c = ap (λ (image : Qcow2 _ _). image.file.header) c.let_go-2.ensures.rest.rest ∙ c.enter_shares-entered.ensures.header
+returns-clause-header g c = ap (λ (image : Qcow2 _ _). image.file.header) c.release_prepared-2.ensures.rest.rest ∙ c.enter_shares-entered.ensures.header

@@ -9,16 +9,16 @@ use Rattle.qcow2_image.specs.Found.{found_kind, IsMappedAs}
 use Rattle.qcow2_image.specs.ImageInvariant.{backing_bytes}
 use Rattle.qcow2_image.proofs.Map.Loading.{if_ok}
 use Rattle.qcow2_image.proofs.Map.Reading.{none_below, zero_shown}
-use Rattle.qcow2_image.proofs.Prepare.Filling.{disk_kept, goes_data, goes_kept, goes_then, own_of, there_written}
+use Rattle.qcow2_image.proofs.Prepare.Filling.{disk_kept, image_step_data, image_step_kept, image_step_then, own_of, there_written}
 use Rattle.qcow2_image.proofs.image.Qcow2.copy_old.Goals as goal
 
-pub returns-in-Zero-clause-goes : goal.returns-in-Zero-clause-goes
-returns-in-Zero-clause-goes g c = λ p out cluster sound holds own.
+pub returns-in-Zero-clause-image_step : goal.returns-in-Zero-clause-image_step
+returns-in-Zero-clause-image_step g c = λ p out cluster sound holds own.
     let view = g.S.Storage.view in
     let below = g.F.BackingDisk.backing in
     let old = c.args.self.now in
     let zeros : List ℕ = replicate c.args.length 0 in
-    goes_data view below out old c.write_zeros.new.self p sound cluster c.args.at zeros (own_of view below p old old out cluster c.args.at c.args.length (length zeros) (length-replicate {A = ℕ} c.args.length 0) refl own) holds
+    image_step_data view below out old c.write_zeros.new.self p sound cluster c.args.at zeros (own_of view below p old old out cluster c.args.at c.args.length (length zeros) (length-replicate {A = ℕ} c.args.length 0) refl own) holds
     c.write_zeros.result c.write_zeros.ensures.written
 
 pub returns-in-Zero-clause-copies : goal.returns-in-Zero-clause-copies
@@ -31,16 +31,16 @@ returns-in-Zero-clause-copies g c = λ p out sound mapped.
     if_ok c.write_zeros.result
     (λ done there i lt.
     ap known_byte (there i (let n = length-replicate {A = ℕ} c.args.length 0 in omega arith) ∙ get_or-replicate c.args.length i 0 0 lt)
-    ∙ sym (zero_shown (state_in view old.file p) sound.file.caches.kept.kept.guarded c.args.guest c.args.length mapped.alike (is_some old.backing) (backing_bytes view below old.backing)
+    ∙ sym (zero_shown (state_in view old.file p) sound.file.caches.kept.kept.crash_invariant c.args.guest c.args.length mapped.alike (is_some old.backing) (backing_bytes view below old.backing)
     (cover h (known_in view old.file) (c.args.guest / cluster_size h)) refl (none_below view below old.backing) c.in-Zero.explicit (ap found_kind (sym c.in-Zero.is) ∙ mapped.kind_is) i lt))
     (there_written view old c.write_zeros.new.self c.args.at zeros c.write_zeros.result c.write_zeros.ensures.written sound.file.honest)
 
-pub returns-in_err-read_as-clause-goes : goal.returns-in_err-read_as-clause-goes
-returns-in_err-read_as-clause-goes g c = λ p out cluster sound holds own.
-    goes_kept g.S.Storage.view g.F.BackingDisk.backing out c.args.self.now c.read_as.new.self p p sound holds holds (c.read_as.ensures.keeps p out sound)
+pub returns-in_err-read_as-clause-image_step : goal.returns-in_err-read_as-clause-image_step
+returns-in_err-read_as-clause-image_step g c = λ p out cluster sound holds own.
+    image_step_kept g.S.Storage.view g.F.BackingDisk.backing out c.args.self.now c.read_as.new.self p p sound holds holds (c.read_as.ensures.keeps p out sound)
 
-pub returns-clause-goes : goal.returns-clause-goes
-returns-clause-goes g c = λ p out cluster sound holds own.
+pub returns-clause-image_step : goal.returns-clause-image_step
+returns-clause-image_step g c = λ p out cluster sound holds own.
     let view = g.S.Storage.view in
     let below = g.F.BackingDisk.backing in
     let old = c.args.self.now in
@@ -48,8 +48,8 @@ returns-clause-goes g c = λ p out cluster sound holds own.
     let bytes = c.read_as.new.bytes in
     let long : length bytes ≡ c.args.length = search rules in
     let first = c.read_as.ensures.keeps p out sound in
-    goes_then view below out old mid c.write_data.new.self p p p (goes_kept view below out old mid p p sound holds holds first)
-    (goes_data view below out mid c.write_data.new.self p first.sound cluster c.args.at bytes (own_of view below p old mid out cluster c.args.at c.args.length (length bytes) long c.read_as.ensures.header own) holds c.write_data.result
+    image_step_then view below out old mid c.write_data.new.self p p p (image_step_kept view below out old mid p p sound holds holds first)
+    (image_step_data view below out mid c.write_data.new.self p first.sound cluster c.args.at bytes (own_of view below p old mid out cluster c.args.at c.args.length (length bytes) long c.read_as.ensures.header own) holds c.write_data.result
     c.write_data.ensures.written)
 
 pub returns-clause-copies : goal.returns-clause-copies

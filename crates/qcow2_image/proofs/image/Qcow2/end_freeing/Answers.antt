@@ -6,9 +6,9 @@ use Rattle.qcow2_image.specs.Image.{is_failed}
 use Rattle.qcow2_image.specs.CallParts.{EndsFreeing}
 use Rattle.qcow2_image.specs.ImageInvariant.{ImageInvariant, pending_in}
 use Rattle.qcow2_image.specs.UnseenSteps.{UnseenFillingStep}
-use Rattle.qcow2_image.proofs.Call.Refused.{goes_stays}
-use Rattle.qcow2_image.proofs.Prepare.Filling.{goes_none}
-use Rattle.qcow2_image.proofs.Prepare.Gaining.{following_same}
+use Rattle.qcow2_image.proofs.Call.Refused.{image_step_stays}
+use Rattle.qcow2_image.proofs.Prepare.Filling.{image_step_none}
+use Rattle.qcow2_image.proofs.Prepare.Gaining.{listed_after_same}
 use Rattle.qcow2_image.proofs.Flush.Freeing.{all_listed, beside, ends_freeing}
 use Rattle.qcow2_image.proofs.Call.FaultCounts.{counted_marked, untouched}
 use Rattle.qcow2_image.proofs.Call.Marked.{marks_memory, may_mark}
@@ -34,7 +34,7 @@ returns-then-is_empty-clause-frees g c = λ out sound.
     let below = g.F.BackingDisk.backing in
     let old = c.args.self.now in
     let p : Pending = pending_in view below old out in
-    goes_stays view below out old old (subst (λ q. UnseenFillingStep view below p q old old out) (sym (following_same view below out p old old refl)) (goes_none view below out old p sound))
+    image_step_stays view below out old old (subst (λ q. UnseenFillingStep view below p q old old out) (sym (listed_after_same view below out p old old refl)) (image_step_none view below out old p sound))
 
 pub returns-clause-faults : goal.returns-clause-faults
 returns-clause-faults g c =

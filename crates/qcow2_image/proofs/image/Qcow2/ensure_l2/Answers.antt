@@ -54,7 +54,7 @@ returns-in_err-l2_get_or_insert-clause-lacks g c = λ p out sound none.
     let e = c.in_err-l2_get_or_insert.field-0.0 in
     handed_on (λ r. IfErr r (IsFaultOrLacksTable view loaded c.args.offset)) c.from_residual-in_err-l2_get_or_insert.result e c.from_residual-in_err-l2_get_or_insert.ensures
     (inl (fault_alone view below out q mid owned.0.sound none e
-    (c.in_err-l2_get_or_insert.ensures.refusals mid.file.header.fields (named_place mid.file.header.fields (contents_in view mid.file) (l1_index_of old.file.header.fields c.args.offset) c.in_ok-cluster.cluster owned.1.place) q file.honest file.caches file.settled)))
+    (c.in_err-l2_get_or_insert.ensures.refusals mid.file.header.fields (named_place mid.file.header.fields (contents_in view mid.file) (l1_index_of old.file.header.fields c.args.offset) c.in_ok-cluster.cluster owned.1.place) q file.honest file.caches file.named_blocks)))
 
 pub returns-in_err-cluster-clause-quiet : goal.returns-in_err-cluster-clause-quiet
 returns-in_err-cluster-clause-quiet g c = λ own. ap (λ (i : Qcow2 _ _). i.file.free_list) (c.own_l2.ensures.quiet own)

@@ -9,19 +9,19 @@ use Rattle.qcow2_metadata.specs.Cover.{cover}
 use Rattle.qcow2_metadata.specs.Guest.{known_byte}
 use Rattle.qcow2_disk.specs.Found.{kind_at}
 use Rattle.qcow2_image.proofs.Prepare.Copied.{none_has, some_has}
-use Rattle.qcow2_image.proofs.Prepare.Filling.{alike_within, goes_none}
+use Rattle.qcow2_image.proofs.Prepare.Filling.{alike_within, image_step_none}
 use Rattle.qcow2_image.proofs.Map.Loading.{if_ok, if_ok_any}
 use Rattle.qcow2_image.proofs.image.Qcow2.fill_cluster.Goals as goal
 
-pub returns-in_default-checked_add-clause-goes : goal.returns-in_default-checked_add-clause-goes
-returns-in_default-checked_add-clause-goes g c = λ p out sound holds some none. goes_none g.S.Storage.view g.F.BackingDisk.backing out c.args.self.now p sound
+pub returns-in_default-checked_add-clause-image_step : goal.returns-in_default-checked_add-clause-image_step
+returns-in_default-checked_add-clause-image_step g c = λ p out sound holds some none. image_step_none g.S.Storage.view g.F.BackingDisk.backing out c.args.self.now p sound
 
-pub returns-clause-goes : goal.returns-clause-goes
-returns-clause-goes g c = λ p out sound holds some none.
+pub returns-clause-image_step : goal.returns-clause-image_step
+returns-clause-image_step g c = λ p out sound holds some none.
     let size = cluster_size c.args.self.now.file.header.fields in
     let at : c.value.result ≡ c.args.cluster * size = c.value.ensures ∙ c.offset.ensures ∙ ap (λ b. c.args.cluster * 2 ^ b) c.cluster_bits-bits.ensures.value in
     let within = c.in-Some.ensures.within in
-    c.copy_old.ensures.goes p out c.args.cluster sound holds (record {
+    c.copy_old.ensures.image_step p out c.args.cluster sound holds (record {
       new_data = some;
       unused = none;
       inside = λ i lt.

@@ -56,7 +56,7 @@ returns-in-Err-clause-fills g c = λ out sound whole.
     let put = all_put view below out old mid p from to c.most.result n c.min-count.result sound ready answered lt whole few asked counted c.put_zeros.new.self _ c.in-Err.ensures.written in
     refused_after view below out old old c.free_after.new.self to from to from from from (from + p.length) (omega arith) (omega (arith, lt)) (omega arith) within (fills_none view below out old to from sound (works_none (abstract_of view below old out) sound)) e'
     (record {
-      left = piece_gone view below out old mid p from n sound ready answered fits c.put_zeros.new.self c.let_go.new.self c.free_after.new.self to e e' within put c.let_go.ensures.sees c.free_after.ensures.fault (λ still. c.free_after.ensures.frees out still);
+      left = piece_gone view below out old mid p from n sound ready answered fits c.put_zeros.new.self c.release_prepared.new.self c.free_after.new.self to e e' within put c.release_prepared.ensures.sees c.free_after.ensures.fault (λ still. c.free_after.ensures.frees out still);
       taken = λ is. met_taken e c.in-Err.ensures.cause (c.free_after.ensures.taken (inl c.in-Err.ensures.cause) is);
     })
 
@@ -121,4 +121,4 @@ returns-in-Err-clause-faults g c =
     let old = c.args.self.now in
     let e = c.in-Err.refusal in
     let told : CountsImageFaults view below {T = Unit {0}} old c.put_zeros.new.self (Err c.in-Err.refusal) = counted_as view below old c.prepare.new.self c.put_zeros.new.self c.put_zeros.result e c.prepare.ensures.faults.no_fewer c.put_zeros.ensures.faults c.in-Err.is in
-    counted_of view below old c.free_after.new.self c.free_after.result (c.free_after.ensures.faults old (counted_still view below old c.put_zeros.new.self c.let_go.new.self (Err e) told c.let_go.ensures.faults))
+    counted_of view below old c.free_after.new.self c.free_after.result (c.free_after.ensures.faults old (counted_still view below old c.put_zeros.new.self c.release_prepared.new.self (Err e) told c.release_prepared.ensures.faults))

@@ -7,7 +7,7 @@ use Rattle.qcow2_image.specs.declared.image.Qcow2.{Qcow2}
 use Rattle.qcow2_image.specs.Image.{is_failed}
 use Rattle.qcow2_image.specs.ImageInvariant.{ImageInvariant}
 use Rattle.qcow2_image.proofs.Grow.Grown.{written_back}
-use Rattle.qcow2_image.proofs.Flush.Freeing.{all_listed, beside, flushes_settled, frees_on}
+use Rattle.qcow2_image.proofs.Flush.Freeing.{all_listed, beside, flushes_with_outcome, frees_on}
 use Rattle.qcow2_image.proofs.Call.FaultCounts.{counted_marked}
 use Rattle.qcow2_image.proofs.Map.Unmodified.{read_call}
 use Rattle.qcow2_image.proofs.Call.Marked.{marks_memory, may_mark}
@@ -23,7 +23,7 @@ returns-clause-sees g c =
     let r = c.write_back-done.result in
     subst (λ (image : Qcow2 _ _). FlushesImage view below old image c.mark_failure.result) (sym c.mark_failure.ensures.rest)
     (subst (λ (x : Result _ _). FlushesImage view below old (record new { is_failed = is_failed c.mark_failure.new.self }) x) (sym c.mark_failure.ensures.answer)
-    (flushes_settled view below old c.if-self.false new (is_failed c.mark_failure.new.self) (c.write_back-done.ensures.stays.image.number ∙ c.begin.ensures.stays.image.number) r (may_mark c.write_back-done.new.self c.mark_failure.new.self c.write_back-done.result c.mark_failure.ensures.marks) (marks_memory c.write_back-done.new.self c.mark_failure.new.self c.write_back-done.new.self c.write_back-done.result c.mark_failure.ensures.marks (ap (λ (i : Qcow2 _ _). i.file) c.mark_failure.ensures.rest))
+    (flushes_with_outcome view below old c.if-self.false new (is_failed c.mark_failure.new.self) (c.write_back-done.ensures.stays.image.number ∙ c.begin.ensures.stays.image.number) r (may_mark c.write_back-done.new.self c.mark_failure.new.self c.write_back-done.result c.mark_failure.ensures.marks) (marks_memory c.write_back-done.new.self c.mark_failure.new.self c.write_back-done.new.self c.write_back-done.result c.mark_failure.ensures.marks (ap (λ (i : Qcow2 _ _). i.file) c.mark_failure.ensures.rest))
     (λ out sound.
     let p : Pending = beside view below old out in
     let q : Pending = with_listed p old.file.free_list in

@@ -51,11 +51,11 @@ returns-clause-run g c = λ out sound.
     let marks = subst (λ r. MayMarkBy r (is_failed new) (is_failed c.mark_failure.new.self)) (sym c.mark_failure.ensures.answer ∙ c.in_ok-kind.was) (may_mark c.look_up-found.new.self c.mark_failure.new.self c.look_up-found.result c.mark_failure.ensures.marks) in
     let same : c.mark_failure.new.self ≡ new = c.mark_failure.ensures.rest ∙ ap (λ f. record new { is_failed = f }) marks in
     let begun = (c.begin.ensures.keeps p out sound).sound in
-    let guarded = (c.look_up-found.ensures.keeps p out begun).sound.file.caches.kept.kept.guarded in
+    let crash_invariant = (c.look_up-found.ensures.keeps p out begun).sound.file.caches.kept.kept.crash_invariant in
     let found : IsFoundInImage view new c.args.offset c.args.max c.in_ok-kind.kind c.in_ok-kind.length =
     subst (λ r. IfOk r (λ x. IsFoundInImage view new c.args.offset c.args.max x.0 x.1)) (sym c.mark_failure.ensures.answer ∙ c.in_ok-kind.was) (c.look_up-found.ensures.found p out begun) in
     subst (λ (image : Qcow2 _ _). IsFoundIn (known_in view image.file) (is_some image.backing) c.args.offset c.args.max (found_kind c.in_ok-kind.kind) c.in_ok-kind.length) (sym same)
-    (subst (λ h. IsFoundOf h (known_in view new.file) (is_some new.backing) c.args.offset c.args.max (found_kind c.in_ok-kind.kind) c.in_ok-kind.length) (sym (known_header (state_in view new.file p) guarded)) found)
+    (subst (λ h. IsFoundOf h (known_in view new.file) (is_some new.backing) c.args.offset c.args.max (found_kind c.in_ok-kind.kind) c.in_ok-kind.length) (sym (known_header (state_in view new.file p) crash_invariant)) found)
 
 pub returns-in_err-kind-clause-known : goal.returns-in_err-kind-clause-known
 returns-in_err-kind-clause-known g c = λ out sound.

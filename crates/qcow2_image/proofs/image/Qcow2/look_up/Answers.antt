@@ -38,10 +38,10 @@ pub returns-in-None-clause-found : goal.returns-in-None-clause-found
 returns-in-None-clause-found g c = λ p out sound.
     let h = c.args.self.now.file.header.fields in
     let known = known_in g.S.Storage.view c.args.self.now.file in
-    let guarded = sound.file.caches.kept.kept.guarded in
-    let sizes = Sizes-from h known (IsTop-top h (contents_in g.S.Storage.view c.args.self.now.file) known guarded.same_top guarded.top).header_reads in
+    let crash_invariant = sound.file.caches.kept.kept.crash_invariant in
+    let sizes = Sizes-from h known (IsTop-top h (contents_in g.S.Storage.view c.args.self.now.file) known crash_invariant.same_top crash_invariant.top).header_reads in
     let names : NamesL2Table g.S.Storage.view c.args.self.now c.args.offset None = subst (NamesL2Table g.S.Storage.view c.args.self.now c.args.offset) c.in-None.is (c.in_ok-l2_cluster.ensures.names sound.l1_table) in
-    let none : table_at h known (l1_index_of h c.args.offset) ≡ 0 = ap host_offset (sym (guarded.same_top.l1 (l1_index_of h c.args.offset))) ∙ names in
+    let none : table_at h known (l1_index_of h c.args.offset) ≡ 0 = ap host_offset (sym (crash_invariant.same_top.l1 (l1_index_of h c.args.offset))) ∙ names in
     let limit : c.min-max.result ≡ min (min c.args.max (h.size - c.args.offset)) (rest_of_table h c.args.offset) =
     let a = c.min-max.ensures in let b = c.min.ensures in let s = c.size-size.ensures in let r = c.rest_of_table.ensures.value in omega arith in
     record {
@@ -60,13 +60,13 @@ returns-in_ok-l2_get_or_insert-in-Some-clause-found g c = λ p out sound.
     let kept = caches_moved g.S.Storage.view g.F.BackingDisk.backing c.args.self.now out p sound c.l2_get_or_insert.new.storage c.l2_get_or_insert.new.self stay c.l2_get_or_insert.ensures.marks.room
     c.l2_get_or_insert.ensures.marks.pins in
     let image = with_caches g.S.Storage.view g.F.BackingDisk.backing c.args.self.now out p sound c.l2_get_or_insert.new.storage c.l2_get_or_insert.new.self in
-    let guarded = sound.file.caches.kept.kept.guarded in
+    let crash_invariant = sound.file.caches.kept.kept.crash_invariant in
     let known = known_in g.S.Storage.view image.file in
-    let sizes = Sizes-from h (known_in g.S.Storage.view c.args.self.now.file) (IsTop-top h (contents_in g.S.Storage.view c.args.self.now.file) (known_in g.S.Storage.view c.args.self.now.file) guarded.same_top guarded.top).header_reads in
+    let sizes = Sizes-from h (known_in g.S.Storage.view c.args.self.now.file) (IsTop-top h (contents_in g.S.Storage.view c.args.self.now.file) (known_in g.S.Storage.view c.args.self.now.file) crash_invariant.same_top crash_invariant.top).header_reads in
     let names : NamesL2Table g.S.Storage.view c.args.self.now c.args.offset (Some c.in-Some.table) =
     subst (NamesL2Table g.S.Storage.view c.args.self.now c.args.offset) c.in-Some.is (c.in_ok-l2_cluster.ensures.names sound.l1_table) in
     let there : table_at h known (l1_index_of h c.args.offset) ≡ table_at h (contents_in g.S.Storage.view c.args.self.now.file) (l1_index_of h c.args.offset) =
-    ap (λ b. table_at h b (l1_index_of h c.args.offset)) stay.known ∙ ap host_offset (sym (guarded.same_top.l1 (l1_index_of h c.args.offset))) in
+    ap (λ b. table_at h b (l1_index_of h c.args.offset)) stay.known ∙ ap host_offset (sym (crash_invariant.same_top.l1 (l1_index_of h c.args.offset))) in
     let limit : c.min-max.result ≡ min (min c.args.max (h.size - c.args.offset)) (rest_of_table h c.args.offset) =
     let a = c.min-max.ensures in let b = c.min.ensures in let s = c.size-size.ensures in let r = c.rest_of_table.ensures.value in omega arith in
     if_ok c.run_in_table.result

@@ -4,7 +4,7 @@ use Rattle.qcow2_alloc.specs.ImageError.{of_storage}
 use Rattle.qcow2_alloc.specs.ImageStorage.{storage_of}
 use Rattle.qcow2_alloc.proofs.AllocationSteps.{handed_on}
 use Rattle.qcow2_image.specs.LongerTables.{NamesTable}
-use Rattle.qcow2_image.proofs.Grow.NamedL1.{named_broke, named_so}
+use Rattle.qcow2_image.proofs.Grow.NamedL1.{named_interruption, named_so}
 use Rattle.qcow2_image.proofs.image.Qcow2.name_l1_table.Goals as goal
 
 pub returns-in_err-write_l1_table_pointer-clause-names : goal.returns-in_err-write_l1_table_pointer-clause-names
@@ -16,7 +16,7 @@ returns-in_err-write_l1_table_pointer-clause-names g c = λ p out sound noted re
     let at = c.offset-offset.ensures ∙ ap (λ n. c.args.cluster * 2 ^ n) c.cluster_bits.ensures.value in
     handed_on (NamesTable view g.F.BackingDisk.backing p old (record old { file = record old.file { storage = c.write_l1_table_pointer.new.self; header = c.set_l1_table.new.self } }) out t c.args.cluster)
     c.from_residual-in_err-write_l1_table_pointer.result (of_storage c.in_err-write_l1_table_pointer.field-0.0) c.from_residual-in_err-write_l1_table_pointer.ensures
-    (named_broke view g.F.BackingDisk.backing out p old t c.args.cluster sound ready c.requires few c.offset-offset.result c.len.result c.set_l1_table.new.self at c.len.ensures.value c.in_ok-set_l1_table.ensures.ok c.write_l1_table_pointer.result
+    (named_interruption view g.F.BackingDisk.backing out p old t c.args.cluster sound ready c.requires few c.offset-offset.result c.len.result c.set_l1_table.new.self at c.len.ensures.value c.in_ok-set_l1_table.ensures.ok c.write_l1_table_pointer.result
     c.write_l1_table_pointer.new.self (storage_of c.will_write.new.self) c.will_write.ensures.storage c.write_l1_table_pointer.ensures.written c.write_l1_table_pointer.ensures.calls c.in_err-write_l1_table_pointer.field-0.0 noted)
 
 pub returns-clause-names : goal.returns-clause-names

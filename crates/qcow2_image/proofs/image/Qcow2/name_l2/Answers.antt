@@ -2,7 +2,7 @@ use Rattle.qcow2_alloc.specs.ImageError.{of_storage}
 use Rattle.qcow2_alloc.specs.ImageStorage.{storage_of}
 use Rattle.qcow2_alloc.proofs.AllocationSteps.{handed_on, fault_of_storage}
 use Rattle.qcow2_image.specs.NewTables.{NamesNew}
-use Rattle.qcow2_image.proofs.Prepare.Naming.{endures_named, named_so}
+use Rattle.qcow2_image.proofs.Prepare.Naming.{safe_throughout_named, named_so}
 use Rattle.qcow2_image.proofs.image.Qcow2.name_l2.Goals as goal
 
 pub returns-in_err-write_l1_entry-clause-names : goal.returns-in_err-write_l1_entry-clause-names
@@ -12,7 +12,7 @@ returns-in_err-write_l1_entry-clause-names g c = λ p out table sound may noted 
     c.from_residual.result (of_storage c.in_err-write_l1_entry.field-0.0) c.from_residual.ensures (record {
       fault = fault_of_storage c.in_err-write_l1_entry.field-0.0;
       noted = λ is. noted;
-      since = endures_named g.S.Storage.view g.F.BackingDisk.backing old out p c.args.index c.args.cluster c.enter_l2_table.new.self table sound may says whole ready c.requires.within c.requires.nameable c.enter_l2_table.ensures.rest
+      since = safe_throughout_named g.S.Storage.view g.F.BackingDisk.backing old out p c.args.index c.args.cluster c.enter_l2_table.new.self table sound may says whole ready c.requires.within c.requires.nameable c.enter_l2_table.ensures.rest
           c.enter_l2_table.ensures.entry c.enter_l2_table.ensures.offset c.enter_l2_table.ensures.copied c.write_l1_entry.ensures.fits c.write_l1_entry.new.self (storage_of c.will_write.new.self) c.write_l1_entry.result c.will_write.ensures.storage
           c.write_l1_entry.ensures.written c.write_l1_entry.ensures.calls;
     })

@@ -10,8 +10,8 @@ use Rattle.qcow2_image.specs.declared.image.Qcow2.{Qcow2}
 use Rattle.qcow2_image.specs.Ranges.{TakesDataAt}
 use Rattle.qcow2_image.specs.UnseenSteps.{UnseenFillingStep, RefusedFillingStep, IsGained, pending_with_listed}
 use Rattle.qcow2_image.specs.ImageInvariant.{run_of, new_data_by, over_all}
-use Rattle.qcow2_image.proofs.Prepare.Gaining.{following_on, goes_left, taken_new_data, taken_unused, still_holds, filled_as}
-use Rattle.qcow2_image.proofs.Prepare.Filling.{goes_then}
+use Rattle.qcow2_image.proofs.Prepare.Gaining.{listed_after_on, image_step_left, taken_new_data, taken_unused, still_holds, filled_as}
+use Rattle.qcow2_image.proofs.Prepare.Filling.{image_step_then}
 use Rattle.qcow2_image.proofs.image.Qcow2.new_cluster_at.Goals as goal
 
 pub returns-in_default-clause-gains : goal.returns-in_default-clause-gains
@@ -35,8 +35,8 @@ returns-in-Ok-clause-gains g c = λ p out sound holds.
       one = took.1;
       kind = took.2;
       unused = unused;
-      goes = subst (λ q. UnseenFillingStep view below p (with_new_data q (run_of n)) old new out) (following_on view below out p old mid new c.fill_cluster.ensures.list)
-          (goes_then view below out old mid new p new_data new_data took.3 (c.fill_cluster.ensures.goes new_data out took.3.sound (still_holds view below out old mid p n took.1 holds took.3) some free));
+      image_step = subst (λ q. UnseenFillingStep view below p (with_new_data q (run_of n)) old new out) (listed_after_on view below out p old mid new c.fill_cluster.ensures.list)
+          (image_step_then view below out old mid new p new_data new_data took.3 (c.fill_cluster.ensures.image_step new_data out took.3.sound (still_holds view below out old mid p n took.1 holds took.3) some free));
       filled = λ covered.
           let h = old.file.header.fields in
           let hm = mid.file.header.fields in
@@ -58,7 +58,7 @@ returns-in-Err-clause-gains g c = λ p out sound holds.
     let new_data = with_new_data (pending_with_listed p old mid) (run_of n) in
     let some : 0 < new_data.new_data c.args.cluster = subst (λ k. 0 < new_data.new_data k) took.0 (taken_new_data view below out old mid p n took.1 holds took.3) in
     let free : over_all new_data_by out c.args.cluster ≡ 0 = ap (over_all new_data_by out) (sym took.0) ∙ taken_unused view below out old mid p n took.1 holds took.3 in
-    let filled = goes_then view below out old mid new p new_data new_data took.3 (c.fill_cluster.ensures.goes new_data out took.3.sound (still_holds view below out old mid p n took.1 holds took.3) some free) in
-    let gone = subst (λ q. UnseenFillingStep view below p (with_new_data q (run_of n)) old new out) (following_on view below out p old mid new c.fill_cluster.ensures.list) filled in
+    let filled = image_step_then view below out old mid new p new_data new_data took.3 (c.fill_cluster.ensures.image_step new_data out took.3.sound (still_holds view below out old mid p n took.1 holds took.3) some free) in
+    let gone = subst (λ q. UnseenFillingStep view below p (with_new_data q (run_of n)) old new out) (listed_after_on view below out p old mid new c.fill_cluster.ensures.list) filled in
     subst (λ (image : Qcow2 _ _). RefusedFillingStep view below p old image out c.in-Err.refusal) (sym c.hand_back.ensures)
-    (inl (goes_left view below out old new p n took.1 took.2 gone))
+    (inl (image_step_left view below out old new p n took.1 took.2 gone))

@@ -33,7 +33,7 @@ returns-in-Ok-load_tables-clause-opens g c =
     let there = c.in-Ok.ensures.ok honest in
     let is = opened view below image surplus refl tt (c.in-Ok-load_tables.ensures.loaded (nothing_pending surplus)
     (new_tables_new view below contents (record { alloc = c.args.alloc; storage = c.load.new.storage; header = c.in-Ok.header; caches = c.in-Ok-new.caches; free_list = c.new-2.result }) consistent
-    (read.honest honest) (read.same honest) there new.sound new.known new.settled (new.room (omega arith) (omega arith)) new.pins c.new-2.ensures)) in
+    (read.honest honest) (read.same honest) there new.sound new.known new.named_blocks (new.room (omega arith) (omega arith)) new.pins c.new-2.ensures)) in
     record { opened = is.0; surplus = is.1 ∙ ap (λ h. surplus_of h (byte_at contents)) there.fields })
 
 pub returns-in-Err-clause-since : goal.returns-in-Err-clause-since
@@ -58,7 +58,7 @@ returns-in-Ok-load_tables-clause-since g c =
     let file : ImageFile _ = record { alloc = c.args.alloc; storage = c.load.new.storage; header = c.in-Ok.header; caches = c.in-Ok-new.caches; free_list = c.new-2.result } in
     kept_opened view below c.load.result c.new-storage.result.storage c.args.metadata c.load_tables.new.file.storage.storage file c.load_tables.new.file c.new-storage.ensures.storage refl read
     (λ honest consistent. c.load_tables.ensures.since (nothing_pending (surplus_of c.in-Ok.header.fields (byte_at contents)))
-    (new_tables_new view below contents file consistent (read.honest honest) (read.same honest) (c.in-Ok.ensures.ok honest) new.sound new.known new.settled (new.room (omega arith) (omega arith)) new.pins c.new-2.ensures))
+    (new_tables_new view below contents file consistent (read.honest honest) (read.same honest) (c.in-Ok.ensures.ok honest) new.sound new.known new.named_blocks (new.room (omega arith) (omega arith)) new.pins c.new-2.ensures))
 
 pub returns-in-Err-load_tables-clause-since : goal.returns-in-Err-load_tables-clause-since
 returns-in-Err-load_tables-clause-since g c =
@@ -70,7 +70,7 @@ returns-in-Err-load_tables-clause-since g c =
     let file : ImageFile _ = record { alloc = c.args.alloc; storage = c.load.new.storage; header = c.in-Ok.header; caches = c.in-Ok-new.caches; free_list = c.new-2.result } in
     kept_opened view below c.load.result c.new-storage.result.storage c.args.metadata c.into_storage.result file c.load_tables.new.file c.new-storage.ensures.storage c.into_storage.ensures read
     (λ honest consistent. c.load_tables.ensures.since (nothing_pending (surplus_of c.in-Ok.header.fields (byte_at contents)))
-    (new_tables_new view below contents file consistent (read.honest honest) (read.same honest) (c.in-Ok.ensures.ok honest) new.sound new.known new.settled (new.room (omega arith) (omega arith)) new.pins c.new-2.ensures))
+    (new_tables_new view below contents file consistent (read.honest honest) (read.same honest) (c.in-Ok.ensures.ok honest) new.sound new.known new.named_blocks (new.room (omega arith) (omega arith)) new.pins c.new-2.ensures))
 
 pub returns-in-Ok-load_tables-clause-names : goal.returns-in-Ok-load_tables-clause-names
 returns-in-Ok-load_tables-clause-names g c =

@@ -11,9 +11,9 @@ returns-then-is_special-clause-tells g c = λ p out sound is.
     let view = g.S.Storage.view in
     let new = c.look_up.new.self in
     let known = known_in view new.file in
-    let guarded = (c.in_ok-kind.ensures.keeps p out sound).sound.file.caches.kept.kept.guarded in
+    let crash_invariant = (c.in_ok-kind.ensures.keeps p out sound).sound.file.caches.kept.kept.crash_invariant in
     let found : IsFoundIn known (is_some new.backing) c.args.offset c.args.length (found_kind c.in_ok-kind.kind) c.in_ok-kind._length =
-    subst (λ h. IsFoundOf h known (is_some new.backing) c.args.offset c.args.length (found_kind c.in_ok-kind.kind) c.in_ok-kind._length) (sym (known_header (state_in view new.file p) guarded)) (c.in_ok-kind.ensures.found p out sound) in
+    subst (λ h. IsFoundOf h known (is_some new.backing) c.args.offset c.args.length (found_kind c.in_ok-kind.kind) c.in_ok-kind._length) (sym (known_header (state_in view new.file p) crash_invariant)) (c.in_ok-kind.ensures.found p out sound) in
     subst (λ k. IsCompressedAt k c.args.offset) (c.in_ok-kind.ensures.known p out sound)
     (found_special known (is_some new.backing) c.args.offset c.args.length c.in_ok-kind._length (found_kind c.in_ok-kind.kind) found (sym c.is_special.ensures ∙ c.if-is_special.true))
 
@@ -22,8 +22,8 @@ returns-clause-tells g c = λ p out sound is.
     let view = g.S.Storage.view in
     let new = c.look_up.new.self in
     let known = known_in view new.file in
-    let guarded = (c.in_ok-kind.ensures.keeps p out sound).sound.file.caches.kept.kept.guarded in
+    let crash_invariant = (c.in_ok-kind.ensures.keeps p out sound).sound.file.caches.kept.kept.crash_invariant in
     let found : IsFoundIn known (is_some new.backing) c.args.offset c.args.length (found_kind c.in_ok-kind.kind) c.in_ok-kind._length =
-    subst (λ h. IsFoundOf h known (is_some new.backing) c.args.offset c.args.length (found_kind c.in_ok-kind.kind) c.in_ok-kind._length) (sym (known_header (state_in view new.file p) guarded)) (c.in_ok-kind.ensures.found p out sound) in
+    subst (λ h. IsFoundOf h known (is_some new.backing) c.args.offset c.args.length (found_kind c.in_ok-kind.kind) c.in_ok-kind._length) (sym (known_header (state_in view new.file p) crash_invariant)) (c.in_ok-kind.ensures.found p out sound) in
     found_plain known (is_some new.backing) c.args.offset c.args.length c.in_ok-kind._length (found_kind c.in_ok-kind.kind) found (sym c.is_special.ensures ∙ c.if-is_special.false)
     (subst (λ k. IsCompressedAt k c.args.offset) (sym (c.in_ok-kind.ensures.known p out sound)) is)

@@ -15,7 +15,7 @@ returns-in-Err-clause-readies g c = λ some out sound.
 pub returns-in-Err-clause-emptied : goal.returns-in-Err-clause-emptied
 returns-in-Err-clause-emptied g c = λ some out sound. ⊎_elim
     (λ unseen. c.free_after.ensures.emptied (subst IsTrue (sym c.prepare_range.ensures.stays.image.writable) c.requires.writable) out unseen.sound)
-    (λ broke. inl (subst IsFault (sym (c.free_after.ensures.fault broke.fault).0) broke.fault))
+    (λ interruption. inl (subst IsFault (sym (c.free_after.ensures.fault interruption.fault).0) interruption.fault))
     (c.in-Err.ensures.readies some out sound)
 
 pub returns-in-Err-clause-taken : goal.returns-in-Err-clause-taken

@@ -16,7 +16,7 @@ use Rattle.qcow2_image.specs.CallParts.{IsExisting}
 use Rattle.qcow2_image.specs.ImageInvariant.{meaning, pending_in}
 use Rattle.qcow2_image.proofs.Call.Called.{listed}
 use Rattle.qcow2_image.proofs.Call.Answers.{prepare_usable}
-use Rattle.qcow2_image.proofs.Prepare.PrepareCalls.{prepares_nothing, prepares_settled}
+use Rattle.qcow2_image.proofs.Prepare.PrepareCalls.{prepares_nothing, prepares_with_outcome}
 use Rattle.qcow2_image.proofs.Call.Refused.{prepares_after, stays_kept}
 use Rattle.qcow2_image.proofs.Call.FaultCounts.{counted_marked}
 use Rattle.qcow2_image.proofs.Call.Marked.{marks_memory, may_mark}
@@ -40,7 +40,7 @@ returns-clause-sees g c =
     let some : 0 < c.args.length = let isnt = c.if-length-eq0.false in omega arith in
     subst (λ (image : Qcow2 _ _). Prepares view below old image c.args.offset c.args.length c.args.overwrite c.mark_failure.result) (sym c.mark_failure.ensures.rest)
     (subst (λ (x : Result _ _). Prepares view below old (record new { is_failed = is_failed c.mark_failure.new.self }) c.args.offset c.args.length c.args.overwrite x) (sym c.mark_failure.ensures.answer)
-    (prepares_settled view below old (prepare_usable old c.args.offset c.args.length c.check_prepare.result c.in_ok-check_prepare.was c.check_prepare.ensures.refusal) new (is_failed c.mark_failure.new.self)
+    (prepares_with_outcome view below old (prepare_usable old c.args.offset c.args.length c.check_prepare.result c.in_ok-check_prepare.was c.check_prepare.ensures.refusal) new (is_failed c.mark_failure.new.self)
     (c.prepare-prepared.ensures.stays.image.number ∙ c.begin.ensures.stays.image.number) c.args.offset c.args.length c.args.overwrite r (may_mark c.prepare-prepared.new.self c.mark_failure.new.self c.prepare-prepared.result c.mark_failure.ensures.marks) (marks_memory c.prepare-prepared.new.self c.mark_failure.new.self c.prepare-prepared.new.self c.prepare-prepared.result c.mark_failure.ensures.marks (ap (λ (i : Qcow2 _ _). i.file) c.mark_failure.ensures.rest))
     (λ out sound.
     let kept = stays_kept view below out old mid sound (listed view below out old mid (λ s. record { keeps = c.begin.ensures.keeps (pending_in view below old out) out s; list = c.begin.ensures.list }) sound) in

@@ -5,12 +5,12 @@ use Rattle.qcow2_metadata.specs.Header.{cluster_size}
 use Rattle.qcow2_metadata.specs.declared.header.HeaderFields.{HeaderFields}
 use Rattle.qcow2_alloc.specs.ImageFile.{KeepsHeader, known_in}
 use Rattle.qcow2_alloc.proofs.AllocationSteps.{handed_on}
-use Rattle.qcow2_alloc.proofs.Following.{header_format, header_then}
+use Rattle.qcow2_alloc.proofs.ListedAfter.{header_format, header_then}
 use Rattle.qcow2_image.specs.declared.image.Qcow2.{Qcow2}
 use Rattle.qcow2_image.specs.CallParts.{IsReadied, PreparesRange}
 use Rattle.qcow2_image.proofs.Call.Refused.{back_refused}
 use Rattle.qcow2_image.proofs.Free.{free_places}
-use Rattle.qcow2_image.proofs.Prepare.Onward.{let_go_broken, refused_free}
+use Rattle.qcow2_image.proofs.Prepare.Onward.{release_prepared_broken, refused_free}
 use Rattle.qcow2_image.proofs.Call.FaultCounts.{counted_as, counted_still}
 use Rattle.qcow2_image.proofs.image.Qcow2.prepare_in.Goals as goal
 
@@ -34,7 +34,7 @@ returns-in-Ok-clause-readies g c = λ out sound holds k free.
     let q = c.prepare_rest.new.prepared in
     let first = c.in_ok-prepared.ensures.first in
     let ready = subst (λ o. IsReadied view below old mid out k o c.args.length c.args.overwrite p) (sym first.guest) (c.in_ok-prepared.ensures.readies out sound holds k free) in
-    let on = c.in-Ok.ensures.goes old out k free first.under ready in
+    let on = c.in-Ok.ensures.image_step old out k free first.under ready in
     subst (λ o. IsReadied view below old new out k o c.args.length c.args.overwrite q) (c.in-Ok.ensures.longer.guest ∙ first.guest) on.0
 
 pub returns-in-Err-clause-readies : goal.returns-in-Err-clause-readies
@@ -49,9 +49,9 @@ returns-in-Err-clause-readies g c = λ out sound holds.
     let first = c.in_ok-prepared.ensures.first in
     let placed = (free_places view below).free old [] out sound in
     let ready = subst (λ o. IsReadied view below old mid (None ∷ out) 0 o c.args.length c.args.overwrite p) (sym first.guest) (c.in_ok-prepared.ensures.readies (None ∷ out) placed holds 0 refl) in
-    let broken = c.in-Err.ensures.goes old (None ∷ out) 0 refl first.under ready in
-    refused_free view below out old c.let_go.new.self c.in-Err.refusal
-    (let_go_broken view below old new c.let_go.new.self (None ∷ out) 0 c.args.length c.args.overwrite q c.in-Err.refusal refl c.let_go.ensures.rest c.let_go.ensures.sees broken)
+    let broken = c.in-Err.ensures.image_step old (None ∷ out) 0 refl first.under ready in
+    refused_free view below out old c.release_prepared.new.self c.in-Err.refusal
+    (release_prepared_broken view below old new c.release_prepared.new.self (None ∷ out) 0 c.args.length c.args.overwrite q c.in-Err.refusal refl c.release_prepared.ensures.rest c.release_prepared.ensures.sees broken)
 
 pub returns-in-Ok-clause-reaches : goal.returns-in-Ok-clause-reaches
 returns-in-Ok-clause-reaches g c = λ out k free sound holds.
@@ -65,7 +65,7 @@ returns-in-Ok-clause-reaches g c = λ out k free sound holds.
     let first = c.in_ok-prepared.ensures.first in
     let longer = c.in-Ok.ensures.longer in
     let ready = subst (λ o. IsReadied view below old mid out k o c.args.length c.args.overwrite p) (sym first.guest) (c.in_ok-prepared.ensures.readies out sound holds k free) in
-    let on = c.in-Ok.ensures.goes old out k free first.under ready in
+    let on = c.in-Ok.ensures.image_step old out k free first.under ready in
     let size : cluster_size new.file.header.fields ≡ cluster_size old.file.header.fields = ap (λ (x : HeaderFields). cluster_size x) (header_format old.file.header new.file.header (header_then old.file.header mid.file.header new.file.header c.in_ok-prepared.ensures.header c.in-Ok.ensures.header)) in
     let rest : cluster_size new.file.header.fields - c.args.offset % cluster_size new.file.header.fields ≡ p.length = ap (λ s. s - c.args.offset % s) size ∙ sym first.rest in
     let same = ap (λ s. cover new.file.header.fields (known_in view new.file) (c.args.offset / s)) size ∙ sym (on.0.covers (c.args.offset / cluster_size old.file.header.fields)) in
@@ -84,8 +84,8 @@ returns-in-Err-clause-faults g c =
     let below = g.F.BackingDisk.backing in
     let old = c.args.self.now in
     let e = c.in-Err.refusal in
-    counted_still view below old c.prepare_rest.new.self c.let_go.new.self (Err e)
-    (counted_as view below old c.prepare_first.new.self c.prepare_rest.new.self c.prepare_rest.result e c.prepare_first.ensures.faults.no_fewer c.prepare_rest.ensures.faults c.in-Err.is) c.let_go.ensures.faults
+    counted_still view below old c.prepare_rest.new.self c.release_prepared.new.self (Err e)
+    (counted_as view below old c.prepare_first.new.self c.prepare_rest.new.self c.prepare_rest.result e c.prepare_first.ensures.faults.no_fewer c.prepare_rest.ensures.faults c.in-Err.is) c.release_prepared.ensures.faults
 
 pub returns-in-Ok-clause-header : goal.returns-in-Ok-clause-header
 returns-in-Ok-clause-header g c = header_then c.args.self.now.file.header c.prepare_first.new.self.file.header c.prepare_rest.new.self.file.header c.prepare_first.ensures.header c.prepare_rest.ensures.header
@@ -93,5 +93,5 @@ returns-in-Ok-clause-header g c = header_then c.args.self.now.file.header c.prep
 pub returns-in-Err-clause-header : goal.returns-in-Err-clause-header
 returns-in-Err-clause-header g c =
     let old = c.args.self.now in
-    subst (λ v. KeepsHeader old.file.header v) (sym (ap (λ (i : Qcow2 _ _). i.file.header) c.let_go.ensures.rest.rest))
+    subst (λ v. KeepsHeader old.file.header v) (sym (ap (λ (i : Qcow2 _ _). i.file.header) c.release_prepared.ensures.rest.rest))
     (header_then old.file.header c.prepare_first.new.self.file.header c.prepare_rest.new.self.file.header c.prepare_first.ensures.header c.prepare_rest.ensures.header)

@@ -8,7 +8,7 @@ use Rattle.qcow2_image.specs.CallParts.{IsReadied, Readies}
 use Rattle.qcow2_image.specs.ImageInvariant.{pending_in}
 use Rattle.qcow2_image.specs.Ranges.{IsFirst}
 use Rattle.qcow2_image.specs.UnseenSteps.{UnseenFillingStep}
-use Rattle.qcow2_image.proofs.Prepare.Gaining.{following_same}
+use Rattle.qcow2_image.proofs.Prepare.Gaining.{listed_after_same}
 use Rattle.qcow2_image.proofs.Prepare.KeptShares.{first_alone, readied_kept}
 use Rattle.qcow2_image.proofs.image.Qcow2.prepare_kept.Goals as goal
 
@@ -19,10 +19,10 @@ returns-in_err-fill_kept-clause-readies g c = λ out sound holds unpinned covere
     let old = c.args.self.now in
     let new = c.fill_kept.new.self in
     let p = pending_in view below old out in
-    let goes = c.fill_kept.ensures.goes p out sound (λ x. omega arith) (first_alone view below out old sound c.args.offset c.args.table c.args.host holds unpinned covered) in
+    let image_step = c.fill_kept.ensures.image_step p out sound (λ x. omega arith) (first_alone view below out old sound c.args.offset c.args.table c.args.host holds unpinned covered) in
     let list = ap (λ (image : Qcow2 _ _). image.file.free_list) c.fill_kept.ensures.rest in
     handed_on (λ r. Readies view below old new out c.args.offset c.args.length c.args.overwrite r) c.from_residual.result c.in_err-fill_kept.field-0.0 c.from_residual.ensures
-    (inl (subst (λ q. UnseenFillingStep view below p q old new out) (sym (following_same view below out p old new list)) goes))
+    (inl (subst (λ q. UnseenFillingStep view below p q old new out) (sym (listed_after_same view below out p old new list)) image_step))
 
 pub returns-clause-readies : goal.returns-clause-readies
 returns-clause-readies g c = λ out sound holds unpinned covered k free.
@@ -32,9 +32,9 @@ returns-clause-readies g c = λ out sound holds unpinned covered k free.
     let mid = c.fill_kept.new.self in
     let p = pending_in view below old out in
     let rest = c.fill_kept.ensures.rest in
-    let goes = c.fill_kept.ensures.goes p out sound (λ x. omega arith) (first_alone view below out old sound c.args.offset c.args.table c.args.host holds unpinned covered) in
+    let image_step = c.fill_kept.ensures.image_step p out sound (λ x. omega arith) (first_alone view below out old sound c.args.offset c.args.table c.args.host holds unpinned covered) in
     subst (λ (x : Prepared). IsReadied view below old c.prepare_at.new.self out k c.args.offset c.args.length c.args.overwrite x) (sym c.prepare_at.ensures.value)
-    (readied_kept view below out old sound c.args.offset c.args.table c.args.host holds unpinned covered mid goes (ap (λ (image : Qcow2 _ _). image.file.caches) rest) (ap (λ (image : Qcow2 _ _). image.file.free_list) rest)
+    (readied_kept view below out old sound c.args.offset c.args.table c.args.host holds unpinned covered mid image_step (ap (λ (image : Qcow2 _ _). image.file.caches) rest) (ap (λ (image : Qcow2 _ _). image.file.free_list) rest)
     c.prepare_at.result c.prepare_at.ensures.share c.requires.reach k c.args.length c.args.overwrite free (c.in_ok-fill_kept.ensures.fills p out sound covered) c.prepare_at.new.self c.prepare_at.ensures.pins)
 
 pub returns-clause-first : goal.returns-clause-first

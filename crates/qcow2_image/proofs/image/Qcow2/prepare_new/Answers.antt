@@ -2,7 +2,7 @@ use Rattle.std.proofs.Common.{rules, ◌≡◌, ◌-◌, ◌*◌, ◌%◌, ◌^�
 use Rattle.qcow2_metadata.specs.declared.header.HeaderFields.{HeaderFields}
 use Rattle.qcow2_metadata.specs.Header.{cluster_size}
 use Rattle.qcow2_laws.specs.Unseen.{KeepsFormat}
-use Rattle.qcow2_alloc.proofs.Following.{header_format}
+use Rattle.qcow2_alloc.proofs.ListedAfter.{header_format}
 use Rattle.qcow2_laws.specs.Changes.{with_new_data}
 use Rattle.qcow2_alloc.proofs.AllocationSteps.{handed_on}
 use Rattle.qcow2_image.specs.declared.image.Qcow2.{Qcow2}
@@ -12,8 +12,8 @@ use Rattle.qcow2_image.specs.declared.prepared.Share.{Share}
 use Rattle.qcow2_image.specs.Ranges.{IsFirst}
 use Rattle.qcow2_image.specs.UnseenSteps.{RefusedFillingStep, UnseenFillingStep, HoldsAll, pending_with_listed}
 use Rattle.qcow2_image.specs.ImageInvariant.{run_of, pending_in}
-use Rattle.qcow2_image.proofs.Prepare.Gaining.{following_on, goes_left, still_holds}
-use Rattle.qcow2_image.proofs.Prepare.Filling.{goes_kept, goes_then}
+use Rattle.qcow2_image.proofs.Prepare.Gaining.{listed_after_on, image_step_left, still_holds}
+use Rattle.qcow2_image.proofs.Prepare.Filling.{image_step_kept, image_step_then}
 use Rattle.qcow2_image.proofs.Prepare.Owning.{refused as any_refusal}
 use Rattle.qcow2_image.proofs.Prepare.ReadyingNew.{back_none, readied_new}
 use Rattle.qcow2_image.proofs.image.Qcow2.prepare_new.Goals as goal
@@ -48,8 +48,8 @@ returns-in-Ok-clause-readies g c = λ out sound holds unpinned covered k free.
     let host_is = c.value-host.ensures ∙ c.offset.ensures ∙ ap (λ x. x * 2 ^ c.cluster_bits-bits.result) c.cluster.ensures ∙ ap (λ b. c.in_ok-pending.pending.first_cluster * 2 ^ b) bits in
     subst (λ (x : Prepared). IsReadied view below old c.prepare_at.new.self out k c.args.offset c.args.length c.args.overwrite x) (sym c.prepare_at.ensures.value)
     (readied_new view below out old filled mid n c.args.old.now c.requires.reach c.requires.other c.hand_back.new.list c.in_ok-old_data.old_data taken_is c.in_ok-old_data.ensures.list c.prepare_at.result c.prepare_at.ensures.share k c.args.offset c.args.length c.args.table c.value-host.result c.args.overwrite free sound holds unpinned covered gained c.in_ok-pending.ensures.nameable
-    (c.in-Ok.ensures.keeps (with_new_data (pending_with_listed p old filled) (run_of c.in_ok-pending.pending)) out gained.goes.sound) c.in-Ok.ensures.list c.in-Ok.ensures.cached host_is
-    (c.in-Ok.ensures.contents (with_new_data (pending_with_listed p old filled) (run_of c.in_ok-pending.pending)) out gained.goes.sound) c.prepare_at.new.self c.prepare_at.ensures.pins)
+    (c.in-Ok.ensures.keeps (with_new_data (pending_with_listed p old filled) (run_of c.in_ok-pending.pending)) out gained.image_step.sound) c.in-Ok.ensures.list c.in-Ok.ensures.cached host_is
+    (c.in-Ok.ensures.contents (with_new_data (pending_with_listed p old filled) (run_of c.in_ok-pending.pending)) out gained.image_step.sound) c.prepare_at.new.self c.prepare_at.ensures.pins)
 
 pub returns-in-Err-clause-readies : goal.returns-in-Err-clause-readies
 returns-in-Err-clause-readies g c = λ out sound holds unpinned covered.
@@ -63,11 +63,11 @@ returns-in-Err-clause-readies g c = λ out sound holds unpinned covered.
     let new_data = with_new_data (pending_with_listed p old filled) (run_of n) in
     let all_new_data : HoldsAll view below p out = λ x. omega arith in
     let gained = c.in_ok-pending.ensures.gains p out sound all_new_data in
-    let still = still_holds view below out old filled p n gained.one all_new_data gained.goes in
-    let loaded = goes_then view below out old filled mid p new_data new_data gained.goes (goes_kept view below out filled mid new_data new_data gained.goes.sound still still (c.in-Err.ensures.keeps new_data out gained.goes.sound)) in
-    let gone = subst (λ q. UnseenFillingStep view below p (with_new_data q (run_of n)) old mid out) (following_on view below out p old filled mid c.in-Err.ensures.list) loaded in
+    let still = still_holds view below out old filled p n gained.one all_new_data gained.image_step in
+    let loaded = image_step_then view below out old filled mid p new_data new_data gained.image_step (image_step_kept view below out filled mid new_data new_data gained.image_step.sound still still (c.in-Err.ensures.keeps new_data out gained.image_step.sound)) in
+    let gone = subst (λ q. UnseenFillingStep view below p (with_new_data q (run_of n)) old mid out) (listed_after_on view below out p old filled mid c.in-Err.ensures.list) loaded in
     subst (λ (image : Qcow2 _ _). RefusedFillingStep view below p old image out c.in-Err.refusal) (sym c.hand_back-in-Err.ensures)
-    (inl (goes_left view below out old mid p n gained.one gained.kind gone))
+    (inl (image_step_left view below out old mid p n gained.one gained.kind gone))
 
 pub returns-in-Ok-clause-first : goal.returns-in-Ok-clause-first
 returns-in-Ok-clause-first g c =

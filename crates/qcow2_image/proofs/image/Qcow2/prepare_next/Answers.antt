@@ -2,18 +2,18 @@ use Rattle.std.proofs.Common.{◌≡◌, ◌+◌, min, sym, ap, ◌∙◌, subst
 use Rattle.std.specs.Prelude.{Ok}
 use Rattle.qcow2_metadata.specs.Header.{cluster_size}
 use Rattle.qcow2_metadata.specs.declared.header.HeaderFields.{HeaderFields}
-use Rattle.qcow2_alloc.proofs.Following.{header_format}
+use Rattle.qcow2_alloc.proofs.ListedAfter.{header_format}
 use Rattle.qcow2_image.specs.declared.prepared.Prepared.{Prepared}
 use Rattle.qcow2_image.specs.Ranges.{FindsBehind, IsExtended}
 use Rattle.qcow2_image.proofs.Prepare.Extending.{extended}
 use Rattle.qcow2_image.proofs.image.Qcow2.prepare_next.Goals as goal
 
-pub returns-in_default-clause-goes : goal.returns-in_default-clause-goes
-returns-in_default-clause-goes g c = λ out k at may sound.
+pub returns-in_default-clause-image_step : goal.returns-in_default-clause-image_step
+returns-in_default-clause-image_step g c = λ out k at may sound.
     subst (λ v. FindsBehind g.S.Storage.view g.F.BackingDisk.backing c.args.self.now c.share_behind.new.self out c.args.length c.args.overwrite c.args.prepared.now (Ok v)) c.in_default.is (c.in_ok-share.ensures.finds out k at may sound)
 
-pub returns-clause-goes : goal.returns-clause-goes
-returns-clause-goes g c = λ out k at may sound.
+pub returns-clause-image_step : goal.returns-clause-image_step
+returns-clause-image_step g c = λ out k at may sound.
     let view = g.S.Storage.view in
     let below = g.F.BackingDisk.backing in
     let old = c.args.self.now in

@@ -9,8 +9,8 @@ use Rattle.qcow2_image.proofs.Prepare.Onward.{may_go_on, so_far_all, so_far_ends
 use Rattle.qcow2_image.proofs.Call.FaultCounts.{counted_ok, counted_on, fewer_then}
 use Rattle.qcow2_image.proofs.image.Qcow2.prepare_rest.Goals as goal
 
-pub returns-in_err-prepare_next-clause-goes : goal.returns-in_err-prepare_next-clause-goes
-returns-in_err-prepare_next-clause-goes g c = λ start out k free under is.
+pub returns-in_err-prepare_next-clause-image_step : goal.returns-in_err-prepare_next-clause-image_step
+returns-in_err-prepare_next-clause-image_step g c = λ start out k free under is.
     let view = g.S.Storage.view in
     let below = g.F.BackingDisk.backing in
     let old = c.args.self.now in
@@ -23,18 +23,18 @@ returns-in_err-prepare_next-clause-goes g c = λ start out k free under is.
     let so = c.loop-prepared.invariant.turns in
     let bound = c.min-end.ensures ∙ ap (min c.args.length) c.rest_of_table.ensures.value in
     let same : c.prepare_next.new.prepared ≡ q = c.prepare_next.ensures.same (λ ok. absurd (let f : Err e ≡ Ok true = sym c.in_err-prepare_next.was ∙ ok in cc)) in
-    let before = so.goes start out k free under is in
+    let before = so.image_step start out k free under is in
     handed_on (λ r. GoesOn view below start new out k n c.args.overwrite c.prepare_next.new.prepared r) c.from_residual.result e c.from_residual.ensures
     (subst (λ (x : Prepared). BreaksOff view below start new out k n c.args.overwrite x e) (sym same)
     (record {
       mid = now;
       readied = before;
-      refused = c.in_err-prepare_next.ensures.goes (slice_set out k (Some q)) k (get_set_same out k (Some q) None free)
+      refused = c.in_err-prepare_next.ensures.image_step (slice_set out k (Some q)) k (get_set_same out k (Some q) None free)
           (may_go_on view below old now p q n c.min-end.result c.args.table c.args.overwrite so bound c.loop-prepared-test.true start out k under is) before.sound;
     }))
 
-pub returns-then-not-branch-clause-goes : goal.returns-then-not-branch-clause-goes
-returns-then-not-branch-clause-goes g c = λ start out k free under is.
+pub returns-then-not-branch-clause-image_step : goal.returns-then-not-branch-clause-image_step
+returns-then-not-branch-clause-image_step g c = λ start out k free under is.
     let view = g.S.Storage.view in
     let below = g.F.BackingDisk.backing in
     let old = c.args.self.now in
@@ -52,7 +52,7 @@ returns-then-not-branch-clause-goes g c = λ start out k free under is.
     (so_far_ends view below old now p q n c.min-end.result c.args.table c.args.overwrite so bound c.loop-prepared-test.true new start out k free under is
     (λ may sound.
     subst (λ b. GoesNext view below now new (slice_set out k (Some q)) k n c.args.overwrite q c.prepare_next.new.prepared (Ok b)) c.if-not-branch.true
-    (c.in_ok-prepare_next.ensures.goes (slice_set out k (Some q)) k (get_set_same out k (Some q) None free) may sound)))
+    (c.in_ok-prepare_next.ensures.image_step (slice_set out k (Some q)) k (get_set_same out k (Some q) None free) may sound)))
 
 pub loop-prepared-preserved : goal.loop-prepared-preserved
 loop-prepared-preserved g c =
@@ -67,12 +67,12 @@ loop-prepared-preserved g c =
     record {
       turns = so_far_next view below c.args.self.now now c.args.prepared.now q n c.min-end.result c.args.table c.args.overwrite c.loop-prepared.invariant.turns bound c.loop-prepared-test.true new r c.prepare_next.ensures.stays c.prepare_next.ensures.header
           (c.prepare_next.ensures.next (c.in_ok-prepare_next.was ∙ ap Ok c.if-not-branch.false)) c.prepare_next.ensures.room
-          (λ out k at may sound. subst (λ b. GoesNext view below now new out k n c.args.overwrite q r (Ok b)) c.if-not-branch.false (c.in_ok-prepare_next.ensures.goes out k at may sound));
+          (λ out k at may sound. subst (λ b. GoesNext view below now new out k n c.args.overwrite q r (Ok b)) c.if-not-branch.false (c.in_ok-prepare_next.ensures.image_step out k at may sound));
       faults = fewer_then view below c.args.self.now now new c.loop-prepared.invariant.faults c.prepare_next.ensures.faults.no_fewer;
     }
 
-pub returns-clause-goes : goal.returns-clause-goes
-returns-clause-goes g c = λ start out k free under is.
+pub returns-clause-image_step : goal.returns-clause-image_step
+returns-clause-image_step g c = λ start out k free under is.
     let bound = c.min-end.ensures ∙ ap (min c.args.length) c.rest_of_table.ensures.value in
     so_far_all g.S.Storage.view g.F.BackingDisk.backing c.args.self.now c.loop-prepared.self c.args.prepared.now c.loop-prepared.prepared c.args.length c.min-end.result c.args.table c.args.overwrite c.loop-prepared.invariant.turns bound start out k free under is
     (omega (arith, c.loop-prepared-test.false))

@@ -1,6 +1,6 @@
 use Rattle.std.proofs.Common.{inl, refl}
 use Rattle.qcow2_image.specs.NewTables.{OwnsTable}
-use Rattle.qcow2_image.proofs.Prepare.Entering.{as_following}
+use Rattle.qcow2_image.proofs.Prepare.Entering.{as_listed_after}
 use Rattle.qcow2_image.proofs.Map.Loading.{caches_moved, with_caches}
 use Rattle.qcow2_image.proofs.Prepare.Owning.{refused, says_copy, shared_still, owned_then}
 use Rattle.qcow2_image.proofs.image.Qcow2.replace_l2.Goals as goal
@@ -11,7 +11,7 @@ returns-in_err-l2_get_or_insert-clause-owns g c = λ p out sound shared.
     let mid = with_caches g.S.Storage.view g.F.BackingDisk.backing old out p sound c.l2_get_or_insert.new.storage c.l2_get_or_insert.new.self in
     let kept = caches_moved g.S.Storage.view g.F.BackingDisk.backing old out p sound c.l2_get_or_insert.new.storage c.l2_get_or_insert.new.self
     (c.l2_get_or_insert.ensures.keeps old.file.header.fields p sound.file.honest sound.file.caches) c.l2_get_or_insert.ensures.marks.room c.l2_get_or_insert.ensures.marks.pins in
-    refused (OwnsTable g.S.Storage.view g.F.BackingDisk.backing p old mid out c.args.index) c.from_residual.result c.from_residual.ensures.0 (λ e. inl (as_following g.S.Storage.view g.F.BackingDisk.backing out p old mid refl kept))
+    refused (OwnsTable g.S.Storage.view g.F.BackingDisk.backing p old mid out c.args.index) c.from_residual.result c.from_residual.ensures.0 (λ e. inl (as_listed_after g.S.Storage.view g.F.BackingDisk.backing out p old mid refl kept))
 
 pub returns-in_err-table-clause-owns : goal.returns-in_err-table-clause-owns
 returns-in_err-table-clause-owns g c = λ p out sound shared.
@@ -20,7 +20,7 @@ returns-in_err-table-clause-owns g c = λ p out sound shared.
     let kept = caches_moved g.S.Storage.view g.F.BackingDisk.backing old out p sound c.l2_get_or_insert.new.storage c.l2_get_or_insert.new.self
     (c.l2_get_or_insert.ensures.keeps old.file.header.fields p sound.file.honest sound.file.caches) c.l2_get_or_insert.ensures.marks.room c.l2_get_or_insert.ensures.marks.pins in
     refused (OwnsTable g.S.Storage.view g.F.BackingDisk.backing p old mid out c.args.index) c.from_residual-in_err-table.result c.from_residual-in_err-table.ensures.0
-    (λ e. inl (as_following g.S.Storage.view g.F.BackingDisk.backing out p old mid refl kept))
+    (λ e. inl (as_listed_after g.S.Storage.view g.F.BackingDisk.backing out p old mid refl kept))
 
 pub returns-clause-owns : goal.returns-clause-owns
 returns-clause-owns g c = λ p out sound shared.

@@ -18,8 +18,8 @@ pub returns-clause-run : goal.returns-clause-run
 returns-clause-run g c = λ p sound at le.
     let h = c.args.self.now.file.header.fields in
     let known = known_in g.S.Storage.view c.args.self.now.file in
-    let guarded = sound.caches.kept.kept.guarded in
-    let sizes = Sizes-from h known (IsTop-top h (contents_in g.S.Storage.view c.args.self.now.file) known guarded.same_top guarded.top).header_reads in
+    let crash_invariant = sound.caches.kept.kept.crash_invariant in
+    let sizes = Sizes-from h known (IsTop-top h (contents_in g.S.Storage.view c.args.self.now.file) known crash_invariant.same_top crash_invariant.top).header_reads in
     let t = c.in-Some.table.now in
     let shows = λ (index : ℕ) (lt : index < entries_per_cluster h). c.in-Some.ensures.shows h p (contents_in g.S.Storage.view c.args.self.now.file) (l1_index_of h c.args.offset) index sound.caches (record { real = at.real; place = at.place; within = lt }) in
     let format = (shows (c.args.offset / cluster_size h % entries_per_cluster h) at.within).format in

@@ -10,7 +10,7 @@ use Rattle.qcow2_image.specs.declared.image.Qcow2.{Qcow2}
 use Rattle.qcow2_image.specs.Ranges.{FindsBehind, SharesAt}
 use Rattle.qcow2_image.specs.UnseenSteps.{IsFilled, IsKeptAlone, UnseenFillingStep}
 use Rattle.qcow2_image.proofs.Call.Refused.{back_refused}
-use Rattle.qcow2_image.proofs.Prepare.Gaining.{following_same}
+use Rattle.qcow2_image.proofs.Prepare.Gaining.{listed_after_same}
 use Rattle.qcow2_image.proofs.Prepare.KeptShares.{behind_alone, behind_kept}
 use Rattle.qcow2_image.proofs.Prepare.Behind.{behind_in_place, ends_elsewhere, finds_shared, next_cluster, next_says}
 use Rattle.qcow2_image.proofs.image.Qcow2.share_behind.Goals as goal
@@ -53,10 +53,10 @@ returns-in_err-fill_kept-in-None-clause-finds g c = λ out k at may sound.
     let kept : cover h (known_in view old.file) ((p.guest + p.length) / cluster_size h) ≡ Zero (Some (c.in-Some-checked_add.host, true)) =
     ap (cover h (known_in view old.file)) (next_cluster view below old out k p at c.args.length c.args.table c.args.overwrite may sound) ∙ covered ∙ c.keeps.ensures.answer.0 c.if-keeps.true in
     let alone = behind_alone view below old out k p at c.args.length c.args.table c.args.overwrite may sound c.in-Some-checked_add.host c.in-Some-checked_add.ensures.1 kept (c.keeps.ensures.reach c.if-keeps.true) in
-    let goes = c.fill_kept.ensures.goes before out sound (λ m. omega arith) (subst (λ x. IsKeptAlone view below old out x host) (sym c.in-Some.ensures.1) alone) in
+    let image_step = c.fill_kept.ensures.image_step before out sound (λ m. omega arith) (subst (λ x. IsKeptAlone view below old out x host) (sym c.in-Some.ensures.1) alone) in
     let list = ap (λ (image : Qcow2 _ _). image.file.free_list) c.fill_kept.ensures.rest in
     handed_on (λ r. FindsBehind view below old new out c.args.length c.args.overwrite c.args.prepared.now r) c.from_residual-in_err-fill_kept-in-None.result c.in_err-fill_kept-in-None.field-0.0 c.from_residual-in_err-fill_kept-in-None.ensures
-    (back_refused view below out old new c.in_err-fill_kept-in-None.field-0.0 (inl (subst (λ q. UnseenFillingStep view below before q old new out) (sym (following_same view below out before old new list)) goes)))
+    (back_refused view below out old new c.in_err-fill_kept-in-None.field-0.0 (inl (subst (λ q. UnseenFillingStep view below before q old new out) (sym (listed_after_same view below out before old new list)) image_step)))
 
 pub returns-in_ok-fill_kept-in-None-clause-finds : goal.returns-in_ok-fill_kept-in-None-clause-finds
 returns-in_ok-fill_kept-in-None-clause-finds g c = λ out k at may sound.
@@ -73,12 +73,12 @@ returns-in_ok-fill_kept-in-None-clause-finds g c = λ out k at may sound.
     let kept : cover h (known_in view old.file) ((p.guest + p.length) / cluster_size h) ≡ Zero (Some (c.in-Some-checked_add.host, true)) =
     ap (cover h (known_in view old.file)) (next_cluster view below old out k p at c.args.length c.args.table c.args.overwrite may sound) ∙ covered ∙ c.keeps.ensures.answer.0 c.if-keeps.true in
     let alone = behind_alone view below old out k p at c.args.length c.args.table c.args.overwrite may sound c.in-Some-checked_add.host c.in-Some-checked_add.ensures.1 kept (c.keeps.ensures.reach c.if-keeps.true) in
-    let goes = c.fill_kept.ensures.goes before out sound (λ m. omega arith) (subst (λ x. IsKeptAlone view below old out x host) (sym c.in-Some.ensures.1) alone) in
+    let image_step = c.fill_kept.ensures.image_step before out sound (λ m. omega arith) (subst (λ x. IsKeptAlone view below old out x host) (sym c.in-Some.ensures.1) alone) in
     let list = ap (λ (image : Qcow2 _ _). image.file.free_list) c.fill_kept.ensures.rest in
     let covers = subst (λ x. cover h (known_in view old.file) (x / cluster_size h) ≡ Zero (Some (c.in-Some-checked_add.host, true))) (sym c.in-Some.ensures.1) kept in
     let filled = subst (λ x. IsFilled view below old new (host / cluster_size h) x (c.args.length - p.length) c.args.overwrite) c.in-Some.ensures.1
     (subst (λ x. IsFilled view below old new (host / cluster_size h) c.in-Some.next x c.args.overwrite) c.saturating_sub-left.ensures (c.in_ok-fill_kept-in-None.ensures.fills before out sound covers)) in
-    behind_kept view below old out k p at c.args.length c.args.table c.args.overwrite may sound c.in-Some-checked_add.host c.in-Some-checked_add.ensures.1 kept (c.keeps.ensures.reach c.if-keeps.true) new goes list filled
+    behind_kept view below old out k p at c.args.length c.args.table c.args.overwrite may sound c.in-Some-checked_add.host c.in-Some-checked_add.ensures.1 kept (c.keeps.ensures.reach c.if-keeps.true) new image_step list filled
 
 pub returns-in-None-2-clause-finds : goal.returns-in-None-2-clause-finds
 returns-in-None-2-clause-finds g c = λ out k at may sound.

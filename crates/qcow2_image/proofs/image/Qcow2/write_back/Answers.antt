@@ -6,7 +6,7 @@ use Rattle.qcow2_alloc.proofs.AllocationSteps.{handed_on}
 use Rattle.qcow2_image.specs.UnseenSteps.{FreesListed}
 use Rattle.qcow2_image.proofs.Call.Called.{keeps_then}
 use Rattle.qcow2_image.proofs.Map.Loading.{with_caches, caches_moved, read_moved, all_known}
-use Rattle.qcow2_image.proofs.Flush.Freeing.{frees_any, tidies_on}
+use Rattle.qcow2_image.proofs.Flush.Freeing.{frees_any, freeing_step_on}
 use Rattle.qcow2_image.specs.declared.image.Qcow2.{Qcow2}
 use Rattle.qcow2_image.specs.ImageInvariant.{ImageInvariant}
 use Rattle.qcow2_image.specs.Unwritten.{IsOnlyRead, IsUnmodified}
@@ -27,7 +27,7 @@ returns-in_err-flush_all-clause-frees g c = λ p out sound.
     let first = c.in_ok-free_listed.ensures.frees p out sound in
     let mid = with_caches view below freed out q first.sound c.flush_all.new.storage c.flush_all.new.self in
     frees_any view below out p old mid c.from_residual-in_err-flush_all.result
-    (tidies_on view below out old freed mid p refl first
+    (freeing_step_on view below out old freed mid p refl first
     (caches_moved view below freed out q first.sound c.flush_all.new.storage c.flush_all.new.self (c.flush_all.ensures.keeps freed.file.header.fields q first.sound.file.honest first.sound.file.caches) c.flush_all.ensures.marks.room c.flush_all.ensures.marks.pins))
 
 pub returns-in_err-flush-clause-frees : goal.returns-in_err-flush-clause-frees
@@ -42,7 +42,7 @@ returns-in_err-flush-clause-frees g c = λ p out sound.
     let written = caches_moved view below freed out q first.sound c.flush_all.new.storage c.flush_all.new.self (c.flush_all.ensures.keeps freed.file.header.fields q first.sound.file.honest first.sound.file.caches) c.flush_all.ensures.marks.room c.flush_all.ensures.marks.pins in
     let last = with_caches view below mid out q written.sound c.flush.new.self c.flush_all.new.self in
     frees_any view below out p old last c.from_residual-in_err-flush.result
-    (tidies_on view below out old freed last p refl first
+    (freeing_step_on view below out old freed last p refl first
     (keeps_then view below out freed mid last q q q (λ k h. h) written (read_moved view below mid out q written.sound c.flush.new.self c.flush.ensures.calls c.flush.ensures.same)))
 
 pub returns-clause-frees : goal.returns-clause-frees
@@ -56,7 +56,7 @@ returns-clause-frees g c = λ p out sound.
     let mid = with_caches view below freed out q first.sound c.flush_all.new.storage c.flush_all.new.self in
     let written = caches_moved view below freed out q first.sound c.flush_all.new.storage c.flush_all.new.self (c.flush_all.ensures.keeps freed.file.header.fields q first.sound.file.honest first.sound.file.caches) c.flush_all.ensures.marks.room c.flush_all.ensures.marks.pins in
     let last = with_caches view below mid out q written.sound c.flush.new.self c.flush_all.new.self in
-    tidies_on view below out old freed last p refl first
+    freeing_step_on view below out old freed last p refl first
     (keeps_then view below out freed mid last q q q (λ k h. h) written (read_moved view below mid out q written.sound c.flush.new.self c.flush.ensures.calls c.flush.ensures.same))
 
 pub returns-clause-written : goal.returns-clause-written

@@ -12,7 +12,7 @@ use Rattle.qcow2_image.proofs.Call.Marked.{MayMarkBy, may_mark}
 use Rattle.qcow2_image.specs.ImageInvariant.{pending_in}
 use Rattle.qcow2_image.proofs.Call.Answers.{usable_works}
 use Rattle.qcow2_image.proofs.Call.Called.{Quietly, quiet_sound}
-use Rattle.qcow2_image.proofs.Write.PutParts.{puts_early, puts_none, puts_then, puts_settled}
+use Rattle.qcow2_image.proofs.Write.PutParts.{puts_early, puts_none, puts_then, puts_with_outcome}
 use Rattle.qcow2_image.proofs.Call.FaultCounts.{counted_marked}
 use Rattle.qcow2_image.proofs.image.Qcow2.write_mapped.Goals as goal
 
@@ -34,7 +34,7 @@ returns-clause-sees g c =
     let quiet : (out : _) → _ → Quietly view below out old c.begin.new.self = λ out sound. record { keeps = c.begin.ensures.keeps (pending_in view below old out) out sound; list = c.begin.ensures.list } in
     subst (λ (image : Qcow2 _ _). Puts view below old image p c.args.at bytes c.mark_failure.result) (sym c.mark_failure.ensures.rest)
     (subst (λ (x : Result _ _). Puts view below old (record new { is_failed = is_failed c.mark_failure.new.self }) p c.args.at bytes x) (sym c.mark_failure.ensures.answer)
-    (puts_settled view below old p c.args.at bytes (usable_works old c.check_usable.result c.in_ok-check_usable.was c.check_usable.ensures) new (is_failed c.mark_failure.new.self)
+    (puts_with_outcome view below old p c.args.at bytes (usable_works old c.check_usable.result c.in_ok-check_usable.was c.check_usable.ensures) new (is_failed c.mark_failure.new.self)
     (c.write_current-done.ensures.stays.image.number ∙ c.begin.ensures.stays.image.number) r (may_mark c.write_current-done.new.self c.mark_failure.new.self c.write_current-done.result c.mark_failure.ensures.marks)
     (λ out k placed sound. puts_then view below out k p c.args.at bytes placed old c.begin.new.self new r (quiet out sound) sound
     (c.write_current-done.ensures.puts some c.requires out k placed (quiet_sound view below out old c.begin.new.self (quiet out) sound)))))

@@ -45,14 +45,14 @@ module _ {S : Type 0} (h : HeaderFields) (p : Pending) (caches : MetadataCaches 
       (λ c. elim (sound.kept.kept.l2_stand c) [ inl free ↦ inl free | inr has ↦ inr (has.0, has.1, has.2) ]))
 
   pub blocks_stand : AreNamedBlocks h (refblocks caches) on_storage → AreStanding (λ (b : RefBlockView). b.is_modified) (IsBlockOf caches.rb.backend.header.fields) (HasBlock h on_storage) caches.rb.entries
-  blocks_stand settled =
+  blocks_stand named_blocks =
       standing_of caches.rb.backend.header.fields.cluster_bits (λ (b : RefBlockView). b.bytes) (λ b. b.is_modified) (IsBlockOf caches.rb.backend.header.fields) (HasBlock h on_storage) caches.rb.entries sound.rb_fit
-      (subst (λ n. (c : ℕ) → IsFreeOf (2 ^ n) (refblocks caches) c ⊎ HasBlock h on_storage c) (sym sound.rb_format.bits) settled)
+      (subst (λ n. (c : ℕ) → IsFreeOf (2 ^ n) (refblocks caches) c ⊎ HasBlock h on_storage c) (sym sound.rb_format.bits) named_blocks)
 
 -- refblocks that stand so are settled
-pub settled_in : (h : HeaderFields) (on_storage : Bytes) (bits : ℕ) → bits ≡ h.cluster_bits → (IsFit : RefBlockView → Type 0) (es : List (ℕ × Slot RefBlockView)) → AreStanding (λ (b : RefBlockView). b.is_modified) IsFit (HasBlock h on_storage) es
+pub named_blocks_in : (h : HeaderFields) (on_storage : Bytes) (bits : ℕ) → bits ≡ h.cluster_bits → (IsFit : RefBlockView → Type 0) (es : List (ℕ × Slot RefBlockView)) → AreStanding (λ (b : RefBlockView). b.is_modified) IsFit (HasBlock h on_storage) es
     → AreNamedBlocks h (cached_tables bits (λ (b : RefBlockView). b.bytes) (λ b. b.is_modified) es) on_storage
-settled_in h on_storage bits same IsFit es stand c =
+named_blocks_in h on_storage bits same IsFit es stand c =
     subst (λ n. IsFreeOf (2 ^ n) (cached_tables bits (λ (b : RefBlockView). b.bytes) (λ b. b.is_modified) es) c ⊎ HasBlock h on_storage c) same
     (free_or_named bits (λ (b : RefBlockView). b.bytes) (λ b. b.is_modified) IsFit (HasBlock h on_storage) es stand c)
 
@@ -61,8 +61,8 @@ module _ (h : HeaderFields) (d d' : Direction) (p p' : Pending) (l2s rbs l2s' rb
     (known : known_bytes (cluster_size h) l2s' rbs' on_storage' ≡ known_bytes (cluster_size h) l2s rbs on_storage) where
   pub top_still : SameTop h on_storage on_storage'
   top_still =
-      SameTop-trans h on_storage (known_bytes (cluster_size h) l2s rbs on_storage) on_storage' kept.kept.guarded.same_top
-      (SameTop-sym h on_storage' (known_bytes (cluster_size h) l2s rbs on_storage) (subst (SameTop h on_storage') known kept'.kept.guarded.same_top))
+      SameTop-trans h on_storage (known_bytes (cluster_size h) l2s rbs on_storage) on_storage' kept.kept.crash_invariant.same_top
+      (SameTop-sym h on_storage' (known_bytes (cluster_size h) l2s rbs on_storage) (subst (SameTop h on_storage') known kept'.kept.crash_invariant.same_top))
 
   block_still_named : (c : ℕ) → HasBlock h on_storage c → HasBlock h on_storage' c
   block_still_named c has =
@@ -70,10 +70,10 @@ module _ (h : HeaderFields) (d d' : Direction) (p p' : Pending) (l2s rbs l2s' rb
       (has.0, (λ none. has.1 (e ∙ none)), ap (λ n. n / cluster_size h) (sym e) ∙ has.2)
 
   -- the same refblocks
-  pub settled_beside : AreNamedBlocks h rbs on_storage → AreNamedBlocks h rbs on_storage'
-  settled_beside settled c = elim (settled c) [ inl free ↦ inl free | inr has ↦ inr (block_still_named c has) ]
+  pub named_blocks_beside : AreNamedBlocks h rbs on_storage → AreNamedBlocks h rbs on_storage'
+  named_blocks_beside named_blocks c = elim (named_blocks c) [ inl free ↦ inl free | inr has ↦ inr (block_still_named c has) ]
 
   -- others, of which those that are modified stand
-  pub settled_anew : (bits : ℕ) → bits ≡ h.cluster_bits → (IsFit : RefBlockView → Type 0) (es : List (ℕ × Slot RefBlockView)) → AreStanding (λ (b : RefBlockView). b.is_modified) IsFit (HasBlock h on_storage) es
+  pub named_blocks_anew : (bits : ℕ) → bits ≡ h.cluster_bits → (IsFit : RefBlockView → Type 0) (es : List (ℕ × Slot RefBlockView)) → AreStanding (λ (b : RefBlockView). b.is_modified) IsFit (HasBlock h on_storage) es
       → AreNamedBlocks h (cached_tables bits (λ (b : RefBlockView). b.bytes) (λ b. b.is_modified) es) on_storage'
-  settled_anew bits same IsFit es stand c = elim (settled_in h on_storage bits same IsFit es stand c) [ inl free ↦ inl free | inr has ↦ inr (block_still_named c has) ]
+  named_blocks_anew bits same IsFit es stand c = elim (named_blocks_in h on_storage bits same IsFit es stand c) [ inl free ↦ inl free | inr has ↦ inr (block_still_named c has) ]

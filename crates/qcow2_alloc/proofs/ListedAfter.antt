@@ -14,8 +14,8 @@ use Rattle.image_access.specs.Moments.{StorageView}
 use Rattle.qcow2_alloc.specs.Allocation.{run_at, taken_as, UnseenAllocatorGrowth, GetsBlock, GrowsTable, RefusedGrowth}
 use Rattle.qcow2_alloc.specs.FreeList.{of_data, of_tables, to_free, pending_then, but, ListsTables}
 use Rattle.qcow2_alloc.specs.ImageFile.{KeepsHeader, IsFault, InterruptedFileStep}
-use Rattle.qcow2_alloc.proofs.AllocationSteps.{on_of, becomes_on, leaves_as, leaves_on}
-use Rattle.qcow2_alloc.proofs.FileSteps.{pending_same, endures_then}
+use Rattle.qcow2_alloc.proofs.AllocationSteps.{on_of, allocator_step_on, leaves_as, leaves_on}
+use Rattle.qcow2_alloc.proofs.FileSteps.{pending_same, safe_throughout_then}
 use Rattle.qcow2_alloc.proofs.Runs.{new_data_more, taken_last}
 use Rattle.qcow2_alloc.proofs.Freeing.{free_more, but_more}
 
@@ -55,23 +55,23 @@ listed_on : (kind : ClusterKind → ℕ → ℕ) (old new : List ClustersToFreeE
 listed_on kind old new lists k = ap (λ (l : List ClustersToFreeEntry). to_free kind l k) lists.is ∙ free_more kind old lists.more k
 
 -- ---- what is pending
-pub following_same : (p : Pending) (old new : List ClustersToFreeEntry) → new ≡ old → pending_then p old new ≡ p
-following_same p old new e = ap (pending_then p old) e ∙ pending_same (pending_then p old old) p (λ k. refl) (λ k. refl) (λ k. omega arith) (λ k. omega arith) (λ k. refl)
+pub listed_after_same : (p : Pending) (old new : List ClustersToFreeEntry) → new ≡ old → pending_then p old new ≡ p
+listed_after_same p old new e = ap (pending_then p old) e ∙ pending_same (pending_then p old old) p (λ k. refl) (λ k. refl) (λ k. omega arith) (λ k. omega arith) (λ k. refl)
 
-pub following_then : (p : Pending) (a b c : List ClustersToFreeEntry) → ListsTables a b → ListsTables b c → pending_then (pending_then p a b) b c ≡ pending_then p a c
-following_then p a b c first then =
+pub listed_after_then : (p : Pending) (a b c : List ClustersToFreeEntry) → ListsTables a b → ListsTables b c → pending_then (pending_then p a b) b c ≡ pending_then p a c
+listed_after_then p a b c first then =
     pending_same (pending_then (pending_then p a b) b c) (pending_then p a c) (λ k. refl) (λ k. refl)
     (λ k. let one = listed_on of_tables a b first k in let two = listed_on of_tables b c then k in omega arith)
     (λ k. let one = listed_on of_data a b first k in let two = listed_on of_data b c then k in omega arith)
     (λ k. refl)
 
 -- it is listed beside what was taken
-taken_following : (d : Bool) (p : Pending) (old new : List ClustersToFreeEntry) (n : ℕ → ℕ) → pending_then (taken_as d p n) old new ≡ taken_as d (pending_then p old new) n
-taken_following true p old new n = refl
-taken_following false p old new n = refl
+taken_listed_after : (d : Bool) (p : Pending) (old new : List ClustersToFreeEntry) (n : ℕ → ℕ) → pending_then (taken_as d p n) old new ≡ taken_as d (pending_then p old new) n
+taken_listed_after true p old new n = refl
+taken_listed_after false p old new n = refl
 
-pub following_taken : (d : Bool) (p : Pending) (a b c : List ClustersToFreeEntry) (n : ℕ → ℕ) → ListsTables a b → ListsTables b c → pending_then (taken_as d (pending_then p a b) n) b c ≡ taken_as d (pending_then p a c) n
-following_taken d p a b c n first then = taken_following d (pending_then p a b) b c n ∙ ap (λ (q : Pending). taken_as d q n) (following_then p a b c first then)
+pub listed_after_taken : (d : Bool) (p : Pending) (a b c : List ClustersToFreeEntry) (n : ℕ → ℕ) → ListsTables a b → ListsTables b c → pending_then (taken_as d (pending_then p a b) n) b c ≡ taken_as d (pending_then p a c) n
+listed_after_taken d p a b c n first then = taken_listed_after d (pending_then p a b) b c n ∙ ap (λ (q : Pending). taken_as d q n) (listed_after_then p a b c first then)
 
 -- ---- a step in which a range gets its refblock
 module _ {S : Type 0} (view : S → StorageView) where
@@ -81,7 +81,7 @@ module _ {S : Type 0} (view : S → StorageView) where
 
   pub grows_on : (p q : Pending) (a b c : ImageFile S) (t t' : Allocator) (result : Result (Unit {0}) ImageError) → ((k : ℕ) → 0 < p.new_data k → 0 < q.new_data k) → UnseenAllocatorGrowth view p a t b q → GetsBlock view q b t' c result
       → GrowsTable view p a t' c q result
-  grows_on p q a b c t t' (Ok done) new_data first second = becomes_on view p q q a b c t t' new_data first (on_of view q q b c t' second)
+  grows_on p q a b c t t' (Ok done) new_data first second = allocator_step_on view p q q a b c t t' new_data first (on_of view q q b c t' second)
   grows_on p q a b c t t' (Err e) new_data first second = leaves_on view p q q a b c t t' e new_data first (leaves_as view q b c t' e second)
 
 -- ---- a step after a run was taken, or before one is
@@ -95,18 +95,18 @@ module _ {S : Type 0} (view : S → StorageView) (d : Bool) (p : Pending) (n : �
   -- the run is taken still
   pub still_taken : UnseenAllocatorGrowth view p a t b so_far → UnseenAllocatorGrowth view so_far b t' c (pending_then so_far b.free_list c.free_list) → UnseenAllocatorGrowth view p a t' c (taken_as d (pending_then p a.free_list c.free_list) n)
   still_taken before step =
-      subst (λ (r : Pending). UnseenAllocatorGrowth view p a t' c r) (following_taken d p a.free_list b.free_list c.free_list n first then)
-      (becomes_on view p so_far (pending_then so_far b.free_list c.free_list) a b c t t' new_data_so_far before step)
+      subst (λ (r : Pending). UnseenAllocatorGrowth view p a t' c r) (listed_after_taken d p a.free_list b.free_list c.free_list n first then)
+      (allocator_step_on view p so_far (pending_then so_far b.free_list c.free_list) a b c t t' new_data_so_far before step)
 
   -- one more cluster is taken
   pub more_taken : (from count : ℕ) → n ≡ run_at from count → UnseenAllocatorGrowth view p a t b so_far → UnseenAllocatorGrowth view so_far b t' c (taken_as d (pending_then so_far b.free_list c.free_list) (one_at (from + count)))
       → UnseenAllocatorGrowth view p a t' c (taken_as d (pending_then p a.free_list c.free_list) (run_at from (count + 1)))
   more_taken from count is before step =
       subst (λ (r : Pending). UnseenAllocatorGrowth view p a t' c r)
-      (ap (λ (q : Pending). taken_as d q (one_at (from + count))) (following_taken d p a.free_list b.free_list c.free_list n first then)
+      (ap (λ (q : Pending). taken_as d q (one_at (from + count))) (listed_after_taken d p a.free_list b.free_list c.free_list n first then)
       ∙ ap (λ m. taken_as d (taken_as d (pending_then p a.free_list c.free_list) m) (one_at (from + count))) is
       ∙ taken_last d (pending_then p a.free_list c.free_list) from count)
-      (becomes_on view p so_far (taken_as d (pending_then so_far b.free_list c.free_list) (one_at (from + count))) a b c t t' new_data_so_far before step)
+      (allocator_step_on view p so_far (taken_as d (pending_then so_far b.free_list c.free_list) (one_at (from + count))) a b c t t' new_data_so_far before step)
 
   -- a fault after a change that was noted breaks off
   pub ends_taken : (e : ImageError) → UnseenAllocatorGrowth view p a t b so_far → IsFault e → IsTrue c.caches.is_changed → (r : Pending) → RefusedGrowth view so_far b t' c r e → InterruptedFileStep view a c e
@@ -114,8 +114,8 @@ module _ {S : Type 0} (view : S → StorageView) (d : Bool) (p : Pending) (n : �
     fault = fault;
     noted = λ _. noted;
     since = elim step [
-      | inl sound ↦ endures_then view a b c before.moves.since before.moves.leads.known sound.moves.since
-      | inr breaks ↦ endures_then view a b c before.moves.since before.moves.leads.known breaks.since
+      | inl sound ↦ safe_throughout_then view a b c before.file_step.since before.file_step.safe_step.known sound.file_step.since
+      | inr interrupted ↦ safe_throughout_then view a b c before.file_step.since before.file_step.safe_step.known interrupted.since
     ];
   }
 
@@ -123,18 +123,18 @@ module _ {S : Type 0} (view : S → StorageView) (p : Pending) (a b c : ImageFil
     (before : UnseenAllocatorGrowth view p a t b (pending_then p a.free_list b.free_list)) where
   -- what is pending, as a step of its own tells it
   since_then : pending_then (pending_then p a.free_list b.free_list) b.free_list c.free_list ≡ pending_then p a.free_list c.free_list
-  since_then = following_then p a.free_list b.free_list c.free_list first then
+  since_then = listed_after_then p a.free_list b.free_list c.free_list first then
 
   pub then_none : UnseenAllocatorGrowth view (pending_then p a.free_list b.free_list) b t' c (pending_then (pending_then p a.free_list b.free_list) b.free_list c.free_list) → UnseenAllocatorGrowth view p a t' c (pending_then p a.free_list c.free_list)
   then_none step =
       subst (λ (r : Pending). UnseenAllocatorGrowth view p a t' c r) since_then
-      (becomes_on view p (pending_then p a.free_list b.free_list) (pending_then (pending_then p a.free_list b.free_list) b.free_list c.free_list) a b c t t' (λ k some. some) before step)
+      (allocator_step_on view p (pending_then p a.free_list b.free_list) (pending_then (pending_then p a.free_list b.free_list) b.free_list c.free_list) a b c t t' (λ k some. some) before step)
 
   pub then_taken : (d : Bool) (n : ℕ → ℕ) → UnseenAllocatorGrowth view (pending_then p a.free_list b.free_list) b t' c (taken_as d (pending_then (pending_then p a.free_list b.free_list) b.free_list c.free_list) n)
       → UnseenAllocatorGrowth view p a t' c (taken_as d (pending_then p a.free_list c.free_list) n)
   then_taken d n step =
       subst (λ (r : Pending). UnseenAllocatorGrowth view p a t' c (taken_as d r n)) since_then
-      (becomes_on view p (pending_then p a.free_list b.free_list) (taken_as d (pending_then (pending_then p a.free_list b.free_list) b.free_list c.free_list) n) a b c t t' (λ k some. some) before step)
+      (allocator_step_on view p (pending_then p a.free_list b.free_list) (taken_as d (pending_then (pending_then p a.free_list b.free_list) b.free_list c.free_list) n) a b c t t' (λ k some. some) before step)
 
   pub then_leaves : (e : ImageError) → RefusedGrowth view (pending_then p a.free_list b.free_list) b t' c (pending_then (pending_then p a.free_list b.free_list) b.free_list c.free_list) e → RefusedGrowth view p a t' c (pending_then p a.free_list c.free_list) e
   then_leaves e step =

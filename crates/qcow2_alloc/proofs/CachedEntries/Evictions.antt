@@ -35,46 +35,46 @@ module _ {S K V E : Type 0} (steps : Steps S K V E) {eq : K → K → Bool} (law
   abbrev pub OldestGoes : List (K × Slot V) → List (K × Slot V) → Type 0
   OldestGoes = OnlyOldestGoes eq IsFlushed
 
-  goes_none : (es fs : List (K × Slot V)) → fs ≡ es → OldestGoes es fs
-  goes_none es fs is j there gone = absurd (some_or_none (lookup (eq j) es) there (rw is at gone))
+  eviction_none : (es fs : List (K × Slot V)) → fs ≡ es → OldestGoes es fs
+  eviction_none es fs is j there gone = absurd (some_or_none (lookup (eq j) es) there (rw is at gone))
 
-  pub hit_goes : (es : List (K × Slot V)) (k : K) → OldestGoes es (promoted (eq k) es)
-  hit_goes es k j there gone = absurd (some_or_none (lookup (eq j) es) there (rw (lookup-promoted laws es k j) at gone))
+  pub hit_eviction : (es : List (K × Slot V)) (k : K) → OldestGoes es (promoted (eq k) es)
+  hit_eviction es k j there gone = absurd (some_or_none (lookup (eq j) es) there (rw (lookup-promoted laws es k j) at gone))
 
   evict_case : (t : S) (es : List (K × Slot V)) (e : K × Slot V) (w : V) → steps.flushed s e.0 e.1.value w t → (j : K) → IsSome (lookup (eq j) es) → IsNone (lookup (eq j) (remove_entry (eq e.0) es))
       → (c : Bool) → eq j e.0 ≡ c → (eq j e.0 ≡ true) × IsFlushed e
   evict_case t es e w h j there gone true same = (same, (w, t, h))
   evict_case t es e w h j there gone false other = absurd (some_or_none (lookup (eq j) es) there (rw (removed_apart laws es e.0 j (laws.symm e.0 j ∙ other)) at gone))
 
-  room_goes : (size : ℕ) (may_flush : Bool) (t : S) (es fs : List (K × Slot V)) → HasRoomForEntry steps eq size may_flush s es t fs → OldestGoes es fs
-  room_goes size may_flush t es fs h = elim h [
-    | inl r ↦ goes_none es fs r.2
-    | inr r ↦ λ j there gone. rw r.goes (evict_case t es r.entry r.clean r.flushed j there (rw r.rest at gone) (eq j r.entry.0) refl)
+  room_eviction : (size : ℕ) (may_flush : Bool) (t : S) (es fs : List (K × Slot V)) → HasRoomForEntry steps eq size may_flush s es t fs → OldestGoes es fs
+  room_eviction size may_flush t es fs h = elim h [
+    | inl r ↦ eviction_none es fs r.2
+    | inr r ↦ λ j there gone. rw r.eviction (evict_case t es r.entry r.clean r.flushed j there (rw r.rest at gone) (eq j r.entry.0) refl)
   ]
 
-  no_room_goes : (size : ℕ) (may_flush : Bool) (t : S) (es fs : List (K × Slot V)) (r : Result Bool (CacheError K E)) → HasNoRoom steps eq size may_flush s es r t fs → OldestGoes es fs
-  no_room_goes size may_flush t es fs (Ok true) h = absurd h
-  no_room_goes size may_flush t es fs (Ok false) h = goes_none es fs h.3
-  no_room_goes size may_flush t es fs (Err InUse) h = goes_none es fs h.3
-  no_room_goes size may_flush t es fs (Err (StillInUse _)) h = absurd h
-  no_room_goes size may_flush t es fs (Err Memory) h = absurd h
-  no_room_goes size may_flush t es fs (Err (Backend x)) h = goes_none es fs h.same
+  no_room_eviction : (size : ℕ) (may_flush : Bool) (t : S) (es fs : List (K × Slot V)) (r : Result Bool (CacheError K E)) → HasNoRoom steps eq size may_flush s es r t fs → OldestGoes es fs
+  no_room_eviction size may_flush t es fs (Ok true) h = absurd h
+  no_room_eviction size may_flush t es fs (Ok false) h = eviction_none es fs h.3
+  no_room_eviction size may_flush t es fs (Err InUse) h = eviction_none es fs h.3
+  no_room_eviction size may_flush t es fs (Err (StillInUse _)) h = absurd h
+  no_room_eviction size may_flush t es fs (Err Memory) h = absurd h
+  no_room_eviction size may_flush t es fs (Err (Backend x)) h = eviction_none es fs h.same
 
-  new_goes : (es gs : List (K × Slot V)) (k : K) (v : V) → OldestGoes es gs → OldestGoes es ((k, slot_of v 0) ∷ gs)
-  new_goes es gs k v h j there gone = h j there (behind (eq j k) (lookup (eq j) gs) gone)
+  new_eviction : (es gs : List (K × Slot V)) (k : K) (v : V) → OldestGoes es gs → OldestGoes es ((k, slot_of v 0) ∷ gs)
+  new_eviction es gs k v h j there gone = h j there (behind (eq j k) (lookup (eq j) gs) gone)
     where
       behind : (c : Bool) (o : Option (Slot V)) → IsNone (cond c (Some (slot_of v 0)) o) → IsNone o
       behind true o g = cc
       behind false o g = g
 
   -- a load of a new key
-  pub gets_goes : (size : ℕ) (may_flush : Bool) (k : K) (t : S) (es fs : List (K × Slot V)) (r : Result Bool (CacheError K E)) → GetsNew steps eq size may_flush k s es r t fs → OldestGoes es fs
-  gets_goes size may_flush k t es fs (Ok true) h = rw h.5 (new_goes es h.1 k h.2 (room_goes size may_flush h.0 es h.1 h.3))
-  gets_goes size may_flush k t es fs (Ok false) h = no_room_goes size may_flush t es fs (Ok false) h
-  gets_goes size may_flush k t es fs (Err InUse) h = no_room_goes size may_flush t es fs (Err InUse) h
-  gets_goes size may_flush k t es fs (Err (StillInUse _)) h = absurd h
-  gets_goes size may_flush k t es fs (Err Memory) h = room_goes size may_flush h.0 es fs h.2
-  gets_goes size may_flush k t es fs (Err (Backend x)) h = elim h [
-    | inl r ↦ no_room_goes size may_flush t es fs (Err (Backend x)) r
-    | inr r ↦ room_goes size may_flush r.0 es fs r.1
+  pub gets_eviction : (size : ℕ) (may_flush : Bool) (k : K) (t : S) (es fs : List (K × Slot V)) (r : Result Bool (CacheError K E)) → GetsNew steps eq size may_flush k s es r t fs → OldestGoes es fs
+  gets_eviction size may_flush k t es fs (Ok true) h = rw h.5 (new_eviction es h.1 k h.2 (room_eviction size may_flush h.0 es h.1 h.3))
+  gets_eviction size may_flush k t es fs (Ok false) h = no_room_eviction size may_flush t es fs (Ok false) h
+  gets_eviction size may_flush k t es fs (Err InUse) h = no_room_eviction size may_flush t es fs (Err InUse) h
+  gets_eviction size may_flush k t es fs (Err (StillInUse _)) h = absurd h
+  gets_eviction size may_flush k t es fs (Err Memory) h = room_eviction size may_flush h.0 es fs h.2
+  gets_eviction size may_flush k t es fs (Err (Backend x)) h = elim h [
+    | inl r ↦ no_room_eviction size may_flush t es fs (Err (Backend x)) r
+    | inr r ↦ room_eviction size may_flush r.0 es fs r.1
   ]

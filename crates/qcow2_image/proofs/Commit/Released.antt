@@ -14,7 +14,7 @@ use Rattle.qcow2_laws.specs.SafeSteps.{DriverState, SafeStep}
 use Rattle.qcow2_laws.specs.Caches.{AreNamedBlocks}
 use Rattle.qcow2_disk.specs.AbstractImages.{guest_of}
 use Rattle.qcow2_disk.specs.Calls.{with_slot}
-use Rattle.qcow2_laws.proofs.SafeSteps.{pending_endures}
+use Rattle.qcow2_laws.proofs.SafeSteps.{pending_safe_throughout}
 use Rattle.qcow2_laws.proofs.Steps.{pending_is_changed}
 use Rattle.qcow2_metadata.specs.Tables.{CachedTable}
 use Rattle.qcow2_alloc.specs.Allocation.{run_at}
@@ -39,14 +39,14 @@ use Rattle.qcow2_disk.proofs.Compose.{rests_none}
 
 -- what is kept of the caches is kept while something else is pending that is guarded too
 pub sound_while : {S : Type 0} (h : HeaderFields) (p q : Pending) (caches : MetadataCaches S) (on_storage : Bytes) → CrashInvariant h (order_of caches) q on_storage (known_of h caches on_storage) → CacheInvariant h p caches on_storage → CacheInvariant h q caches on_storage
-sound_while h p q caches on_storage guarded sound =
+sound_while h p q caches on_storage crash_invariant sound =
     let k = sound.kept.kept in
     record {
       l2_format = sound.l2_format;
       rb_format = sound.rb_format;
       l2_fit = sound.l2_fit;
       rb_fit = sound.rb_fit;
-      kept = record { kept = record { guarded = guarded; l2_apart = k.l2_apart; rb_apart = k.rb_apart; l2_stand = k.l2_stand; rb_stand = k.rb_stand }; l2_loaded = sound.kept.l2_loaded; rb_loaded = sound.kept.rb_loaded };
+      kept = record { kept = record { crash_invariant = crash_invariant; l2_apart = k.l2_apart; rb_apart = k.rb_apart; l2_stand = k.l2_stand; rb_stand = k.rb_stand }; l2_loaded = sound.kept.l2_loaded; rb_loaded = sound.kept.rb_loaded };
     }
 
 pub run_few : (first n k : ℕ) → run_at first n k ≤ 1
@@ -77,7 +77,7 @@ module _ {S F : Type 0} (view : S → StorageView) (backing : F → BackingView)
         | inr none ↦ omega arith
         | inl some ↦
             let all = over_all_at new_data_by out k p at c in
-            let each_cluster = sound.file.caches.kept.kept.guarded.each_cluster c in
+            let each_cluster = sound.file.caches.kept.kept.crash_invariant.each_cluster c in
             let tally = each_cluster.tally in
             let few = each_cluster.pending (omega arith) in
             omega arith
@@ -86,22 +86,22 @@ module _ {S F : Type 0} (view : S → StorageView) (backing : F → BackingView)
       same_stand : state_in view left.file after ≡ record before { pending = after }
       same_stand = ap (λ d. record before { pending = after; direction = d; known = known_in view left.file }) tables.order ∙ ap (λ b. record before { pending = after; known = b }) same_known
 
-      let_go_leads : SafeStep before (state_in view left.file after) nothing_given []
-      let_go_leads = subst (λ s. SafeStep before s nothing_given []) (sym same_stand)
-          (pending_is_changed.old_data before (new_data_by p) sound.file.caches.kept.kept.guarded new_data_few (λ c some. let all = over_all_at new_data_by out k p at c in omega arith))
+      release_prepared_safe_step : SafeStep before (state_in view left.file after) nothing_given []
+      release_prepared_safe_step = subst (λ s. SafeStep before s nothing_given []) (sym same_stand)
+          (pending_is_changed.old_data before (new_data_by p) sound.file.caches.kept.kept.crash_invariant new_data_few (λ c some. let all = over_all_at new_data_by out k p at c in omega arith))
 
       as_data : (i : ℕ) (share : Share) → slice_get p.shares.items i ≡ Some share → IsOfData share
       as_data i share is =
           let pending = ready_table view backing old (known_in view old.file) (contents_in view old.file) p i share is (sound.ready k p at).mapped in
           of_data_at h (known_in view old.file) (contents_in view old.file) p i share (pending.2.each i share is)
 
-      let_go_sound : ImageInvariant view backing after left (slice_set out k None)
-      let_go_sound = record {
+      release_prepared_sound : ImageInvariant view backing after left (slice_set out k None)
+      release_prepared_sound = record {
         works = sound.works;
         file = record {
           honest = sound.file.honest;
-          caches = sound_while h (pending_in view backing old out) after caches (contents_in view old.file) let_go_leads.sound (tables.sound h (pending_in view backing old out) (contents_in view old.file) sound.file.caches);
-          settled = subst (λ (ts : List CachedTable). AreNamedBlocks h ts (contents_in view old.file)) (sym tables.refblocks) sound.file.settled;
+          caches = sound_while h (pending_in view backing old out) after caches (contents_in view old.file) release_prepared_safe_step.sound (tables.sound h (pending_in view backing old out) (contents_in view old.file) sound.file.caches);
+          named_blocks = subst (λ (ts : List CachedTable). AreNamedBlocks h ts (contents_in view old.file)) (sym tables.refblocks) sound.file.named_blocks;
           room = tables.room sound.file.room;
         };
         l1_table = record { cluster = sound.l1_table.cluster; bits = sound.l1_table.bits; count = sound.l1_table.count; entries = sound.l1_table.entries };
@@ -112,17 +112,17 @@ module _ {S F : Type 0} (view : S → StorageView) (backing : F → BackingView)
         once = λ table. let all = over_all_left pins_by out k p at table in let was = sound.once table in omega arith;
       }
 
-      let_go_steps : Steps view backing old left out (slice_set out k None) nothing_given after
-      let_go_steps = record {
-        sound = let_go_sound;
+      release_prepared_steps : Steps view backing old left out (slice_set out k None) nothing_given after
+      release_prepared_steps = record {
+        sound = release_prepared_sound;
         only = record {
           new_data = λ c. let all = over_all_left new_data_by out k p at c in omega arith;
           new_tables = λ c. refl;
           old_tables = λ c. let more = free_more of_tables old.file.free_list (freed_by p.shares.items) c in let none = freed_tables p.shares.items as_data c in omega arith;
           old_data = λ c. let more = free_more of_data old.file.free_list (freed_by p.shares.items) c in let one = freed_data p.shares.items c in omega arith;
         };
-        leads = let_go_leads;
-        since = pending_endures (view_in view old.file) before (state_in view left.file after) refl let_go_leads;
+        safe_step = release_prepared_safe_step;
+        since = pending_safe_throughout (view_in view old.file) before (state_in view left.file after) refl release_prepared_safe_step;
         header = refl;
         below = refl;
         surplus = refl;
@@ -135,8 +135,8 @@ module _ {S F : Type 0} (view : S → StorageView) (backing : F → BackingView)
   discards out k at = record {
     acts = record {
       number = refl;
-      works = λ sound. stepped_works view backing old left out (slice_set out k None) nothing_given (after out k at) (let_go_steps out k at sound);
+      works = λ sound. stepped_works view backing old left out (slice_set out k None) nothing_given (after out k at) (release_prepared_steps out k at sound);
       rests = λ failed. rests_none (abstract_of view backing old out) (abstract_of view backing left (slice_set out k None)) refl refl failed;
     };
-    answer = λ sound. (stepped_sound view backing old left out (slice_set out k None) nothing_given (after out k at) (let_go_steps out k at sound), slots_left out k at);
+    answer = λ sound. (stepped_sound view backing old left out (slice_set out k None) nothing_given (after out k at) (release_prepared_steps out k at sound), slots_left out k at);
   }

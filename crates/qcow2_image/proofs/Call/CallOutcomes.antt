@@ -55,8 +55,8 @@ module _ {S F : Type 0} (view : S → StorageView) (backing : F → BackingView)
     (acts : ImageInvariant view backing (pending_in view backing old out) old out → EffectOnSound (abstract_of view backing old out) (abstract_of view backing new out') given [])
     (still : ImageInvariant view backing (pending_in view backing old out) old out → ImageInvariant view backing (pending_in view backing new out') new out') (number : number_of new ≡ number_of old) (usable : is_failed old ≡ false) where
   -- it was answered
-  pub settled_does : {done : Type 0} → (ImageInvariant view backing (pending_in view backing old out) old out → done) → AnsweredEffect (abstract_of view backing old out) (abstract_of view backing new out') given [] done
-  settled_does is = record {
+  pub outcome_answered : {done : Type 0} → (ImageInvariant view backing (pending_in view backing old out) old out → done) → AnsweredEffect (abstract_of view backing old out) (abstract_of view backing new out') given [] done
+  outcome_answered is = record {
     acts = record { number = number; works = acts; rests = λ failed. absurd (let e : true ≡ false = sym failed ∙ usable in cc) };
     answer = λ sound. (still sound, is sound);
   }
@@ -82,9 +82,9 @@ module _ {S F : Type 0} (view : S → StorageView) (backing : F → BackingView)
     answer_of e (inr (inr kept)) (inl same) sound = inl (still_sound kept.0 (still sound), same)
     answer_of e (inr (inr kept)) (inr fault) sound = absurd (kept.1 (ap refusal_of fault))
 
-    pub settled_refuses : (e : ImageError) → MayMark e (is_failed new) marked → (ImageInvariant view backing (pending_in view backing old out) old out → IsSame (abstract_of view backing old out) (abstract_of view backing new out') ⊎ (e ≡ I.Storage))
+    pub outcome_refused : (e : ImageError) → MayMark e (is_failed new) marked → (ImageInvariant view backing (pending_in view backing old out) old out → IsSame (abstract_of view backing old out) (abstract_of view backing new out') ⊎ (e ≡ I.Storage))
         → RefusedEffect (abstract_of view backing old out) (abstract_of view backing (record new { is_failed = marked }) out') given [] (refusal_of e) (IsSame (abstract_of view backing old out) (abstract_of view backing (record new { is_failed = marked }) out'))
-    settled_refuses e marks is = record {
+    outcome_refused e marks is = record {
       acts = record { number = number; works = still_works; rests = λ failed. absurd (let f : true ≡ false = sym failed ∙ usable in cc) };
       answer = λ sound. answer_of e (outcome e (is_failed new) marked marks) (is sound) sound;
       fault = is_fault e (is_failed new) marked (outcome e (is_failed new) marked marks);

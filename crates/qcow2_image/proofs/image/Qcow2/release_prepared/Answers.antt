@@ -2,12 +2,12 @@ use Rattle.std.proofs.Common.{◌≡◌, ℕ, ◌-◌, refl, sym, ap, ◌∙◌,
 use Rattle.qcow2_alloc.specs.CachePins.{SameTables, l2_pins}
 use Rattle.qcow2_image.specs.declared.image.Qcow2.{Qcow2}
 use Rattle.qcow2_alloc.specs.ImageFile.{contents_in}
-use Rattle.qcow2_image.specs.Ranges.{LetsGo}
+use Rattle.qcow2_image.specs.Ranges.{ReleasesOneMapping}
 use Rattle.qcow2_image.specs.Calls.{Discards}
 use Rattle.qcow2_image.specs.ImageInvariant.{pins_of}
-use Rattle.qcow2_image.proofs.Commit.LetGo.{discards}
+use Rattle.qcow2_image.proofs.Commit.Released.{discards}
 use Rattle.qcow2_image.proofs.Call.FaultCounts.{untouched}
-use Rattle.qcow2_image.proofs.image.Qcow2.let_go.Goals as goal
+use Rattle.qcow2_image.proofs.image.Qcow2.release_prepared.Goals as goal
 
 pub returns-clause-sees : goal.returns-clause-sees
 returns-clause-sees g c =
@@ -34,7 +34,7 @@ returns-clause-rest g c =
     let same = un.rest ∙ ap (λ (m : Qcow2 _ _). record m { file = record m.file { caches = caches } }) freed in
     let tables : SameTables old.file.caches caches = subst (λ (m : Qcow2 _ _). SameTables m.file.caches caches) freed un.tables in
     let changed : caches.is_changed ≡ old.file.caches.is_changed = un.changed ∙ ap (λ (m : Qcow2 _ _). m.file.caches.is_changed) freed in
-    subst (λ (image : Qcow2 _ _). LetsGo view old image) (sym same) (record { rest = refl; known = tables.known old.file.header.fields (contents_in view old.file); changed = changed })
+    subst (λ (image : Qcow2 _ _). ReleasesOneMapping view old image) (sym same) (record { rest = refl; known = tables.known old.file.header.fields (contents_in view old.file); changed = changed })
 
 pub returns-clause-faults : goal.returns-clause-faults
 returns-clause-faults g c =
