@@ -27,7 +27,7 @@ use Rattle.qcow2_image.specs.declared.builder.Qcow2CreateBuilder.{Qcow2CreateBui
 use Rattle.qcow2_image.specs.declared.image.Qcow2.{Qcow2}
 use Rattle.qcow2_image.specs.Image.{size_of}
 use Rattle.qcow2_image.specs.ImageInvariant.{abstract_of}
-use Rattle.qcow2_image.specs.Refusals.{IsMetPreparing}
+use Rattle.qcow2_image.specs.Refusals.{IsMet}
 use Rattle.qcow2_image.specs.Resizing.{GrowsTables, GrowsTo, IsResized, refuses_to_resize, size_after}
 
 -- the first eight bytes are the magic, and version 2 or 3
@@ -89,7 +89,7 @@ module _ {S : Type 0} where
   -- Why an image isn't created: 5 only for an option that images don't have, and else what the work meets.
   abbrev pub IsReasonNotToCreate : Qcow2CreateBuilder S → ImageError → Type 0
   IsReasonNotToCreate builder I.InvalidOption = ¬ IsAllowed builder
-  IsReasonNotToCreate builder e = IsMetPreparing e
+  IsReasonNotToCreate builder e = IsMet e
 
   -- the image that was asked for stands on an honest storage
   pub record IsCreated (builder : Qcow2CreateBuilder S) (storage : StorageView) : Type 0 where

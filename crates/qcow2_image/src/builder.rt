@@ -9,7 +9,7 @@ ghost use Rattle.qcow2_alloc.specs.Faults.{CountsFaults, FaultsTold};
 ghost use Rattle.qcow2_image.specs.CountedOpening.{OpeningCounts};
 ghost use Rattle.qcow2_image.specs.Faults.{CountsImageFaults, IsNotOfStorage};
 ghost use Rattle.qcow2_image.specs.Image.{is_failed, is_writable};
-ghost use Rattle.qcow2_image.specs.Refusals.{IsMet, IsMetPreparing, MarksFailed};
+ghost use Rattle.qcow2_image.specs.Refusals.{IsMet, MarksFailed};
 ghost use Rattle.qcow2_image.specs.Resizing.{refuses_to_resize};
 ghost use Rattle.qcow2_image.specs.ImageInvariant.{abstract_of};
 ghost use Rattle.qcow2_image.specs.Growing.{KeepsSurplus};
@@ -297,7 +297,7 @@ fn grow_new_image<S: Storage, F: WrappedFormat<S>>(
 ) -> (S, Result<(), ImageError>)
     ensures enlarges { (S.view storage).is_honest → IsUnwritten 0 (byte_at (S.view storage).contents) → Enlarges mode size (S.view storage) (S.view result.0) result.1 }
     ensures leaks { (S.view storage).is_honest → IsUnwritten 0 (byte_at (S.view storage).contents) → HasNoLeaks (byte_at (S.view storage).contents) → OnOk result.1 (HasNoLeaks (byte_at (S.view result.0).contents)) }
-    ensures cause { (S.view storage).is_honest → IsUnwritten 0 (byte_at (S.view storage).contents) → IfErr result.1 IsMetPreparing }
+    ensures cause { (S.view storage).is_honest → IsUnwritten 0 (byte_at (S.view storage).contents) → IfErr result.1 IsMet }
     ensures faults { ((below : F) → (F.backing below).faults ≡ 0) → FaultsTold (S.view storage).faults (S.view result.0).faults result.1 }
 {
     match Qcow2::<S, F>::open_image(alloc, storage, true, 0) {
@@ -318,7 +318,7 @@ fn grow_and_flush<S: Storage, F: WrappedFormat<S>>(
         → Enlarges mode size (view_in S.view image.old.file) (view_in S.view image.new.file) result }
     ensures leaks { IsOpened (abstract_of S.view F.backing image.old []) → IsTrue (is_writable image.old) → ((c : ℕ) → (abstract_of S.view F.backing image.old []).surplus c ≡ 0)
         → OnOk result (HasNoLeaks (byte_at (view_in S.view image.new.file).contents)) }
-    ensures cause { refuses_to_resize image.old ≡ None → IsTrue (is_writable image.old) → is_some image.old.backing ≡ false → IfErr result IsMetPreparing }
+    ensures cause { refuses_to_resize image.old ≡ None → IsTrue (is_writable image.old) → is_some image.old.backing ≡ false → (abstract_of S.view F.backing image.old []).is_sound → IfErr result IsMet }
     ensures faults { CountsImageFaults S.view F.backing image.old image.new result }
 {
     grow_by(image, size, mode)?;
@@ -333,7 +333,7 @@ fn grow_by<S: Storage, F: WrappedFormat<S>>(
 ) -> Result<(), ImageError>
     ensures grows { GrowsBy S.view F.backing mode image.old image.new size result }
     ensures surplus { refuses_to_resize image.old ≡ None → (abstract_of S.view F.backing image.old []).is_sound → OnOk result (KeepsSurplus S.view F.backing image.old image.new) }
-    ensures cause { refuses_to_resize image.old ≡ None → IsTrue (is_writable image.old) → is_some image.old.backing ≡ false → IfErr result IsMetPreparing }
+    ensures cause { refuses_to_resize image.old ≡ None → IsTrue (is_writable image.old) → is_some image.old.backing ≡ false → (abstract_of S.view F.backing image.old []).is_sound → IfErr result IsMet }
     ensures marks { MarksFailed image.old image.new result }
     ensures faults { CountsImageFaults S.view F.backing image.old image.new result }
 {

@@ -1,9 +1,9 @@
 -- Why an image isn't created: what its parts meet, and when a storage's failure is told.
-use Rattle.std.proofs.Common.{[], ◌≡◌, ◌⊎◌, ◌≢◌, inl, inr, ℕ, ◌+◌, ◌^◌, ◌<◌, ◌≤◌, Bool, true, false, Option, Some, None, Result, Ok, Err, refl, sym, ap, ◌∙◌, subst, arith}
+use Rattle.std.proofs.Common.{[], ◌≡◌, ◌⊎◌, ◌≢◌, inl, inr, ⊎_elim, ℕ, ◌+◌, ◌^◌, ◌<◌, ◌≤◌, Bool, true, false, Option, Some, None, Result, Ok, Err, refl, sym, ap, ◌∙◌, subst, arith}
 use Rattle.std.specs.Prelude.{IfErr, IsTrue, is_some, not}
 use Rattle.std.specs.Option.{option_or}
 use Rattle.std.specs.Int.{bit_at, trailing_zeros, w64}
-use Rattle.std.proofs.lemmas.Bool.{cases_eq}
+use Rattle.std.proofs.lemmas.Bool.{cases_eq, cases_lt}
 use Rattle.std.proofs.lemmas.Nat.{pow-add, pow_pos}
 use Rattle.std.proofs.lemmas.Nat.Bits.{bit_at-pow_other, bit_at-pow_same, bit_at-trailing_zeros}
 use Rattle.std.proofs.Math.Pow.{pow_mono}
@@ -23,13 +23,15 @@ use Rattle.qcow2_alloc.specs.ImageError.{IsFault}
 use Rattle.qcow2_image.specs.declared.image.Qcow2.{Qcow2}
 use Rattle.qcow2_image.specs.CountedOpening.{OpeningCounts}
 use Rattle.qcow2_image.specs.Faults.{CountsImageFaults, IsNotOfStorage}
-use Rattle.qcow2_image.specs.Image.{is_writable, storage_of_image}
+use Rattle.qcow2_image.specs.Image.{is_writable, size_of, storage_of_image}
 use Rattle.qcow2_image.specs.ImageInvariant.{abstract_of, faults_below}
 use Rattle.qcow2_image.specs.Created.{IsAllowed, IsReasonNotToCreate}
 use Rattle.qcow2_image.specs.declared.builder.Qcow2CreateBuilder.{Qcow2CreateBuilder}
 use Rattle.qcow2_image.specs.Readable.{IsRefusedRightly, OpensRightly}
 use Rattle.qcow2_image.specs.Refusals.{IsMet, IsMetPreparing, refuse_if}
-use Rattle.qcow2_image.specs.Resizing.{refuses_to_resize, takes_over}
+use Rattle.qcow2_image.specs.Preallocation.{IsUnderMappingIn}
+use Rattle.qcow2_image.specs.Resizing.{GrowsTables, refuses_to_resize, takes_over}
+use Rattle.qcow2_metadata.specs.declared.header.HeaderFields.{HeaderFields}
 
 fault_met : (e : ImageError) → IsFault e → IsMet e
 fault_met e fault = elim fault [ inl storage ↦ subst IsMet (sym storage) tt | inr memory ↦ subst IsMet (sym memory) tt ]
@@ -37,10 +39,6 @@ fault_met e fault = elim fault [ inl storage ↦ subst IsMet (sym storage) tt | 
 pub faults_met : {T : Type 0} (r : Result T ImageError) → IfErr r IsFault → IfErr r IsMet
 faults_met (Ok x) fault = tt
 faults_met (Err e) fault = fault_met e fault
-
-pub met_preparing : {T : Type 0} (r : Result T ImageError) → IfErr r IsMet → IfErr r IsMetPreparing
-met_preparing (Ok x) met = tt
-met_preparing (Err e) met = inl met
 
 -- what an opening is refused for is met
 pub opening_met : (contents : _) (writable : Bool) (e : ImageError) → IsRefusedRightly contents writable false e → IsMet e
@@ -60,9 +58,17 @@ takes_none image Mode.FormatAllocate alone takes = absurd (let bad : false ≡ t
 takes_none image Mode.FullAllocate alone takes = absurd (let bad : false ≡ true = sym alone ∙ takes in cc)
 takes_none image Mode.WriteData alone takes = absurd (let bad : false ≡ true = sym alone ∙ takes in cc)
 
-pub grown_alone : {S F T : Type 0} (image : Qcow2 S F) (mode : PreallocateMode) (r : Result T ImageError) → is_some image.backing ≡ false → IfErr r (λ e. IsMetPreparing e ⊎ ((e ≡ I.Preallocation) × IsTrue (takes_over image mode))) → IfErr r IsMetPreparing
-grown_alone image mode (Ok x) alone late = tt
-grown_alone image mode (Err e) alone late = elim late [ inl met ↦ met | inr over ↦ absurd (takes_none image mode alone over.1) ]
+-- and no L2 table is under a mapping where none is prepared
+none_under : (h : HeaderFields) (from to : ℕ) → IsUnderMappingIn h from to [] → ⊥
+none_under h from to is = absurd (let out = is.under.is_out in cc)
+
+pub grown_alone : {S F : Type 0} (view : S → StorageView) (backing : F → BackingView) (old new : Qcow2 S F) (size : ℕ) (mode : PreallocateMode) (r : Result (Unit {0}) ImageError) → is_some old.backing ≡ false → (size ≤ size_of old → (r ≡ Ok tt) × (new ≡ old))
+    → (size_of old < size → GrowsTables view backing old new size mode [] r) → IfErr r (λ e. IsMetPreparing e ⊎ ((e ≡ I.Preallocation) × IsTrue (takes_over old mode))) → IfErr r IsMet
+grown_alone view backing old new size mode (Ok x) alone no_larger tables late = tt
+grown_alone view backing old new size mode (Err e) alone no_larger tables late = elim (cases_lt (size_of old) size) [
+  | inr le ↦ absurd (let bad = (no_larger le).0 in cc)
+  | inl lt ↦ elim late [ inl met ↦ ⊎_elim (λ m. m) (λ is. absurd (none_under _ _ _ (tables lt is))) met | inr over ↦ absurd (takes_none old mode alone over.1) ]
+]
 
 -- ---- failures of the storage
 
@@ -139,18 +145,18 @@ module _ {S : Type 0} (builder : Qcow2CreateBuilder S) where
         room = omega (arith, long);
       })
 
-  pub reason_met : (e : ImageError) → IsMetPreparing e → IsReasonNotToCreate builder e
-  reason_met I.InvalidOption met = elim met [ inl none ↦ absurd none | inr is ↦ absurd (cc is) ]
+  pub reason_met : (e : ImageError) → IsMet e → IsReasonNotToCreate builder e
+  reason_met I.InvalidOption met = absurd met
   reason_met e met = met
 
-  pub reasons_met : {T : Type 0} (r : Result T ImageError) → IfErr r IsMetPreparing → IfErr r (IsReasonNotToCreate builder)
+  pub reasons_met : {T : Type 0} (r : Result T ImageError) → IfErr r IsMet → IfErr r (IsReasonNotToCreate builder)
   reasons_met (Ok x) met = tt
   reasons_met (Err e) met = reason_met e met
 
   -- the image that was made is opened
   pub opening_reasons : {F : Type 0} (storage : StorageView) (r : Result (Qcow2 S F) (S × ImageError)) → storage.is_honest → OpensRightly storage true false r → IfErr r (λ refused. IsReasonNotToCreate builder refused.1)
   opening_reasons storage (Ok image) honest rightly = tt
-  opening_reasons storage (Err refused) honest rightly = reason_met refused.1 (inl (opening_met storage.contents true refused.1 (rightly.1 honest)))
+  opening_reasons storage (Err refused) honest rightly = reason_met refused.1 (opening_met storage.contents true refused.1 (rightly.1 honest))
 
 module _ {S : Type 0} (view : S → StorageView) where
   pub told_created : {T : Type 0} (image start mid wrote last : S) (r : Result T ImageError) → start ≡ image → mid ≡ wrote → (view start).faults ≤ (view wrote).faults → FaultsTold (view mid).faults (view last).faults r → FaultsTold (view image).faults (view last).faults r

@@ -1,8 +1,7 @@
 use Rattle.std.proofs.Common.{◌∙◌, Result, refl, subst}
 use Rattle.std.specs.Prelude.{IfErr}
-use Rattle.qcow2_image.specs.Refusals.{IsMetPreparing}
+use Rattle.qcow2_image.specs.Refusals.{IsMet}
 use Rattle.qcow2_image.proofs.Call.FaultCounts.{counted_on, counted_since, untouched}
-use Rattle.qcow2_image.proofs.Create.Causes.{met_preparing}
 use Rattle.qcow2_image.proofs.Sizing.ShrinkCalls.{resize_works}
 use Rattle.qcow2_alloc.specs.ImageFile.{view_in}
 use Rattle.qcow2_alloc.proofs.AllocationSteps.{handed_on}
@@ -31,11 +30,11 @@ returns-clause-enlarges g c = λ opened writable alone unwritten.
     c.flush.new.self c.flush.result c.flush.ensures.image.size c.flush.ensures.sees c.flush.ensures.writes
 
 pub returns-in_err-grow_by-clause-cause : goal.returns-in_err-grow_by-clause-cause
-returns-in_err-grow_by-clause-cause g c = λ usable writable alone.
-    handed_on (λ (r : Result _ _). IfErr r IsMetPreparing) c.from_residual.result c.in_err-grow_by.field-0.0 c.from_residual.ensures (c.in_err-grow_by.ensures.cause usable writable alone)
+returns-in_err-grow_by-clause-cause g c = λ usable writable alone sound.
+    handed_on (λ (r : Result _ _). IfErr r IsMet) c.from_residual.result c.in_err-grow_by.field-0.0 c.from_residual.ensures (c.in_err-grow_by.ensures.cause usable writable alone sound)
 
 pub returns-clause-cause : goal.returns-clause-cause
-returns-clause-cause g c = λ usable writable alone. met_preparing c.flush.result (c.flush.ensures.late (c.in_ok-grow_by.ensures.marks ∙ resize_works c.args.image.now usable))
+returns-clause-cause g c = λ usable writable alone sound. c.flush.ensures.late (c.in_ok-grow_by.ensures.marks ∙ resize_works c.args.image.now usable)
 
 pub returns-in_err-grow_by-clause-faults : goal.returns-in_err-grow_by-clause-faults
 returns-in_err-grow_by-clause-faults g c =

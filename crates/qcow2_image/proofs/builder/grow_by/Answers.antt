@@ -1,6 +1,6 @@
 use Rattle.std.proofs.Common.{[], sym, subst}
 use Rattle.qcow2_image.specs.Created.{GrowsBy}
-use Rattle.qcow2_image.proofs.Create.Causes.{grown_alone, met_preparing}
+use Rattle.qcow2_image.proofs.Create.Causes.{grown_alone}
 use Rattle.qcow2_image.proofs.Sizing.ShrinkCalls.{resize_works}
 use Rattle.qcow2_image.proofs.Create.Leaks.{surplus_taken}
 use Rattle.qcow2_image.proofs.Create.TakingPlace.{takes_by}
@@ -20,10 +20,12 @@ returns-in_default-clause-grows g c =
     })
 
 pub returns-in-None-clause-cause : goal.returns-in-None-clause-cause
-returns-in-None-clause-cause g c = λ usable writable alone. met_preparing c.grow.result (c.grow.ensures.cause (resize_works c.args.image.now usable) writable)
+returns-in-None-clause-cause g c = λ usable writable alone sound. c.grow.ensures.cause (resize_works c.args.image.now usable) writable
 
 pub returns-in_default-clause-cause : goal.returns-in_default-clause-cause
-returns-in_default-clause-cause g c = λ usable writable alone. grown_alone c.args.image.now c.args.mode c.resize_grow.result alone (c.resize_grow.ensures.late usable)
+returns-in_default-clause-cause g c = λ usable writable alone sound.
+    let does = c.resize_grow.ensures in
+    grown_alone g.S.Storage.view g.F.BackingDisk.backing c.args.image.now c.resize_grow.new.self c.args.size c.args.mode c.resize_grow.result alone (does.no_larger usable) (λ lt. does.tables usable lt [] sound) (does.late usable)
 
 pub returns-in_default-clause-surplus : goal.returns-in_default-clause-surplus
 returns-in_default-clause-surplus g c = λ usable sound.

@@ -1,4 +1,4 @@
-use Rattle.std.proofs.Common.{◌≡◌, ◌∙◌, ℕ, ap, inl, subst, sym, true}
+use Rattle.std.proofs.Common.{◌≡◌, ◌∙◌, ℕ, ap, subst, sym, true}
 use Rattle.std.specs.Prelude.{OnOk}
 use Rattle.qcow2_metadata.specs.Bytes.{byte_at}
 use Rattle.qcow2_metadata.specs.Header.{header}
@@ -24,7 +24,7 @@ returns-in-Ok-clause-enlarges g c = λ honest unwritten.
     c.into_storage.ensures (c.grow_and_flush-done.ensures.enlarges opened c.in-Ok.ensures.ok.2 c.in-Ok.ensures.below mid)
 
 pub returns-in-Err-clause-cause : goal.returns-in-Err-clause-cause
-returns-in-Err-clause-cause g c = λ honest unwritten. inl (opening_met (g.S.Storage.view c.args.storage).contents true c.in-Err.refusal (c.in-Err.ensures.cause.1 honest))
+returns-in-Err-clause-cause g c = λ honest unwritten. opening_met (g.S.Storage.view c.args.storage).contents true c.in-Err.refusal (c.in-Err.ensures.cause.1 honest)
 
 pub returns-in-Err-clause-faults : goal.returns-in-Err-clause-faults
 returns-in-Err-clause-faults g c = λ none. told_opening g.S.Storage.view (g.S.Storage.view c.args.storage).faults c.in-Err.storage c.in-Err.refusal c.in-Err.ensures.faults
@@ -32,7 +32,7 @@ returns-in-Err-clause-faults g c = λ none. told_opening g.S.Storage.view (g.S.S
 pub returns-in-Ok-clause-cause : goal.returns-in-Ok-clause-cause
 returns-in-Ok-clause-cause g c = λ honest unwritten.
     let opened = (c.in-Ok.ensures.opens honest unwritten.consistent).opened in
-    c.grow_and_flush-done.ensures.cause (usable_opened g.S.Storage.view g.F.BackingDisk.backing c.in-Ok.image opened c.in-Ok.ensures.ok.2) c.in-Ok.ensures.ok.2 c.in-Ok.ensures.below
+    c.grow_and_flush-done.ensures.cause (usable_opened g.S.Storage.view g.F.BackingDisk.backing c.in-Ok.image opened c.in-Ok.ensures.ok.2) c.in-Ok.ensures.ok.2 c.in-Ok.ensures.below opened.sound
 
 pub returns-in-Ok-clause-faults : goal.returns-in-Ok-clause-faults
 returns-in-Ok-clause-faults g c = λ none.
