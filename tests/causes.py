@@ -3,9 +3,10 @@
 
 import fcntl
 import os
+import shutil
 import subprocess
 
-from checks import QIMG, Checks, answers, consistent, contents, create, equal, kept, run
+from checks import QIMG, Checks, NotTried, answers, consistent, contents, create, equal, kept, run
 
 STORAGE = "refused 15 storage\n"
 
@@ -93,19 +94,94 @@ def a_file_that_may_not_grow():
     consistent("disk")
 
 
+NOBODY = 65534
+
+
+def as_nobody():
+    """Has the next program run by a user to whom permissions apply: they don't apply to root."""
+    if os.geteuid() == 0:
+        return {"user": NOBODY, "group": NOBODY, "extra_groups": []}
+    return {}
+
+
+def said_to_nobody(*words, given=b""):
+    """The status of a copy of the program that such a user runs, what it printed, and what it said on standard error."""
+    try:
+        done = subprocess.run(["./qimg", *words], input=given, capture_output=True, timeout=600, **as_nobody())
+    except PermissionError as e:
+        raise NotTried(f"no other user can run the program: {e}") from e
+    return done.returncode, done.stdout.decode(), done.stderr.decode()
+
+
+def refuses_nobody(file, *words):
+    status, output, messages = said_to_nobody(*words)
+    equal((status, output), (1, STORAGE), f"{words}")
+    equal(messages[:len(f"qimg: {file}: Permission denied")], f"qimg: {file}: Permission denied", f"the message to {words}")
+
+
+def without_permission(mode):
+    """An image that another user has no permission for but this, in a folder where that user finds it."""
+    create("disk", 65536, 512)
+    os.chmod("disk", mode)
+    os.chmod(".", 0o755)
+    shutil.copy(QIMG, "qimg")
+    os.chmod("qimg", 0o755)
+    with open("raw", "wb") as it:
+        it.write(bytes(512))
+    os.chmod("raw", 0o644)
+
+
+def a_file_that_may_not_be_read():
+    """What may be read is read, so that it is the file's permission that is refused."""
+    without_permission(0o644)
+    equal(said_to_nobody("check", "disk"), (0, "consistent, 0 leaked\n", ""), "a file that may be read")
+    os.chmod("disk", 0o200)
+    before = contents("disk") if os.geteuid() == 0 else None
+    refuses_nobody("disk", "check", "disk")
+    refuses_nobody("disk", "run", "disk")
+    refuses_nobody("disk", "export", "disk", "back")
+    refuses_nobody("disk", *makes("disk"))
+    refuses_nobody("disk", "import", "raw", "disk", "512", "16")
+    refuses_nobody("disk", "import", "disk", "other", "512", "16")
+    equal(sorted(os.listdir(".")), ["disk", "qimg", "raw"], "the files")
+    os.chmod("disk", 0o600)
+    equal(contents("disk"), before or contents("disk"), "the file")
+    consistent("disk", 0)
+
+
+def a_file_that_may_not_be_written():
+    without_permission(0o444)
+    before = contents("disk")
+    equal(said_to_nobody("check", "disk"), (0, "consistent, 0 leaked\n", ""), "a file that is only read")
+    refuses_nobody("disk", "run", "disk")
+    refuses_nobody("disk", *makes("disk"))
+    refuses_nobody("disk", "import", "raw", "disk", "512", "16")
+    equal(contents("disk"), before, "the file")
+
+
+def a_folder_that_may_not_be_written():
+    without_permission(0o644)
+    os.mkdir("folder")
+    os.chmod("folder", 0o555)
+    refuses_nobody("folder/disk", *makes("folder/disk"))
+    refuses_nobody("folder/back", "export", "disk", "folder/back")
+    equal(os.listdir("folder"), [], "the files")
+
+
 def loop_device(size):
-    """A block device of so many bytes, none of them zero; None where there can't be one."""
+    """A block device of so many bytes, none of them zero."""
     with open("device", "wb") as it:
         it.write(b"\xff" * size)
+    if shutil.which("losetup") is None:
+        raise NotTried("there is no losetup")
     done = subprocess.run(["losetup", "--find", "--show", "device"], capture_output=True, check=False)
-    return done.stdout.decode().strip() or None
+    if done.returncode:
+        raise NotTried(f"no block device can be made here: {done.stderr.decode(errors='replace').strip()}")
+    return done.stdout.decode().strip()
 
 
 def a_block_device():
     device = loop_device(1 << 20)
-    if device is None:
-        print("no block device can be made here: not tried", flush=True)
-        return
     try:
         create(device, 65536, 512)
         run(device, "fill 100 100 22", "flush")
@@ -128,6 +204,9 @@ def main():
         the_line_that_is_bad,
         nothing_where_all_is_well,
         a_file_that_may_not_grow,
+        a_file_that_may_not_be_read,
+        a_file_that_may_not_be_written,
+        a_folder_that_may_not_be_written,
         a_block_device,
     ):
         checks.run(check.__name__, check)

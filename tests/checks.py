@@ -13,8 +13,12 @@ QIMG = os.environ.get("QIMG", os.path.join(ROOT, "build", "qimg"))
 USAGE = "usage: qimg create FILE SIZE CLUSTER WIDTH MODE | run FILE | check FILE | import RAW FILE CLUSTER WIDTH | export FILE RAW"
 
 
+class NotTried(Exception):
+    """A check can't be tried on this machine; it says why."""
+
+
 class Checks:
-    """Counts checks. Each runs in an empty folder of its own."""
+    """Counts checks. Each runs in an empty folder of its own. One that can't be tried is told, and isn't counted."""
 
     def __init__(self):
         self.passed = 0
@@ -27,6 +31,8 @@ class Checks:
         try:
             check(*arguments)
             self.passed += 1
+        except NotTried as e:
+            print(f"not tried: {name}: {e}", flush=True)
         except (AssertionError, OSError, subprocess.SubprocessError) as e:
             self.failed += 1
             print(f"FAILED {name}: {e}", flush=True)

@@ -5,7 +5,7 @@ import resource
 import subprocess
 
 import checks
-from checks import Checks, create, equal
+from checks import Checks, contents, create, equal
 from failing import failing, has_failed, refuser, refusing
 
 STORAGE = "refused 15 storage\n"
@@ -33,6 +33,77 @@ def disk():
     create("disk", 65536, 512)
 
 
+MAGIC = b"QFI\xfb"
+OLD = b"no image" * 250
+
+
+def put_old():
+    with open("disk", "wb") as it:
+        it.write(OLD)
+
+
+def may_be_left(told):
+    """After a refused create the file is as it was, no image, or a consistent image of no bytes or of the size that was asked for, which shows zeros."""
+    left = contents("disk")
+    if left == OLD or left[:4] != MAGIC:
+        return
+    checks.consistent("disk")
+    size = int(checks.run("disk", "size")[0].removeprefix("size "))
+    equal(size in (0, 65536), True, f"the size {size} after {told}")
+    if size:
+        equal(checks.run("disk", "read 0 65536"), ["data " + "00" * 65536], f"the disk after {told}")
+
+
+def creating(mode):
+    return ["create", "disk", "65536", "512", "16", mode]
+
+
+def each_call_of_creating(call, mode, least):
+    """Over a file that has other bytes: each call of the kind fails in turn, of which there are so many at least."""
+    for number in range(1, 200):
+        put_old()
+        told = failing("disk", call, number, creating(mode))
+        if not has_failed():
+            equal(told, (0, "created\n"), "where none failed")
+            equal(number > least, True, f"how many calls failed: {number - 1}")
+            return
+        equal(told, (1, STORAGE), f"at call {number}")
+        may_be_left(f"call {number}")
+    raise AssertionError(f"more than 199 calls of {call}")
+
+
+def each_growth_of_creating(mode):
+    """Each growth is refused in turn: some before the file changes, and some afterwards."""
+    library = refuser()
+    refused = set()
+    for growth in range(1, 2000):
+        put_old()
+        status, output, came = refusing(library, growth, creating(mode), b"")
+        if (status, output) == (0, "created\n"):
+            checks.consistent("disk", 0)
+            # a call may do with less
+            if came:
+                continue
+            equal(refused, {False, True}, "whether the file had changed as growths were refused")
+            return
+        equal((status, output, came), (1, MEMORY, True), f"at growth {growth}")
+        refused.add(contents("disk") != OLD)
+        may_be_left(f"growth {growth}")
+    raise AssertionError("more than 2,000 growths")
+
+
+def each_call_that_clears_the_autoclear_bits():
+    """One write clears them. Where it fails, opening is refused, and the file is as it was."""
+    disk()
+    checks.put("disk", 88, b"\xff" * 8)
+    before = contents("disk")
+    equal(failing("disk", "pwrite64", 1, ["run", "disk"], input=b"size\n"), (1, STORAGE), "where the write fails")
+    equal(contents("disk"), before, "the file after the write that failed")
+    equal(failing("disk", "pwrite64", 2, ["run", "disk"], input=b"size\n"), (0, "size 65536\n"), "where a second write would fail")
+    equal(has_failed(), False, "whether there was a second write")
+    equal(contents("disk"), before[:88] + bytes(8) + before[96:], "the file")
+
+
 def each_read_of_opening():
     disk()
     told = each("pread64", ["run", "disk"], b"size\n")
@@ -42,7 +113,7 @@ def each_read_of_opening():
 
 def each_write_of_creating():
     put_nothing("disk")
-    told = each("pwrite64", ["create", "disk", "65536", "512", "16", "none"])
+    told = each("pwrite64", creating("none"))
     equal(told[-1], (0, "created\n"), "where none failed")
     equal(told[:-1], [(1, STORAGE)] * 7, "where one failed")
 
@@ -173,7 +244,7 @@ def each_write_of_a_longer_table():
     for number, want in enumerate([of_the_command] * 7 + [of_the_flush] * 2 + [(0, "ok\n")], 1):
         with_a_short_table()
         equal(failing("disk", "pwrite64", number, ["run", "disk"], input=b"fill 32768 512 11\n"), want, f"at write {number}")
-        entries = checks.number_at(checks.contents("disk"), 36, 4)
+        entries = checks.number_at(contents("disk"), 36, 4)
         equal(entries, 2 if number > 3 else 1, f"how many entries the L1 table has after write {number}")
         equal(checks.qimg("run", "disk", given=b"read 32768 1\n")[1], "data 11\n" if number == 10 else "data 00\n", f"at write {number}")
         equal(checks.qimg("run", "disk", given=b"fill 32768 512 22\nread 32768 1\n")[1], "ok\ndata 22\n", f"after write {number}")
@@ -229,8 +300,15 @@ def main():
         a_read_of_the_script_fails,
         a_line_that_has_no_room,
         each_growth_of_mixed_ranges,
+        each_call_that_clears_the_autoclear_bits,
     ):
         every.run(check.__name__, check)
+    for call in ("openat", "flock", "statx"):
+        every.run(f"each {call} of creating", each_call_of_creating, call, "none", 1)
+    for mode in ("none", "zero", "format", "full"):
+        for call, least in (("pwrite64", 7), ("pread64", 4), ("ftruncate", 1), ("lseek", 2)):
+            every.run(f"each {call} of creating in mode {mode}", each_call_of_creating, call, mode, least)
+        every.run(f"each growth of creating in mode {mode}", each_growth_of_creating, mode)
     for call in ("pwrite64", "pread64"):
         every.run(f"each {call} of mixed ranges", each_call_of_mixed_ranges, call)
     every.done()

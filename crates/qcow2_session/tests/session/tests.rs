@@ -1,4 +1,6 @@
 mod commands;
+mod creating;
+mod flushes;
 mod images;
 mod mappings;
 mod sizes;
