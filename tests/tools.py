@@ -4,6 +4,7 @@
 import json
 import os
 import random
+import re
 import subprocess
 import sys
 
@@ -175,6 +176,39 @@ def layouts_that_images_do_not_have():
         equal(tools("create", "-o", layout, "disk", "1M"), (1, "", "qimg-tools: disk: refused 5 invalid option\n"), layout)
 
 
+def rises(text):
+    """What `-p` printed: percents from 0 to 100 in the form of qemu-img, each more than the one before but for the last, which may be told twice. They are answered."""
+    found = re.findall(r" {4}\((\d+\.\d\d)/100%\)[\r\n]", text)
+    equal(text, "".join(f"    ({it}/100%)\r" for it in found[:-1]) + "    (100.00/100%)\n", "the form of the progress")
+    percents = [float(it) for it in found]
+    equal((percents[0], percents[-1], len(percents) <= 102), (0, 100, True), "its beginning, its end and its length")
+    before = percents[:-1]
+    equal(before, sorted(set(before)), "the percents")
+    return percents
+
+
+def progress_as_qemu_shows_it():
+    """Of 5 MiB without zeros each of 80 clusters is 1.25 percent, on the way to an image and back."""
+    with open("raw", "wb") as it:
+        it.write(b"\x11" * (5 << 20))
+    wanted = [at * 1.25 for at in range(81)] + [100]
+    for words in (["-f", "raw", "-O", "qcow2", "raw", "disk"], ["-f", "qcow2", "-O", "raw", "disk", "again"]):
+        percents = rises(told("convert", "-p", *words))
+        equal(percents, wanted, "the percents")
+        theirs = [float(it) for it in re.findall(r"\((\d+\.\d\d)/100%\)", tool("qemu-img", "convert", "-p", *words[:-1], "theirs"))]
+        equal((percents[0], percents[-2:]), (theirs[0], theirs[-2:]), "beside QEMU")
+
+
+def progress_of_little_and_of_much():
+    """A disk of no bytes has a beginning and an end; one of many clusters no more than one line for each percent."""
+    for size in (0, 512, 64 << 20):
+        with open("raw", "wb") as it:
+            it.truncate(size)
+        percents = rises(told("convert", "-p", "-f", "raw", "-O", "qcow2", "-o", "cluster_size=4k", "raw", "disk"))
+        equal(len(percents) > 90, size > 512, f"the percents of {size} bytes")
+        equal(rises(told("convert", "-p", "disk", "again")), [0, 100], "the percents of zeros, which aren't written")
+
+
 def there_and_back(size, layout):
     chosen = random.Random(size)
     disk = bytearray(size)
@@ -184,7 +218,7 @@ def there_and_back(size, layout):
         disk[at:at + len(some)] = some
     with open("raw", "wb") as it:
         it.write(disk)
-    equal(told("convert", "-p", "-f", "raw", "-O", "qcow2", "-o", layout, "raw", "disk"), "    (0.00/100%)\r    (100.00/100%)\n", "the progress")
+    rises(told("convert", "-p", "-f", "raw", "-O", "qcow2", "-o", layout, "raw", "disk"))
     consistent("disk", 0)
     equal(contents("raw"), bytes(disk), "the raw disk that was read")
     equal(tool("qemu-img", "compare", "-f", "raw", "-F", "qcow2", "raw", "disk").strip(), "Images are identical.", "qemu-img compare")
@@ -249,7 +283,7 @@ def main():
         checks.run(f"map of {layout}", map_is_as_qemu_says, layout)
     for check in (
         info_names_the_backing_file, sizes_for_people, map_of_an_overlay, map_of_compressed_data, map_of_nothing, check_of_a_consistent_image, check_of_a_leak, check_of_a_missing_count, what_is_no_image,
-        sizes, layouts_that_images_do_not_have, conversions_that_are_refused, a_full_device, help_and_version,
+        sizes, layouts_that_images_do_not_have, progress_as_qemu_shows_it, progress_of_little_and_of_much, conversions_that_are_refused, a_full_device, help_and_version,
     ):
         checks.run(check.__name__, check)
     for words, layout in (([], (65536, 16)), (["-o", "cluster_size=4k"], (4096, 16)), (["-o", "refcount_bits=1,cluster_size=2M"], (2 << 20, 1)), (["-o", "cluster_size=512", "-o", "refcount_bits=64"], (512, 64))):

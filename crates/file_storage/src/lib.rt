@@ -3,6 +3,7 @@
 
 mod file_storage;
 mod opening;
+mod progress;
 mod streamed;
 mod zeros;
 

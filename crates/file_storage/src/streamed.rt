@@ -2,9 +2,11 @@ ghost use Rattle.std.specs.Prelude.{◌≡◌, ◌+◌, ◌≤◌, length, IfOk,
 ghost use Rattle.image_access.specs.Moments.{HasCause};
 
 use crate::FileStorage;
+use crate::progress::Progress;
 use image_access::{Storage, StorageError, StoragePreallocate};
 use std::alloc::{AllocError, Global};
 use std::io;
+use std::io::Stdout;
 
 /// How many bytes are held at most.
 const ROOM: usize = 262144;
@@ -28,6 +30,7 @@ pub struct StreamedFile {
     is_unwritten: bool,
     next: u64,
     in_a_row: u32,
+    progress: Option<Progress>,
     ghost fits: { held ≤ length room.items },
 }
 
@@ -44,6 +47,7 @@ impl StreamedFile {
             is_unwritten: false,
             next: 0,
             in_a_row: 0,
+            progress: None,
         })
     }
 
@@ -52,6 +56,62 @@ impl StreamedFile {
         ensures last { result ≡ self.now.file.last_error }
     {
         self.file.last_error()
+    }
+
+    /// From now on it tells on standard output how far it was read or written, in percent of the size that `size` or `resize` last
+    /// had. That is told once it has risen by one percent or more. Where it can't be printed nothing is told.
+    pub fn shows_progress(&mut self, output: Stdout)
+        ensures same { self.new.file ≡ self.old.file }
+    {
+        self.progress = Some(Progress::new(output));
+    }
+
+    // Takes a size as all that is to be read or written.
+    fn set_total(&mut self, size: u64)
+        ensures same { self.new.file ≡ self.old.file }
+    {
+        if let Some(progress) = &mut self.progress {
+            progress.set_total(size);
+        }
+    }
+
+    // Tells that it was read or written up to the end of these bytes.
+    fn reach(&mut self, at: u64, count: u64)
+        ensures same { self.new.file ≡ self.old.file }
+    {
+        if let Some(progress) = &mut self.progress {
+            progress.reach(at.saturating_add(count));
+        }
+    }
+
+    // Reads, from what is held where it is there.
+    fn read_piece(&mut self, at: u64, buf: &mut [u8]) -> Result<(), StorageError>
+        ensures cause { HasCause self.old.file.faults self.new.file.faults result }
+    {
+        self.write_out()?;
+        let is_expected = self.is_expected(at, buf.len());
+        if self.reads_held(at, buf) {
+            return Ok(());
+        }
+        if !is_expected || buf.len() >= LONG {
+            return self.file.read(at, buf);
+        }
+        self.read_ahead(at, buf)
+    }
+
+    // Writes, or holds what is to be written.
+    fn write_piece(&mut self, at: u64, bytes: &[u8]) -> Result<(), StorageError>
+        ensures cause { HasCause self.old.file.faults self.new.file.faults result }
+    {
+        self.forget();
+        if self.holds(at, bytes) {
+            return Ok(());
+        }
+        self.write_out()?;
+        if self.holds(at, bytes) {
+            return Ok(());
+        }
+        self.file.write(at, bytes)
     }
 
     // Writes what is held.
@@ -170,49 +230,45 @@ impl Storage for StreamedFile {
 
     fn size(&mut self) -> Result<u64, StorageError> {
         self.write_out()?;
-        self.file.size()
+        let size = self.file.size()?;
+        self.set_total(size);
+        Ok(size)
     }
 
     fn read(&mut self, at: u64, buf: &mut [u8]) -> Result<(), StorageError> {
-        self.write_out()?;
-        let is_expected = self.is_expected(at, buf.len());
-        if self.reads_held(at, buf) {
-            return Ok(());
-        }
-        if !is_expected || buf.len() >= LONG {
-            return self.file.read(at, buf);
-        }
-        self.read_ahead(at, buf)
+        self.read_piece(at, buf)?;
+        self.reach(at, buf.len() as u64);
+        Ok(())
     }
 
     fn write(&mut self, at: u64, bytes: &[u8]) -> Result<(), StorageError> {
-        self.forget();
-        if self.holds(at, bytes) {
-            return Ok(());
-        }
-        self.write_out()?;
-        if self.holds(at, bytes) {
-            return Ok(());
-        }
-        self.file.write(at, bytes)
+        self.write_piece(at, bytes)?;
+        self.reach(at, bytes.len() as u64);
+        Ok(())
     }
 
     fn write_zeroes(&mut self, at: u64, length: u64) -> Result<(), StorageError> {
         self.forget();
         self.write_out()?;
-        self.file.write_zeroes(at, length)
+        self.file.write_zeroes(at, length)?;
+        self.reach(at, length);
+        Ok(())
     }
 
     fn write_allocated_zeroes(&mut self, at: u64, length: u64) -> Result<(), StorageError> {
         self.forget();
         self.write_out()?;
-        self.file.write_allocated_zeroes(at, length)
+        self.file.write_allocated_zeroes(at, length)?;
+        self.reach(at, length);
+        Ok(())
     }
 
     fn resize(&mut self, size: u64, how: StoragePreallocate) -> Result<(), StorageError> {
         self.forget();
         self.write_out()?;
-        self.file.resize(size, how)
+        self.file.resize(size, how)?;
+        self.set_total(size);
+        Ok(())
     }
 
     fn flush(&mut self) -> Result<(), StorageError> {

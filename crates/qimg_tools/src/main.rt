@@ -177,7 +177,7 @@ fn import_file(
     let Ok((mut disk, storage)) = streamed(rt, disk, storage) else {
         return refuse_file(rt, from, &io::Error::from(io::ErrorKind::OutOfMemory));
     };
-    begin_progress(settings, output);
+    begin_progress(rt, settings, &mut disk, output);
     let (mut storage, done) = make_image(
         rt.alloc(),
         &mut disk,
@@ -221,7 +221,7 @@ fn export_file(
     let Ok((mut disk, storage)) = streamed(rt, disk, storage) else {
         return refuse_file(rt, to, &io::Error::from(io::ErrorKind::OutOfMemory));
     };
-    begin_progress(settings, output);
+    begin_progress(rt, settings, &mut disk, output);
     let (storage, done) = make_raw_disk(rt.alloc(), storage, &mut disk);
     let _ = disk.flush();
     let status = ended(
@@ -237,11 +237,17 @@ fn export_file(
     status
 }
 
-// The library has no hook for progress, so only the beginning and the end of a conversion are told.
-fn begin_progress(settings: &Settings<'_>, output: &mut impl Write) {
+// From the beginning on the raw disk itself tells how far it was read or written.
+fn begin_progress(
+    rt: &HostRuntime,
+    settings: &Settings<'_>,
+    disk: &mut StreamedFile,
+    output: &mut impl Write,
+) {
     if settings.shows_progress {
         let _ = write!(output, "    (0.00/100%)\r");
         let _ = output.flush();
+        disk.shows_progress(rt.stdout());
     }
 }
 
