@@ -67,7 +67,7 @@ impl<S: Storage, F: WrappedFormat<S>> Qcow2<S, F> {
     ghost use Rattle.qcow2_laws.specs.CrashInvariant.{Pending};
     ghost use Rattle.qcow2_image.specs.ImageInvariant.{abstract_of, pending_in, ImageInvariant};
     ghost use Rattle.qcow2_image.specs.CallParts.{EndsFreeing};
-    ghost use Rattle.qcow2_alloc.specs.ImageError.{IsFault};
+    ghost use Rattle.qcow2_alloc.specs.ImageError.{IsFault, IsOfTables};
     ghost use Rattle.qcow2_image.specs.Calls.{FlushesImage};
     ghost use Rattle.qcow2_alloc.specs.ImageFile.{contents_in, known_in};
     ghost use Rattle.qcow2_image.specs.UnseenSteps.{UnseenStep, FreesListed};
@@ -385,7 +385,7 @@ impl<S: Storage, F: WrappedFormat<S>> Qcow2<S, F> {
     /// 15 (storage) where the work meets them.
     pub fn flush(&mut self) -> Result<(), ImageError>
         ensures early { IsTrue (is_failed self.old) → (result ≡ Err Failed) × (self.new ≡ self.old) }
-        ensures late { is_failed self.old ≡ false → IfErr result IsMet }
+        ensures late { is_failed self.old ≡ false → IfErr result IsOfTables }
         ensures marks { MarksFailed self.old self.new result }
         ensures image { IsSameImage self.old self.new }
         ensures sees { FlushesImage S.view F.backing self.old self.new result }
@@ -402,9 +402,10 @@ impl<S: Storage, F: WrappedFormat<S>> Qcow2<S, F> {
         self.mark_failure(done)
     }
 
+    #[tactic(auto, using(crate::proofs::Call::MetErrors::storage_of_tables))]
     fn write_back(&mut self) -> Result<(), ImageError>
         ensures stays { ImageStays self.old self.new }
-        ensures cause { IfErr result IsMet }
+        ensures cause { IfErr result IsOfTables }
         ensures emptied { IsTrue (is_writable self.old) → OnOk result (HasNothingToFree self.new) }
         ensures frees { (p : Pending) (out : List (Option Prepared)) → ImageInvariant S.view F.backing (with_listed p self.old.file.free_list) self.old out → FreesListed S.view F.backing p self.old self.new out result }
         ensures written { IfOk result (λ done. known_in S.view self.new.file ≡ contents_in S.view self.new.file) }
@@ -422,7 +423,7 @@ impl<S: Storage, F: WrappedFormat<S>> Qcow2<S, F> {
         ensures stays { ImageStays self.old self.new }
         ensures keeps_rest { KeepsRest self.old self.new }
         ensures table { self.new.l1_table ≡ self.old.l1_table }
-        ensures cause { IfErr result IsMet }
+        ensures cause { IfErr result IsOfTables }
         ensures emptied { IsTrue (is_writable self.old) → OnOk result (HasNothingToFree self.new) }
         ensures frees { (p : Pending) (out : List (Option Prepared)) → ImageInvariant S.view F.backing (with_listed p self.old.file.free_list) self.old out → FreesListed S.view F.backing p self.old self.new out result }
         ensures faults { (p : Pending) (out : List (Option Prepared)) → ImageInvariant S.view F.backing (with_listed p self.old.file.free_list) self.old out → IfErr result IsFault }
@@ -439,7 +440,7 @@ impl<S: Storage, F: WrappedFormat<S>> Qcow2<S, F> {
     // Frees the clusters that are to be freed, at the end of a call that changed an entry. Where there are none, nothing is done.
     pub(crate) fn end_freeing(&mut self) -> Result<(), ImageError>
         ensures image { IsSameImage self.old self.new }
-        ensures cause { IfErr result IsMet }
+        ensures cause { IfErr result IsOfTables }
         ensures marks { MarksFailed self.old self.new result }
         ensures emptied { IsTrue (is_writable self.old) → OnOk result (HasNothingToFree self.new) }
         ensures frees { (out : List (Option Prepared)) → ImageInvariant S.view F.backing (pending_in S.view F.backing self.old out) self.old out

@@ -153,7 +153,7 @@ impl<S: Storage, F: WrappedFormat<S>> Qcow2<S, F> {
     /// 14 (memory), 15 (storage).
     pub fn get_mapping(&mut self, offset: u64, max: u64) -> Result<(Mapping, u64), ImageError>
         ensures early { IfSome (unusable self.old) (λ e. (result ≡ Err e) × (self.new ≡ self.old)) }
-        ensures late { unusable self.old ≡ None → IfErr result IsMet }
+        ensures late { unusable self.old ≡ None → IfErr result IsOfTables }
         ensures marks { MarksFailed self.old self.new result }
         ensures image { IsSameImage self.old self.new }
         ensures own { IfOk result (λ (mapping, n). (mapping.image ≡ number_of self.old) × (mapping.offset ≡ offset) × (mapping.length ≡ n)) }
@@ -585,7 +585,7 @@ impl<S: Storage, F: WrappedFormat<S>> Qcow2<S, F> {
         ensures foreign { image_of prepared ≢ number_of self.old → (result ≡ Err (Kept ForeignState prepared)) × (self.new ≡ self.old) }
         ensures failed { image_of prepared ≡ number_of self.old → IsTrue (is_failed self.old) → (result ≡ Err (Kept Failed prepared)) × (self.new ≡ self.old) }
         ensures kept { IfErr result (IsHandedBackBy prepared) }
-        ensures late { image_of prepared ≡ number_of self.old → is_failed self.old ≡ false → IfErr result (λ r. IsMet (reason_of r)) }
+        ensures late { image_of prepared ≡ number_of self.old → is_failed self.old ≡ false → IfErr result (λ r. IsOfTables (reason_of r)) }
         ensures marks { MatchResult result (λ done. is_failed self.new ≡ is_failed self.old) (λ r. MarksRefused self.old self.new (reason_of r)) }
         ensures existing { image_of prepared ≡ number_of self.old → is_failed self.old ≡ false → IsNone (table_of prepared) → (result ≡ Ok tt) × ReleasesOneMapping S.view self.old self.new }
         ensures image { IsSameImage self.old self.new }

@@ -231,6 +231,7 @@ impl<S: Storage, F: WrappedFormat<S>> Qcow2<S, F> {
     }
 
     // Makes a new L1 table that has an entry for an offset, with all old entries. The clusters of the old one are freed then.
+    #[tactic(auto, using(crate::proofs::Call::MetErrors::tables_met))]
     fn renew_l1_table(&mut self, offset: u64) -> Result<(), ImageError>
         requires writable { IsTrue (is_writable self.old) }
         ensures stays { ImageStays self.old self.new }

@@ -12,7 +12,7 @@ use Rattle.qcow2_disk.specs.Runs.{Found}
 use Rattle.qcow2_alloc.specs.declared.error.ImageError.{ImageError}
 use Rattle.qcow2_alloc.specs.declared.error.ImageError.TheVariants as I
 use Rattle.qcow2_image.specs.Clearing.{IsUnderMapping, from_in, to_in}
-use Rattle.qcow2_image.specs.Image.{number_of}
+use Rattle.qcow2_image.specs.Image.{is_external, is_failed, number_of}
 use Rattle.qcow2_image.specs.ImageInvariant.{abstract_of}
 use Rattle.qcow2_image.specs.declared.image.Qcow2.{Qcow2}
 use Rattle.qcow2_image.specs.declared.prepared.CommitRefused.{CommitRefused}
@@ -23,6 +23,7 @@ use Rattle.qcow2_image.specs.Refusals.{IsMet, IsMetPreparing, passes, refuse_if,
 use Rattle.qcow2_session.specs.Causes.{HasNothingToDo, HeedsPrepared, IsRightlyRefused, IsUntouchedUnder, MayMeet, TellsMisuse, first_cause, refuses_clearing}
 use Rattle.qcow2_session.specs.Commands.{reply_of_clearing}
 use Rattle.qcow2_session.specs.CountedFaults.{refusal_in}
+use Rattle.qcow2_session.specs.Sessions.{IsOfReading}
 use Rattle.qcow2_session.specs.declared.session.Command.{Command}
 use Rattle.qcow2_session.specs.declared.session.Command.TheVariants as C
 use Rattle.qcow2_session.specs.declared.session.Reply.{Reply}
@@ -53,6 +54,15 @@ where_failed P false first = tt
 pub not_failed : (b : Bool) → refuse_if b I.Failed ≡ None → b ≡ false
 not_failed true none = absurd (let no : Some I.Failed ≡ None = none in cc)
 not_failed false none = refl
+
+-- what a lookup is refused for, a read may be
+pub mapping_reading : {S F : Type 0} (A X : Type 0) (image : Qcow2 S F) (e : ImageError) → IfSome (unusable image) (λ x. (◌≡◌ {A = Result A ImageError} (Err e) (Err x)) × X) → (unusable image ≡ None → IsMet e) → IsOfReading e
+mapping_reading A X image e early late = by (is_failed image) (is_external image) early late
+  where
+    by : (a b : Bool) → IfSome (option_or (refuse_if a I.Failed) (refuse_if b I.Dependency)) (λ x. (◌≡◌ {A = Result A ImageError} (Err e) (Err x)) × X) → (option_or (refuse_if a I.Failed) (refuse_if b I.Dependency) ≡ None → IsMet e) → IsOfReading e
+    by true b early late = inr (inr (inl (same_error early.0)))
+    by false true early late = inr (inr (inr (same_error early.0)))
+    by false false early late = inl (late refl)
 
 -- ---- what a reply is made of
 

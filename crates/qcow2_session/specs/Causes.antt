@@ -8,7 +8,7 @@ use Rattle.qcow2_metadata.specs.Header.{cluster_size}
 use Rattle.qcow2_disk.specs.Calls.{Clearing, to_backing, to_kept_zero, to_zero}
 use Rattle.qcow2_disk.specs.ClearedCovers.{needs_zeros, rounds_past}
 use Rattle.qcow2_disk.specs.Runs.{Found}
-use Rattle.qcow2_alloc.specs.ImageError.{IsFault}
+use Rattle.qcow2_alloc.specs.ImageError.{IsFault, IsOfTables}
 use Rattle.qcow2_alloc.specs.ImageFile.{known_in}
 use Rattle.qcow2_alloc.specs.declared.error.ImageError.{ImageError}
 use Rattle.qcow2_alloc.specs.declared.error.ImageError.TheVariants as I
@@ -88,13 +88,16 @@ TellsMisuse before found command reply = (reply ≡ R.Misuse) ↔ IsMisused befo
 -- what a command may be refused for where nothing refused it at once
 abbrev pub MayMeet : Command → ImageError → Type 0
 MayMeet (C.Write offset bytes) e = IsMetPreparing e
+MayMeet (C.GetMapping slot offset max) e = IsOfTables e
 MayMeet (C.PrepareDataMapping slot offset n overwrite) e = IsMetPreparing e
+MayMeet (C.CommitDataMapping slot) e = IsOfTables e
 MayMeet (C.DiscardDataMapping slot) e = ⊥
 MayMeet (C.EnsureZeroMapping offset n) e = IsMetPreparing e
 MayMeet (C.DiscardToZero offset n) e = IsMetPreparing e
 MayMeet (C.DiscardToAny offset n) e = IsMetPreparing e
 MayMeet (C.DiscardToBacking offset n) e = IsMetPreparing e
 MayMeet (C.ReadvSpecial offset n) e = IsMet e ⊎ (e ≡ I.NotCompressed offset)
+MayMeet C.Flush e = IsOfTables e
 MayMeet (C.ResizeGrow size mode) e = IsMetPreparing e
 MayMeet (C.ResizeShrink size) e = IsFault e ⊎ (e ≡ I.MappingPrepared)
 MayMeet C.Size e = ⊥

@@ -1,6 +1,9 @@
-use Rattle.std.proofs.Common.{◌∙◌, Result, refl, subst}
+use Rattle.std.proofs.Common.{◌∙◌, Result, Ok, Err, refl, subst}
 use Rattle.std.specs.Prelude.{IfErr}
+use Rattle.qcow2_alloc.specs.ImageError.{IsOfTables}
+use Rattle.qcow2_alloc.specs.declared.error.ImageError.{ImageError}
 use Rattle.qcow2_image.specs.Refusals.{IsMet}
+use Rattle.qcow2_image.proofs.Call.MetErrors.{tables_met}
 use Rattle.qcow2_image.proofs.Call.FaultCounts.{counted_on, counted_since, untouched}
 use Rattle.qcow2_image.proofs.Sizing.ShrinkCalls.{resize_works}
 use Rattle.qcow2_alloc.specs.ImageFile.{view_in}
@@ -33,8 +36,12 @@ pub returns-in_err-grow_by-clause-cause : goal.returns-in_err-grow_by-clause-cau
 returns-in_err-grow_by-clause-cause g c = λ usable writable alone sound.
     handed_on (λ (r : Result _ _). IfErr r IsMet) c.from_residual.result c.in_err-grow_by.field-0.0 c.from_residual.ensures (c.in_err-grow_by.ensures.cause usable writable alone sound)
 
+tables_all : {T : Type 0} (r : Result T ImageError) → IfErr r IsOfTables → IfErr r IsMet
+tables_all (Ok x) of_tables = tt
+tables_all (Err e) of_tables = tables_met e of_tables
+
 pub returns-clause-cause : goal.returns-clause-cause
-returns-clause-cause g c = λ usable writable alone sound. c.flush.ensures.late (c.in_ok-grow_by.ensures.marks ∙ resize_works c.args.image.now usable)
+returns-clause-cause g c = λ usable writable alone sound. tables_all c.flush.result (c.flush.ensures.late (c.in_ok-grow_by.ensures.marks ∙ resize_works c.args.image.now usable))
 
 pub returns-in_err-grow_by-clause-faults : goal.returns-in_err-grow_by-clause-faults
 returns-in_err-grow_by-clause-faults g c =

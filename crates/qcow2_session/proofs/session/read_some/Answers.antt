@@ -3,7 +3,7 @@ use Rattle.std.proofs.lemmas.Grind.{common_steps}
 use Rattle.qcow2_disk.specs.Calls.{another}
 use Rattle.qcow2_disk.specs.AbstractImages.{Guest}
 use Rattle.qcow2_image.specs.ImageInvariant.{abstract_of}
-use Rattle.qcow2_session.specs.Sessions.{ReadsFirst}
+use Rattle.qcow2_session.specs.Sessions.{IsOfReading, ReadsFirst}
 use Rattle.qcow2_session.proofs.Bytes.{shows_as}
 use Rattle.qcow2_session.proofs.Turns.{refused_is, refuses_here, none_within, does_if, refuses_if, does_then, refuses_then}
 use Rattle.qcow2_image.proofs.Map.Unmodified.{read_then}
@@ -11,8 +11,9 @@ use Rattle.std.specs.Prelude.{IfErr, length}
 use Rattle.qcow2_image.specs.Image.{size_of}
 use Rattle.qcow2_image.specs.Refusals.{IsMet, unusable, passes}
 use Rattle.qcow2_alloc.specs.declared.error.ImageError.TheVariants.{BeyondSize}
-use Rattle.qcow2_session.proofs.Causing.{fits_below, then_none}
+use Rattle.qcow2_session.proofs.Causing.{mapping_reading, fits_below, then_none}
 use Rattle.qcow2_session.proofs.Parts.{mapping_usable}
+use Rattle.qcow2_image.proofs.Call.MetErrors.{tables_met}
 use Rattle.qcow2_session.proofs.session.read_some.Goals as goal
 
 pub returns-in_err-mapping-clause-sees : goal.returns-in_err-mapping-clause-sees
@@ -56,10 +57,14 @@ returns-in_err-mapping-clause-unwritten g c = λ reading out sound clean. c.get_
 pub returns-then-count-eq0-clause-unwritten : goal.returns-then-count-eq0-clause-unwritten
 returns-then-count-eq0-clause-unwritten g c = λ reading out sound clean. c.get_mapping.ensures.unwritten _ out sound clean
 
+pub returns-in_err-mapping-clause-cause : goal.returns-in_err-mapping-clause-cause
+returns-in_err-mapping-clause-cause g c = subst (λ r. IfErr r IsOfReading) (sym (refused_is _ c.in_err-mapping.field-0.0 c.from_residual.ensures))
+    (mapping_reading _ _ c.args.image.now c.in_err-mapping.field-0.0 c.in_err-mapping.ensures.early (λ none. tables_met c.in_err-mapping.field-0.0 (c.in_err-mapping.ensures.late none)))
+
 pub returns-in_err-mapping-clause-late : goal.returns-in_err-mapping-clause-late
 returns-in_err-mapping-clause-late g c = λ none some.
     let first = then_none (unusable c.args.image.now) (passes (size_of c.args.image.now) c.args.offset (length c.args.bytes.now)) BeyondSize none in
-    subst (λ r. IfErr r IsMet) (sym (refused_is _ c.in_err-mapping.field-0.0 c.from_residual.ensures)) (c.in_err-mapping.ensures.late first.0)
+    subst (λ r. IfErr r IsMet) (sym (refused_is _ c.in_err-mapping.field-0.0 c.from_residual.ensures)) (tables_met c.in_err-mapping.field-0.0 (c.in_err-mapping.ensures.late first.0))
 
 pub returns-then-count-eq0-clause-late : goal.returns-then-count-eq0-clause-late
 returns-then-count-eq0-clause-late g c = λ none some.

@@ -12,6 +12,7 @@ use Rattle.qcow2_session.specs.Sessions.{cluster_size_of, WritesFirst}
 use Rattle.qcow2_session.proofs.Chunks.{may_write_none, put_refused, written, commit_old_tables, commit_kept}
 use Rattle.qcow2_session.proofs.Writing.{chunk_ends}
 use Rattle.qcow2_image.proofs.Free.{free_places}
+use Rattle.qcow2_session.proofs.Told.{none_refused}
 use Rattle.qcow2_session.proofs.Turns.{refused_is, none_within, refuses_if, refuses_less, nothing_refused}
 use Rattle.qcow2_image.proofs.Map.Unmodified.{read_same, read_then}
 use Rattle.qcow2_session.proofs.Unwritten.{nothing_prepared, prepare_same, put_same, read_release_prepared}
@@ -26,6 +27,8 @@ use Rattle.qcow2_image.specs.Calls.{reason_of}
 use Rattle.qcow2_image.specs.Clearing.{IsUnderMapping}
 use Rattle.qcow2_image.specs.Refusals.{IsMet, IsMetPreparing}
 use Rattle.qcow2_session.proofs.Parts.{mapping_usable, not_failed_yet, prepares_usable, put_met, under_taken}
+use Rattle.qcow2_alloc.specs.ImageError.{IsOfTables}
+use Rattle.qcow2_image.proofs.Call.MetErrors.{tables_met}
 use Rattle.qcow2_session.proofs.session.write_some.Goals as goal
 
 -- what refused a call that begins another one before any work refused that one
@@ -200,7 +203,7 @@ returns-in-Err-Spent-clause-late g c = λ none.
     let n = length c.args.bytes.now in
     let own = c.in_ok-prepared.ensures.own ∙ sym (c.write_mapped.ensures.image.number ∙ c.prepare_data_mapping.ensures.image.number) in
     let works = c.in_default.ensures.marks ∙ c.in_ok-prepared.ensures.marks ∙ not_failed_yet old mid c.prepare_data_mapping.ensures.image (prepares_usable old c.args.offset n none) in (
-      inl (subst (λ r. IsMet (reason_of r)) c.in-Err-Spent.field-0-is (c.in-Err-Spent.ensures.late own works)),
+      inl (tables_met c.in-Err-Spent.refusal (subst (λ r. IsOfTables (reason_of r)) c.in-Err-Spent.field-0-is (c.in-Err-Spent.ensures.late own works))),
       some_bytes n (λ empty.
           let nothing = (c.in_ok-prepared.ensures.nothing (ap (λ k. refuses_to_prepare old c.args.offset k) (sym empty) ∙ none) empty).1 in
           let no = (c.in-Err-Spent.ensures.existing own works nothing.0).0 in absurd cc),
@@ -213,11 +216,31 @@ returns-in-Err-Kept-clause-late g c = λ none.
     let n = length c.args.bytes.now in
     let own = c.in_ok-prepared.ensures.own ∙ sym (c.write_mapped.ensures.image.number ∙ c.prepare_data_mapping.ensures.image.number) in
     let works = c.in_default.ensures.marks ∙ c.in_ok-prepared.ensures.marks ∙ not_failed_yet old mid c.prepare_data_mapping.ensures.image (prepares_usable old c.args.offset n none) in (
-      inl (subst (λ r. IsMet (reason_of r)) c.in-Err-Kept.field-0-is (c.in-Err-Kept.ensures.late own works)),
+      inl (tables_met c.in-Err-Kept.refusal (subst (λ r. IsOfTables (reason_of r)) c.in-Err-Kept.field-0-is (c.in-Err-Kept.ensures.late own works))),
       some_bytes n (λ empty.
           let nothing = (c.in_ok-prepared.ensures.nothing (ap (λ k. refuses_to_prepare old c.args.offset k) (sym empty) ∙ none) empty).1 in
           let no = (c.in-Err-Kept.ensures.existing own works nothing.0).0 in absurd cc),
     )
+
+pub returns-in-Err-Spent-clause-cause : goal.returns-in-Err-Spent-clause-cause
+returns-in-Err-Spent-clause-cause g c =
+    let old = c.args.image.now in
+    let mid = c.prepare_data_mapping.new.self in
+    let n = length c.args.bytes.now in
+    let none = none_refused _ (refuses_to_prepare old c.args.offset n) c.in_ok-prepared.prepared c.in_ok-prepared.ensures.early in
+    let own = c.in_ok-prepared.ensures.own ∙ sym (c.write_mapped.ensures.image.number ∙ c.prepare_data_mapping.ensures.image.number) in
+    let works = c.in_default.ensures.marks ∙ c.in_ok-prepared.ensures.marks ∙ not_failed_yet old mid c.prepare_data_mapping.ensures.image (prepares_usable old c.args.offset n none) in
+    inl (inl (tables_met c.in-Err-Spent.refusal (subst (λ r. IsOfTables (reason_of r)) c.in-Err-Spent.field-0-is (c.in-Err-Spent.ensures.late own works))))
+
+pub returns-in-Err-Kept-clause-cause : goal.returns-in-Err-Kept-clause-cause
+returns-in-Err-Kept-clause-cause g c =
+    let old = c.args.image.now in
+    let mid = c.prepare_data_mapping.new.self in
+    let n = length c.args.bytes.now in
+    let none = none_refused _ (refuses_to_prepare old c.args.offset n) c.in_ok-prepared.prepared c.in_ok-prepared.ensures.early in
+    let own = c.in_ok-prepared.ensures.own ∙ sym (c.write_mapped.ensures.image.number ∙ c.prepare_data_mapping.ensures.image.number) in
+    let works = c.in_default.ensures.marks ∙ c.in_ok-prepared.ensures.marks ∙ not_failed_yet old mid c.prepare_data_mapping.ensures.image (prepares_usable old c.args.offset n none) in
+    inl (inl (tables_met c.in-Err-Kept.refusal (subst (λ r. IsOfTables (reason_of r)) c.in-Err-Kept.field-0-is (c.in-Err-Kept.ensures.late own works))))
 
 pub returns-in_err-prepared-clause-taken : goal.returns-in_err-prepared-clause-taken
 returns-in_err-prepared-clause-taken g c = λ none out sound.
@@ -237,12 +260,12 @@ returns-in-Err-clause-taken g c = λ none out sound is. absurd (subst IsMet is (
     c.in_ok-prepared.ensures.own c.in_ok-prepared.ensures.marks (λ empty. grind (arith, common_steps)) none c.in-Err.ensures.late (λ usable empty. let no = (c.in-Err.ensures.nothing usable empty).0 in absurd cc)))
 
 pub returns-in-Err-Spent-clause-taken : goal.returns-in-Err-Spent-clause-taken
-returns-in-Err-Spent-clause-taken g c = λ none out sound is. absurd (subst IsMet is (subst (λ r. IsMet (reason_of r)) c.in-Err-Spent.field-0-is
+returns-in-Err-Spent-clause-taken g c = λ none out sound is. absurd (subst IsOfTables is (subst (λ r. IsOfTables (reason_of r)) c.in-Err-Spent.field-0-is
     (c.in-Err-Spent.ensures.late (c.in_ok-prepared.ensures.own ∙ sym (c.write_mapped.ensures.image.number ∙ c.prepare_data_mapping.ensures.image.number))
     (c.in_default.ensures.marks ∙ c.in_ok-prepared.ensures.marks ∙ not_failed_yet c.args.image.now c.prepare_data_mapping.new.self c.prepare_data_mapping.ensures.image (prepares_usable c.args.image.now c.args.offset (length c.args.bytes.now) none)))))
 
 pub returns-in-Err-Kept-clause-taken : goal.returns-in-Err-Kept-clause-taken
-returns-in-Err-Kept-clause-taken g c = λ none out sound is. absurd (subst IsMet is (subst (λ r. IsMet (reason_of r)) c.in-Err-Kept.field-0-is
+returns-in-Err-Kept-clause-taken g c = λ none out sound is. absurd (subst IsOfTables is (subst (λ r. IsOfTables (reason_of r)) c.in-Err-Kept.field-0-is
     (c.in-Err-Kept.ensures.late (c.in_ok-prepared.ensures.own ∙ sym (c.write_mapped.ensures.image.number ∙ c.prepare_data_mapping.ensures.image.number))
     (c.in_default.ensures.marks ∙ c.in_ok-prepared.ensures.marks ∙ not_failed_yet c.args.image.now c.prepare_data_mapping.new.self c.prepare_data_mapping.ensures.image (prepares_usable c.args.image.now c.args.offset (length c.args.bytes.now) none)))))
 

@@ -11,6 +11,7 @@ use Rattle.qcow2_image.proofs.Preallocate.Filled.{fill_unseen, fills_none, fills
 use Rattle.qcow2_image.proofs.Preallocate.Piece.{all_filled, all_fits, all_next, all_put, all_within, piece_gone}
 use Rattle.qcow2_image.proofs.Call.FaultCounts.{counted_as, counted_of, counted_still}
 use Rattle.qcow2_image.specs.Faults.{CountsImageFaults}
+use Rattle.qcow2_image.proofs.Call.MetErrors.{tables_met}
 use Rattle.qcow2_image.proofs.image.Qcow2.fill_first.Goals as goal
 
 pub returns-in_err-prepared-clause-fills : goal.returns-in_err-prepared-clause-fills
@@ -84,7 +85,7 @@ returns-in_err-free_listed-clause-fills g c = λ out sound whole.
     let part = all_filled view below out old mid p from to c.most.result n c.min-count.result sound ready answered lt whole few asked counted (c.in_ok-prepared.ensures.some some) c.put_zeros.new.self done c.in_default.ensures.written c.commit_filled.ensures.commits c.commit_filled.ensures.header (c.in_ok-prepared.ensures.reaches out sound) in
     let listed = subst (λ (x : Pending). ImageInvariant view below x done out) (all_listed view below done out) part.sound in
     handed_on (λ r. FillsFirst view below to from to old new out r) c.from_residual-in_err-free_listed.result e c.from_residual-in_err-free_listed.ensures
-    (fills_refused view below out old done new to from (from + p.length) part to e within c.in_err-free_listed.ensures.cause
+    (fills_refused view below out old done new to from (from + p.length) part to e within (tables_met e c.in_err-free_listed.ensures.cause)
     (freed_refused view below done out new e part.sound (c.in_err-free_listed.ensures.frees (beside view below done out) out listed)))
 
 pub returns-clause-fills : goal.returns-clause-fills

@@ -9,6 +9,7 @@ use Rattle.qcow2_image.specs.Preallocation.{FillsFirst}
 use Rattle.qcow2_image.proofs.Call.Called.{works_none}
 use Rattle.qcow2_image.proofs.Flush.Freeing.{all_listed, beside, freed_refused, tidy_stays}
 use Rattle.qcow2_image.proofs.Preallocate.Filled.{cleared_fills, fill_unseen, fills_none, fills_refused, fills_stays, next_whole, next_within, taken_here}
+use Rattle.qcow2_image.proofs.Call.MetErrors.{tables_met}
 use Rattle.qcow2_image.proofs.image.Qcow2.zero_first.Goals as goal
 
 pub returns-then-to-from-clause-fills : goal.returns-then-to-from-clause-fills
@@ -67,7 +68,7 @@ returns-in_err-free_listed-clause-fills g c = λ out sound le whole version.
     })) in
     let listed = subst (λ (x : Pending). ImageInvariant view below x mid out) (all_listed view below mid out) part.sound in
     handed_on (λ r. FillsFirst view below 0 from to old new out r) c.from_residual-in_err-free_listed.result e c.from_residual-in_err-free_listed.ensures
-    (fills_refused view below out old mid new 0 from next part to e (omega (arith, is)) c.in_err-free_listed.ensures.cause
+    (fills_refused view below out old mid new 0 from next part to e (omega (arith, is)) (tables_met e c.in_err-free_listed.ensures.cause)
     (freed_refused view below mid out new e part.sound (c.in_err-free_listed.ensures.frees (beside view below mid out) out listed)))
 
 pub returns-clause-whole : goal.returns-clause-whole
