@@ -44,6 +44,7 @@ module _ {S F : Type 0} (view : S → StorageView) (backing : F → BackingView)
     pub number_is : number_of opened ≡ number
     pub writable : IsTrue (is_writable opened)
     pub works : is_failed opened ≡ false
+    pub counts : OpeningCounts view before.faults (Ok opened)
     pub run : TellsThrough view backing opened image commands replies
     pub is : before.is_honest → IsConsistent (byte_at before.contents) → IsOpenedFrom view backing (byte_at before.contents) opened
     pub begins : before.is_honest → IsConsistent (byte_at before.contents) → let v = abstract_of view backing opened [] in RefinesState v.setting v (started (guest_of v))

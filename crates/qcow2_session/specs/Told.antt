@@ -14,6 +14,7 @@ use Rattle.qcow2_image.specs.Preparing.{IsAnswered, IsOfNothing}
 use Rattle.qcow2_image.specs.Unwritten.{HoldsSame, IsOnlyRead, IsUnmodified}
 use Rattle.qcow2_session.specs.Causes.{IsRightlyRefused}
 use Rattle.qcow2_session.specs.Commands.{command_of, reply_of}
+use Rattle.qcow2_session.specs.CountedFaults.{CommandCounts}
 use Rattle.qcow2_session.specs.Sessions.{IsUntouched, ReleasesMappings}
 use Rattle.qcow2_session.specs.declared.session.Command.{Command}
 use Rattle.qcow2_session.specs.declared.session.Command.TheVariants as C
@@ -72,12 +73,13 @@ module _ {S F : Type 0} (view : S → StorageView) (backing : F → BackingView)
   abbrev pub LeavesUnwritten : (old : Qcow2 S F) (before : List (Option Prepared)) (new : Qcow2 S F) (after : List (Option Prepared)) → Type 0
   LeavesUnwritten old before new after = is_writable old ≡ false → (abstract_of view backing old before).is_sound → IsUnmodified view old → AreExisting before → IsLeftUnwritten old new after
 
-  -- One command, whatever the image, from a point of a run to the next. What it tells of the image is so, and it is refused for its causes alone. The size of a failed image stays, and one that was opened for reading is left unwritten.
+  -- One command, whatever the image, from a point of a run to the next. What it tells of the image is so. It is refused for its causes alone, and as a fault only where one was counted. The size of a failed image stays, and one that was opened for reading is left unwritten.
   pub record IsToldStep (from to : RunPoint S F) (command : Command) (reply : Reply) : Type 0 where
     pub keeps : KeepsItself from.image to.image
     pub tells : TellsOfImage from.image to.image from.prepared to.prepared command reply
     pub causes : IsRightlyRefused view backing from.image to.image from.prepared from.found command reply
     pub finds : (slot : ℕ) → to.found slot ≡ found_after from.found (command_of command) (reply_of reply) slot
+    pub counts : CommandCounts view backing from.image to.image reply
     pub size : IsTrue (is_failed from.image) → size_of to.image ≡ size_of from.image
     pub unwritten : LeavesUnwritten from.image from.prepared to.image to.prepared
 

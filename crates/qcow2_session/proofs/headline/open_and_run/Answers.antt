@@ -59,6 +59,7 @@ returns-clause-tells g c =
       number_is = c.in-Ok.ensures.ok.0;
       writable = c.in-Ok.ensures.ok.2;
       works = c.in-Ok.ensures.ok.1;
+      counts = c.in-Ok.ensures.faults;
       run = c.run-replies.ensures.tells;
       is = λ honest consistent. c.in-Ok.ensures.opens honest consistent;
       begins = λ honest consistent. let is = c.in-Ok.ensures.opens honest consistent in begins v is.opened.sound (whole view below opened [] is.opened.sound) is.opened.clean;
