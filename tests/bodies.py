@@ -6,17 +6,12 @@ import re
 from dataclasses import dataclass, field
 
 import clauses
+from promises import read
 
 LIST = "must-fail/wrong_bodies.md"
 START = re.compile(r"\s*(pub(\([^)]*\))? )?fn ")
 BLOCK = re.compile(r"(pub(\([^)]*\))? )?(impl|trait)\b")
 OF_A_TRAIT = re.compile(r"\btrait\b|\bfor\s+(?!<)")
-
-
-def read(path):
-    """The text of a file."""
-    with open(path, encoding="utf-8") as it:
-        return it.read()
 
 
 @dataclass

@@ -5,6 +5,8 @@ import re
 START = re.compile(r"\s*(pub(\([^)]*\))? )?fn ")
 CLAUSE = re.compile(r"(\s*)(ensures|requires|ghost)\b(\S*) ?(\w*)")
 ANSWER = re.compile(r"(?:pub )?([\w-]+)")
+OF_GOALS = re.compile(r"(use \S+\.Goals\.)\{(.*)\}")
+LEFT = ("result", "self.new")
 OF_A_CLAUSE = re.compile(r"[\w-]+-clause-(\w+)")
 
 
@@ -23,31 +25,79 @@ def promises(lines, contract):
 
 
 def kept_alone(text, at, name):
-    """The text with one clause of the function that a line stands in: the other ones say that the result is the result. None where clauses have no name, or none has this one."""
+    """The text with one clause of the function that a line stands in: the other ones say that what is left is what is left. None where clauses have no name, or none has this one."""
     lines = text.split("\n")
     found = promises(lines, contract_of(lines, at))
     if not found or name not in [it for _, it in found] or any(not re.fullmatch(r"\w+", it) for _, it in found) or "◌≡◌" not in text:
         return None
-    if not any("result" in lines[i] for where, _ in found for i in where):
+    word = next((it for it in LEFT if any(it in lines[i] for where, _ in found for i in where)), None)
+    if word is None:
         return None
     for where, it in found:
         if it != name:
             indent = CLAUSE.match(lines[where.start])[1]
-            lines[where.start : where.stop] = [f"{indent}ensures {it} {{ result ≡ result }}", *[""] * (len(where) - 1)]
+            lines[where.start : where.stop] = [f"{indent}ensures {it} {{ {word} ≡ {word} }}", *[""] * (len(where) - 1)]
     return "\n".join(lines)
 
 
-def answers_kept(text, name):
-    """The answers in a proof but for those that are given to other clauses. None where one is given to all clauses together."""
-    kept, passes = [], False
+def fields_kept(lines, name):
+    """An answer that is a record with a field for each clause, where the other clauses say that what is left is what is left. None where it is no such record, or has no field for the clause."""
+    indent = lines[-1].removesuffix("}")
+    if lines[-1].strip() != "}":
+        return None
+    field = re.compile(rf"{indent}  (\w+) =( |$)")
+    start = next((i for i, it in enumerate(lines) if it.endswith("record {") and re.match(rf"{indent}\S", it)), len(lines))
+    if not any(it[1] == name for it in map(field.match, lines[start:]) if it):
+        return None
+    kept, passes = lines[: start + 1], False
+    for line in lines[start + 1 :]:
+        begun = field.match(line)
+        if begun:
+            passes = begun[1] != name
+            kept += [f"{indent}  {begun[1]} = search rules;"] if passes else []
+        kept += [] if passes and line != lines[-1] else [line]
+    return kept
+
+
+def declarations(text):
+    """The parts of a proof, each from a line at the margin that begins a declaration: a line that closes a bracket, or a declaration's second one, goes on with what stands before it."""
+    found, name = [[]], None
     for line in text.split("\n"):
-        # a line that closes a bracket goes on with what stands before it
-        if line[:1].strip() and line[0] not in ")]}":
-            named = ANSWER.match(line)
-            if named and re.match(r"returns(-|$)", named[1]) and "-clause-" not in named[1]:
+        begun = ANSWER.match(line) if line[:1].strip() and line[0] not in ")]}" else None
+        if begun and (begun[1] != name or line.startswith("pub ")):
+            found.append([])
+            name = begun[1]
+        found[-1].append(line)
+    return [it for it in found if it]
+
+
+def imports_kept(lines):
+    """The lines of a proof, whose imports of a goal's own parts are those that are still named in it."""
+    kept = []
+    for line in lines:
+        named = OF_GOALS.fullmatch(line)
+        if named:
+            rest = "\n".join(it for it in lines if it is not line)
+            parts = [it for it in named[2].split(", ") if re.search(rf"(?<![\w-]){re.escape(it)}(?![\w-])", rest)]
+            line = f"{named[1]}{{{', '.join(parts)}}}" if parts else ""
+        kept.append(line)
+    return kept
+
+
+def answers_kept(text, name):
+    """The answers in a proof but for those that are given to other clauses. None where one is given to all clauses together, and not clause by clause."""
+    kept = []
+    for lines in declarations(text):
+        named = ANSWER.match(lines[0])
+        is_answer = bool(named) and named[1].startswith("returns")
+        clause = OF_A_CLAUSE.fullmatch(named[1]) if is_answer else None
+        if is_answer and not clause:
+            blank = next((i for i in range(len(lines)) if not any(it.strip() for it in lines[i:])), len(lines))
+            fields = fields_kept(lines[:blank], name)
+            if fields is None:
                 return None
-            clause = OF_A_CLAUSE.fullmatch(named[1]) if named else None
-            passes = bool(clause) and named[1].startswith("returns") and clause[1] != name
-        if not passes:
-            kept.append(line)
-    return "\n".join(kept)
+            kept += [*fields, *lines[blank:]]
+        elif not clause or clause[1] == name:
+            kept += lines
+    needs_rules = any(it.endswith("= search rules;") for it in kept) and not re.search(r"^use Rattle\.std\.proofs\.Common\.\{[^}]*\brules\b", text, re.MULTILINE)
+    return "\n".join([*["use Rattle.std.proofs.Common.{rules}"] * needs_rules, *imports_kept(kept)])

@@ -1,10 +1,10 @@
 #!/usr/bin/env python3
 """Tries the wrong bodies of crates/NAME/must-fail/wrong_bodies.md: each gives one function another meaning, and the prover must refuse it.
 
-A check takes many bodies. Each stands in a copy of its function, which nothing else calls (tests/bodies.py); where a function can't be copied, it is changed in its place. Each must be
-refused for itself, by what its contract says: not only because of one that it calls, not only because a proof names what the body took away, and not because a proof can't be read. One of
-which a check says too little is tried once more, alone. A check proves only these functions, with those that they call, over the libraries that the gate has just proved; where it hasn't
-run, they are proved first. It begins with what earlier checks of its crate have proved. Checks run side by side, one a processor. Words CRATE and CRATE/BODY choose what is tried. With
+A check takes many bodies. Each stands in a copy of its function, which nothing else calls (tests/bodies.py); where a function can't be copied, it is changed in its place. What the crate's
+other functions and its lemmas state is taken as it stands (tests/promises.py), over the libraries that the gate has just proved; where it hasn't run, they are proved first. Each body must
+be refused for itself, by what its contract says: not only because a proof names what the body took away, and not because a proof can't be read. One of which a check says too little is
+tried once more, alone. A check begins with what earlier ones of its crate have read. Checks run side by side, one a processor. Words CRATE and CRATE/BODY choose what is tried. With
 --beside FILE the gate runs beside it, and the file gets a line for each crate that is proved, and a line `end`. The last line counts."""
 
 import importlib.machinery
@@ -20,17 +20,19 @@ import threading
 import time
 from dataclasses import dataclass, field
 
-from bodies import LIST, bodies_of, proof_of, read, with_bodies
-from call_graph import reach_of
+from bodies import LIST, bodies_of, proof_of, with_bodies
+from promises import read, take_promises
 
 ROOT = os.path.dirname(os.path.dirname(os.path.abspath(__file__)))
 HOW_MANY_LINES = 8
-MOST_IN_A_CHECK = 48
+MOST_IN_A_CHECK = 80
 SECONDS_TO_LOOK_AGAIN = 5
 MISSING_NAME = re.compile(r": error: module `|has no field|is not in scope|has no `|was not admitted|is no name")
 OF_AN_ANSWER = re.compile(r"\S+: error: (`[^`]*`: |module `|\d+ declarations? that depends? on )")
 UNREADABLE = re.compile(r"operand is missing|expected the end|cannot continue")
 CLAUSE = re.compile(r"`[\w-]*clause-(\w+)`")
+ENDED = re.compile(r"checked (\S+), \d+ of \d+")
+SECONDS = re.compile(r"^seconds (\S+) (\S+)$", re.MULTILINE)
 SAID = re.compile(r"^fn (\w+)::(\S+): (.*)$", re.MULTILINE)
 
 
@@ -52,9 +54,6 @@ class Trial:
         self.leaving = threading.Lock()
         self.alone, self.running, self.checks, self.refused, self.seconds = set(), 0, 0, 0, 0
         self.in_place = {it.name for it in self.left if not it.is_copied(read(f"{self.folder}/{it.file}"))}
-        # what leads to most comes first, so that the first check proves what the others need
-        reach = reach_of(crate.folder)
-        self.left.sort(key=lambda it: -reach.get(it.own_name(), 0))
         how_many = -(-len(self.left) // MOST_IN_A_CHECK) or 1
         self.most = -(-len(self.left) // how_many)
 
@@ -115,20 +114,33 @@ def leave(own, kept):
                 shutil.copyfile(f"{folder}/{name}", f"{to}/{name}")
 
 
+def timed(lines):
+    """What a check prints, and for each line that tells of a function that it has ended with, how many seconds passed since the one before."""
+    printed, last = [], time.monotonic()
+    for line in lines:
+        if ended := ENDED.match(line):
+            now = time.monotonic()
+            line, last = f"seconds {ended[1]} {now - last:.1f}\n", now
+        printed.append(line)
+    return "".join(printed)
+
+
 def checked(rt, crate, texts, only, kept):
-    """Checks functions of a copy of the crate with these texts in place of its own, over what is kept, and answers its status, what it printed, and its processor seconds."""
+    """Checks functions of a copy of the crate with these texts in place of its own, over its promises and what is kept, and answers its status, what it printed, and its processor
+    seconds."""
     with tempfile.TemporaryDirectory() as room:
         for part in rt.rtlib.PARTS:
             if os.path.isdir(f"{crate.folder}/{part}"):
                 shutil.copytree(f"{crate.folder}/{part}", f"{room}/{part}")
+        take_promises(crate.name, room, only)
         for path, text in texts.items():
             os.makedirs(os.path.dirname(f"{room}/{path}"), exist_ok=True)
             with open(f"{room}/{path}", "w", encoding="utf-8") as it:
                 it.write(text)
-        flags = ["--jobs", "1", *[word for function in only for word in ("--only", function)]]
+        flags = ["--jobs", "1", "--allow-holes", "--progress", *[word for function in only for word in ("--only", function)]]
         words = [*rt.rtlib.guarded(), rt.rtlib.RATTLE, "check", *crate.words(flags, keeps=False), "--incremental", kept]
         ran = subprocess.Popen(words, cwd=room, stdin=subprocess.DEVNULL, stdout=subprocess.PIPE, stderr=subprocess.STDOUT, text=True, errors="replace")
-        printed = ran.stdout.read()
+        printed = timed(ran.stdout)
         _, status, used = os.wait4(ran.pid, 0)
         ran.returncode = os.waitstatus_to_exitcode(status)
         return ran.returncode, printed, used.ru_utime + used.ru_stime
@@ -136,7 +148,7 @@ def checked(rt, crate, texts, only, kept):
 
 @dataclass
 class Tried:
-    """What a check showed: the bodies that were refused, with the clauses that each breaks, those that weren't and those of which it says too little, each with why, those to be tried again;
+    """What a check showed: the bodies that were refused, with the clauses that each breaks and the seconds that it took, those that weren't and those of which it says too little, each with why, those to be tried again;
     and the functions without one that were refused."""
 
     seconds: float
@@ -171,6 +183,7 @@ def try_bodies(trial, bodies):
     texts, found = with_bodies(trial.name, trial.folder, bodies)
     status, printed, seconds = run(trial, texts, [it.function for it in found])
     said = {name: text for its_crate, name, text in SAID.findall(printed) if its_crate == trial.name}
+    took = dict(SECONDS.findall(printed))
     if not said:
         print(f"a check of {trial.name} ended with status {status} and said nothing of its functions:", *printed.split("\n")[:HOW_MANY_LINES], sep="\n", flush=True)
         return blamed(found, printed, seconds)
@@ -179,10 +192,10 @@ def try_bodies(trial, bodies):
     for it in found:
         text = said.get(it.function, "")
         reasons = reasons_of(it, text, printed)
-        if text.startswith("proved"):
+        if text.startswith(("no holes", "depends on a hole")):
             tried.accepted.append((it.body, "it is proved"))
         elif is_refusal(text) and reasons:
-            tried.refused.append((it.body, sorted(set(CLAUSE.findall("\n".join(reasons))))))
+            tried.refused.append((it.body, sorted(set(CLAUSE.findall("\n".join(reasons)))), took.get(f"{trial.name}::{it.function}", "0")))
         else:
             tried.unclear.append((it.body, "; ".join(errors_of(it.function, printed)[:2]) or text or "nothing is said of it"))
     return tried
@@ -241,8 +254,8 @@ def fitting(crate, bodies):
 
 def tell(crate, tried):
     """Says what a check showed."""
-    for body, broken in tried.refused:
-        print(f"wrong body {crate}/{body.name}: refused: {body.function}{' by ' if broken else ''}{', '.join(broken)}", flush=True)
+    for body, broken, seconds in tried.refused:
+        print(f"wrong body {crate}/{body.name}: refused: {body.function}{' by ' if broken else ''}{', '.join(broken)} ({seconds} s)", flush=True)
     for body, why in tried.accepted:
         print(f"wrong body {crate}/{body.name}: NOT REFUSED: {body.function}: {why[:300]}", flush=True)
     for other in tried.others:
@@ -277,7 +290,10 @@ class Lanes:
         """Makes one check after another."""
         while taken := self.next():
             trial, bodies = taken
-            tried = try_bodies(trial, bodies)
+            try:
+                tried = try_bodies(trial, bodies)
+            except (OSError, ValueError, LookupError, re.error) as e:
+                tried = Tried(0, accepted=[(it, f"it can't be tried: {e!r}") for it in bodies])
             with self.changed:
                 trial.note(tried)
                 self.changed.notify_all()
