@@ -1,20 +1,23 @@
--- A storage over a file: nothing is known of its bytes, so it isn't called honest. Its failures are counted, and the last one is kept.
-use Rattle.std.specs.Prelude.{◌≡◌, ℕ, [], codes, Option, None, Some, Result, Ok, Err}
+-- A storage over a file: nothing is known of its bytes, so it isn't called honest. Its failures are counted, and where it failed an error is kept.
+use Rattle.std.specs.Prelude.{◌≡◌, ◌≢◌, ℕ, Bool, [], codes, Option, None, Some, Result, Ok, Err}
 use Rattle.std.specs.declared.io.Error.{Error}
+use Rattle.image_access.specs.CallCount.{one_more}
 use Rattle.image_access.specs.Moments.{StorageView}
 use Rattle.image_access.specs.declared.error.StorageError.{StorageError}
+use Rattle.image_access.specs.declared.error.StorageError.TheVariants.{Fault, Memory}
 
--- how often it failed, and why it last did
-pub record Failures : Type 0 where
+-- an open file or block device: which of them it is, how often it failed, and an error where it did
+pub record OpenFile : Type 0 where
+  pub is_block_device : Bool
   -- up to the greatest u64
   pub faults : ℕ
   pub last_error : Option Error
   pub kept : last_error ≡ None → faults ≡ 0
 
-abbrev pub view_of_file : Failures → StorageView
-view_of_file failures = record {
+abbrev pub view_of_file : OpenFile → StorageView
+view_of_file file = record {
   contents = [];
-  faults = failures.faults;
+  faults = file.faults;
   is_honest = ⊥;
   moment = 0;
   had_since = λ t c. c ≡ [];
@@ -23,7 +26,13 @@ view_of_file failures = record {
   mem_align = 1;
 }
 
--- a call answers what the system answered: an error is kept, and else the one that was kept stays
-abbrev pub Tells : {T : Type 0} → Result T Error → Result T StorageError → Option Error → Option Error → Type 0
-Tells (Ok value) result before now = (result ≡ Ok value) × (now ≡ before)
-Tells (Err e) result before now = now ≡ Some e
+-- a call answers what the system answered: its value, or for its error a fault, and the error is kept
+abbrev pub Tells : {T : Type 0} → Result T Error → Result T StorageError → Option Error → Type 0
+Tells (Ok value) result kept = result ≡ Ok value
+Tells (Err e) result kept = (result ≡ Err Fault) × (kept ≡ Some e)
+
+-- What each call answers: at Ok nothing changes, and at a fault one more is counted, and some error is kept. No call is refused for want of memory.
+abbrev pub CountsFailures : {T : Type 0} → OpenFile → OpenFile → Result T StorageError → Type 0
+CountsFailures old new (Ok _) = new ≡ old
+CountsFailures old new (Err Fault) = (new.is_block_device ≡ old.is_block_device) × (new.faults ≡ one_more old.faults) × (new.last_error ≢ None)
+CountsFailures old new (Err Memory) = ⊥

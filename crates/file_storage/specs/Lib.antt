@@ -1,1 +1,2 @@
 pub mod FileStorage
+pub mod StreamedFile

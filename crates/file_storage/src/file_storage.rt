@@ -19,19 +19,19 @@ pub struct FileStorage {
 }
 
 impl Model for FileStorage {
-    ghost use Rattle.file_storage.specs.FileStorage.{Failures};
+    ghost use Rattle.file_storage.specs.FileStorage.{OpenFile};
 
-    ghost Value = { Failures };
+    ghost Value = { OpenFile };
 
-    ghost view = { λ s. record { faults = s.faults; last_error = s.last_error; kept = s.kept } };
+    ghost view = { λ s. record { is_block_device = s.is_block_device; faults = s.faults; last_error = s.last_error; kept = s.kept } };
 }
 
 impl FileStorage {
-    ghost use Rattle.std.specs.Prelude.{◌≡◌, None, Some, IfErr, IsOk, IfOk};
-    ghost use Rattle.image_access.specs.Moments.{HasCause};
-    ghost use Rattle.file_storage.specs.FileStorage.{Tells};
+    ghost use Rattle.std.specs.Prelude.{◌≡◌, None};
+    ghost use Rattle.file_storage.specs.FileStorage.{CountsFailures, Tells};
 
     pub(crate) fn new(file: File, is_block_device: bool) -> Self
+        ensures device { result.is_block_device ≡ is_block_device }
         ensures faults { result.faults ≡ 0 }
         ensures no_error { result.last_error ≡ None }
     {
@@ -43,7 +43,7 @@ impl FileStorage {
         }
     }
 
-    /// Why the last call that failed did so; None where none has failed. Calls that succeed leave it as it is.
+    /// Why the last call that failed did so; None only where none has failed. Calls that succeed leave it as it is.
     pub fn last_error(&self) -> Option<io::Error>
         ensures last { result ≡ self.now.last_error }
         ensures each { result ≡ None → self.now.faults ≡ 0 }
@@ -51,10 +51,10 @@ impl FileStorage {
         self.last_error
     }
 
-    // Counts a failed call, and keeps its error.
+    // Answers what the system answered. Its error is a fault, which is counted, and it is kept.
     fn told<T>(&mut self, answer: io::Result<T>) -> Result<T, StorageError>
-        ensures cause { HasCause self.old.faults self.new.faults result }
-        ensures kept { Tells answer result self.old.last_error self.new.last_error }
+        ensures tells { Tells answer result self.new.last_error }
+        ensures counts { CountsFailures self.old self.new result }
     {
         match answer {
             Ok(value) => Ok(value),
@@ -98,7 +98,8 @@ fn read_within(file: &File, at: u64, buf: &mut [u8]) -> io::Result<()> {
 }
 
 impl Storage for FileStorage {
-    ghost use Rattle.file_storage.specs.FileStorage.{view_of_file};
+    ghost use Rattle.std.specs.Prelude.{◌≡◌, IsOk};
+    ghost use Rattle.file_storage.specs.FileStorage.{view_of_file, CountsFailures};
 
     ghost view = { λ s. view_of_file s };
 
@@ -110,34 +111,46 @@ impl Storage for FileStorage {
         "file"
     }
 
-    fn size(&mut self) -> Result<u64, StorageError> {
+    fn size(&mut self) -> Result<u64, StorageError>
+        ensures counts { CountsFailures self.old self.new result }
+    {
         let answer = size_of(&self.file);
         self.told(answer)
     }
 
-    fn read(&mut self, at: u64, buf: &mut [u8]) -> Result<(), StorageError> {
+    fn read(&mut self, at: u64, buf: &mut [u8]) -> Result<(), StorageError>
+        ensures counts { CountsFailures self.old self.new result }
+    {
         let answer = read_all(&self.file, at, buf);
         self.told(answer)
     }
 
-    fn write(&mut self, at: u64, bytes: &[u8]) -> Result<(), StorageError> {
+    fn write(&mut self, at: u64, bytes: &[u8]) -> Result<(), StorageError>
+        ensures counts { CountsFailures self.old self.new result }
+    {
         let answer = self.file.write_all_at(bytes, at);
         self.told(answer)
     }
 
-    fn write_zeroes(&mut self, at: u64, length: u64) -> Result<(), StorageError> {
+    fn write_zeroes(&mut self, at: u64, length: u64) -> Result<(), StorageError>
+        ensures counts { CountsFailures self.old self.new result }
+    {
         let end = self.told(end_of(at, length))?;
         let answer = write_or_grow(&self.file, at, end);
         self.told(answer)
     }
 
-    fn write_allocated_zeroes(&mut self, at: u64, length: u64) -> Result<(), StorageError> {
+    fn write_allocated_zeroes(&mut self, at: u64, length: u64) -> Result<(), StorageError>
+        ensures counts { CountsFailures self.old self.new result }
+    {
         let end = self.told(end_of(at, length))?;
         let answer = write_zeros(&self.file, at, end);
         self.told(answer)
     }
 
-    fn resize(&mut self, size: u64, _how: StoragePreallocate) -> Result<(), StorageError> {
+    fn resize(&mut self, size: u64, _how: StoragePreallocate) -> Result<(), StorageError>
+        ensures counts { CountsFailures self.old self.new result }
+    {
         let answer = if self.is_block_device {
             fill_from(&self.file, size)
         } else {
@@ -146,16 +159,24 @@ impl Storage for FileStorage {
         self.told(answer)
     }
 
-    fn flush(&mut self) -> Result<(), StorageError> {
+    fn flush(&mut self) -> Result<(), StorageError>
+        ensures no_failure { IsOk result × (self.new ≡ self.old) }
+    {
+        // No bytes wait here to be written.
         Ok(())
     }
 
-    fn sync(&mut self) -> Result<(), StorageError> {
+    fn sync(&mut self) -> Result<(), StorageError>
+        ensures counts { CountsFailures self.old self.new result }
+    {
         let answer = self.file.sync_all();
         self.told(answer)
     }
 
-    fn invalidate_cache(&mut self) -> Result<(), StorageError> {
+    fn invalidate_cache(&mut self) -> Result<(), StorageError>
+        ensures no_failure { IsOk result × (self.new ≡ self.old) }
+    {
+        // Nothing is kept of earlier reads.
         Ok(())
     }
 

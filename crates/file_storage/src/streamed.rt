@@ -1,5 +1,6 @@
-ghost use Rattle.std.specs.Prelude.{◌≡◌, ◌+◌, ◌≤◌, length, IfOk, IsTrue};
-ghost use Rattle.image_access.specs.Moments.{HasCause};
+ghost use Rattle.std.specs.Prelude.{◌≡◌, ◌+◌, ◌≤◌, ◌++◌, length, take, IsOk, IfOk, OnOk, OnErr, IsTrue, IsFalse};
+ghost use Rattle.file_storage.specs.FileStorage.{CountsFailures};
+ghost use Rattle.file_storage.specs.StreamedFile.{holding_nothing, StaysHeld, HoldsNoReads, ForgetsReads, LeavesNoneUnwritten, HoldsMore, WritesOrHolds};
 
 use crate::FileStorage;
 use crate::progress::Progress;
@@ -7,6 +8,7 @@ use image_access::{Storage, StorageError, StoragePreallocate};
 use std::alloc::{AllocError, Global};
 use std::io;
 use std::io::Stdout;
+use std::marker::Model;
 
 /// How many bytes are held at most.
 const ROOM: usize = 262144;
@@ -34,10 +36,19 @@ pub struct StreamedFile {
     ghost fits: { held ≤ length room.items },
 }
 
+impl Model for StreamedFile {
+    ghost use Rattle.std.specs.Prelude.{take};
+    ghost use Rattle.file_storage.specs.StreamedFile.{Streamed};
+
+    ghost Value = { Streamed };
+
+    ghost view = { λ s. record { file = s.file; start = s.start; held = take s.held s.room.items; is_unwritten = s.is_unwritten } };
+}
+
 impl StreamedFile {
     /// Takes an open file. Refused where memory is missing.
     pub fn new(alloc: Global, file: FileStorage) -> Result<StreamedFile, AllocError>
-        ensures { IfOk result (λ s. s.file ≡ file) }
+        ensures { IfOk result (λ s. s ≡ holding_nothing file) }
     {
         Ok(StreamedFile {
             file,
@@ -51,7 +62,7 @@ impl StreamedFile {
         })
     }
 
-    /// Why the last call that failed did so; None where none has failed.
+    /// Why the last call that failed did so; None only where none has failed.
     pub fn last_error(&self) -> Option<io::Error>
         ensures last { result ≡ self.now.file.last_error }
     {
@@ -61,14 +72,14 @@ impl StreamedFile {
     /// From now on it tells on standard output how far it was read or written, in percent of the size that `size` or `resize` last
     /// had. That is told once it has risen by one percent or more. Where it can't be printed nothing is told.
     pub fn shows_progress(&mut self, output: Stdout)
-        ensures same { self.new.file ≡ self.old.file }
+        ensures same { self.new ≡ self.old }
     {
         self.progress = Some(Progress::new(output));
     }
 
     // Takes a size as all that is to be read or written.
     fn set_total(&mut self, size: u64)
-        ensures same { self.new.file ≡ self.old.file }
+        ensures same { self.new ≡ self.old }
     {
         if let Some(progress) = &mut self.progress {
             progress.set_total(size);
@@ -77,7 +88,7 @@ impl StreamedFile {
 
     // Tells that it was read or written up to the end of these bytes.
     fn reach(&mut self, at: u64, count: u64)
-        ensures same { self.new.file ≡ self.old.file }
+        ensures same { self.new ≡ self.old }
     {
         if let Some(progress) = &mut self.progress {
             progress.reach(at.saturating_add(count));
@@ -86,7 +97,8 @@ impl StreamedFile {
 
     // Reads, from what is held where it is there.
     fn read_piece(&mut self, at: u64, buf: &mut [u8]) -> Result<(), StorageError>
-        ensures cause { HasCause self.old.file.faults self.new.file.faults result }
+        ensures counts { CountsFailures self.old.file self.new.file result }
+        ensures written { LeavesNoneUnwritten self.old self.new result }
     {
         self.write_out()?;
         let is_expected = self.is_expected(at, buf.len());
@@ -101,12 +113,16 @@ impl StreamedFile {
 
     // Writes, or holds what is to be written.
     fn write_piece(&mut self, at: u64, bytes: &[u8]) -> Result<(), StorageError>
-        ensures cause { HasCause self.old.file.faults self.new.file.faults result }
+        ensures counts { CountsFailures self.old.file self.new.file result }
+        ensures written { WritesOrHolds self.old self.new at bytes.now result }
+        ensures long { LONG ≤ length bytes.now → OnOk result (IsFalse self.new.is_unwritten) }
+        ensures forgets { HoldsNoReads self.new }
     {
         self.forget();
         if self.holds(at, bytes) {
             return Ok(());
         }
+        // What doesn't continue the bytes that wait comes after them.
         self.write_out()?;
         if self.holds(at, bytes) {
             return Ok(());
@@ -116,7 +132,11 @@ impl StreamedFile {
 
     // Writes what is held.
     fn write_out(&mut self) -> Result<(), StorageError>
-        ensures cause { HasCause self.old.file.faults self.new.file.faults result }
+        ensures counts { CountsFailures self.old.file self.new.file result }
+        ensures written { LeavesNoneUnwritten self.old self.new result }
+        ensures stays { OnErr result (StaysHeld self.old self.new) }
+        ensures read { IsFalse self.old.is_unwritten → self.new ≡ self.old }
+        ensures forgets { HoldsNoReads self.old → HoldsNoReads self.new }
     {
         if !self.is_unwritten {
             return Ok(());
@@ -127,31 +147,30 @@ impl StreamedFile {
         Ok(())
     }
 
-    // Forgets what was read ahead.
+    // Forgets what was read ahead. What waits to be written stays held.
     fn forget(&mut self)
-        ensures same { self.new.file ≡ self.old.file }
+        ensures forgets { ForgetsReads self.old self.new }
     {
-        if !self.is_unwritten {
-            self.held = 0;
-        }
+        self.held = if self.is_unwritten { self.held } else { 0 };
     }
 
     // Holds bytes that are to be written, where they continue what is held and there is room. Whether it does.
     fn holds(&mut self, at: u64, bytes: &[u8]) -> bool
-        ensures same { self.new.file ≡ self.old.file }
+        ensures holds { IsTrue result → HoldsMore self.old self.new at bytes.now }
+        ensures stays { IsFalse result → self.new ≡ self.old }
+        ensures long { LONG ≤ length bytes.now → IsFalse result × (self.new ≡ self.old) }
     {
         if bytes.len() >= LONG {
             return false;
         }
-        if self.held == 0 {
-            self.start = at;
-        }
-        if self.start.checked_add(self.held as u64) != Some(at) {
+        let start = if self.held == 0 { at } else { self.start };
+        if start.checked_add(self.held as u64) != Some(at) {
             return false;
         }
         if !put(&mut self.room, self.held, bytes) {
             return false;
         }
+        self.start = start;
         self.held += bytes.len();
         self.is_unwritten = true;
         true
@@ -177,7 +196,8 @@ impl StreamedFile {
 
     // The same, of what is now read ahead.
     fn read_ahead(&mut self, at: u64, buf: &mut [u8]) -> Result<(), StorageError>
-        ensures cause { HasCause self.old.file.faults self.new.file.faults result }
+        ensures counts { CountsFailures self.old.file self.new.file result }
+        ensures mark { self.new.is_unwritten ≡ self.old.is_unwritten }
     {
         self.held = 0;
         self.file.read(at, &mut self.room)?;
@@ -191,7 +211,7 @@ impl StreamedFile {
 
     // Whether this read continues one that continued others, and so on for long enough.
     fn is_expected(&mut self, at: u64, count: usize) -> bool
-        ensures same { self.new.file ≡ self.old.file }
+        ensures same { self.new ≡ self.old }
     {
         self.in_a_row = if self.next == at {
             self.in_a_row.saturating_add(1)
@@ -206,7 +226,9 @@ impl StreamedFile {
 // Puts bytes at a place, if there is room for all of them. Whether there is.
 fn put(room: &mut [u8], place: usize, bytes: &[u8]) -> bool
     ensures long { length room.new ≡ length room.old }
+    ensures stays { IsFalse result → room.new ≡ room.old }
     ensures within { IsTrue result → place + length bytes.now ≤ length room.old }
+    ensures put { IsTrue result → take (place + length bytes.now) room.new ≡ take place room.old ++ bytes.now }
 {
     if place > room.len() || bytes.len() > room.len() - place {
         return false;
@@ -228,26 +250,41 @@ impl Storage for StreamedFile {
         "file"
     }
 
-    fn size(&mut self) -> Result<u64, StorageError> {
+    fn size(&mut self) -> Result<u64, StorageError>
+        ensures counts { CountsFailures self.old.file self.new.file result }
+        ensures written { LeavesNoneUnwritten self.old self.new result }
+    {
         self.write_out()?;
         let size = self.file.size()?;
         self.set_total(size);
         Ok(size)
     }
 
-    fn read(&mut self, at: u64, buf: &mut [u8]) -> Result<(), StorageError> {
+    fn read(&mut self, at: u64, buf: &mut [u8]) -> Result<(), StorageError>
+        ensures counts { CountsFailures self.old.file self.new.file result }
+        ensures written { LeavesNoneUnwritten self.old self.new result }
+    {
         self.read_piece(at, buf)?;
         self.reach(at, buf.len() as u64);
         Ok(())
     }
 
-    fn write(&mut self, at: u64, bytes: &[u8]) -> Result<(), StorageError> {
+    fn write(&mut self, at: u64, bytes: &[u8]) -> Result<(), StorageError>
+        ensures counts { CountsFailures self.old.file self.new.file result }
+        ensures written { WritesOrHolds self.old self.new at bytes.now result }
+        ensures long { LONG ≤ length bytes.now → OnOk result (IsFalse self.new.is_unwritten) }
+        ensures forgets { HoldsNoReads self.new }
+    {
         self.write_piece(at, bytes)?;
         self.reach(at, bytes.len() as u64);
         Ok(())
     }
 
-    fn write_zeroes(&mut self, at: u64, length: u64) -> Result<(), StorageError> {
+    fn write_zeroes(&mut self, at: u64, length: u64) -> Result<(), StorageError>
+        ensures counts { CountsFailures self.old.file self.new.file result }
+        ensures written { LeavesNoneUnwritten self.old self.new result }
+        ensures forgets { HoldsNoReads self.new }
+    {
         self.forget();
         self.write_out()?;
         self.file.write_zeroes(at, length)?;
@@ -255,7 +292,11 @@ impl Storage for StreamedFile {
         Ok(())
     }
 
-    fn write_allocated_zeroes(&mut self, at: u64, length: u64) -> Result<(), StorageError> {
+    fn write_allocated_zeroes(&mut self, at: u64, length: u64) -> Result<(), StorageError>
+        ensures counts { CountsFailures self.old.file self.new.file result }
+        ensures written { LeavesNoneUnwritten self.old self.new result }
+        ensures forgets { HoldsNoReads self.new }
+    {
         self.forget();
         self.write_out()?;
         self.file.write_allocated_zeroes(at, length)?;
@@ -263,7 +304,12 @@ impl Storage for StreamedFile {
         Ok(())
     }
 
-    fn resize(&mut self, size: u64, how: StoragePreallocate) -> Result<(), StorageError> {
+    fn resize(&mut self, size: u64, how: StoragePreallocate) -> Result<(), StorageError>
+        ensures counts { CountsFailures self.old.file self.new.file result }
+        ensures written { LeavesNoneUnwritten self.old self.new result }
+        ensures forgets { HoldsNoReads self.new }
+    {
+        // A file that is cut gets no bytes of before.
         self.forget();
         self.write_out()?;
         self.file.resize(size, how)?;
@@ -271,17 +317,29 @@ impl Storage for StreamedFile {
         Ok(())
     }
 
-    fn flush(&mut self) -> Result<(), StorageError> {
+    fn flush(&mut self) -> Result<(), StorageError>
+        ensures counts { CountsFailures self.old.file self.new.file result }
+        ensures written { LeavesNoneUnwritten self.old self.new result }
+    {
+        // The file has all that was written as it is flushed.
         self.write_out()?;
         self.file.flush()
     }
 
-    fn sync(&mut self) -> Result<(), StorageError> {
+    fn sync(&mut self) -> Result<(), StorageError>
+        ensures counts { CountsFailures self.old.file self.new.file result }
+        ensures written { LeavesNoneUnwritten self.old self.new result }
+    {
+        // The file has all that was written as it is synced.
         self.write_out()?;
         self.file.sync()
     }
 
-    fn invalidate_cache(&mut self) -> Result<(), StorageError> {
+    fn invalidate_cache(&mut self) -> Result<(), StorageError>
+        ensures no_failure { IsOk result × (self.new.file ≡ self.old.file) }
+        ensures forgets { ForgetsReads self.old self.new }
+    {
+        // What was read ahead is asked anew.
         self.forget();
         self.file.invalidate_cache()
     }
