@@ -11,6 +11,7 @@ pub mod Tables
 pub mod MetadataError
 pub mod TableBytes
 pub mod RefBlock
+pub mod FirstZero
 pub mod L2Mapping
 pub mod L2Table
 pub mod EntryTable

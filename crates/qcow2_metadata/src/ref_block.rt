@@ -1,10 +1,11 @@
-ghost use Rattle.std.specs.Prelude.{◌≡◌, ℕ, ◌+◌, ◌-◌, ◌*◌, ◌/◌, ◌%◌, ◌^◌, ◌<◌, ◌≤◌, ◌↔◌, Some, None, true, false, length, replicate, IsTrue, IsFalse, IsSome, IsOk, OnOk, OnErr, IfOk, IfErr, IfSome};
+ghost use Rattle.std.specs.Prelude.{◌≡◌, ◌≢◌, ℕ, ◌+◌, ◌-◌, ◌*◌, ◌/◌, ◌%◌, ◌^◌, ◌<◌, ◌≤◌, ◌↔◌, Some, None, true, false, length, replicate, IsTrue, IsFalse, IsSome, IsOk, OnOk, OnErr, IfOk, IfErr, IfSome};
 ghost use Rattle.image_access.specs.Contents.{bytes_at, overwritten};
 ghost use Rattle.image_access.specs.Moments.{ContentsStay, Changes, Calls, QuietCalls};
 ghost use Rattle.qcow2_metadata.specs.Bytes.{byte_at};
 ghost use Rattle.qcow2_metadata.specs.Header.{cluster_size};
 ghost use Rattle.qcow2_metadata.specs.MetadataError.{storage_result};
 ghost use Rattle.qcow2_metadata.specs.TableBytes.{HasPlace, IsOfStorageOrMemory};
+ghost use Rattle.qcow2_metadata.specs.FirstZero.{AreAboveZero, IsFirstZero};
 ghost use Rattle.qcow2_metadata.specs.RefBlock.{count_in, count_at, counts_of, count_limit, ref_block, IsRefBlock, IsRefBlockAt, ChangesCount};
 
 use crate::big_endian::{read_u32, read_u64};
@@ -96,6 +97,15 @@ pub fn read_count(block: &[u8], order: u32, index: usize) -> u64
         5 => u64::from(read_u32(block, index * 4)),
         _ => read_u64(block, index * 8),
     }
+}
+
+/// Whether the 64 one-bit counts from an index on, which fill eight bytes, are 1 each.
+fn are_ones(block: &[u8], index: usize) -> bool
+    requires row { index % 64 ≡ 0 }
+    requires inside { index / 8 + 8 ≤ length block.now }
+    ensures { IsTrue result → (k : ℕ) → index ≤ k → k < index + 64 → count_in 0 block.now k ≢ 0 }
+{
+    read_u64(block, index / 8) == u64::MAX
 }
 
 /// Sets count `index` of a refblock.
@@ -219,6 +229,36 @@ impl RefBlock {
         ensures { IsTrue result ↔ (count_at self.now index ≡ 0) }
     {
         self.get(index) == 0
+    }
+
+    /// The first index from one on whose count is 0, or how many counts there are where none is.
+    pub fn next_zero(&self, from: usize) -> usize
+        requires { from ≤ counts_of self.now }
+        ensures { IsFirstZero self.now from result }
+    {
+        let counts = self.counts();
+        let mut index = from;
+        'passing: while index < counts {
+            let seen = self.above_zero(index);
+            if seen == 0 {
+                return index;
+            }
+            index += seen;
+        }
+        counts
+    }
+
+    // How many counts from an index on are seen at once to be above 0: none where its own is 0. So are 64 one-bit counts in their eight bytes.
+    fn above_zero(&self, index: usize) -> usize
+        requires { index < counts_of self.now }
+        ensures within { index + result ≤ counts_of self.now }
+        ensures above { AreAboveZero self.now index (index + result) }
+        ensures none { result ≡ 0 → count_at self.now index ≡ 0 }
+    {
+        if self.refcount_order == 0 && index % 64 == 0 && are_ones(&self.bytes, index) {
+            return 64;
+        }
+        usize::from(!self.is_zero(index))
     }
 
     /// Counts a cluster once more. False, and no change, at the greatest count.
