@@ -10,6 +10,7 @@ use Rattle.qcow2_alloc.specs.declared.image_file.ImageFile.{ImageFile}
 use Rattle.qcow2_alloc.specs.Growing.{IsLeastLength}
 use Rattle.qcow2_alloc.specs.Limits.{nameable_clusters, HasNoRoomBelow, HasNoRoomFor, CantGrow, IsLowestRoom, LiesLowest}
 use Rattle.qcow2_alloc.specs.LowestRuns.{IsUsed, KeepsUsed}
+use Rattle.qcow2_alloc.specs.UsedCounts.{AreUsed}
 use Rattle.qcow2_alloc.specs.Rooms.{opens, opened}
 use Rattle.qcow2_alloc.proofs.Lengths.{one_least}
 use Rattle.std.specs.Prelude.{OnOk}
@@ -72,6 +73,13 @@ module _ {S : Type 0} (view : S → StorageView) (file : ImageFile S) (t : Entry
           let few = opened_few t per first a in
           absurd (omega (arith, less, parts, rest, few, is))
     ]
+  ]
+
+  -- a search passes over clusters in use
+  pub full_passed : (first next : ℕ) → first ≤ next → 0 < clusters → AreUsed view file first next → IsFullBelow first → IsFullBelow next
+  full_passed first next onward many used full start n some below is within = elim (cases_lt start first) [
+    | inl before ↦ let at = full start n some before is within in (at.0, at.1, at.2, (let lt = at.3 in omega (arith, lt, onward)), at.4)
+    | inr above ↦ (start, omega arith, omega (arith, is, many), below, used start above below)
   ]
 
 -- what is in use stays in use

@@ -26,6 +26,7 @@ use Rattle.qcow2_alloc.specs.MetadataCaches.{rb_at}
 use Rattle.qcow2_alloc.specs.declared.cache.MetadataCaches.{MetadataCaches}
 use Rattle.std.proofs.lemmas.Bool.Decides.{nat_tests}
 use Rattle.qcow2_alloc.specs.LowestRuns.{IsUsed, IsLowestRun, NoFreeBelowHint, KeepsNoFreeBelowHint, KeepsUsed, BrokeOff}
+use Rattle.qcow2_alloc.specs.UsedCounts.{AreUsed}
 use Rattle.qcow2_alloc.proofs.FileSteps.{one_here}
 use Rattle.qcow2_alloc.proofs.Runs.{none_there, run_in}
 
@@ -85,6 +86,14 @@ module _ {S : Type 0} (view : S → StorageView) where
   hint_more file t t' cluster hint is more used k below = elim (cases_eq k cluster) [
     | inl same ↦ subst (IsUsed view file) (sym same) used
     | inr other ↦ hint k (omega (arith, is, more, below, other))
+  ]
+
+  -- what lies between the first free cluster and the next one is in use
+  pub hint_passed : (p : Pending) (a b : ImageFile S) (t t' : Allocator) (cluster next : ℕ) → UnseenAllocatorStep view p a t b p → AreUsed view b cluster next → cluster ≡ t.first_free_cluster → t'.first_free_cluster ≡ next
+      → NoFreeBelowHint view t a → NoFreeBelowHint view t' b
+  hint_passed p a b t t' cluster next step used stood goes hint k below = elim (cases_lt k cluster) [
+    | inl before ↦ used_stays p p a b t k step (omega arith) (hint k (omega (arith, before, stood)))
+    | inr behind ↦ used k behind (omega (arith, below, goes))
   ]
 
   -- another allocator with the same first free cluster
@@ -250,4 +259,11 @@ module _ {S : Type 0} (view : S → StorageView) where
   lowest_behind file first n taken within some used lowest start below = elim (cases_lt start first) [
     | inl before ↦ let at = lowest start before in (at.0, at.1, at.2, (let lt = at.3 in omega arith), at.4)
     | inr above ↦ (first + taken, omega (arith, below), omega (arith, within, some, above), omega arith, used)
+  ]
+
+  -- it passes over clusters in use
+  pub lowest_passed : (file : ImageFile S) (first next n : ℕ) → first ≤ next → 0 < n → AreUsed view file first next → IsLowestRun view file first n → IsLowestRun view file next n
+  lowest_passed file first next n onward some used lowest start below = elim (cases_lt start first) [
+    | inl before ↦ let at = lowest start before in (at.0, at.1, at.2, (let lt = at.3 in omega (arith, lt, onward)), at.4)
+    | inr above ↦ (start, omega arith, omega (arith, some), below, used start above below)
   ]

@@ -17,6 +17,7 @@ pub mod CachePins
 pub mod ImageFile
 pub mod Allocation
 pub mod LowestRuns
+pub mod UsedCounts
 pub mod KeptAllocators
 pub mod SoundAllocators
 pub mod FreeList

@@ -17,6 +17,6 @@ module _ {S : Type 0} where
   abbrev pub IsToldRefBlock : ImageStorage S → Type 0
   IsToldRefBlock s = kind_of s ≡ RefBlock
 
-  -- all else: the bytes of a new table, an entry of the L1 table or the reftable, a number of the header
+  -- all else: the bytes of a new table, an entry of the L1 table or the reftable, a new header or a number of one, and emptying the storage
   abbrev pub IsToldOther : ImageStorage S → Type 0
   IsToldOther s = kind_of s ≡ Other

@@ -246,7 +246,7 @@ impl Allocator {
             if taken == n {
                 return Ok(first);
             }
-            first += taken + 1;
+            first = self.pass_used(file, first + taken + 1)?;
         }
         Err(ImageError::Limit)
     }

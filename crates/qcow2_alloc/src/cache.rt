@@ -13,6 +13,7 @@ ghost use Rattle.qcow2_alloc.specs.TableCaches.{IsTableOf, IsBlockOf};
 ghost use Rattle.qcow2_alloc.specs.MetadataCaches.{order_of, l2_at, rb_at, l2_tables, refblocks, known_of, AreAllWritten, CacheInvariant, KeepSound, PutSound, RefusesBy, PutRefusesBy, RaisesCount, LowersCount, TellsZero, RaisesZero, LowersSome, MapsCachedEntry, ZeroesEntry, DiscardsEntry, NotesEntry, NotesHeld, ShowsKnown, TakesOff, TakesBlock, LaysTable, LaysBlock, WritesInOrder};
 ghost use Rattle.qcow2_metadata.specs.L2Mapping.{IsHostCluster};
 ghost use Rattle.qcow2_metadata.specs.L2Table.{entries_of, cover_at, copied_entry, zero_entry, copied_host};
+ghost use Rattle.qcow2_alloc.specs.UsedCounts.{TellsUsed};
 ghost use Rattle.qcow2_alloc.specs.TableChanges.{CountsMore, CountsLess, SetsEntry};
 ghost use Rattle.qcow2_alloc.specs.Quiet.{WritesNothing, GetsTableQuietly, GetsBlockQuietly, PutsTableQuietly, PutsBlockQuietly, OtherTablesStay, OtherBlocksStay};
 ghost use Rattle.qcow2_alloc.specs.Faults.{CountsFaults};
@@ -581,6 +582,19 @@ impl<S: Storage> MetadataCaches<S> {
             Some(block) => index < block.counts() && block.is_zero(index),
             None => false,
         }
+    }
+
+    /// So many counts of a held refblock from an index on are above 0: all up to the first that isn't.
+    pub fn rb_used_from(&self, cluster: HostCluster, index: usize) -> usize
+        ensures { TellsUsed self.now cluster index result }
+    {
+        let Some(block) = self.rb.peek(cluster) else {
+            return 0;
+        };
+        if index > block.counts() {
+            return 0;
+        }
+        block.next_zero(index) - index
     }
 
     /// Counts a cluster of a held refblock once more. False at the greatest count.

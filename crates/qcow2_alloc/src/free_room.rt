@@ -72,7 +72,7 @@ impl Allocator {
                 });
             }
             self.leave_run(file, first, reach.taken)?;
-            first += reach.taken + 1;
+            first = self.behind_used(file, first + reach.taken + 1)?;
         }
         Err(ImageError::Limit)
     }

@@ -11,7 +11,7 @@ pub enum WriteKind {
     RefBlock,
     /// An L2 table of the cache.
     L2Table,
-    /// A header's number, an entry of the L1 table or the reftable, a new table's bytes.
+    /// A new header or a header's number, an entry of the L1 table or the reftable, a new table's bytes, emptying the storage.
     Other,
 }
 

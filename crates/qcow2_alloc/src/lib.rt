@@ -16,6 +16,7 @@ mod reftable_growth;
 mod reftable_length;
 mod reftable_naming;
 mod told_writes;
+mod used_clusters;
 
 pub use allocation::Allocator;
 pub use cache::{Direction, L2CacheBackend, MetadataCaches, RefBlockCacheBackend};

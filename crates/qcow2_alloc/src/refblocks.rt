@@ -243,6 +243,7 @@ impl Allocator {
             if taken {
                 return Ok(Some(cluster));
             }
+            self.first_free_cluster = self.behind_used(file, cluster + 1)?;
         }
         Ok(None)
     }

@@ -1,17 +1,22 @@
 //! The writes to an image's storage. Each demands that the storage was told before what it is for.
-ghost use Rattle.std.specs.Prelude.{◌≡◌, ◌+◌, ◌*◌, ◌^◌, ◌<◌, false, IfSome, IsFalse, IsOk, IsSome, IsTrue, OnErr, OnOk};
-ghost use Rattle.image_access.specs.Contents.{overwritten, zeroed};
+ghost use Rattle.std.specs.Prelude.{◌≡◌, ◌≢◌, ◌+◌, ◌*◌, ◌^◌, ◌<◌, false, IfSome, IsFalse, IsOk, IsSome, IsTrue, OnErr, OnOk};
+ghost use Rattle.image_access.specs.Contents.{overwritten, resized, zeroed};
 ghost use Rattle.image_access.specs.Moments.{Calls, Changes};
 ghost use Rattle.std.specs.Int.{w64, to_be_bytes};
-ghost use Rattle.qcow2_metadata.specs.HeaderWrite.{l1_table_pointer_written, reftable_pointer_written, size_written};
+ghost use Rattle.qcow2_metadata.specs.Header.{with_fields, without_autoclear};
+ghost use Rattle.qcow2_metadata.specs.HeaderLoad.{IsHeaderIn};
+ghost use Rattle.qcow2_metadata.specs.HeaderWrite.{autoclear_cleared, header_written, l1_table_pointer_written, reftable_pointer_written, size_written, HasNewNames};
+ghost use Rattle.qcow2_metadata.specs.Bytes.{byte_at};
+ghost use Rattle.qcow2_metadata.specs.RefBlock.{IsRefBlockAt};
 ghost use Rattle.qcow2_metadata.specs.TableBytes.{HasPlace, entry_at};
 ghost use Rattle.qcow2_metadata.specs.EntryTable.{entry_count};
 ghost use Rattle.qcow2_alloc.specs.ImageStorage.{storage_of, NotesWrite};
 ghost use Rattle.qcow2_alloc.specs.WriteKinds.{IsToldData, IsToldL2Table, IsToldRefBlock, IsToldOther};
 
 use crate::ImageStorage;
-use image_access::{Storage, StorageError};
+use image_access::{Storage, StorageError, StoragePreallocate};
 use qcow2_metadata::{Header, HostCluster, L1Table, L2Table, RefBlock, RefTable};
+use std::alloc::Global;
 
 impl<S: Storage> ImageStorage<S> {
     /// Writes a guest's bytes at an offset, in bytes. Refused 14 (memory), 15 (storage), as the storage is.
@@ -106,6 +111,8 @@ impl<S: Storage> ImageStorage<S> {
         requires told { IsToldOther self.old }
         ensures written { IfSome block.now.cluster (λ cluster. Changes (S.view (storage_of self.old)) (S.view (storage_of self.new)) result
             (overwritten (S.view (storage_of self.old)).contents (cluster * 2 ^ block.now.cluster_bits) block.now.bytes)) }
+        ensures of_image { (S.view (storage_of self.old)).is_honest → IfSome block.now.cluster (λ cluster.
+            OnOk result (IsRefBlockAt (byte_at (S.view (storage_of self.new)).contents) (cluster * 2 ^ block.now.cluster_bits) block.now)) }
         ensures calls { Calls (S.view (storage_of self.old)) (S.view (storage_of self.new)) result }
         ensures noted { NotesWrite self.old self.new result }
     {
@@ -173,6 +180,30 @@ impl<S: Storage> ImageStorage<S> {
         self.noted(reftable_entry_written)
     }
 
+    /// Empties the storage. Refused 14 (memory), 15 (storage), as the storage is.
+    pub fn clear(&mut self) -> Result<(), StorageError>
+        requires { IsToldOther self.old }
+        ensures cleared { Changes (S.view (storage_of self.old)) (S.view (storage_of self.new)) result (resized (S.view (storage_of self.old)).contents 0) }
+        ensures calls { Calls (S.view (storage_of self.old)) (S.view (storage_of self.new)) result }
+        ensures noted { NotesWrite self.old self.new result }
+    {
+        let storage_emptied = self.storage.resize(0, StoragePreallocate::None);
+        self.noted(storage_emptied)
+    }
+
+    /// Writes the header of a new image with its names. Refused 14 (memory) where its bytes have no room. Refused 14 (memory), 15
+    /// (storage), as the storage is.
+    pub fn write_new_header(&mut self, alloc: Global, header: &Header) -> Result<(), StorageError>
+        requires { IsToldOther self.old }
+        ensures written { Changes (S.view (storage_of self.old)) (S.view (storage_of self.new)) result (header_written header.now (S.view (storage_of self.old)).contents) }
+        ensures reads { HasNewNames header.now → IsHeaderIn header.now (header_written header.now (S.view (storage_of self.old)).contents) }
+        ensures calls { Calls (S.view (storage_of self.old)) (S.view (storage_of self.new)) result }
+        ensures noted { NotesWrite self.old self.new result }
+    {
+        let new_header_written = header.write(alloc, &mut self.storage);
+        self.noted(new_header_written)
+    }
+
     /// Writes the place and the length of the L1 table. Refused 14 (memory), 15 (storage), as the storage is.
     pub fn write_l1_table_pointer(&mut self, header: &Header) -> Result<(), StorageError>
         requires { IsToldOther self.old }
@@ -204,5 +235,25 @@ impl<S: Storage> ImageStorage<S> {
     {
         let size_done = header.write_size(&mut self.storage);
         self.noted(size_done)
+    }
+
+    /// Clears the autoclear bits in the image and in its header, if one is set. Refused 14 (memory), 15 (storage), as the storage is.
+    /// They stay in the header then.
+    pub fn clear_autoclear(&mut self, header: &mut Header) -> Result<(), StorageError>
+        requires { IsToldOther self.old }
+        ensures written { header.old.fields.autoclear ≢ 0 → Changes (S.view (storage_of self.old)) (S.view (storage_of self.new)) result (autoclear_cleared (S.view (storage_of self.old)).contents) }
+        ensures idle { header.old.fields.autoclear ≡ 0 → IsOk result × (self.new ≡ self.old) }
+        ensures ok { OnOk result (header.new ≡ with_fields header.old (without_autoclear header.old.fields)) }
+        ensures err { OnErr result (header.new ≡ header.old) }
+        ensures calls { Calls (S.view (storage_of self.old)) (S.view (storage_of self.new)) result }
+        ensures noted { header.old.fields.autoclear ≢ 0 → NotesWrite self.old self.new result }
+    {
+        let is_set = header.autoclear() != 0;
+        let bits_cleared = header.clear_autoclear(&mut self.storage);
+        if is_set {
+            self.noted(bits_cleared)
+        } else {
+            bits_cleared
+        }
     }
 }

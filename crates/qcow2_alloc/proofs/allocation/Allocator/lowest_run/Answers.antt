@@ -4,18 +4,18 @@ use Rattle.std.proofs.Math.Nat.{div-le_self, le_trans}
 use Rattle.qcow2_laws.specs.CrashInvariant.{Pending}
 use Rattle.qcow2_alloc.specs.LowestRuns.{KeepsNoFreeBelowHint}
 use Rattle.qcow2_alloc.specs.declared.allocation.Allocator.{Allocator}
-use Rattle.qcow2_alloc.proofs.Hints.{hint_header, lowest_behind, lowest_first, lowest_stays, not_broken}
-use Rattle.qcow2_alloc.specs.Allocation.{run_at, UnseenAllocatorGrowth, TakesSomeRun}
+use Rattle.qcow2_alloc.proofs.Hints.{hint_header, lowest_behind, lowest_first, lowest_passed, lowest_stays, not_broken, used_stays}
+use Rattle.qcow2_alloc.specs.Allocation.{run_at, UnseenAllocatorGrowth, TakesSomeRun, RefusedGrowth}
 use Rattle.qcow2_alloc.specs.FreeList.{pending_then}
 use Rattle.qcow2_alloc.proofs.CachePins.{marks_none, marks_then}
-use Rattle.qcow2_alloc.proofs.AllocationSteps.{handed_on, may_still, on_none, is_sound_on}
-use Rattle.qcow2_alloc.proofs.ListedAfter.{header_same, header_then, lists_none, lists_then, listed_after_same, then_none, then_taken, then_leaves, header_bits}
+use Rattle.qcow2_alloc.proofs.AllocationSteps.{handed_on, may_still, on_none, on_of, leaves_as, is_sound_on}
+use Rattle.qcow2_alloc.proofs.ListedAfter.{header_same, header_then, lists_none, lists_same, lists_then, listed_after_same, then_none, then_taken, then_leaves, header_bits}
 use Rattle.std.specs.Prelude.{IfErr}
 use Rattle.qcow2_alloc.specs.declared.error.ImageError.{ImageError}
 use Rattle.qcow2_alloc.specs.Limits.{IsFaultOr, HasNoPlace, nameable_clusters}
 use Rattle.qcow2_alloc.proofs.Limits.{full_behind, limit_is_no_fault}
 use Rattle.qcow2_alloc.proofs.allocation.Allocator.lowest_run.Goals.{then-search-test+then-n-limit+else-first-limit, then-search-test+else-n-limit, else-search-test}
-use Rattle.qcow2_alloc.proofs.FormerReftables.{former_none, former_then}
+use Rattle.qcow2_alloc.proofs.FormerReftables.{former_none, former_still, former_then}
 use Rattle.qcow2_alloc.proofs.Faults.{told_ok}
 use Rattle.qcow2_alloc.proofs.Outcomes.{told_limit, told_after, on_no_ok, if_no_ok, handed_cause}
 use Rattle.qcow2_alloc.proofs.allocation.Allocator.lowest_run.Goals as goal
@@ -58,34 +58,127 @@ search-init g c = record {
 
 pub search-preserved : goal.search-preserved
 search-preserved g c = record {
-  header = header_then c.args.file.now.header c.search.file.header c.take_run.new.file.header c.search.invariant.header c.take_run.ensures.header;
-  list = lists_then c.args.file.now.free_list c.search.file.free_list c.take_run.new.file.free_list c.search.invariant.list c.take_run.ensures.list;
-  former = former_then c.args.self.now.reftable c.search.self.reftable c.take_run.new.self.reftable c.args.file.now.free_list c.search.file.free_list c.take_run.new.file.free_list c.search.invariant.former c.take_run.ensures.former;
+  header = header_then c.args.file.now.header c.take_run.new.file.header c.pass_used.new.file.header (header_then c.args.file.now.header c.search.file.header c.take_run.new.file.header c.search.invariant.header c.take_run.ensures.header) (header_same c.take_run.new.file.header c.pass_used.new.file.header c.pass_used.ensures.header);
+  list = lists_then c.args.file.now.free_list c.take_run.new.file.free_list c.pass_used.new.file.free_list (lists_then c.args.file.now.free_list c.search.file.free_list c.take_run.new.file.free_list c.search.invariant.list c.take_run.ensures.list) (lists_same c.take_run.new.file.free_list c.pass_used.new.file.free_list c.pass_used.ensures.list);
+  former = former_still c.args.self.now.reftable c.take_run.new.self.reftable c.pass_used.new.self.reftable c.args.file.now.free_list c.take_run.new.file.free_list c.pass_used.new.file.free_list
+      (former_then c.args.self.now.reftable c.search.self.reftable c.take_run.new.self.reftable c.args.file.now.free_list c.search.file.free_list c.take_run.new.file.free_list c.search.invariant.former c.take_run.ensures.former) c.pass_used.ensures.reftable c.pass_used.ensures.list;
   limit = c.search.invariant.limit;
   near = c.search.invariant.near;
-  above = let above = c.search.invariant.above in omega (arith, above);
-  marks = marks_then c.args.file.now.caches c.search.file.caches c.take_run.new.file.caches c.search.invariant.marks c.take_run.ensures.marks;
-  faults = omega (arith, c.search.invariant.faults, c.take_run.ensures.storage_faults.no_fewer);
-  order = c.take_run.ensures.order ∙ c.search.invariant.order;
+  above = let behind = c.in_ok-first.ensures.behind in omega (arith, behind);
+  marks = marks_then c.args.file.now.caches c.take_run.new.file.caches c.pass_used.new.file.caches (marks_then c.args.file.now.caches c.search.file.caches c.take_run.new.file.caches c.search.invariant.marks c.take_run.ensures.marks) c.pass_used.ensures.marks;
+  faults = le_trans (le_trans c.search.invariant.faults c.take_run.ensures.storage_faults.no_fewer) c.pass_used.ensures.storage_faults.no_fewer;
+  order = c.pass_used.ensures.order ∙ c.take_run.ensures.order ∙ c.search.invariant.order;
   sound = λ p sound.
       let before = c.search.invariant.sound p sound in
       let q : Pending = pending_then p c.args.file.now.free_list c.search.file.free_list in
       let now = is_sound_on g.S.Storage.view p q c.args.file.now c.search.file c.search.self before in
-      then_none g.S.Storage.view p c.args.file.now c.search.file c.take_run.new.file c.search.self c.take_run.new.self c.search.invariant.list c.take_run.ensures.list before ((c.in_ok-taken.ensures.sound q false now tt).1 c.if-taken-n.false);
+      let lists = lists_then c.args.file.now.free_list c.search.file.free_list c.take_run.new.file.free_list c.search.invariant.list c.take_run.ensures.list in
+      let mid = then_none g.S.Storage.view p c.args.file.now c.search.file c.take_run.new.file c.search.self c.take_run.new.self c.search.invariant.list c.take_run.ensures.list before ((c.in_ok-taken.ensures.sound q false now tt).1 c.if-taken-n.false) in
+      let r : Pending = pending_then p c.args.file.now.free_list c.take_run.new.file.free_list in
+      let there = is_sound_on g.S.Storage.view p r c.args.file.now c.take_run.new.file c.take_run.new.self mid in
+      then_none g.S.Storage.view p c.args.file.now c.take_run.new.file c.pass_used.new.file c.take_run.new.self c.pass_used.new.self lists (lists_same c.take_run.new.file.free_list c.pass_used.new.file.free_list c.pass_used.ensures.list) mid
+      (subst (λ (s : Pending). UnseenAllocatorGrowth g.S.Storage.view r c.take_run.new.file c.pass_used.new.self c.pass_used.new.file s) (sym (listed_after_same r c.take_run.new.file.free_list c.pass_used.new.file.free_list c.pass_used.ensures.list))
+      (on_of g.S.Storage.view r r c.take_run.new.file c.pass_used.new.file c.pass_used.new.self (c.in_ok-first.ensures.sound r there).0));
   hint = λ p d sound may hint.
       let before = c.search.invariant.sound p sound in
       let q : Pending = pending_then p c.args.file.now.free_list c.search.file.free_list in
       let now = is_sound_on g.S.Storage.view p q c.args.file.now c.search.file c.search.self before in
+      let lists = lists_then c.args.file.now.free_list c.search.file.free_list c.take_run.new.file.free_list c.search.invariant.list c.take_run.ensures.list in
+      let mid = then_none g.S.Storage.view p c.args.file.now c.search.file c.take_run.new.file c.search.self c.take_run.new.self c.search.invariant.list c.take_run.ensures.list before ((c.in_ok-taken.ensures.sound q false now tt).1 c.if-taken-n.false) in
+      let r : Pending = pending_then p c.args.file.now.free_list c.take_run.new.file.free_list in
+      let there = is_sound_on g.S.Storage.view p r c.args.file.now c.take_run.new.file c.take_run.new.self mid in
       let may_now = may_still d c.args.file.now c.search.file c.search.invariant.order may in
-      c.in_ok-taken.ensures.hint q d now may_now (c.search.invariant.hint p d sound may hint);
+      c.in_ok-first.ensures.hint r there (c.in_ok-taken.ensures.hint q d now may_now (c.search.invariant.hint p d sound may hint));
   lowest = λ p d sound may hint some.
       let before = c.search.invariant.sound p sound in
       let q : Pending = pending_then p c.args.file.now.free_list c.search.file.free_list in
       let now = is_sound_on g.S.Storage.view p q c.args.file.now c.search.file c.search.self before in
+      let lists = lists_then c.args.file.now.free_list c.search.file.free_list c.take_run.new.file.free_list c.search.invariant.list c.take_run.ensures.list in
+      let mid = then_none g.S.Storage.view p c.args.file.now c.search.file c.take_run.new.file c.search.self c.take_run.new.self c.search.invariant.list c.take_run.ensures.list before ((c.in_ok-taken.ensures.sound q false now tt).1 c.if-taken-n.false) in
+      let r : Pending = pending_then p c.args.file.now.free_list c.take_run.new.file.free_list in
+      let there = is_sound_on g.S.Storage.view p r c.args.file.now c.take_run.new.file c.take_run.new.self mid in
       let may_now = may_still d c.args.file.now c.search.file c.search.invariant.order may in
-      lowest_behind g.S.Storage.view c.take_run.new.file c.search.first c.args.n c.in_ok-taken.taken c.in_ok-taken.ensures.within c.if-taken-n.false (c.in_ok-taken.ensures.used q d now may_now c.if-taken-n.false)
-      (lowest_stays g.S.Storage.view c.search.file c.take_run.new.file c.search.first c.args.n (c.in_ok-taken.ensures.uses q d now may_now) (c.search.invariant.lowest p d sound may hint some));
+      let passed = c.in_ok-first.ensures.sound r there in
+      lowest_passed g.S.Storage.view c.pass_used.new.file (c.search.first + (c.in_ok-taken.taken + 1)) c.in_ok-first.first c.args.n (let behind = c.in_ok-first.ensures.behind in omega (arith, behind)) some (λ k low high. passed.1 k (omega (arith, low)) high)
+      (lowest_stays g.S.Storage.view c.take_run.new.file c.pass_used.new.file (c.search.first + (c.in_ok-taken.taken + 1)) c.args.n (λ k used. used_stays g.S.Storage.view r r c.take_run.new.file c.pass_used.new.file c.pass_used.new.self k passed.0 (omega arith) used)
+      (lowest_behind g.S.Storage.view c.take_run.new.file c.search.first c.args.n c.in_ok-taken.taken c.in_ok-taken.ensures.within c.if-taken-n.false (c.in_ok-taken.ensures.used q d now may_now c.if-taken-n.false)
+      (lowest_stays g.S.Storage.view c.search.file c.take_run.new.file c.search.first c.args.n (c.in_ok-taken.ensures.uses q d now may_now) (c.search.invariant.lowest p d sound may hint some))));
 }
+
+pub returns-in_err-first-clause-sound : goal.returns-in_err-first-clause-sound
+returns-in_err-first-clause-sound g c = λ p d sound may.
+    let before = c.search.invariant.sound p sound in
+    let q : Pending = pending_then p c.args.file.now.free_list c.search.file.free_list in
+    let now = is_sound_on g.S.Storage.view p q c.args.file.now c.search.file c.search.self before in
+    let lists = lists_then c.args.file.now.free_list c.search.file.free_list c.take_run.new.file.free_list c.search.invariant.list c.take_run.ensures.list in
+    let mid = then_none g.S.Storage.view p c.args.file.now c.search.file c.take_run.new.file c.search.self c.take_run.new.self c.search.invariant.list c.take_run.ensures.list before ((c.in_ok-taken.ensures.sound q false now tt).1 c.if-taken-n.false) in
+    let r : Pending = pending_then p c.args.file.now.free_list c.take_run.new.file.free_list in
+    let there = is_sound_on g.S.Storage.view p r c.args.file.now c.take_run.new.file c.take_run.new.self mid in
+    handed_on (TakesSomeRun g.S.Storage.view p c.args.file.now c.pass_used.new.self c.pass_used.new.file (pending_then p c.args.file.now.free_list c.pass_used.new.file.free_list) d c.args.n) c.from_residual-in_err-first.result c.in_err-first.field-0.0 c.from_residual-in_err-first.ensures
+    (then_leaves g.S.Storage.view p c.args.file.now c.take_run.new.file c.pass_used.new.file c.take_run.new.self c.pass_used.new.self lists (lists_same c.take_run.new.file.free_list c.pass_used.new.file.free_list c.pass_used.ensures.list) mid c.in_err-first.field-0.0
+    (subst (λ (s : Pending). RefusedGrowth g.S.Storage.view r c.take_run.new.file c.pass_used.new.self c.pass_used.new.file s c.in_err-first.field-0.0) (sym (listed_after_same r c.take_run.new.file.free_list c.pass_used.new.file.free_list c.pass_used.ensures.list))
+    (leaves_as g.S.Storage.view r c.take_run.new.file c.pass_used.new.file c.pass_used.new.self c.in_err-first.field-0.0 (c.in_err-first.ensures.sound r there).1)))
+
+pub returns-in_err-first-clause-hint : goal.returns-in_err-first-clause-hint
+returns-in_err-first-clause-hint g c = λ p d sound may hint.
+    let before = c.search.invariant.sound p sound in
+    let q : Pending = pending_then p c.args.file.now.free_list c.search.file.free_list in
+    let now = is_sound_on g.S.Storage.view p q c.args.file.now c.search.file c.search.self before in
+    let lists = lists_then c.args.file.now.free_list c.search.file.free_list c.take_run.new.file.free_list c.search.invariant.list c.take_run.ensures.list in
+    let mid = then_none g.S.Storage.view p c.args.file.now c.search.file c.take_run.new.file c.search.self c.take_run.new.self c.search.invariant.list c.take_run.ensures.list before ((c.in_ok-taken.ensures.sound q false now tt).1 c.if-taken-n.false) in
+    let r : Pending = pending_then p c.args.file.now.free_list c.take_run.new.file.free_list in
+    let there = is_sound_on g.S.Storage.view p r c.args.file.now c.take_run.new.file c.take_run.new.self mid in
+    let may_now = may_still d c.args.file.now c.search.file c.search.invariant.order may in
+    handed_on (KeepsNoFreeBelowHint g.S.Storage.view c.pass_used.new.self c.pass_used.new.file) c.from_residual-in_err-first.result c.in_err-first.field-0.0 c.from_residual-in_err-first.ensures
+    (c.in_err-first.ensures.hint r there (c.in_ok-taken.ensures.hint q d now may_now (c.search.invariant.hint p d sound may hint)))
+
+pub returns-in_err-first-clause-limit : goal.returns-in_err-first-clause-limit
+returns-in_err-first-clause-limit g c = λ p d sound may hint some.
+    let before = c.search.invariant.sound p sound in
+    let q : Pending = pending_then p c.args.file.now.free_list c.search.file.free_list in
+    let now = is_sound_on g.S.Storage.view p q c.args.file.now c.search.file c.search.self before in
+    let lists = lists_then c.args.file.now.free_list c.search.file.free_list c.take_run.new.file.free_list c.search.invariant.list c.take_run.ensures.list in
+    let mid = then_none g.S.Storage.view p c.args.file.now c.search.file c.take_run.new.file c.search.self c.take_run.new.self c.search.invariant.list c.take_run.ensures.list before ((c.in_ok-taken.ensures.sound q false now tt).1 c.if-taken-n.false) in
+    let r : Pending = pending_then p c.args.file.now.free_list c.take_run.new.file.free_list in
+    let there = is_sound_on g.S.Storage.view p r c.args.file.now c.take_run.new.file c.take_run.new.self mid in
+    handed_on (λ (x : Result ℕ ImageError). IfErr x (IsFaultOr (HasNoPlace g.S.Storage.view c.pass_used.new.file c.pass_used.new.self c.args.n))) c.from_residual-in_err-first.result c.in_err-first.field-0.0 c.from_residual-in_err-first.ensures
+    (inl (c.in_err-first.ensures.sound r there).0)
+
+pub returns-in_err-first-clause-header : goal.returns-in_err-first-clause-header
+returns-in_err-first-clause-header g c = header_then c.args.file.now.header c.take_run.new.file.header c.pass_used.new.file.header (header_then c.args.file.now.header c.search.file.header c.take_run.new.file.header c.search.invariant.header c.take_run.ensures.header) (header_same c.take_run.new.file.header c.pass_used.new.file.header c.pass_used.ensures.header)
+
+pub returns-in_err-first-clause-list : goal.returns-in_err-first-clause-list
+returns-in_err-first-clause-list g c = lists_then c.args.file.now.free_list c.take_run.new.file.free_list c.pass_used.new.file.free_list (lists_then c.args.file.now.free_list c.search.file.free_list c.take_run.new.file.free_list c.search.invariant.list c.take_run.ensures.list) (lists_same c.take_run.new.file.free_list c.pass_used.new.file.free_list c.pass_used.ensures.list)
+
+pub returns-in_err-first-clause-former : goal.returns-in_err-first-clause-former
+returns-in_err-first-clause-former g c =
+    former_still c.args.self.now.reftable c.take_run.new.self.reftable c.pass_used.new.self.reftable c.args.file.now.free_list c.take_run.new.file.free_list c.pass_used.new.file.free_list
+    (former_then c.args.self.now.reftable c.search.self.reftable c.take_run.new.self.reftable c.args.file.now.free_list c.search.file.free_list c.take_run.new.file.free_list c.search.invariant.former c.take_run.ensures.former) c.pass_used.ensures.reftable c.pass_used.ensures.list
+
+pub returns-in_err-first-clause-marks : goal.returns-in_err-first-clause-marks
+returns-in_err-first-clause-marks g c = marks_then _ _ _ (marks_then _ _ _ c.search.invariant.marks c.take_run.ensures.marks) c.pass_used.ensures.marks
+
+pub returns-in_err-first-clause-order : goal.returns-in_err-first-clause-order
+returns-in_err-first-clause-order g c = c.pass_used.ensures.order ∙ c.take_run.ensures.order ∙ c.search.invariant.order
+
+pub returns-in_err-first-clause-cause : goal.returns-in_err-first-clause-cause
+returns-in_err-first-clause-cause g c = handed_cause c.from_residual-in_err-first.result c.in_err-first.field-0.0 c.from_residual-in_err-first.ensures c.in_err-first.ensures.cause
+
+pub returns-in_err-first-clause-storage_faults : goal.returns-in_err-first-clause-storage_faults
+returns-in_err-first-clause-storage_faults g c =
+    told_after _ _ _ c.pass_used.result c.in_err-first.field-0.0 c.from_residual-in_err-first.result (le_trans c.search.invariant.faults c.take_run.ensures.storage_faults.no_fewer) c.pass_used.ensures.storage_faults c.in_err-first.was c.from_residual-in_err-first.ensures
+
+pub returns-in_err-first-clause-nameable : goal.returns-in_err-first-clause-nameable
+returns-in_err-first-clause-nameable g c = if_no_ok _ c.from_residual-in_err-first.result c.in_err-first.field-0.0 c.from_residual-in_err-first.ensures
+
+pub returns-in_err-first-clause-elsewhere : goal.returns-in_err-first-clause-elsewhere
+returns-in_err-first-clause-elsewhere g c = if_no_ok _ c.from_residual-in_err-first.result c.in_err-first.field-0.0 c.from_residual-in_err-first.ensures
+
+pub returns-in_err-first-clause-lowest : goal.returns-in_err-first-clause-lowest
+returns-in_err-first-clause-lowest g c = λ _ _ _ _ _. if_no_ok _ c.from_residual-in_err-first.result c.in_err-first.field-0.0 c.from_residual-in_err-first.ensures
+
+pub returns-in_err-first-clause-noted : goal.returns-in_err-first-clause-noted
+returns-in_err-first-clause-noted g c = on_no_ok _ c.from_residual-in_err-first.result c.in_err-first.field-0.0 c.from_residual-in_err-first.ensures
 
 pub returns-clause-sound : goal.returns-clause-sound
 returns-clause-sound g c = λ p d sound may. inl (c.search.invariant.sound p sound)

@@ -6,7 +6,7 @@ use Rattle.qcow2_alloc.specs.declared.allocation.Allocator.{Allocator}
 use Rattle.qcow2_alloc.proofs.CachePins.{marks_none, marks_then}
 use Rattle.qcow2_alloc.specs.LowestRuns.{KeepsNoFreeBelowHint}
 use Rattle.qcow2_alloc.proofs.FileSteps.{one_here, leaves_then}
-use Rattle.qcow2_alloc.proofs.Hints.{hint_header, hint_stays, hint_taken, hint_more, hint_refused, range_as, taken_used}
+use Rattle.qcow2_alloc.proofs.Hints.{hint_header, hint_stays, hint_taken, hint_more, hint_passed, hint_refused, range_as, taken_used}
 use Rattle.qcow2_alloc.proofs.AllocationSteps.{allocator_step_none, behind_none, handed_on, entries_then, entries_less, other_range, allocator_step_as, allocator_step_then, is_sound_now}
 use Rattle.qcow2_alloc.proofs.Faults.{told_ok}
 use Rattle.qcow2_alloc.proofs.Outcomes.{told_after, if_no_ok, handed_cause}
@@ -56,33 +56,105 @@ search-init g c = record {
 
 pub search-preserved : goal.search-preserved
 search-preserved g c = record {
-  header = c.raise.ensures.header ∙ c.cover_range.ensures.header ∙ c.search.invariant.header;
-  list = c.raise.ensures.list ∙ c.cover_range.ensures.list ∙ c.search.invariant.list;
-  marks = marks_then c.args.file.now.caches c.cover_range.new.file.caches c.raise.new.file.caches (marks_then c.args.file.now.caches c.search.file.caches c.cover_range.new.file.caches c.search.invariant.marks c.cover_range.ensures.marks) c.raise.ensures.marks;
-  faults = le_trans (le_trans c.search.invariant.faults c.cover_range.ensures.storage_faults.no_fewer) c.raise.ensures.storage_faults.no_fewer;
-  order = c.raise.ensures.order ∙ c.cover_range.ensures.order ∙ c.search.invariant.order;
+  header = c.behind_used.ensures.header ∙ c.raise.ensures.header ∙ c.cover_range.ensures.header ∙ c.search.invariant.header;
+  list = c.behind_used.ensures.list ∙ c.raise.ensures.list ∙ c.cover_range.ensures.list ∙ c.search.invariant.list;
+  marks =
+      marks_then c.args.file.now.caches c.raise.new.file.caches c.behind_used.new.file.caches
+      (marks_then c.args.file.now.caches c.cover_range.new.file.caches c.raise.new.file.caches (marks_then c.args.file.now.caches c.search.file.caches c.cover_range.new.file.caches c.search.invariant.marks c.cover_range.ensures.marks) c.raise.ensures.marks) c.behind_used.ensures.marks;
+  faults = le_trans (le_trans (le_trans c.search.invariant.faults c.cover_range.ensures.storage_faults.no_fewer) c.raise.ensures.storage_faults.no_fewer) c.behind_used.ensures.storage_faults.no_fewer;
+  order = c.behind_used.ensures.order ∙ c.raise.ensures.order ∙ c.cover_range.ensures.order ∙ c.search.invariant.order;
   entries =
       subst (λ (t : Allocator). KeepsEntries (λ k. c.args.end ≤ k * counts_per_block c.args.file.now.header.fields) c.args.self.now.reftable t.reftable) (sym c.raise.ensures.same)
       (covered_entries c.args.self.now.reftable c.search.self.reftable c.cover_range.new.self.reftable c.search.self.first_free_cluster c.args.end (2 ^ c.rb_bits-bits.result) (counts_per_block c.args.file.now.header.fields) c.search-test.true c.rb_bits-bits.ensures.counts
       c.search.invariant.entries c.cover_range.ensures.entries);
-  above = omega arith;
+  above = let behind = c.in_ok-self.ensures.behind in omega (arith, behind);
   sound = λ p sound.
       let before = c.search.invariant.sound p sound in
       let covered = allocator_step_then g.S.Storage.view p p c.args.file.now c.search.file c.cover_range.new.file c.search.self c.cover_range.new.self before (c.in_ok-cover_range.ensures.sound p (is_sound_now g.S.Storage.view p p c.args.file.now c.search.file c.search.self before)) in
       let taken = rw c.if-taken.false at (c.in_ok-taken.ensures.sound p false (is_sound_now g.S.Storage.view p p c.args.file.now c.cover_range.new.file c.cover_range.new.self covered) tt) in
-      allocator_step_as g.S.Storage.view p p c.args.file.now c.raise.new.file c.raise.new.self _ refl
-      (allocator_step_then g.S.Storage.view p p c.args.file.now c.cover_range.new.file c.raise.new.file c.cover_range.new.self c.raise.new.self covered taken);
+      let marked : Allocator = record c.raise.new.self { first_free_cluster = c.search.self.first_free_cluster + 1 } in
+      let mid = allocator_step_as g.S.Storage.view p p c.args.file.now c.raise.new.file c.raise.new.self marked refl (allocator_step_then g.S.Storage.view p p c.args.file.now c.cover_range.new.file c.raise.new.file c.cover_range.new.self c.raise.new.self covered taken) in
+      let there = is_sound_now g.S.Storage.view p p c.args.file.now c.raise.new.file marked mid in
+      let passed = c.in_ok-self.ensures.sound p there in
+      allocator_step_as g.S.Storage.view p p c.args.file.now c.behind_used.new.file marked _ refl (allocator_step_then g.S.Storage.view p p c.args.file.now c.raise.new.file c.behind_used.new.file marked marked mid passed.0);
   hint = λ p sound hint.
-      let now = is_sound_now g.S.Storage.view p p c.args.file.now c.search.file c.search.self (c.search.invariant.sound p sound) in
-      let covered = c.in_ok-cover_range.ensures.sound p now in
-      let is_covered = is_sound_now g.S.Storage.view p p c.search.file c.cover_range.new.file c.cover_range.new.self covered in
-      let one = hint_stays g.S.Storage.view p c.search.file c.cover_range.new.file c.search.self c.cover_range.new.self covered c.cover_range.ensures.first (c.search.invariant.hint p sound hint) in
-      let taken = rw c.if-taken.false at (c.in_ok-taken.ensures.sound p false is_covered tt) in
+      let before = c.search.invariant.sound p sound in
+      let covered = allocator_step_then g.S.Storage.view p p c.args.file.now c.search.file c.cover_range.new.file c.search.self c.cover_range.new.self before (c.in_ok-cover_range.ensures.sound p (is_sound_now g.S.Storage.view p p c.args.file.now c.search.file c.search.self before)) in
+      let taken = rw c.if-taken.false at (c.in_ok-taken.ensures.sound p false (is_sound_now g.S.Storage.view p p c.args.file.now c.cover_range.new.file c.cover_range.new.self covered) tt) in
+      let marked : Allocator = record c.raise.new.self { first_free_cluster = c.search.self.first_free_cluster + 1 } in
+      let mid = allocator_step_as g.S.Storage.view p p c.args.file.now c.raise.new.file c.raise.new.self marked refl (allocator_step_then g.S.Storage.view p p c.args.file.now c.cover_range.new.file c.raise.new.file c.cover_range.new.self c.raise.new.self covered taken) in
+      let there = is_sound_now g.S.Storage.view p p c.args.file.now c.raise.new.file marked mid in
+      let now = is_sound_now g.S.Storage.view p p c.args.file.now c.search.file c.search.self before in
+      let is_covered = is_sound_now g.S.Storage.view p p c.args.file.now c.cover_range.new.file c.cover_range.new.self covered in
+      let one = hint_stays g.S.Storage.view p c.search.file c.cover_range.new.file c.search.self c.cover_range.new.self (c.in_ok-cover_range.ensures.sound p now) c.cover_range.ensures.first (c.search.invariant.hint p sound hint) in
       let two = hint_stays g.S.Storage.view p c.cover_range.new.file c.raise.new.file c.cover_range.new.self c.raise.new.self taken (ap (λ (t : Allocator). t.first_free_cluster) c.raise.ensures.same) one in
       let used = c.in_ok-taken.ensures.used p is_covered (range_as c.cover_range.new.self.reftable c.search.self.first_free_cluster (2 ^ c.rb_bits-bits.result) (counts_per_block c.cover_range.new.file.header.fields)
       (ap (λ h. counts_per_block h.fields) (c.cover_range.ensures.header ∙ c.search.invariant.header) ∙ c.rb_bits-bits.ensures.counts) (c.in_ok-cover_range.ensures.has p now)) c.if-taken.false in
-      hint_more g.S.Storage.view c.raise.new.file c.raise.new.self (record c.raise.new.self { first_free_cluster = c.search.self.first_free_cluster + 1 }) c.search.self.first_free_cluster two (ap (λ (t : Allocator). t.first_free_cluster) c.raise.ensures.same ∙ c.cover_range.ensures.first) refl used;
+      let three = hint_more g.S.Storage.view c.raise.new.file c.raise.new.self marked c.search.self.first_free_cluster two (ap (λ (t : Allocator). t.first_free_cluster) c.raise.ensures.same ∙ c.cover_range.ensures.first) refl used in
+      let passed = c.in_ok-self.ensures.sound p there in
+      hint_passed g.S.Storage.view p c.raise.new.file c.behind_used.new.file marked (record marked { first_free_cluster = c.in_ok-self.field-0 }) (c.search.self.first_free_cluster + 1) c.in_ok-self.field-0 passed.0 passed.1 refl refl three;
 }
+
+pub returns-in_err-self-clause-sound : goal.returns-in_err-self-clause-sound
+returns-in_err-self-clause-sound g c = λ p sound.
+    let before = c.search.invariant.sound p sound in
+    let covered = allocator_step_then g.S.Storage.view p p c.args.file.now c.search.file c.cover_range.new.file c.search.self c.cover_range.new.self before (c.in_ok-cover_range.ensures.sound p (is_sound_now g.S.Storage.view p p c.args.file.now c.search.file c.search.self before)) in
+    let taken = rw c.if-taken.false at (c.in_ok-taken.ensures.sound p false (is_sound_now g.S.Storage.view p p c.args.file.now c.cover_range.new.file c.cover_range.new.self covered) tt) in
+    let marked : Allocator = record c.raise.new.self { first_free_cluster = c.search.self.first_free_cluster + 1 } in
+    let mid = allocator_step_as g.S.Storage.view p p c.args.file.now c.raise.new.file c.raise.new.self marked refl (allocator_step_then g.S.Storage.view p p c.args.file.now c.cover_range.new.file c.raise.new.file c.cover_range.new.self c.raise.new.self covered taken) in
+    let there = is_sound_now g.S.Storage.view p p c.args.file.now c.raise.new.file marked mid in
+    handed_on (TakesLowest g.S.Storage.view p c.args.file.now marked c.behind_used.new.file) c.from_residual-in_err-self.result c.in_err-self.field-0.0 c.from_residual-in_err-self.ensures
+    (leaves_then g.S.Storage.view p c.args.file.now c.raise.new.file c.behind_used.new.file marked c.in_err-self.field-0.0 mid.file_step (c.in_err-self.ensures.sound p there).1)
+
+pub returns-in_err-self-clause-hint : goal.returns-in_err-self-clause-hint
+returns-in_err-self-clause-hint g c = λ p sound hint.
+    let before = c.search.invariant.sound p sound in
+    let covered = allocator_step_then g.S.Storage.view p p c.args.file.now c.search.file c.cover_range.new.file c.search.self c.cover_range.new.self before (c.in_ok-cover_range.ensures.sound p (is_sound_now g.S.Storage.view p p c.args.file.now c.search.file c.search.self before)) in
+    let taken = rw c.if-taken.false at (c.in_ok-taken.ensures.sound p false (is_sound_now g.S.Storage.view p p c.args.file.now c.cover_range.new.file c.cover_range.new.self covered) tt) in
+    let marked : Allocator = record c.raise.new.self { first_free_cluster = c.search.self.first_free_cluster + 1 } in
+    let mid = allocator_step_as g.S.Storage.view p p c.args.file.now c.raise.new.file c.raise.new.self marked refl (allocator_step_then g.S.Storage.view p p c.args.file.now c.cover_range.new.file c.raise.new.file c.cover_range.new.self c.raise.new.self covered taken) in
+    let there = is_sound_now g.S.Storage.view p p c.args.file.now c.raise.new.file marked mid in
+    let now = is_sound_now g.S.Storage.view p p c.args.file.now c.search.file c.search.self before in
+    let is_covered = is_sound_now g.S.Storage.view p p c.args.file.now c.cover_range.new.file c.cover_range.new.self covered in
+    let one = hint_stays g.S.Storage.view p c.search.file c.cover_range.new.file c.search.self c.cover_range.new.self (c.in_ok-cover_range.ensures.sound p now) c.cover_range.ensures.first (c.search.invariant.hint p sound hint) in
+    let two = hint_stays g.S.Storage.view p c.cover_range.new.file c.raise.new.file c.cover_range.new.self c.raise.new.self taken (ap (λ (t : Allocator). t.first_free_cluster) c.raise.ensures.same) one in
+    let used = c.in_ok-taken.ensures.used p is_covered (range_as c.cover_range.new.self.reftable c.search.self.first_free_cluster (2 ^ c.rb_bits-bits.result) (counts_per_block c.cover_range.new.file.header.fields)
+    (ap (λ h. counts_per_block h.fields) (c.cover_range.ensures.header ∙ c.search.invariant.header) ∙ c.rb_bits-bits.ensures.counts) (c.in_ok-cover_range.ensures.has p now)) c.if-taken.false in
+    let three = hint_more g.S.Storage.view c.raise.new.file c.raise.new.self marked c.search.self.first_free_cluster two (ap (λ (t : Allocator). t.first_free_cluster) c.raise.ensures.same ∙ c.cover_range.ensures.first) refl used in
+    handed_on (KeepsNoFreeBelowHint g.S.Storage.view marked c.behind_used.new.file) c.from_residual-in_err-self.result c.in_err-self.field-0.0 c.from_residual-in_err-self.ensures
+    (hint_refused g.S.Storage.view p c.raise.new.file c.behind_used.new.file marked marked c.in_err-self.field-0.0 refl (c.in_err-self.ensures.sound p there).1 three)
+
+pub returns-in_err-self-clause-marks : goal.returns-in_err-self-clause-marks
+returns-in_err-self-clause-marks g c = marks_then _ _ _ (marks_then _ _ _ (marks_then _ _ _ c.search.invariant.marks c.cover_range.ensures.marks) c.raise.ensures.marks) c.behind_used.ensures.marks
+
+pub returns-in_err-self-clause-order : goal.returns-in_err-self-clause-order
+returns-in_err-self-clause-order g c = c.behind_used.ensures.order ∙ c.raise.ensures.order ∙ c.cover_range.ensures.order ∙ c.search.invariant.order
+
+pub returns-in_err-self-clause-cause : goal.returns-in_err-self-clause-cause
+returns-in_err-self-clause-cause g c = handed_cause c.from_residual-in_err-self.result c.in_err-self.field-0.0 c.from_residual-in_err-self.ensures c.in_err-self.ensures.cause
+
+pub returns-in_err-self-clause-storage_faults : goal.returns-in_err-self-clause-storage_faults
+returns-in_err-self-clause-storage_faults g c =
+    told_after _ _ _ c.behind_used.result c.in_err-self.field-0.0 c.from_residual-in_err-self.result (le_trans (le_trans c.search.invariant.faults c.cover_range.ensures.storage_faults.no_fewer) c.raise.ensures.storage_faults.no_fewer)
+    c.behind_used.ensures.storage_faults c.in_err-self.was c.from_residual-in_err-self.ensures
+
+pub returns-in_err-self-clause-noted : goal.returns-in_err-self-clause-noted
+returns-in_err-self-clause-noted g c = if_no_ok _ c.from_residual-in_err-self.result c.in_err-self.field-0.0 c.from_residual-in_err-self.ensures
+
+pub returns-in_err-self-clause-below : goal.returns-in_err-self-clause-below
+returns-in_err-self-clause-below g c = if_no_ok _ c.from_residual-in_err-self.result c.in_err-self.field-0.0 c.from_residual-in_err-self.ensures
+
+pub returns-in_err-self-clause-header : goal.returns-in_err-self-clause-header
+returns-in_err-self-clause-header g c = c.behind_used.ensures.header ∙ c.raise.ensures.header ∙ c.cover_range.ensures.header ∙ c.search.invariant.header
+
+pub returns-in_err-self-clause-list : goal.returns-in_err-self-clause-list
+returns-in_err-self-clause-list g c = c.behind_used.ensures.list ∙ c.raise.ensures.list ∙ c.cover_range.ensures.list ∙ c.search.invariant.list
+
+pub returns-in_err-self-clause-entries : goal.returns-in_err-self-clause-entries
+returns-in_err-self-clause-entries g c =
+    subst (λ (t : Allocator). KeepsEntries (λ k. c.args.end ≤ k * counts_per_block c.args.file.now.header.fields) c.args.self.now.reftable t.reftable) (sym c.raise.ensures.same)
+    (covered_entries c.args.self.now.reftable c.search.self.reftable c.cover_range.new.self.reftable c.search.self.first_free_cluster c.args.end (2 ^ c.rb_bits-bits.result) (counts_per_block c.args.file.now.header.fields) c.search-test.true c.rb_bits-bits.ensures.counts
+    c.search.invariant.entries c.cover_range.ensures.entries)
 
 pub returns-in_err-cover_range-clause-hint : goal.returns-in_err-cover_range-clause-hint
 returns-in_err-cover_range-clause-hint g c = λ p sound hint.

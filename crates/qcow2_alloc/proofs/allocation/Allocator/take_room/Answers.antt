@@ -14,7 +14,7 @@ use Rattle.qcow2_alloc.proofs.FileSteps.{leaves_then}
 use Rattle.qcow2_alloc.proofs.AllocationSteps.{handed_on, allocator_step_none, allocator_step_then, is_sound_now}
 use Rattle.qcow2_alloc.proofs.Runs.{run_after}
 use Rattle.qcow2_alloc.proofs.Hints.{used_stays}
-use Rattle.qcow2_alloc.proofs.FullRooms.{full_behind, full_stays, IsFullBelow}
+use Rattle.qcow2_alloc.proofs.FullRooms.{full_behind, full_passed, full_stays, IsFullBelow}
 use Rattle.qcow2_alloc.proofs.Rooms.{run_of_same, noted_of_same}
 use Rattle.qcow2_alloc.proofs.Faults.{told_ok}
 use Rattle.qcow2_alloc.proofs.Outcomes.{told_limit, told_after, if_no_ok, handed_cause}
@@ -73,15 +73,17 @@ returns-in_err-leave_run-clause-sound g c = λ p sound.
 
 pub search-preserved : goal.search-preserved
 search-preserved g c = record {
-  header = c.leave_run.ensures.header ∙ c.reach_room.ensures.header ∙ c.search.invariant.header;
-  list = c.leave_run.ensures.list ∙ c.reach_room.ensures.list ∙ c.search.invariant.list;
-  marks = marks_then c.args.file.now.caches c.reach_room.new.file.caches c.leave_run.new.file.caches (marks_then c.args.file.now.caches c.search.file.caches c.reach_room.new.file.caches c.search.invariant.marks c.reach_room.ensures.marks) c.leave_run.ensures.marks;
-  faults = le_trans (le_trans c.search.invariant.faults c.reach_room.ensures.storage_faults.no_fewer) c.leave_run.ensures.storage_faults.no_fewer;
-  order = c.leave_run.ensures.order ∙ c.reach_room.ensures.order ∙ c.search.invariant.order;
+  header = c.behind_used.ensures.header ∙ c.leave_run.ensures.header ∙ c.reach_room.ensures.header ∙ c.search.invariant.header;
+  list = c.behind_used.ensures.list ∙ c.leave_run.ensures.list ∙ c.reach_room.ensures.list ∙ c.search.invariant.list;
+  marks =
+      marks_then c.args.file.now.caches c.leave_run.new.file.caches c.behind_used.new.file.caches
+      (marks_then c.args.file.now.caches c.reach_room.new.file.caches c.leave_run.new.file.caches (marks_then c.args.file.now.caches c.search.file.caches c.reach_room.new.file.caches c.search.invariant.marks c.reach_room.ensures.marks) c.leave_run.ensures.marks) c.behind_used.ensures.marks;
+  faults = le_trans (le_trans (le_trans c.search.invariant.faults c.reach_room.ensures.storage_faults.no_fewer) c.leave_run.ensures.storage_faults.no_fewer) c.behind_used.ensures.storage_faults.no_fewer;
+  order = c.behind_used.ensures.order ∙ c.leave_run.ensures.order ∙ c.reach_room.ensures.order ∙ c.search.invariant.order;
   reftable = c.leave_run.ensures.reftable ∙ ap (λ a. a.reftable) c.reach_room.ensures.same ∙ c.search.invariant.reftable;
   first_free = c.leave_run.ensures.first ∙ ap (λ a. a.first_free_cluster) c.reach_room.ensures.same ∙ c.search.invariant.first_free;
-  low = let low = c.search.invariant.low in omega (arith, low);
-  some = omega arith;
+  low = let low = c.search.invariant.low in let behind = c.in_ok-first.ensures.behind in omega (arith, low, behind);
+  some = let behind = c.in_ok-first.ensures.behind in omega (arith, behind);
   sound = λ p sound.
       let view = g.S.Storage.view in
       let before = c.search.invariant.sound p sound in
@@ -90,7 +92,9 @@ search-preserved g c = record {
       let same = run_of_same p c.search.file.header.fields c.search.file.header.fields c.search.self.reftable c.reach_room.new.self.reftable c.search.first c.in_ok-reach.reach.taken c.in_ok-reach.reach.taken refl t_same refl in
       let noted = noted_of_same c.search.file.header.fields c.search.self.reftable c.reach_room.new.self.reftable c.search.first c.in_ok-reach.reach.taken c.reach_room.new.file.caches.is_changed t_same c.in_ok-reach.ensures.noted in
       let back = c.in_ok-leave_run.ensures.sound p c.search.file (sym c.reach_room.ensures.header) (subst (λ (r : Pending). UnseenAllocatorStep view p c.search.file c.reach_room.new.self c.reach_room.new.file r) same reached) noted in
-      allocator_step_then view p p c.args.file.now c.search.file c.leave_run.new.file c.search.self c.leave_run.new.self before back;
+      let mid = allocator_step_then view p p c.args.file.now c.search.file c.leave_run.new.file c.search.self c.leave_run.new.self before back in
+      let there = is_sound_now view p p c.args.file.now c.leave_run.new.file c.leave_run.new.self mid in
+      allocator_step_then view p p c.args.file.now c.leave_run.new.file c.behind_used.new.file c.leave_run.new.self c.leave_run.new.self mid (c.in_ok-first.ensures.sound p there).0;
   full = λ p sound hint.
       let view = g.S.Storage.view in
       let t = c.args.self.now.reftable in
@@ -106,13 +110,86 @@ search-preserved g c = record {
       let run = subst (λ (r : Pending). UnseenAllocatorStep view p c.search.file c.reach_room.new.self c.reach_room.new.file r) same reached in
       let back = c.in_ok-leave_run.ensures.sound p c.search.file (sym c.reach_room.ensures.header) run noted in
       let opened_same = λ (n : ℕ). ap (λ (h : HeaderView). opened c.search.self.reftable (counts_per_block h.fields) first n) c.search.invariant.header ∙ ap (λ (x : EntryTableView). opened x per first n) c.search.invariant.reftable in
-      full_behind view c.leave_run.new.file t per c.args.clusters c.args.end first taken
+      let mid = allocator_step_then view p p c.args.file.now c.search.file c.leave_run.new.file c.search.self c.leave_run.new.self before back in
+      let passed = c.in_ok-first.ensures.sound p (is_sound_now view p p c.args.file.now c.leave_run.new.file c.leave_run.new.self mid) in
+      full_passed view c.behind_used.new.file t per c.args.clusters c.args.end (first + (taken + 1)) c.in_ok-first.first (let behind = c.in_ok-first.ensures.behind in omega (arith, behind)) (let many = c.requires.some in omega (arith, many)) (λ k low high. passed.1 k (omega (arith, low)) high)
+      (full_stays view c.leave_run.new.file c.behind_used.new.file t per c.args.clusters c.args.end (first + (taken + 1)) (λ k used. used_stays view p p c.leave_run.new.file c.behind_used.new.file c.leave_run.new.self k passed.0 (omega arith) used)
+      (full_behind view c.leave_run.new.file t per c.args.clusters c.args.end first taken
       (λ n le. let lt = c.in_ok-reach.ensures.short c.if-reach-clusters.false n le in let e = opened_same n in omega (arith, lt, e))
       (λ within. c.in_ok-leave_run.ensures.kept p c.search.file (sym c.reach_room.ensures.header) run (first + taken) (run_after first taken (first + taken) (omega arith))
       (c.in_ok-reach.ensures.stopped p now c.if-reach-clusters.false within))
       (full_stays view c.search.file c.leave_run.new.file t per c.args.clusters c.args.end first (λ k used. used_stays view p p c.search.file c.leave_run.new.file c.leave_run.new.self k back (omega arith) used)
-      (c.search.invariant.full p sound hint));
+      (c.search.invariant.full p sound hint))));
 }
+
+pub returns-in_err-first-clause-sound : goal.returns-in_err-first-clause-sound
+returns-in_err-first-clause-sound g c = λ p sound.
+    let view = g.S.Storage.view in
+    let before = c.search.invariant.sound p sound in
+    let reached = c.in_ok-reach.ensures.sound p (is_sound_now view p p c.args.file.now c.search.file c.search.self before) in
+    let t_same : c.search.self.reftable ≡ c.reach_room.new.self.reftable = ap (λ a. a.reftable) (sym c.reach_room.ensures.same) in
+    let same = run_of_same p c.search.file.header.fields c.search.file.header.fields c.search.self.reftable c.reach_room.new.self.reftable c.search.first c.in_ok-reach.reach.taken c.in_ok-reach.reach.taken refl t_same refl in
+    let noted = noted_of_same c.search.file.header.fields c.search.self.reftable c.reach_room.new.self.reftable c.search.first c.in_ok-reach.reach.taken c.reach_room.new.file.caches.is_changed t_same c.in_ok-reach.ensures.noted in
+    let back = c.in_ok-leave_run.ensures.sound p c.search.file (sym c.reach_room.ensures.header) (subst (λ (r : Pending). UnseenAllocatorStep view p c.search.file c.reach_room.new.self c.reach_room.new.file r) same reached) noted in
+    let mid = allocator_step_then view p p c.args.file.now c.search.file c.leave_run.new.file c.search.self c.leave_run.new.self before back in
+    let there = is_sound_now view p p c.args.file.now c.leave_run.new.file c.leave_run.new.self mid in
+    handed_on (TakesRoom view p c.args.file.now c.leave_run.new.self c.behind_used.new.file c.args.self.now.reftable) c.from_residual-in_err-first.result c.in_err-first.field-0.0 c.from_residual-in_err-first.ensures
+    (leaves_then view p c.args.file.now c.leave_run.new.file c.behind_used.new.file c.leave_run.new.self c.in_err-first.field-0.0 mid.file_step (c.in_err-first.ensures.sound p there).1)
+
+pub returns-in_err-first-clause-room : goal.returns-in_err-first-clause-room
+returns-in_err-first-clause-room g c = λ p sound hint.
+    let view = g.S.Storage.view in
+    let before = c.search.invariant.sound p sound in
+    let reached = c.in_ok-reach.ensures.sound p (is_sound_now view p p c.args.file.now c.search.file c.search.self before) in
+    let t_same : c.search.self.reftable ≡ c.reach_room.new.self.reftable = ap (λ a. a.reftable) (sym c.reach_room.ensures.same) in
+    let same = run_of_same p c.search.file.header.fields c.search.file.header.fields c.search.self.reftable c.reach_room.new.self.reftable c.search.first c.in_ok-reach.reach.taken c.in_ok-reach.reach.taken refl t_same refl in
+    let noted = noted_of_same c.search.file.header.fields c.search.self.reftable c.reach_room.new.self.reftable c.search.first c.in_ok-reach.reach.taken c.reach_room.new.file.caches.is_changed t_same c.in_ok-reach.ensures.noted in
+    let back = c.in_ok-leave_run.ensures.sound p c.search.file (sym c.reach_room.ensures.header) (subst (λ (r : Pending). UnseenAllocatorStep view p c.search.file c.reach_room.new.self c.reach_room.new.file r) same reached) noted in
+    let mid = allocator_step_then view p p c.args.file.now c.search.file c.leave_run.new.file c.search.self c.leave_run.new.self before back in
+    let there = is_sound_now view p p c.args.file.now c.leave_run.new.file c.leave_run.new.self mid in
+    handed_on (λ (r : Result Room ImageError). IfErr r (IsFaultOr (HasNoRoomBelow view c.behind_used.new.file (λ k. 0) c.args.self.now.reftable c.args.clusters c.args.end))) c.from_residual-in_err-first.result c.in_err-first.field-0.0 c.from_residual-in_err-first.ensures
+    (inl (c.in_err-first.ensures.sound p there).0)
+
+pub returns-in_err-first-clause-marks : goal.returns-in_err-first-clause-marks
+returns-in_err-first-clause-marks g c = marks_then _ _ _ (marks_then _ _ _ (marks_then _ _ _ c.search.invariant.marks c.reach_room.ensures.marks) c.leave_run.ensures.marks) c.behind_used.ensures.marks
+
+pub returns-in_err-first-clause-order : goal.returns-in_err-first-clause-order
+returns-in_err-first-clause-order g c = c.behind_used.ensures.order ∙ c.leave_run.ensures.order ∙ c.reach_room.ensures.order ∙ c.search.invariant.order
+
+pub returns-in_err-first-clause-cause : goal.returns-in_err-first-clause-cause
+returns-in_err-first-clause-cause g c = handed_cause c.from_residual-in_err-first.result c.in_err-first.field-0.0 c.from_residual-in_err-first.ensures c.in_err-first.ensures.cause
+
+pub returns-in_err-first-clause-storage_faults : goal.returns-in_err-first-clause-storage_faults
+returns-in_err-first-clause-storage_faults g c =
+    told_after _ _ _ c.behind_used.result c.in_err-first.field-0.0 c.from_residual-in_err-first.result (le_trans (le_trans c.search.invariant.faults c.reach_room.ensures.storage_faults.no_fewer) c.leave_run.ensures.storage_faults.no_fewer)
+    c.behind_used.ensures.storage_faults c.in_err-first.was c.from_residual-in_err-first.ensures
+
+pub returns-in_err-first-clause-header : goal.returns-in_err-first-clause-header
+returns-in_err-first-clause-header g c = c.behind_used.ensures.header ∙ c.leave_run.ensures.header ∙ c.reach_room.ensures.header ∙ c.search.invariant.header
+
+pub returns-in_err-first-clause-list : goal.returns-in_err-first-clause-list
+returns-in_err-first-clause-list g c = c.behind_used.ensures.list ∙ c.leave_run.ensures.list ∙ c.reach_room.ensures.list ∙ c.search.invariant.list
+
+pub returns-in_err-first-clause-reftable : goal.returns-in_err-first-clause-reftable
+returns-in_err-first-clause-reftable g c = c.leave_run.ensures.reftable ∙ ap (λ (a : Allocator). a.reftable) c.reach_room.ensures.same ∙ c.search.invariant.reftable
+
+pub returns-in_err-first-clause-first : goal.returns-in_err-first-clause-first
+returns-in_err-first-clause-first g c = c.leave_run.ensures.first ∙ ap (λ (a : Allocator). a.first_free_cluster) c.reach_room.ensures.same ∙ c.search.invariant.first_free
+
+pub returns-in_err-first-clause-blocks : goal.returns-in_err-first-clause-blocks
+returns-in_err-first-clause-blocks g c = if_no_ok _ c.from_residual-in_err-first.result c.in_err-first.field-0.0 c.from_residual-in_err-first.ensures
+
+pub returns-in_err-first-clause-clusters : goal.returns-in_err-first-clause-clusters
+returns-in_err-first-clause-clusters g c = if_no_ok _ c.from_residual-in_err-first.result c.in_err-first.field-0.0 c.from_residual-in_err-first.ensures
+
+pub returns-in_err-first-clause-above : goal.returns-in_err-first-clause-above
+returns-in_err-first-clause-above g c = if_no_ok _ c.from_residual-in_err-first.result c.in_err-first.field-0.0 c.from_residual-in_err-first.ensures
+
+pub returns-in_err-first-clause-below : goal.returns-in_err-first-clause-below
+returns-in_err-first-clause-below g c = if_no_ok _ c.from_residual-in_err-first.result c.in_err-first.field-0.0 c.from_residual-in_err-first.ensures
+
+pub returns-in_err-first-clause-lowest : goal.returns-in_err-first-clause-lowest
+returns-in_err-first-clause-lowest g c = λ _ _ _. if_no_ok _ c.from_residual-in_err-first.result c.in_err-first.field-0.0 c.from_residual-in_err-first.ensures
 
 pub returns-clause-sound : goal.returns-clause-sound
 returns-clause-sound g c = λ p sound. let before = c.search.invariant.sound p sound in inl (before.file_step, before.reftable)

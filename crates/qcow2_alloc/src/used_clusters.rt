@@ -1,0 +1,66 @@
+//! Clusters in use, which a search for free ones passes over.
+ghost use Rattle.std.specs.Prelude.{◌≡◌, ◌+◌, ◌^◌, ◌<◌, ◌≤◌, IfOk, IfErr};
+ghost use Rattle.qcow2_laws.specs.CrashInvariant.{Pending};
+ghost use Rattle.qcow2_alloc.specs.CachePins.{KeepsPinsAndNotes};
+ghost use Rattle.qcow2_alloc.specs.Faults.{CountsFaults};
+ghost use Rattle.qcow2_alloc.specs.ImageError.{IsOfTables};
+ghost use Rattle.qcow2_alloc.specs.ImageFile.{AllocatorInvariant};
+ghost use Rattle.qcow2_alloc.specs.LowestRuns.{NoFreeBelowHint, KeepsNoFreeBelowHint};
+ghost use Rattle.qcow2_alloc.specs.MetadataCaches.{order_of};
+ghost use Rattle.qcow2_alloc.specs.UsedCounts.{PassesUsed};
+
+use crate::{Allocator, ImageError, ImageFile};
+use image_access::Storage;
+use qcow2_metadata::HostCluster;
+
+impl Allocator {
+    // Goes on behind the clusters in use from one on, and notes where the first free one may be.
+    pub(crate) fn pass_used<S: Storage>(
+        &mut self,
+        file: &mut ImageFile<S>,
+        cluster: u64,
+    ) -> Result<u64, ImageError>
+        requires { cluster < 2 ^ 63 }
+        ensures marks { KeepsPinsAndNotes file.old.caches file.new.caches }
+        ensures order { order_of file.new.caches ≡ order_of file.old.caches }
+        ensures reftable { self.new.reftable ≡ self.old.reftable }
+        ensures sound { (p : Pending) → AllocatorInvariant S.view self.old p file.old → PassesUsed S.view p file.old self.new file.new cluster result }
+        ensures header { file.new.header ≡ file.old.header }
+        ensures list { file.new.free_list ≡ file.old.free_list }
+        ensures cause { IfErr result IsOfTables }
+        ensures storage_faults { CountsFaults S.view file.old.storage file.new.storage result }
+        ensures behind { IfOk result (λ next. cluster ≤ next) }
+        ensures hint { (p : Pending) → AllocatorInvariant S.view self.old p file.old → NoFreeBelowHint S.view self.old file.old → KeepsNoFreeBelowHint S.view self.new file.new result }
+    {
+        let next = self.behind_used(file, cluster)?;
+        if cluster == self.first_free_cluster {
+            self.first_free_cluster = next;
+        }
+        Ok(next)
+    }
+
+    // Where the clusters in use from one on end, as its refblock tells, at the end of its range at the latest. Without a refblock there are none.
+    pub(crate) fn behind_used<S: Storage>(
+        &self,
+        file: &mut ImageFile<S>,
+        cluster: u64,
+    ) -> Result<u64, ImageError>
+        requires { cluster < 2 ^ 63 }
+        ensures marks { KeepsPinsAndNotes file.old.caches file.new.caches }
+        ensures order { order_of file.new.caches ≡ order_of file.old.caches }
+        ensures sound { (p : Pending) → AllocatorInvariant S.view self.now p file.old → PassesUsed S.view p file.old self.now file.new cluster result }
+        ensures header { file.new.header ≡ file.old.header }
+        ensures list { file.new.free_list ≡ file.old.free_list }
+        ensures cause { IfErr result IsOfTables }
+        ensures storage_faults { CountsFaults S.view file.old.storage file.new.storage result }
+        ensures behind { IfOk result (λ next. cluster ≤ next) }
+    {
+        let bits = file.header.rb_bits();
+        let Some(block) = self.load_block(file, cluster >> bits)? else {
+            return Ok(cluster);
+        };
+        let index = HostCluster::new(cluster).rb_index(bits);
+        let used = file.caches.rb_used_from(block, index);
+        Ok(cluster + used.min((1 << bits) - index) as u64)
+    }
+}
