@@ -1,13 +1,14 @@
 -- What opening an image gives: its header and its tables as they stand on the storage, and nothing modified.
-use Rattle.std.specs.Prelude.{ℕ, ◌≡◌, ◌⊎◌, ◌||◌, Bool, false, true, IfSome, List, [], Option, Result, Ok, Err}
+use Rattle.std.specs.Prelude.{ℕ, ◌≡◌, ◌==◌, ◌⊎◌, ◌&&◌, ◌||◌, Bool, not, true, IfSome, List, [], MatchResult, Option, Result, Ok, Err, if◌then◌else◌}
 use Rattle.std.specs.Option.{is_some}
 use Rattle.image_access.specs.Backing.{BackingView}
-use Rattle.image_access.specs.Moments.{ContentsStay, StorageView}
+use Rattle.image_access.specs.Moments.{EachMomentSince, Rose, StorageView}
 use Rattle.qcow2_metadata.specs.Bytes.{Bytes, byte_at}
 use Rattle.qcow2_metadata.specs.Consistent.{IsConsistent}
 use Rattle.qcow2_metadata.specs.EntryTable.{EntryTableView}
 use Rattle.qcow2_metadata.specs.Header.{HeaderView, header, with_fields, has_data_file}
 use Rattle.qcow2_metadata.specs.HeaderLoad.{IsHeaderIn}
+use Rattle.qcow2_metadata.specs.HeaderWrite.{autoclear_cleared}
 use Rattle.qcow2_laws.specs.CrashInvariant.{Pending}
 use Rattle.qcow2_laws.specs.Opened.{surplus_of}
 use Rattle.qcow2_disk.specs.Stops.{SafeThroughout}
@@ -15,7 +16,7 @@ use Rattle.qcow2_disk.specs.AbstractImages.{IsOpened}
 use Rattle.qcow2_alloc.specs.declared.allocation.Allocator.{Allocator}
 use Rattle.qcow2_alloc.specs.declared.error.ImageError.{ImageError}
 use Rattle.qcow2_alloc.specs.declared.image_file.ImageFile.{ImageFile}
-use Rattle.qcow2_alloc.specs.declared.error.ImageError.TheVariants.{Dependency, UnalignedTable}
+use Rattle.qcow2_alloc.specs.declared.error.ImageError.TheVariants.{Dependency, Storage, UnalignedTable}
 use Rattle.qcow2_alloc.specs.ImageError.{IsFault}
 use Rattle.qcow2_alloc.specs.ImageFile.{l2_pins, nothing_given, view_in, FileInvariant, HasReftable}
 use Rattle.qcow2_alloc.specs.MetadataCaches.{known_of}
@@ -28,11 +29,22 @@ use Rattle.qcow2_image.specs.ImageInvariant.{abstract_of, HasL1Table}
 abbrev pub IsKeptSince : StorageView → StorageView → Type 0
 IsKeptSince old new = SafeThroughout old new (byte_at old.contents) nothing_given []
 
--- What opening leaves of a storage: it is honest where it was. Opened for reading, or where no autoclear bit is set, it has the bytes that it had.
-pub record LeavesStorage (writable : Bool) (autoclear : ℕ) (old new : StorageView) : Type 0 where
-  pub honest : old.is_honest → new.is_honest
-  pub reading : writable ≡ false → ContentsStay old new
-  pub uncleared : autoclear ≡ 0 → ContentsStay old new
+-- What opening makes of these contents. For reading nothing is changed. For writing no byte is changed but the 8 of the autoclear field, which are then 0. With no bit set, and in version 2, all stay.
+abbrev pub opened_contents : Bool → List ℕ → List ℕ
+opened_contents writable contents = if writable && not ((header (byte_at contents)).autoclear == 0) then autoclear_cleared contents else contents
+
+-- So they stand there, and the header in memory is the one that stands there too.
+pub record StandsOpened (writable : Bool) (old new : StorageView) (v : HeaderView) : Type 0 where
+  pub contents : new.contents ≡ opened_contents writable old.contents
+  pub header : IsHeaderIn v new.contents
+
+-- A refused opening leaves them as they were. But where the storage failed in it, and counted that, the write may have been made.
+abbrev pub StandsRefused : Bool → StorageView → StorageView → ImageError → Type 0
+StandsRefused writable old new e = (new.contents ≡ old.contents) ⊎ ((e ≡ Storage) × Rose old.faults new.faults × (new.contents ≡ opened_contents writable old.contents))
+
+-- at each moment since, they were as before or as opening makes them
+abbrev pub OpensAtOnce : Bool → StorageView → StorageView → Type 0
+OpensAtOnce writable old new = EachMomentSince old new (λ c. (c ≡ old.contents) ⊎ (c ≡ opened_contents writable old.contents))
 
 -- the names behind a header's numbers are the same
 abbrev pub SameNames : HeaderView → HeaderView → Type 0
@@ -61,6 +73,19 @@ IsRefusedAlone (Err refused) = (refused.1 ≡ Dependency) ⊎ (refused.1 ≡ Una
 abbrev pub storage_after : {S F : Type 0} → Result (Qcow2 S F) (S × ImageError) → S
 storage_after (Ok image) = storage_of_image image
 storage_after (Err refused) = refused.0
+
+-- What opening leaves of a storage: it is honest where it was, and its contents are as opening makes them, or as a refusal leaves them.
+pub record LeavesStorage {S F : Type 0} (view : S → StorageView) (writable : Bool) (old : StorageView) (result : Result (Qcow2 S F) (S × ImageError)) : Type 0 where
+  pub honest : old.is_honest → (view (storage_after result)).is_honest
+  pub at_once : old.is_honest → OpensAtOnce writable old (view (storage_after result))
+  pub contents : old.is_honest → MatchResult result (λ image. StandsOpened writable old (view (storage_of_image image)) image.file.header) (λ refused. StandsRefused writable old (view refused.0) refused.1)
+
+-- so does each of its parts, of a file whose header stands there
+pub record LeavesFile {S T : Type 0} (view : S → StorageView) (writable : Bool) (old new : ImageFile S) (result : Result T ImageError) : Type 0 where
+  pub honest : (view_in view old).is_honest → (view_in view new).is_honest
+  pub at_once : (view_in view old).is_honest → IsHeaderIn old.header (view_in view old).contents → OpensAtOnce writable (view_in view old) (view_in view new)
+  pub contents : (view_in view old).is_honest → IsHeaderIn old.header (view_in view old).contents
+      → MatchResult result (λ done. StandsOpened writable (view_in view old) (view_in view new) new.header) (StandsRefused writable (view_in view old) (view_in view new))
 
 module _ {S F : Type 0} (view : S → StorageView) (backing : F → BackingView) where
   -- a sound file with the header that stands there, whose caches hold nothing that is modified or pinned

@@ -17,9 +17,7 @@ ghost use Rattle.qcow2_laws.specs.Opened.{HasNoLeaks};
 ghost use Rattle.qcow2_image.specs.Created.{IsUnwritten, IsNewHeader, CountsThree, NamesOne, WritesThree, Enlarges, GrowsBy};
 
 use crate::Qcow2;
-use image_access::{
-    BackingDisk, PreallocateMode, Storage, StorageError, StoragePreallocate, WrappedFormat,
-};
+use image_access::{BackingDisk, PreallocateMode, Storage, StorageError, WrappedFormat};
 use qcow2_alloc::{ImageError, ImageStorage, WriteKind};
 use qcow2_metadata::{Header, HostCluster, RefBlock, RefTable};
 use std::alloc::{AllocError, Global};
@@ -175,7 +173,7 @@ impl<S: Storage> Qcow2CreateBuilder<S> {
         if let Err(refusal) = write_new_image(alloc, &mut storage, &header) {
             return (storage.into_inner(), Err(refusal));
         }
-        grow_new_image::<S, NoBacking>(alloc, storage.into_inner(), size, preallocate)
+        grow_new_image::<S, NoBacking>(alloc, storage, size, preallocate)
     }
 
     /// Writes the new image and opens it for writing, with no disk below it. A refusal hands the storage back. Images that are open
@@ -216,7 +214,8 @@ fn clear<S: Storage>(storage: &mut ImageStorage<S>) -> Result<(), ImageError>
     if storage.size()? == 0 {
         return Ok(());
     }
-    storage.resize(0, StoragePreallocate::None)?;
+    storage.will_write(WriteKind::Other);
+    storage.clear()?;
     Ok(())
 }
 
@@ -267,9 +266,11 @@ fn write_three<S: Storage>(
     ensures faults { CountsFaults S.view storage.old storage.new result }
 {
     storage.will_write(WriteKind::Other);
-    block.write(storage)?;
-    reftable.write(storage)?;
-    header.write(alloc, storage)?;
+    storage.write_new_refblock(block)?;
+    storage.will_write(WriteKind::Other);
+    storage.write_reftable(reftable)?;
+    storage.will_write(WriteKind::Other);
+    storage.write_new_header(alloc, header)?;
     Ok(())
 }
 
@@ -291,16 +292,16 @@ fn write_new_image<S: Storage>(
 
 fn grow_new_image<S: Storage, F: WrappedFormat<S>>(
     alloc: Global,
-    storage: S,
+    storage: ImageStorage<S>,
     size: u64,
     mode: PreallocateMode,
 ) -> (S, Result<(), ImageError>)
-    ensures enlarges { (S.view storage).is_honest → IsUnwritten 0 (byte_at (S.view storage).contents) → Enlarges mode size (S.view storage) (S.view result.0) result.1 }
-    ensures leaks { (S.view storage).is_honest → IsUnwritten 0 (byte_at (S.view storage).contents) → HasNoLeaks (byte_at (S.view storage).contents) → OnOk result.1 (HasNoLeaks (byte_at (S.view result.0).contents)) }
-    ensures cause { (S.view storage).is_honest → IsUnwritten 0 (byte_at (S.view storage).contents) → IfErr result.1 IsMet }
-    ensures faults { ((below : F) → (F.backing below).faults ≡ 0) → FaultsTold (S.view storage).faults (S.view result.0).faults result.1 }
+    ensures enlarges { (S.view (storage_of storage)).is_honest → IsUnwritten 0 (byte_at (S.view (storage_of storage)).contents) → Enlarges mode size (S.view (storage_of storage)) (S.view result.0) result.1 }
+    ensures leaks { (S.view (storage_of storage)).is_honest → IsUnwritten 0 (byte_at (S.view (storage_of storage)).contents) → HasNoLeaks (byte_at (S.view (storage_of storage)).contents) → OnOk result.1 (HasNoLeaks (byte_at (S.view result.0).contents)) }
+    ensures cause { (S.view (storage_of storage)).is_honest → IsUnwritten 0 (byte_at (S.view (storage_of storage)).contents) → IfErr result.1 IsMet }
+    ensures faults { ((below : F) → (F.backing below).faults ≡ 0) → FaultsTold (S.view (storage_of storage)).faults (S.view result.0).faults result.1 }
 {
-    match Qcow2::<S, F>::open_image(alloc, storage, true, 0) {
+    match Qcow2::<S, F>::open(alloc, storage, true, 0, false) {
         Err((storage, refusal)) => (storage, Err(refusal)),
         Ok(mut image) => {
             let done = grow_and_flush(&mut image, size, mode);

@@ -83,7 +83,7 @@ impl<S: Storage, F: WrappedFormat<S>> Qcow2<S, F> {
     ghost use Rattle.qcow2_image.specs.Created.{begins_image};
     ghost use Rattle.qcow2_image.specs.Growing.{SameFormat, WritesBack};
     ghost use Rattle.qcow2_image.specs.Unwritten.{OnlyReadsImage};
-    ghost use Rattle.qcow2_image.specs.Opened.{IsFresh, StaysFresh, IsLoaded, IsKeptSince, SameNames, HasNamesIn, NeedsAnother, IsRefusedAlone, LeavesStorage, storage_after, Opens};
+    ghost use Rattle.qcow2_image.specs.Opened.{IsFresh, StaysFresh, IsLoaded, IsKeptSince, SameNames, HasNamesIn, NeedsAnother, IsRefusedAlone, LeavesFile, LeavesStorage, storage_after, Opens};
     ghost use Rattle.std.specs.Option.{is_some};
 
     /// Whether the first bytes of a storage are those of an image of version 2 or 3. Refused 14 (memory), 15 (storage), as the storage
@@ -121,14 +121,14 @@ impl<S: Storage, F: WrappedFormat<S>> Qcow2<S, F> {
         ensures faults { OpeningCounts S.view (S.view metadata).faults result }
         ensures below { IfOk result (λ image. is_some image.backing ≡ false) }
         ensures names { (S.view metadata).is_honest → IfOk result (λ image. HasNamesIn image.file.header (S.view metadata).contents) }
-        ensures storage { LeavesStorage writable (header (byte_at (S.view metadata).contents)).autoclear (S.view metadata) (S.view (storage_after result)) }
+        ensures storage { LeavesStorage S.view writable (S.view metadata) result }
         ensures cause { OpensRightly (S.view metadata) writable false result }
     {
-        Self::open(alloc, metadata, writable, number, false)
+        Self::open(alloc, ImageStorage::new(metadata), writable, number, false)
     }
 
     /// Opens an image that needs no other file. One whose data stand in another, or whose header names one, is refused 12 (dependency)
-    /// before anything is written.
+    /// and its bytes stay.
     /// Else it is refused as `open_image` is: for the header 19 (metadata), 13 (limit), 4 (unaligned table), before 12. Behind that come
     /// 13 and 19 for its tables. Where the work meets them: 14 (memory), 15 (storage).
     pub fn open_alone(
@@ -144,33 +144,32 @@ impl<S: Storage, F: WrappedFormat<S>> Qcow2<S, F> {
         ensures faults { OpeningCounts S.view (S.view metadata).faults result }
         ensures below { IfOk result (λ image. is_some image.backing ≡ false) }
         ensures names { (S.view metadata).is_honest → IfOk result (λ image. HasNamesIn image.file.header (S.view metadata).contents) }
-        ensures storage { LeavesStorage writable (header (byte_at (S.view metadata).contents)).autoclear (S.view metadata) (S.view (storage_after result)) }
+        ensures storage { LeavesStorage S.view writable (S.view metadata) result }
         ensures another { (S.view metadata).is_honest → NeedsAnother (S.view metadata).contents → IsRefusedAlone result × ContentsStay (S.view metadata) (S.view (storage_after result)) }
         ensures cause { OpensRightly (S.view metadata) writable true result }
     {
-        Self::open(alloc, metadata, writable, number, true)
+        Self::open(alloc, ImageStorage::new(metadata), writable, number, true)
     }
 
-    // Opens an image, alone or whatever other files it needs.
-    fn open(
+    // Opens the image of a wrapped storage, alone or whatever other files it needs.
+    pub(crate) fn open(
         alloc: Global,
-        metadata: S,
+        mut storage: ImageStorage<S>,
         writable: bool,
         number: u64,
         alone: bool,
     ) -> Result<Qcow2<S, F>, (S, ImageError)>
-        ensures opens { IfOk result (Opens S.view F.backing (S.view metadata)) }
-        ensures since { (S.view metadata).is_honest → IsConsistent (byte_at (S.view metadata).contents) → IsKeptSince (S.view metadata) (S.view (storage_after result)) }
-        ensures format { (S.view metadata).is_honest → IfOk result (λ image. SameFormat (header (byte_at (S.view metadata).contents)) image.file.header.fields) }
+        ensures opens { IfOk result (Opens S.view F.backing (S.view (storage_of storage))) }
+        ensures since { (S.view (storage_of storage)).is_honest → IsConsistent (byte_at (S.view (storage_of storage)).contents) → IsKeptSince (S.view (storage_of storage)) (S.view (storage_after result)) }
+        ensures format { (S.view (storage_of storage)).is_honest → IfOk result (λ image. SameFormat (header (byte_at (S.view (storage_of storage)).contents)) image.file.header.fields) }
         ensures ok { IfOk result (λ image. (number_of image ≡ number) × (is_failed image ≡ false) × (is_writable image ≡ writable)) }
-        ensures faults { OpeningCounts S.view (S.view metadata).faults result }
+        ensures faults { OpeningCounts S.view (S.view (storage_of storage)).faults result }
         ensures below { IfOk result (λ image. is_some image.backing ≡ false) }
-        ensures names { (S.view metadata).is_honest → IfOk result (λ image. HasNamesIn image.file.header (S.view metadata).contents) }
-        ensures storage { LeavesStorage writable (header (byte_at (S.view metadata).contents)).autoclear (S.view metadata) (S.view (storage_after result)) }
-        ensures another { IsTrue alone → (S.view metadata).is_honest → NeedsAnother (S.view metadata).contents → IsRefusedAlone result × ContentsStay (S.view metadata) (S.view (storage_after result)) }
-        ensures cause { OpensRightly (S.view metadata) writable alone result }
+        ensures names { (S.view (storage_of storage)).is_honest → IfOk result (λ image. HasNamesIn image.file.header (S.view (storage_of storage)).contents) }
+        ensures storage { LeavesStorage S.view writable (S.view (storage_of storage)) result }
+        ensures another { IsTrue alone → (S.view (storage_of storage)).is_honest → NeedsAnother (S.view (storage_of storage)).contents → IsRefusedAlone result × ContentsStay (S.view (storage_of storage)) (S.view (storage_after result)) }
+        ensures cause { OpensRightly (S.view (storage_of storage)) writable alone result }
     {
-        let mut storage = ImageStorage::new(metadata);
         let header = match Header::load(alloc, &mut storage, writable) {
             Ok(header) => header,
             Err(e) => return Err((storage.into_inner(), ImageError::from(e))),
@@ -240,7 +239,7 @@ impl<S: Storage, F: WrappedFormat<S>> Qcow2<S, F> {
     fn load_allocator(file: &mut ImageFile<S>) -> Result<Allocator, ImageError>
         ensures format { OnOk result (SameFormat file.old.header.fields file.new.header.fields) }
         ensures names { OnOk result (SameNames file.old.header file.new.header) }
-        ensures storage { LeavesStorage true file.old.header.fields.autoclear (view_in S.view file.old) (view_in S.view file.new) }
+        ensures storage { LeavesFile S.view true file.old file.new result }
         ensures faults { FaultsTold (view_in S.view file.old).faults (view_in S.view file.new).faults result }
         ensures since { (p : Pending) → IsFresh S.view F.backing p file.old → IsKeptSince (view_in S.view file.old) (view_in S.view file.new) }
         ensures loaded { (p : Pending) → IsFresh S.view F.backing p file.old → IfOk result (λ allocator. StaysFresh S.view F.backing p file.old file.new × IsAllocatorOf S.view file.new allocator) }
@@ -249,14 +248,14 @@ impl<S: Storage, F: WrappedFormat<S>> Qcow2<S, F> {
     {
         let allocator = Allocator::new(file)?;
         file.storage.will_write(WriteKind::Other);
-        file.header.clear_autoclear(&mut file.storage)?;
+        file.storage.clear_autoclear(&mut file.header)?;
         Ok(allocator)
     }
 
     // Loads the L1 table and, for writing, the reftable.
     fn load_tables(file: &mut ImageFile<S>, writable: bool) -> Result<Tables, ImageError>
         ensures allocator { IfOk result (λ tables. is_some tables.allocator ≡ writable) }
-        ensures storage { LeavesStorage writable file.old.header.fields.autoclear (view_in S.view file.old) (view_in S.view file.new) }
+        ensures storage { LeavesFile S.view writable file.old file.new result }
         ensures format { OnOk result (SameFormat file.old.header.fields file.new.header.fields) }
         ensures names { OnOk result (SameNames file.old.header file.new.header) }
         ensures faults { FaultsTold (view_in S.view file.old).faults (view_in S.view file.new).faults result }

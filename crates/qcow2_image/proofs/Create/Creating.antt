@@ -27,6 +27,7 @@ use Rattle.qcow2_image.specs.Growing.{SameFormat, GrowsWhole, ReachesSize}
 use Rattle.qcow2_image.specs.Image.{size_of, storage_of_image}
 use Rattle.qcow2_image.specs.Opened.{IsKeptSince, LeavesStorage, Opens, storage_after}
 use Rattle.qcow2_image.specs.ImageInvariant.{abstract_of}
+use Rattle.qcow2_image.proofs.Open.Left.{opened_none}
 use Rattle.qcow2_image.proofs.Create.NewDisks.{new_disk_consistent, unwritten_covers, unwritten_new}
 use Rattle.qcow2_image.proofs.Create.ThreeWrites.{new_unwritten}
 
@@ -228,8 +229,10 @@ module _ {S : Type 0} (view : S → StorageView) (builder : Qcow2CreateBuilder S
   stops_opened first since =
       passes_on (λ c. IsStopOfCreating builder.preallocate builder.size (byte_at c)) first (opening_new_stops builder.preallocate builder.size (view storage) (view last) made.new_disk (since made.honest whole)) (λ c is. is)
 
-  pub created_opened : LeavesStorage true (header (byte_at (view storage).contents)).autoclear (view storage) (view last) → IsCreated builder (view last)
-  created_opened left = created_still builder (view storage) (view last) made (left.honest made.honest) (left.uncleared made.no_autoclear made.honest)
+  pub created_opened : {F : Type 0} (result : Result (Qcow2 S F) (S × ImageError)) → LeavesStorage view true (view storage) result → IfOk result (λ image. IsCreated builder (view (storage_of_image image)))
+  created_opened (Ok image) left =
+      created_still builder (view storage) (view (storage_of_image image)) made (left.honest made.honest) ((left.contents made.honest).contents ∙ opened_none true (view storage).contents made.no_autoclear)
+  created_opened (Err e) left = tt
 
   pub no_surplus : {F : Type 0} (backing : F → BackingView) (result : Result (Qcow2 S F) (S × ImageError)) → IfOk result (Opens view backing (view storage)) → IfOk result (λ image. (k : ℕ) → (abstract_of view backing image []).surplus k ≡ 0)
   no_surplus backing (Ok image) opens = λ k. ap (λ (f : ℕ → ℕ). f k) (opens made.honest whole).surplus ∙ made.no_leaks k
@@ -237,11 +240,6 @@ module _ {S : Type 0} (view : S → StorageView) (builder : Qcow2CreateBuilder S
 
 pub made_so : {S : Type 0} (view : S → StorageView) (builder : Qcow2CreateBuilder S) (storage : S) (done : Result (Unit {0}) ImageError) (x : Unit {0}) → done ≡ Ok x → IfOk done (λ d. IsCreated builder (view storage)) → IsCreated builder (view storage)
 made_so view builder storage done x is created = subst (λ (r : Result (Unit {0}) ImageError). IfOk r (λ d. IsCreated builder (view storage))) is created
-
--- what holds of the storage afterwards holds of the image's
-pub of_image : {S F : Type 0} (P : S → Type 0) (result : Result (Qcow2 S F) (S × ImageError)) → P (storage_after result) → IfOk result (λ image. P (storage_of_image image))
-of_image P (Ok image) holds = holds
-of_image P (Err e) holds = tt
 
 pub refused_open : {S F : Type 0} (storage image : S) (refusal : ImageError) (done : Result (Unit {0}) ImageError) → done ≡ Err refusal → (done ≡ Err I.InvalidOption) × (storage ≡ image) → ◌≡◌ {A = Result (Qcow2 S F) (S × ImageError)} (Err (storage, refusal)) (Err (image, I.InvalidOption))
 refused_open storage image refusal done is refused = let told = refused.0 in let same = refused.1 in cc

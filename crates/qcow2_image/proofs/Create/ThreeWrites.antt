@@ -82,8 +82,8 @@ module _ {S : Type 0} (view : S → StorageView) (v : HeaderView) (new : IsNewHe
     stops_first =
         stops_write r1 0 (view start) (view start) (view s1) c1 (stops_none 0 (view start) honest) (subst (λ (s : S). Calls (view s) (view s1) r1) same called) writes_first (inl (no_image (view start).contents blank)) (inl (no_image c1 blank_first))
 
-    module _ (x : Unit {0}) (done : r1 ≡ Ok x) (s2 : S) (r2 : Result (Unit {0}) StorageError)
-        (wrote' : IfSome t.cluster (λ c. Changes (view s1) (view s2) r2 (overwritten (view s1).contents (c * 2 ^ t.cluster_bits) t.bytes))) (called' : Calls (view s1) (view s2) r2) where
+    module _ (x : Unit {0}) (done : r1 ≡ Ok x) (told' s2 : S) (same' : told' ≡ s1) (r2 : Result (Unit {0}) StorageError)
+        (wrote' : IfSome t.cluster (λ c. Changes (view told') (view s2) r2 (overwritten (view told').contents (c * 2 ^ t.cluster_bits) t.bytes))) (called' : Calls (view told') (view s2) r2) where
       first_is : (view s1).contents ≡ c1
       first_is = rw done at (writes_first honest)
 
@@ -93,9 +93,10 @@ module _ {S : Type 0} (view : S → StorageView) (v : HeaderView) (new : IsNewHe
       writes_second : Changes (view s1) (view s2) r2 c2
       writes_second =
           let once : 1 * cluster_size h ≡ cluster_size h = omega arith in
-          subst (λ n. Changes (view s1) (view s2) r2 (overwritten (view s1).contents n t.bytes)) once
-          (subst (λ n. Changes (view s1) (view s2) r2 (overwritten (view s1).contents (1 * 2 ^ n) t.bytes)) names.bits
-          (subst (λ (k : Option ℕ). IfSome k (λ c. Changes (view s1) (view s2) r2 (overwritten (view s1).contents (c * 2 ^ t.cluster_bits) t.bytes))) names.cluster_is wrote'))
+          subst (λ (s : S). Changes (view s) (view s2) r2 (overwritten (view s).contents (cluster_size h) t.bytes)) same'
+          (subst (λ n. Changes (view told') (view s2) r2 (overwritten (view told').contents n t.bytes)) once
+          (subst (λ n. Changes (view told') (view s2) r2 (overwritten (view told').contents (1 * 2 ^ n) t.bytes)) names.bits
+          (subst (λ (k : Option ℕ). IfSome k (λ c. Changes (view told') (view s2) r2 (overwritten (view told').contents (c * 2 ^ t.cluster_bits) t.bytes))) names.cluster_is wrote')))
 
       blank_there : IsBlank (view s1).contents
       blank_there = subst IsBlank (sym first_is) blank_first
@@ -104,11 +105,17 @@ module _ {S : Type 0} (view : S → StorageView) (v : HeaderView) (new : IsNewHe
       blank_second = blank_still (view s1).contents (cluster_size h) t.bytes large blank_there
 
       pub stops_second : StaysCreating Mode.None 0 (view start) (view s2)
-      stops_second = stops_write r2 0 (view start) (view s1) (view s2) c2 stops_first called' writes_second (inl (no_image (view s1).contents blank_there)) (inl (no_image c2 blank_second))
+      stops_second = stops_write r2 0 (view start) (view s1) (view s2) c2 stops_first (subst (λ (s : S). Calls (view s) (view s2) r2) same' called') writes_second (inl (no_image (view s1).contents blank_there)) (inl (no_image c2 blank_second))
 
       module _ (y : Unit {0}) (done' : r2 ≡ Ok y) (stands : (view told).is_honest → IfSome block.cluster (λ c. OnOk r1 (IsRefBlockAt (byte_at (view s1).contents) (c * 2 ^ block.cluster_bits) block)))
-          (s3 : S) (r3 : Result (Unit {0}) StorageError) (wrote'' : Changes (view s2) (view s3) r3 (header_written v (view s2).contents)) (called'' : Calls (view s2) (view s3) r3)
-          (there : IsHeaderIn v (header_written v (view s2).contents)) where
+          (told'' s3 : S) (same'' : told'' ≡ s2) (r3 : Result (Unit {0}) StorageError) (wrote'' : Changes (view told'') (view s3) r3 (header_written v (view told'').contents)) (called'' : Calls (view told'') (view s3) r3)
+          (there : IsHeaderIn v (header_written v (view told'').contents)) where
+        writes_third : Changes (view s2) (view s3) r3 (header_written v (view s2).contents)
+        writes_third = subst (λ (s : S). Changes (view s) (view s3) r3 (header_written v (view s).contents)) same'' wrote''
+
+        there_second : IsHeaderIn v (header_written v (view s2).contents)
+        there_second = subst (λ (s : S). IsHeaderIn v (header_written v (view s).contents)) same'' there
+
         second_is : (view s2).contents ≡ c2
         second_is = rw done' at (writes_second stops_first.honest)
 
@@ -119,16 +126,16 @@ module _ {S : Type 0} (view : S → StorageView) (v : HeaderView) (new : IsNewHe
             subst (λ n. IsRefBlockAt (byte_at (view s1).contents) (2 * 2 ^ n) block) counts.bits (rw done at two)
 
         pub new_there : IsNewImage h (byte_at (header_written v (view s2).contents))
-        new_there = is_new_image v new block counts t names (view s1).contents (view s2).contents block_stands second_is there
+        new_there = is_new_image v new block counts t names (view s1).contents (view s2).contents block_stands second_is there_second
 
         pub stops_third : StaysCreating Mode.None 0 (view start) (view s3)
         stops_third =
             let none : h.size ≡ 0 = ap (λ (w : HeaderView). w.fields.size) new.is in
-            stops_write r3 0 (view start) (view s2) (view s3) (header_written v (view s2).contents) stops_second called'' wrote'' (inl (no_image (view s2).contents (subst IsBlank (sym second_is) blank_second)))
+            stops_write r3 0 (view start) (view s2) (view s3) (header_written v (view s2).contents) stops_second (subst (λ (s : S). Calls (view s) (view s3) r3) same'' called'') writes_third (inl (no_image (view s2).contents (subst IsBlank (sym second_is) blank_second)))
             (inr (inl (new_unwritten h (byte_at (header_written v (view s2).contents)) new_there none)))
 
         pub new_stands : (z : Unit {0}) → r3 ≡ Ok z → IsNewImage h (byte_at (view s3).contents)
-        new_stands z done'' = let is = rw done'' at (wrote'' stops_second.honest) in subst (λ (l : List ℕ). IsNewImage h (byte_at l)) (sym is) new_there
+        new_stands z done'' = let is = rw done'' at (writes_third stops_second.honest) in subst (λ (l : List ℕ). IsNewImage h (byte_at l)) (sym is) new_there
 
 -- ---- one part after another
 pub stops_then : (n : ℕ) (old mid new : StorageView) → StaysCreating Mode.None n old mid → StaysCreating Mode.None n mid new → StaysCreating Mode.None n old new

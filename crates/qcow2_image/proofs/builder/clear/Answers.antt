@@ -1,20 +1,31 @@
+use Rattle.std.proofs.Common.{sym, subst}
+use Rattle.image_access.specs.Contents.{resized}
+use Rattle.image_access.specs.Moments.{Calls, Changes}
 use Rattle.qcow2_alloc.specs.ImageStorage.{storage_of}
 use Rattle.qcow2_image.proofs.Create.Cleared.{asked_first, cut_to_none}
 use Rattle.qcow2_image.proofs.builder.clear.Goals as goal
 
-pub returns-in_err-resize-clause-time : goal.returns-in_err-resize-clause-time
-returns-in_err-resize-clause-time g c = λ honest.
+pub returns-in_err-clear-clause-time : goal.returns-in_err-clear-clause-time
+returns-in_err-clear-clause-time g c = λ honest.
+    let view = g.S.Storage.view in
     let old = storage_of c.args.storage.now in
     let mid = storage_of c.size.new.self in
+    let new = storage_of c.clear.new.self in
     let still = c.size.ensures.calls.honest honest in
-    asked_first c.size.result c.resize.result (λ t le. g.S.Storage.counts_now old t honest le) (λ t le. g.S.Storage.counts_now mid t still le) c.size.ensures.calls (c.size.ensures.same honest) c.resize.ensures.calls c.resize.ensures.resized still
+    asked_first c.size.result c.clear.result (λ t le. g.S.Storage.counts_now old t honest le) (λ t le. g.S.Storage.counts_now mid t still le) c.size.ensures.calls (c.size.ensures.same honest)
+    (subst (λ s. Calls (view s) (view new) c.clear.result) c.will_write.ensures.storage c.clear.ensures.calls) (subst (λ s. Changes (view s) (view new) c.clear.result (resized (view s).contents 0)) c.will_write.ensures.storage c.clear.ensures.cleared) still
 
 pub returns-clause-time : goal.returns-clause-time
 returns-clause-time g c = λ honest.
+    let view = g.S.Storage.view in
     let old = storage_of c.args.storage.now in
     let mid = storage_of c.size.new.self in
+    let new = storage_of c.clear.new.self in
     let still = c.size.ensures.calls.honest honest in
-    asked_first c.size.result c.resize.result (λ t le. g.S.Storage.counts_now old t honest le) (λ t le. g.S.Storage.counts_now mid t still le) c.size.ensures.calls (c.size.ensures.same honest) c.resize.ensures.calls c.resize.ensures.resized still
+    asked_first c.size.result c.clear.result (λ t le. g.S.Storage.counts_now old t honest le) (λ t le. g.S.Storage.counts_now mid t still le) c.size.ensures.calls (c.size.ensures.same honest)
+    (subst (λ s. Calls (view s) (view new) c.clear.result) c.will_write.ensures.storage c.clear.ensures.calls) (subst (λ s. Changes (view s) (view new) c.clear.result (resized (view s).contents 0)) c.will_write.ensures.storage c.clear.ensures.cleared) still
 
 pub returns-clause-cleared : goal.returns-clause-cleared
-returns-clause-cleared g c = λ honest. cut_to_none (g.S.Storage.view (storage_of c.size.new.self)).contents _ (c.in_ok-resize.ensures.resized (c.size.ensures.calls.honest honest))
+returns-clause-cleared g c = λ honest.
+    let view = g.S.Storage.view in
+    cut_to_none (view (storage_of c.will_write.new.self)).contents _ (c.in_ok-clear.ensures.cleared (subst (λ s. (view s).is_honest) (sym c.will_write.ensures.storage) (c.size.ensures.calls.honest honest)))

@@ -3,13 +3,15 @@ use Rattle.std.specs.Prelude.{OnOk}
 use Rattle.qcow2_metadata.specs.Bytes.{byte_at}
 use Rattle.qcow2_metadata.specs.Header.{header}
 use Rattle.qcow2_alloc.specs.ImageFile.{view_in}
+use Rattle.qcow2_alloc.specs.ImageStorage.{storage_of}
 use Rattle.qcow2_laws.specs.Opened.{HasNoLeaks}
 use Rattle.qcow2_image.proofs.Create.Causes.{opening_met, told_closed, told_opening, usable_opened}
 use Rattle.qcow2_image.proofs.Create.Creating.{opening_stops, enlarged_so, unwritten_mid}
+use Rattle.qcow2_image.proofs.Open.Left.{opened_none}
 use Rattle.qcow2_image.proofs.builder.grow_new_image.Goals as goal
 
 pub returns-in-Err-clause-enlarges : goal.returns-in-Err-clause-enlarges
-returns-in-Err-clause-enlarges g c = λ honest unwritten. opening_stops c.args.mode c.args.size (g.S.Storage.view c.args.storage) (g.S.Storage.view c.in-Err.storage) unwritten (c.in-Err.ensures.since honest unwritten.consistent)
+returns-in-Err-clause-enlarges g c = λ honest unwritten. opening_stops c.args.mode c.args.size (g.S.Storage.view (storage_of c.args.storage)) (g.S.Storage.view c.in-Err.storage) unwritten (c.in-Err.ensures.since honest unwritten.consistent)
 
 pub returns-in-Ok-clause-enlarges : goal.returns-in-Ok-clause-enlarges
 returns-in-Ok-clause-enlarges g c = λ honest unwritten.
@@ -18,16 +20,16 @@ returns-in-Ok-clause-enlarges g c = λ honest unwritten.
     let opened = (c.in-Ok.ensures.opens honest unwritten.consistent).opened in
     let since = c.in-Ok.ensures.since honest unwritten.consistent in
     let format = c.in-Ok.ensures.format honest in
-    let uncleared : (header (byte_at (view c.args.storage).contents)).autoclear ≡ 0 → (view_in view c.in-Ok.image.file).contents ≡ (view c.args.storage).contents = λ none. c.in-Ok.ensures.storage.uncleared none honest in
-    let mid = unwritten_mid view below c.args.mode c.args.size c.args.storage c.in-Ok.image unwritten since opened format uncleared in
-    enlarged_so view below c.args.mode c.args.size c.args.storage c.in-Ok.image unwritten since opened format uncleared c.grow_and_flush-done.new.image c.into_storage.result c.grow_and_flush-done.result
+    let uncleared : (header (byte_at (view (storage_of c.args.storage)).contents)).autoclear ≡ 0 → (view_in view c.in-Ok.image.file).contents ≡ (view (storage_of c.args.storage)).contents = λ none. (c.in-Ok.ensures.storage.contents honest).contents ∙ opened_none true (view (storage_of c.args.storage)).contents none in
+    let mid = unwritten_mid view below c.args.mode c.args.size (storage_of c.args.storage) c.in-Ok.image unwritten since opened format uncleared in
+    enlarged_so view below c.args.mode c.args.size (storage_of c.args.storage) c.in-Ok.image unwritten since opened format uncleared c.grow_and_flush-done.new.image c.into_storage.result c.grow_and_flush-done.result
     c.into_storage.ensures (c.grow_and_flush-done.ensures.enlarges opened c.in-Ok.ensures.ok.2 c.in-Ok.ensures.below mid)
 
 pub returns-in-Err-clause-cause : goal.returns-in-Err-clause-cause
-returns-in-Err-clause-cause g c = λ honest unwritten. opening_met (g.S.Storage.view c.args.storage).contents true c.in-Err.refusal (c.in-Err.ensures.cause.1 honest)
+returns-in-Err-clause-cause g c = λ honest unwritten. opening_met (g.S.Storage.view (storage_of c.args.storage)).contents true c.in-Err.refusal (c.in-Err.ensures.cause.1 honest)
 
 pub returns-in-Err-clause-faults : goal.returns-in-Err-clause-faults
-returns-in-Err-clause-faults g c = λ none. told_opening g.S.Storage.view (g.S.Storage.view c.args.storage).faults c.in-Err.storage c.in-Err.refusal c.in-Err.ensures.faults
+returns-in-Err-clause-faults g c = λ none. told_opening g.S.Storage.view (g.S.Storage.view (storage_of c.args.storage)).faults c.in-Err.storage c.in-Err.refusal c.in-Err.ensures.faults
 
 pub returns-in-Ok-clause-cause : goal.returns-in-Ok-clause-cause
 returns-in-Ok-clause-cause g c = λ honest unwritten.
@@ -36,7 +38,7 @@ returns-in-Ok-clause-cause g c = λ honest unwritten.
 
 pub returns-in-Ok-clause-faults : goal.returns-in-Ok-clause-faults
 returns-in-Ok-clause-faults g c = λ none.
-    told_closed g.S.Storage.view g.F.BackingDisk.backing none (g.S.Storage.view c.args.storage).faults c.in-Ok.image c.grow_and_flush-done.new.image c.into_storage.result c.grow_and_flush-done.result c.in-Ok.ensures.faults.no_fewer
+    told_closed g.S.Storage.view g.F.BackingDisk.backing none (g.S.Storage.view (storage_of c.args.storage)).faults c.in-Ok.image c.grow_and_flush-done.new.image c.into_storage.result c.grow_and_flush-done.result c.in-Ok.ensures.faults.no_fewer
     c.grow_and_flush-done.ensures.faults c.into_storage.ensures
 
 pub returns-in-Ok-clause-leaks : goal.returns-in-Ok-clause-leaks

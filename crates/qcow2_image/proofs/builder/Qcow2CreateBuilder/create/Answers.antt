@@ -1,8 +1,7 @@
-use Rattle.std.proofs.Common.{◌≡◌, ◌∙◌, Ok, true, false, sym, subst}
+use Rattle.std.proofs.Common.{◌≡◌, ◌∙◌, true, false, sym, subst}
 use Rattle.qcow2_image.proofs.Create.Causes.{no_such_header, reasons_met}
 use Rattle.qcow2_laws.proofs.NewImages.{new_image_exact}
 use Rattle.qcow2_alloc.specs.ImageStorage.{storage_of}
-use Rattle.qcow2_image.specs.Created.{WritesThree}
 use Rattle.qcow2_image.proofs.Create.Creating.{new_header_is, unwritten, creating_stops, created_so}
 use Rattle.qcow2_image.proofs.builder.Qcow2CreateBuilder.create.Goals as goal
 
@@ -14,9 +13,8 @@ returns-clause-stops g c = λ honest.
     let order = c.in-Some-power_of_two.refcount_order in
     let v = c.new-header.result in
     let start = storage_of c.new-storage.result in
-    let three = c.in_default-write_new_image.ensures.writes (subst (λ s. (view s).is_honest) (sym c.new-storage.ensures.storage) honest) (new_header_is v bits order c.new-header.ensures.value c.new-header.ensures.names) in
-    let mid = c.into_inner-2.result in
-    let there = subst (λ s. WritesThree v.fields (view start) (view s) (Ok c.in_default-write_new_image.field-0)) (sym c.into_inner-2.ensures) three in
+    let there = c.in_default-write_new_image.ensures.writes (subst (λ s. (view s).is_honest) (sym c.new-storage.ensures.storage) honest) (new_header_is v bits order c.new-header.ensures.value c.new-header.ensures.names) in
+    let mid = storage_of c.write_new_image.new.storage in
     let none = unwritten view builder bits order v c.new-header.ensures.value start mid c.grow_new_image.result.0 c.new-storage.ensures.storage there in
     creating_stops view builder bits order v c.new-header.ensures.value start mid c.grow_new_image.result.0 c.new-storage.ensures.storage there c.grow_new_image.result.1 (c.grow_new_image.ensures.enlarges there.0.honest none)
 
@@ -28,9 +26,8 @@ returns-clause-created g c = λ honest.
     let order = c.in-Some-power_of_two.refcount_order in
     let v = c.new-header.result in
     let start = storage_of c.new-storage.result in
-    let three = c.in_default-write_new_image.ensures.writes (subst (λ s. (view s).is_honest) (sym c.new-storage.ensures.storage) honest) (new_header_is v bits order c.new-header.ensures.value c.new-header.ensures.names) in
-    let mid = c.into_inner-2.result in
-    let there = subst (λ s. WritesThree v.fields (view start) (view s) (Ok c.in_default-write_new_image.field-0)) (sym c.into_inner-2.ensures) three in
+    let there = c.in_default-write_new_image.ensures.writes (subst (λ s. (view s).is_honest) (sym c.new-storage.ensures.storage) honest) (new_header_is v bits order c.new-header.ensures.value c.new-header.ensures.names) in
+    let mid = storage_of c.write_new_image.new.storage in
     let none = unwritten view builder bits order v c.new-header.ensures.value start mid c.grow_new_image.result.0 c.new-storage.ensures.storage there in
     created_so view builder bits order v c.new-header.ensures.value start mid c.grow_new_image.result.0 c.new-storage.ensures.storage there c.in-Some.ensures.some c.in-Some-power_of_two.ensures.some c.grow_new_image.result.1
     (c.grow_new_image.ensures.enlarges there.0.honest none) (c.grow_new_image.ensures.leaks there.0.honest none (new_image_exact v.fields _ there.1))
@@ -48,8 +45,7 @@ returns-clause-cause g c = λ honest.
     let order = c.in-Some-power_of_two.refcount_order in
     let v = c.new-header.result in
     let start = storage_of c.new-storage.result in
-    let three = c.in_default-write_new_image.ensures.writes (subst (λ s. (view s).is_honest) (sym c.new-storage.ensures.storage) honest) (new_header_is v bits order c.new-header.ensures.value c.new-header.ensures.names) in
-    let mid = c.into_inner-2.result in
-    let there = subst (λ s. WritesThree v.fields (view start) (view s) (Ok c.in_default-write_new_image.field-0)) (sym c.into_inner-2.ensures) three in
+    let there = c.in_default-write_new_image.ensures.writes (subst (λ s. (view s).is_honest) (sym c.new-storage.ensures.storage) honest) (new_header_is v bits order c.new-header.ensures.value c.new-header.ensures.names) in
+    let mid = storage_of c.write_new_image.new.storage in
     let none = unwritten view builder bits order v c.new-header.ensures.value start mid c.grow_new_image.result.0 c.new-storage.ensures.storage there in
     reasons_met builder c.grow_new_image.result.1 (c.grow_new_image.ensures.cause there.0.honest none)

@@ -5,7 +5,7 @@ use Rattle.qcow2_alloc.specs.declared.error.ImageError.TheVariants as I
 use Rattle.qcow2_image.specs.Created.{IsCreated, IsReasonNotToCreate}
 use Rattle.qcow2_image.specs.Opened.{storage_after}
 use Rattle.qcow2_image.proofs.Create.Causes.{counts_opened, counts_refused, opening_reasons}
-use Rattle.qcow2_image.proofs.Create.Creating.{created_opened, made_so, no_surplus, of_image, opened_new, refused_open, stops_opened}
+use Rattle.qcow2_image.proofs.Create.Creating.{created_opened, made_so, no_surplus, opened_new, refused_open, stops_opened}
 use Rattle.qcow2_image.proofs.builder.Qcow2CreateBuilder.create_open.Goals as goal
 
 pub returns-clause-new_disk : goal.returns-clause-new_disk
@@ -41,7 +41,7 @@ pub returns-clause-created : goal.returns-clause-created
 returns-clause-created g c = λ honest.
     let view = g.S.Storage.view in
     let made = made_so view c.args.self c.create-storage.result.0 c.create-storage.result.1 c.in_default.field-0 c.in_default.is (c.create-storage.ensures.created honest) in
-    of_image (λ s. IsCreated c.args.self (view s)) c.open_image.result (created_opened view c.args.self c.create-storage.result.0 (storage_after c.open_image.result) made c.open_image.ensures.storage)
+    created_opened view c.args.self c.create-storage.result.0 (storage_after c.open_image.result) made c.open_image.result c.open_image.ensures.storage
 
 pub returns-clause-surplus : goal.returns-clause-surplus
 returns-clause-surplus g c = λ honest.

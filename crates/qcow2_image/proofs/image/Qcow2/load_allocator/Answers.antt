@@ -1,16 +1,17 @@
-use Rattle.std.proofs.Common.{◌∙◌, Result, true, sym, ap, subst, arith}
+use Rattle.std.proofs.Common.{Result, true, sym, ap, subst, arith}
 use Rattle.std.specs.Prelude.{MatchResult}
 use Rattle.qcow2_alloc.specs.declared.error.ImageError.{ImageError}
 use Rattle.qcow2_alloc.specs.ImageError.{of_storage}
-use Rattle.qcow2_alloc.specs.ImageStorage.{storage_of}
 use Rattle.qcow2_alloc.specs.ImageFile.{contents_in}
 use Rattle.qcow2_alloc.specs.LoadedTables.{IsReasonAgainstReftable, ReftableReads}
 use Rattle.qcow2_alloc.proofs.AllocationSteps.{handed_on}
 use Rattle.qcow2_image.proofs.Open.Reading.{against_storage}
-use Rattle.qcow2_alloc.specs.declared.image_file.ImageFile.{ImageFile}
-use Rattle.qcow2_image.proofs.Open.Left.{left_cleared, left_read, left_then}
+use Rattle.qcow2_image.proofs.Open.Left.{file_cleared, file_not_cleared, file_refused, file_then, file_then_refused}
+use Rattle.qcow2_image.specs.Opened.{LeavesFile}
 use Rattle.qcow2_image.proofs.Open.Opening.{new_tables_read, new_tables_then, kept_read, stays_then, told_new_tables, kept_then}
 use Rattle.qcow2_image.proofs.Open.Clearing.{stays_after, kept_after}
+use Rattle.qcow2_metadata.proofs.StillHeader.{autoclear_still}
+use Rattle.qcow2_metadata.proofs.WrittenHeader.{autoclear_after}
 use Rattle.qcow2_image.proofs.image.Qcow2.load_allocator.Goals as goal
 
 pub returns-clause-loaded : goal.returns-clause-loaded
@@ -20,13 +21,13 @@ returns-clause-loaded g c = λ p new_tables.
     let old = c.args.file.now in
     let file = c.new.new.file in
     let told = record file { storage = c.will_write.new.self } in
-    let new = record file { storage = c.clear_autoclear.new.storage; header = c.clear_autoclear.new.self } in
+    let new = record file { storage = c.clear_autoclear.new.self; header = c.clear_autoclear.new.header } in
     let cleared = c.in_ok-clear_autoclear.ensures in
     let read = new_tables_then view below p old file new_tables c.new.ensures.rest c.new.ensures.honest c.new.ensures.same in
     let same = c.will_write.ensures.storage in
     let first = new_tables_read view below p file c.will_write.new.self read.new_tables (subst (λ s. (view s).is_honest) (sym same) read.new_tables.sound.honest) (ap (λ s. (view s).contents) same) in
     let then = stays_then view below p file told new first
-    (stays_after view below p told first.new_tables c.clear_autoclear.new.storage c.clear_autoclear.new.self cleared.ok cleared.calls.honest cleared.written (λ none. (cleared.untouched none).1) cleared.fields cleared.reads) in (
+    (stays_after view below p told first.new_tables c.clear_autoclear.new.self c.clear_autoclear.new.header cleared.ok cleared.calls.honest cleared.written (λ none. (cleared.idle none).1) (autoclear_after _) (autoclear_still _ _)) in (
       stays_then view below p old file new read then,
       record {
         reftable = then.reftable c.in_ok-allocator.allocator.reftable (c.in_ok-allocator.ensures.reftable new_tables.sound.honest);
@@ -42,8 +43,8 @@ returns-clause-since g c = λ p new_tables.
     let file = c.new.new.file in
     let cleared = c.clear_autoclear.ensures in
     let told = told_new_tables view below p old file c.will_write.new.self new_tables c.new.ensures.rest c.new.ensures.honest c.new.ensures.same c.new.ensures.time c.will_write.ensures.storage in
-    kept_then (view old.storage.storage) (view c.will_write.new.self.storage) (view c.clear_autoclear.new.storage.storage) told.1
-    (kept_after view below p (record file { storage = c.will_write.new.self }) told.0 c.clear_autoclear.result c.clear_autoclear.new.storage cleared.written (λ none. (cleared.untouched none).1) cleared.calls cleared.fields cleared.reads)
+    kept_then (view old.storage.storage) (view c.will_write.new.self.storage) (view c.clear_autoclear.new.self.storage) told.1
+    (kept_after view below p (record file { storage = c.will_write.new.self }) told.0 c.clear_autoclear.result c.clear_autoclear.new.self cleared.written (λ none. (cleared.idle none).1) cleared.calls (autoclear_after _) (autoclear_still _ _))
 
 pub returns-in_err-clear_autoclear-clause-since : goal.returns-in_err-clear_autoclear-clause-since
 returns-in_err-clear_autoclear-clause-since g c = λ p new_tables.
@@ -53,8 +54,8 @@ returns-in_err-clear_autoclear-clause-since g c = λ p new_tables.
     let file = c.new.new.file in
     let cleared = c.clear_autoclear.ensures in
     let told = told_new_tables view below p old file c.will_write.new.self new_tables c.new.ensures.rest c.new.ensures.honest c.new.ensures.same c.new.ensures.time c.will_write.ensures.storage in
-    kept_then (view old.storage.storage) (view c.will_write.new.self.storage) (view c.clear_autoclear.new.storage.storage) told.1
-    (kept_after view below p (record file { storage = c.will_write.new.self }) told.0 c.clear_autoclear.result c.clear_autoclear.new.storage cleared.written (λ none. (cleared.untouched none).1) cleared.calls cleared.fields cleared.reads)
+    kept_then (view old.storage.storage) (view c.will_write.new.self.storage) (view c.clear_autoclear.new.self.storage) told.1
+    (kept_after view below p (record file { storage = c.will_write.new.self }) told.0 c.clear_autoclear.result c.clear_autoclear.new.self cleared.written (λ none. (cleared.idle none).1) cleared.calls (autoclear_after _) (autoclear_still _ _))
 
 pub returns-in_err-clear_autoclear-clause-why : goal.returns-in_err-clear_autoclear-clause-why
 returns-in_err-clear_autoclear-clause-why g c = λ honest.
@@ -69,26 +70,34 @@ returns-in_err-allocator-clause-since g c = λ p new_tables.
     kept_read (view c.args.file.now.storage.storage) (view c.new.new.file.storage.storage) c.new.ensures.time (c.new.ensures.same new_tables.sound.honest)
 
 pub returns-in_err-allocator-clause-storage : goal.returns-in_err-allocator-clause-storage
-returns-in_err-allocator-clause-storage g c = left_read true _ _ _ c.new.ensures.honest c.new.ensures.same
+returns-in_err-allocator-clause-storage g c =
+    let view = g.S.Storage.view in
+    let read = c.new.ensures in
+    let e = c.in_err-allocator.field-0.0 in
+    handed_on (λ (r : Result _ ImageError). LeavesFile view true c.args.file.now c.new.new.file r) c.from_residual.result e c.from_residual.ensures
+    (file_refused view true c.args.file.now c.new.new.file read.rest read.honest read.same read.time e)
 
 pub returns-in_err-clear_autoclear-clause-storage : goal.returns-in_err-clear_autoclear-clause-storage
 returns-in_err-clear_autoclear-clause-storage g c =
     let view = g.S.Storage.view in
     let old = c.args.file.now in
     let file = c.new.new.file in
+    let read = c.new.ensures in
     let cleared = c.clear_autoclear.ensures in
-    let none = old.header.fields.autoclear in
-    left_then true none (view old.storage.storage) (view file.storage.storage) (view c.clear_autoclear.new.storage.storage) (left_read true none (view old.storage.storage) (view file.storage.storage) c.new.ensures.honest c.new.ensures.same)
-    (left_cleared view none file.storage.storage c.will_write.new.self.storage c.clear_autoclear.new.storage.storage c.clear_autoclear.result c.will_write.ensures.storage cleared.calls
-    (λ is. ap storage_of (cleared.untouched (ap (λ (f : ImageFile _). f.header.fields.autoclear) c.new.ensures.rest ∙ is)).1))
+    let e = c.in_err-clear_autoclear.field-0.0 in
+    let new = record file { storage = c.clear_autoclear.new.self; header = c.clear_autoclear.new.header } in
+    handed_on (λ (r : Result _ ImageError). LeavesFile view true old new r) c.from_residual-in_err-clear_autoclear.result (of_storage e) c.from_residual-in_err-clear_autoclear.ensures
+    (file_then_refused view true old file read.rest read.honest read.same read.time {T = Unit {0}} new (of_storage e) read.storage_faults.no_fewer
+    (file_not_cleared view file c.will_write.new.self c.clear_autoclear.new.self c.will_write.ensures.storage c.clear_autoclear.result cleared.calls cleared.written cleared.idle c.clear_autoclear.new.header e c.in_err-clear_autoclear.was))
 
 pub returns-clause-storage : goal.returns-clause-storage
 returns-clause-storage g c =
     let view = g.S.Storage.view in
     let old = c.args.file.now in
     let file = c.new.new.file in
+    let read = c.new.ensures in
     let cleared = c.clear_autoclear.ensures in
-    let none = old.header.fields.autoclear in
-    left_then true none (view old.storage.storage) (view file.storage.storage) (view c.clear_autoclear.new.storage.storage) (left_read true none (view old.storage.storage) (view file.storage.storage) c.new.ensures.honest c.new.ensures.same)
-    (left_cleared view none file.storage.storage c.will_write.new.self.storage c.clear_autoclear.new.storage.storage c.clear_autoclear.result c.will_write.ensures.storage cleared.calls
-    (λ is. ap storage_of (cleared.untouched (ap (λ (f : ImageFile _). f.header.fields.autoclear) c.new.ensures.rest ∙ is)).1))
+    let new = record file { storage = c.clear_autoclear.new.self; header = c.clear_autoclear.new.header } in
+    let x = c.in_ok-allocator.allocator in
+    file_then view true old file read.rest read.honest read.same read.time new x x
+    (file_cleared view file c.will_write.new.self c.clear_autoclear.new.self c.will_write.ensures.storage c.clear_autoclear.result cleared.calls cleared.written cleared.idle c.clear_autoclear.new.header c.in_ok-clear_autoclear.ensures.ok x _ c.in_ok-clear_autoclear.was)

@@ -1,12 +1,13 @@
-use Rattle.std.proofs.Common.{◌≡◌, ◌∙◌, Result, true, false, inl, inr, sym, ap}
+use Rattle.std.proofs.Common.{◌≡◌, ◌∙◌, Bool, Result, Ok, Err, true, false, inl, inr, subst, sym}
 use Rattle.std.specs.Prelude.{MatchResult}
+use Rattle.qcow2_alloc.specs.declared.allocation.Allocator.{Allocator}
 use Rattle.qcow2_alloc.specs.declared.error.ImageError.{ImageError}
 use Rattle.qcow2_alloc.specs.ImageFile.{contents_in}
 use Rattle.qcow2_alloc.specs.LoadedTables.{IsReasonAgainstReftable, ReftableReads}
 use Rattle.qcow2_alloc.proofs.AllocationSteps.{handed_on}
 use Rattle.qcow2_image.specs.Readable.{IsReasonAgainstTables, NeededTablesRead}
-use Rattle.qcow2_alloc.specs.declared.image_file.ImageFile.{ImageFile}
-use Rattle.qcow2_image.proofs.Open.Left.{left_as, left_read, left_then}
+use Rattle.qcow2_image.proofs.Open.Left.{file_read, file_refused, file_then, file_then_refused}
+use Rattle.qcow2_image.specs.Opened.{LeavesFile}
 use Rattle.qcow2_image.proofs.Open.Reading.{so_before}
 use Rattle.qcow2_image.proofs.Open.Opening.{new_tables_then, kept_read, kept_then}
 use Rattle.qcow2_image.proofs.image.Qcow2.load_tables.Goals as goal
@@ -83,27 +84,37 @@ returns-in_err-l1_table-clause-since g c = λ p new_tables.
     kept_read (view c.args.file.now.storage.storage) (view c.load_l1_table.new.file.storage.storage) l1.time (l1.same new_tables.sound.honest)
 
 pub returns-in_err-l1_table-clause-storage : goal.returns-in_err-l1_table-clause-storage
-returns-in_err-l1_table-clause-storage g c = left_read c.args.writable _ _ _ c.load_l1_table.ensures.honest c.load_l1_table.ensures.same
+returns-in_err-l1_table-clause-storage g c =
+    let view = g.S.Storage.view in
+    let l1 = c.load_l1_table.ensures in
+    let e = c.in_err-l1_table.field-0.0 in
+    handed_on (λ (r : Result _ ImageError). LeavesFile view c.args.writable c.args.file.now c.load_l1_table.new.file r) c.from_residual.result e c.from_residual.ensures
+    (file_refused view c.args.writable c.args.file.now c.load_l1_table.new.file l1.rest l1.honest l1.same l1.time e)
 
 pub returns-then-not-writable-clause-storage : goal.returns-then-not-writable-clause-storage
-returns-then-not-writable-clause-storage g c = left_read c.args.writable _ _ _ c.load_l1_table.ensures.honest c.load_l1_table.ensures.same
+returns-then-not-writable-clause-storage g c =
+    let l1 = c.load_l1_table.ensures in
+    file_read g.S.Storage.view c.args.writable c.args.file.now c.load_l1_table.new.file l1.rest l1.honest l1.same l1.time _ c.if-not-writable.true
 
 pub returns-in_err-allocator-clause-storage : goal.returns-in_err-allocator-clause-storage
 returns-in_err-allocator-clause-storage g c =
     let view = g.S.Storage.view in
     let old = c.args.file.now in
     let mid = c.load_l1_table.new.file in
+    let new = c.load_allocator.new.file in
     let l1 = c.load_l1_table.ensures in
-    let none = old.header.fields.autoclear in
-    left_then c.args.writable none (view old.storage.storage) (view mid.storage.storage) (view c.load_allocator.new.file.storage.storage) (left_read c.args.writable none (view old.storage.storage) (view mid.storage.storage) l1.honest l1.same)
-    (left_as c.args.writable none mid.header.fields.autoclear (view mid.storage.storage) (view c.load_allocator.new.file.storage.storage) c.if-not-writable.false (ap (λ (f : ImageFile _). f.header.fields.autoclear) l1.rest) c.load_allocator.ensures.storage)
+    let e = c.in_err-allocator.field-0.0 in
+    handed_on (λ (r : Result _ ImageError). LeavesFile view c.args.writable old new r) c.from_residual-in_err-allocator.result e c.from_residual-in_err-allocator.ensures
+    (file_then_refused view c.args.writable old mid l1.rest l1.honest l1.same l1.time new e l1.faults.no_fewer
+    (subst (λ (w : Bool). LeavesFile {T = Allocator} view w mid new (Err e)) (sym c.if-not-writable.false) c.in_err-allocator.ensures.storage))
 
 pub returns-clause-storage : goal.returns-clause-storage
 returns-clause-storage g c =
     let view = g.S.Storage.view in
     let old = c.args.file.now in
     let mid = c.load_l1_table.new.file in
+    let new = c.load_allocator.new.file in
     let l1 = c.load_l1_table.ensures in
-    let none = old.header.fields.autoclear in
-    left_then c.args.writable none (view old.storage.storage) (view mid.storage.storage) (view c.load_allocator.new.file.storage.storage) (left_read c.args.writable none (view old.storage.storage) (view mid.storage.storage) l1.honest l1.same)
-    (left_as c.args.writable none mid.header.fields.autoclear (view mid.storage.storage) (view c.load_allocator.new.file.storage.storage) c.if-not-writable.false (ap (λ (f : ImageFile _). f.header.fields.autoclear) l1.rest) c.load_allocator.ensures.storage)
+    let x = c.in_ok-allocator.allocator in
+    file_then view c.args.writable old mid l1.rest l1.honest l1.same l1.time new x _
+    (subst (λ (w : Bool). LeavesFile view w mid new (Ok x)) (sym c.if-not-writable.false) c.in_ok-allocator.ensures.storage)

@@ -4,10 +4,9 @@ use Rattle.qcow2_metadata.specs.Bytes.{byte_at}
 use Rattle.qcow2_laws.specs.Opened.{nothing_pending, surplus_of}
 use Rattle.qcow2_alloc.specs.declared.image_file.ImageFile.{ImageFile}
 use Rattle.qcow2_image.specs.declared.image.Qcow2.{Qcow2}
-use Rattle.qcow2_image.specs.Opened.{Opens, IsKeptSince, HasNamesIn}
-use Rattle.qcow2_image.proofs.Open.Left.{left_loaded, left_opened}
+use Rattle.qcow2_image.specs.Opened.{IsKeptSince}
+use Rattle.qcow2_image.proofs.Open.Left.{left_loaded, left_opened, left_refused}
 use Rattle.qcow2_image.proofs.Open.Opening.{new_tables_new, opened, kept_loaded, kept_opened, named_still}
-use Rattle.qcow2_metadata.specs.HeaderLoad.{IsHeaderIn, IsReasonToRefuse}
 use Rattle.qcow2_metadata.specs.Header.{HeaderReads, header}
 use Rattle.qcow2_alloc.specs.declared.error.ImageError.{ImageError}
 use Rattle.qcow2_alloc.specs.declared.error.ImageError.TheVariants.{Dependency, UnalignedTable}
@@ -23,40 +22,40 @@ pub returns-in-Ok-load_tables-clause-opens : goal.returns-in-Ok-load_tables-clau
 returns-in-Ok-load_tables-clause-opens g c =
     let view = g.S.Storage.view in
     let below = g.F.BackingDisk.backing in
-    let contents = (view c.new-storage.result.storage).contents in
+    let contents = (view c.args.storage.storage).contents in
     let read = c.load.ensures.reads in
     let new = c.in-Ok-new.ensures in
     let tables = c.in-Ok-load_tables.field-0 in
     let image : Qcow2 _ _ = record { number = c.args.number; is_failed = false; file = c.load_tables.new.file; l1_table = tables.l1_table; allocator = tables.allocator; backing = None } in
     let surplus = surplus_of c.in-Ok.header.fields (byte_at contents) in
-    subst (λ s. Opens view below (view s) image) c.new-storage.ensures.storage (λ honest consistent.
+    λ honest consistent.
     let there = c.in-Ok.ensures.ok honest in
     let is = opened view below image surplus refl tt (c.in-Ok-load_tables.ensures.loaded (nothing_pending surplus)
     (new_tables_new view below contents (record { alloc = c.args.alloc; storage = c.load.new.storage; header = c.in-Ok.header; caches = c.in-Ok-new.caches; free_list = c.new-2.result }) consistent
     (read.honest honest) (read.same honest) there new.sound new.known new.named_blocks (new.room (omega arith) (omega arith)) new.pins c.new-2.ensures)) in
-    record { opened = is.0; surplus = is.1 ∙ ap (λ h. surplus_of h (byte_at contents)) there.fields })
+    record { opened = is.0; surplus = is.1 ∙ ap (λ h. surplus_of h (byte_at contents)) there.fields }
 
 pub returns-in-Err-clause-since : goal.returns-in-Err-clause-since
 returns-in-Err-clause-since g c = λ honest consistent.
     let view = g.S.Storage.view in
-    subst (λ s. IsKeptSince (view c.args.metadata) (view s)) (sym c.into_inner.ensures)
-    (subst (λ s. (view s).is_honest → IsKeptSince (view s) (view c.load.new.storage.storage)) c.new-storage.ensures.storage (kept_loaded {result = c.load.result} (view c.new-storage.result.storage) (view c.load.new.storage.storage) c.load.ensures.reads) honest)
+    subst (λ s. IsKeptSince (view c.args.storage.storage) (view s)) (sym c.into_inner.ensures)
+    (kept_loaded {result = c.load.result} (view c.args.storage.storage) (view c.load.new.storage.storage) c.load.ensures.reads honest)
 
 pub returns-in-Err-new-clause-since : goal.returns-in-Err-new-clause-since
 returns-in-Err-new-clause-since g c = λ honest consistent.
     let view = g.S.Storage.view in
-    subst (λ s. IsKeptSince (view c.args.metadata) (view s)) (sym c.into_inner-in-Err-new.ensures)
-    (subst (λ s. (view s).is_honest → IsKeptSince (view s) (view c.load.new.storage.storage)) c.new-storage.ensures.storage (kept_loaded {result = c.load.result} (view c.new-storage.result.storage) (view c.load.new.storage.storage) c.load.ensures.reads) honest)
+    subst (λ s. IsKeptSince (view c.args.storage.storage) (view s)) (sym c.into_inner-in-Err-new.ensures)
+    (kept_loaded {result = c.load.result} (view c.args.storage.storage) (view c.load.new.storage.storage) c.load.ensures.reads honest)
 
 pub returns-in-Ok-load_tables-clause-since : goal.returns-in-Ok-load_tables-clause-since
 returns-in-Ok-load_tables-clause-since g c =
     let view = g.S.Storage.view in
     let below = g.F.BackingDisk.backing in
-    let contents = (view c.new-storage.result.storage).contents in
+    let contents = (view c.args.storage.storage).contents in
     let read = c.load.ensures.reads in
     let new = c.in-Ok-new.ensures in
     let file : ImageFile _ = record { alloc = c.args.alloc; storage = c.load.new.storage; header = c.in-Ok.header; caches = c.in-Ok-new.caches; free_list = c.new-2.result } in
-    kept_opened view below c.load.result c.new-storage.result.storage c.args.metadata c.load_tables.new.file.storage.storage file c.load_tables.new.file c.new-storage.ensures.storage refl read
+    kept_opened view below c.load.result c.args.storage.storage c.args.storage.storage c.load_tables.new.file.storage.storage file c.load_tables.new.file refl refl read
     (λ honest consistent. c.load_tables.ensures.since (nothing_pending (surplus_of c.in-Ok.header.fields (byte_at contents)))
     (new_tables_new view below contents file consistent (read.honest honest) (read.same honest) (c.in-Ok.ensures.ok honest) new.sound new.known new.named_blocks (new.room (omega arith) (omega arith)) new.pins c.new-2.ensures))
 
@@ -64,103 +63,105 @@ pub returns-in-Err-load_tables-clause-since : goal.returns-in-Err-load_tables-cl
 returns-in-Err-load_tables-clause-since g c =
     let view = g.S.Storage.view in
     let below = g.F.BackingDisk.backing in
-    let contents = (view c.new-storage.result.storage).contents in
+    let contents = (view c.args.storage.storage).contents in
     let read = c.load.ensures.reads in
     let new = c.in-Ok-new.ensures in
     let file : ImageFile _ = record { alloc = c.args.alloc; storage = c.load.new.storage; header = c.in-Ok.header; caches = c.in-Ok-new.caches; free_list = c.new-2.result } in
-    kept_opened view below c.load.result c.new-storage.result.storage c.args.metadata c.into_storage.result file c.load_tables.new.file c.new-storage.ensures.storage c.into_storage.ensures read
+    kept_opened view below c.load.result c.args.storage.storage c.args.storage.storage c.into_storage.result file c.load_tables.new.file refl c.into_storage.ensures read
     (λ honest consistent. c.load_tables.ensures.since (nothing_pending (surplus_of c.in-Ok.header.fields (byte_at contents)))
     (new_tables_new view below contents file consistent (read.honest honest) (read.same honest) (c.in-Ok.ensures.ok honest) new.sound new.known new.named_blocks (new.room (omega arith) (omega arith)) new.pins c.new-2.ensures))
 
 pub returns-in-Ok-load_tables-clause-names : goal.returns-in-Ok-load_tables-clause-names
 returns-in-Ok-load_tables-clause-names g c =
     let view = g.S.Storage.view in
-    subst (λ s. (view s).is_honest → HasNamesIn c.load_tables.new.file.header (view s).contents) c.new-storage.ensures.storage
-    (λ honest. named_still c.in-Ok.header c.load_tables.new.file.header (view c.new-storage.result.storage).contents (c.in-Ok.ensures.ok honest) c.in-Ok-load_tables.ensures.names)
+    λ honest. named_still c.in-Ok.header c.load_tables.new.file.header (view c.args.storage.storage).contents (c.in-Ok.ensures.ok honest) c.in-Ok-load_tables.ensures.names
 
 pub returns-in-Err-clause-another : goal.returns-in-Err-clause-another
 returns-in-Err-clause-another g c = λ alone honest needs.
     let view = g.S.Storage.view in
-    let reads : HeaderReads (header (byte_at (view c.args.metadata).contents)) (byte_at (view c.args.metadata).contents) = needs.stands.reads in
-    let why = subst (λ s. (view s).is_honest → IsReasonToRefuse (header (byte_at (view s).contents)) (byte_at (view s).contents) c.args.writable c.in-Err.e) c.new-storage.ensures.storage c.in-Err.ensures.refused honest in
-    (subst (λ (e : ImageError). (e ≡ Dependency) ⊎ (e ≡ UnalignedTable) ⊎ IsFault e) (sym c.from.ensures) (inr (refused_before _ _ c.args.writable c.in-Err.e reads why)), stays_so view c.args.metadata c.new-storage.result.storage c.load.new.storage.storage _ c.new-storage.ensures.storage c.into_inner.ensures c.load.ensures.reads.same)
+    let reads : HeaderReads (header (byte_at (view c.args.storage.storage).contents)) (byte_at (view c.args.storage.storage).contents) = needs.stands.reads in
+    let why = c.in-Err.ensures.refused honest in
+    (subst (λ (e : ImageError). (e ≡ Dependency) ⊎ (e ≡ UnalignedTable) ⊎ IsFault e) (sym c.from.ensures) (inr (refused_before _ _ c.args.writable c.in-Err.e reads why)), stays_so view c.args.storage.storage c.args.storage.storage c.load.new.storage.storage _ refl c.into_inner.ensures c.load.ensures.reads.same)
 
 pub returns-then-lacks_another-clause-since : goal.returns-then-lacks_another-clause-since
 returns-then-lacks_another-clause-since g c = λ honest consistent.
     let view = g.S.Storage.view in
-    subst (λ s. IsKeptSince (view c.args.metadata) (view s)) (sym c.into_inner-then-lacks_another.ensures)
-    (subst (λ s. (view s).is_honest → IsKeptSince (view s) (view c.load.new.storage.storage)) c.new-storage.ensures.storage (kept_loaded {result = c.load.result} (view c.new-storage.result.storage) (view c.load.new.storage.storage) c.load.ensures.reads) honest)
+    subst (λ s. IsKeptSince (view c.args.storage.storage) (view s)) (sym c.into_inner-then-lacks_another.ensures)
+    (kept_loaded {result = c.load.result} (view c.args.storage.storage) (view c.load.new.storage.storage) c.load.ensures.reads honest)
 
 pub returns-then-lacks_another-clause-another : goal.returns-then-lacks_another-clause-another
 returns-then-lacks_another-clause-another g c = λ alone honest needs.
     let view = g.S.Storage.view in
-    (inl refl, stays_so view c.args.metadata c.new-storage.result.storage c.load.new.storage.storage _ c.new-storage.ensures.storage c.into_inner-then-lacks_another.ensures c.load.ensures.reads.same)
+    (inl refl, stays_so view c.args.storage.storage c.args.storage.storage c.load.new.storage.storage _ refl c.into_inner-then-lacks_another.ensures c.load.ensures.reads.same)
 
 pub returns-in-Err-new-clause-another : goal.returns-in-Err-new-clause-another
 returns-in-Err-new-clause-another g c = λ alone honest needs.
     let view = g.S.Storage.view in
-    let stands = subst (λ s. (view s).is_honest → IsHeaderIn c.in-Ok.header (view s).contents) c.new-storage.ensures.storage c.in-Ok.ensures.ok honest in
-    absurd (not_needed c.in-Ok.header (view c.args.metadata).contents stands (not_both c.args.alone _ (sym c.lacks_another.ensures ∙ c.if-lacks_another.false) alone) needs)
+    let stands = c.in-Ok.ensures.ok honest in
+    absurd (not_needed c.in-Ok.header (view c.args.storage.storage).contents stands (not_both c.args.alone _ (sym c.lacks_another.ensures ∙ c.if-lacks_another.false) alone) needs)
 
 pub returns-in-Ok-load_tables-clause-another : goal.returns-in-Ok-load_tables-clause-another
 returns-in-Ok-load_tables-clause-another g c = λ alone honest needs.
     let view = g.S.Storage.view in
-    let stands = subst (λ s. (view s).is_honest → IsHeaderIn c.in-Ok.header (view s).contents) c.new-storage.ensures.storage c.in-Ok.ensures.ok honest in
-    absurd (not_needed c.in-Ok.header (view c.args.metadata).contents stands (not_both c.args.alone _ (sym c.lacks_another.ensures ∙ c.if-lacks_another.false) alone) needs)
+    let stands = c.in-Ok.ensures.ok honest in
+    absurd (not_needed c.in-Ok.header (view c.args.storage.storage).contents stands (not_both c.args.alone _ (sym c.lacks_another.ensures ∙ c.if-lacks_another.false) alone) needs)
 
 pub returns-in-Err-load_tables-clause-another : goal.returns-in-Err-load_tables-clause-another
 returns-in-Err-load_tables-clause-another g c = λ alone honest needs.
     let view = g.S.Storage.view in
-    let stands = subst (λ s. (view s).is_honest → IsHeaderIn c.in-Ok.header (view s).contents) c.new-storage.ensures.storage c.in-Ok.ensures.ok honest in
-    absurd (not_needed c.in-Ok.header (view c.args.metadata).contents stands (not_both c.args.alone _ (sym c.lacks_another.ensures ∙ c.if-lacks_another.false) alone) needs)
+    let stands = c.in-Ok.ensures.ok honest in
+    absurd (not_needed c.in-Ok.header (view c.args.storage.storage).contents stands (not_both c.args.alone _ (sym c.lacks_another.ensures ∙ c.if-lacks_another.false) alone) needs)
 
 pub returns-in-Err-clause-cause : goal.returns-in-Err-clause-cause
 returns-in-Err-clause-cause g c = (
   λ is. absurd (not_missing (of_metadata c.in-Err.e) (metadata_met c.in-Err.e) (sym c.from.ensures ∙ is)),
   λ honest.
       let view = g.S.Storage.view in
-      let why = subst (λ s. (view s).is_honest → IsReasonToRefuse (header (byte_at (view s).contents)) (byte_at (view s).contents) c.args.writable c.in-Err.e) c.new-storage.ensures.storage c.in-Err.ensures.refused honest in
-      subst (IsRefusedRightly (view c.args.metadata).contents c.args.writable c.args.alone) (sym c.from.ensures) (header_refused (view c.args.metadata).contents c.args.writable c.args.alone c.in-Err.e why),
+      let why = c.in-Err.ensures.refused honest in
+      subst (IsRefusedRightly (view c.args.storage.storage).contents c.args.writable c.args.alone) (sym c.from.ensures) (header_refused (view c.args.storage.storage).contents c.args.writable c.args.alone c.in-Err.e why),
 )
 
 pub returns-then-lacks_another-clause-cause : goal.returns-then-lacks_another-clause-cause
 returns-then-lacks_another-clause-cause g c =
     let so = both c.args.alone _ (sym c.lacks_another.ensures ∙ c.if-lacks_another.true) in
-    (λ is. so.0, needs_so g.S.Storage.view c.args.metadata c.new-storage.result.storage c.load.new.storage.storage c.new-storage.ensures.storage c.args.writable c.args.alone c.load.result c.load.ensures.reads c.in-Ok.header c.in-Ok.ensures.ok c.in-Ok.ensures.aligned so.0 so.1)
+    (λ is. so.0, needs_so g.S.Storage.view c.args.storage.storage c.args.storage.storage c.load.new.storage.storage refl c.args.writable c.args.alone c.load.result c.load.ensures.reads c.in-Ok.header c.in-Ok.ensures.ok c.in-Ok.ensures.aligned so.0 so.1)
 
 pub returns-in-Err-new-clause-cause : goal.returns-in-Err-new-clause-cause
 returns-in-Err-new-clause-cause g c = (
   λ is. absurd (let bad : I.Memory ≡ Dependency = sym c.from-in-Err-new.ensures ∙ is in cc),
-  λ honest. subst (IsRefusedRightly (g.S.Storage.view c.args.metadata).contents c.args.writable c.args.alone) (sym c.from-in-Err-new.ensures) tt,
+  λ honest. subst (IsRefusedRightly (g.S.Storage.view c.args.storage.storage).contents c.args.writable c.args.alone) (sym c.from-in-Err-new.ensures) tt,
 )
 
 pub returns-in-Ok-load_tables-clause-cause : goal.returns-in-Ok-load_tables-clause-cause
 returns-in-Ok-load_tables-clause-cause g c =
-    opened_rightly g.S.Storage.view c.args.metadata c.new-storage.result.storage c.load.new.storage.storage c.new-storage.ensures.storage c.args.writable c.args.alone c.load.result c.load.ensures.reads c.in-Ok.header c.in-Ok.ensures.ok c.in-Ok.ensures.aligned
+    opened_rightly g.S.Storage.view c.args.storage.storage c.args.storage.storage c.load.new.storage.storage refl c.args.writable c.args.alone c.load.result c.load.ensures.reads c.in-Ok.header c.in-Ok.ensures.ok c.in-Ok.ensures.aligned
     (sym c.lacks_another.ensures ∙ c.if-lacks_another.false) c.in-Ok-load_tables.ensures.why
 
 pub returns-in-Err-load_tables-clause-cause : goal.returns-in-Err-load_tables-clause-cause
 returns-in-Err-load_tables-clause-cause g c = (
   λ is. absurd (not_missing _ c.in-Err-load_tables.ensures.cause is),
-  refused_rightly g.S.Storage.view c.args.metadata c.new-storage.result.storage c.load.new.storage.storage c.new-storage.ensures.storage c.args.writable c.args.alone c.load.result c.load.ensures.reads c.in-Ok.header c.in-Ok.ensures.ok c.in-Ok.ensures.aligned
+  refused_rightly g.S.Storage.view c.args.storage.storage c.args.storage.storage c.load.new.storage.storage refl c.args.writable c.args.alone c.load.result c.load.ensures.reads c.in-Ok.header c.in-Ok.ensures.ok c.in-Ok.ensures.aligned
       c.in-Err-load_tables.e (sym c.lacks_another.ensures ∙ c.if-lacks_another.false) c.in-Err-load_tables.ensures.why,
 )
 
 pub returns-in-Err-clause-storage : goal.returns-in-Err-clause-storage
-returns-in-Err-clause-storage g c = left_loaded g.S.Storage.view c.args.writable c.args.metadata c.new-storage.result.storage c.load.new.storage.storage c.new-storage.ensures.storage c.load.result c.load.ensures.reads c.into_inner.result c.into_inner.ensures
+returns-in-Err-clause-storage g c = left_loaded g.S.Storage.view c.args.writable c.args.storage.storage c.args.storage.storage c.load.new.storage.storage refl c.load.result c.load.ensures.reads _ c.into_inner.result c.into_inner.ensures
 
 pub returns-then-lacks_another-clause-storage : goal.returns-then-lacks_another-clause-storage
-returns-then-lacks_another-clause-storage g c = left_loaded g.S.Storage.view c.args.writable c.args.metadata c.new-storage.result.storage c.load.new.storage.storage c.new-storage.ensures.storage c.load.result c.load.ensures.reads c.into_inner-then-lacks_another.result c.into_inner-then-lacks_another.ensures
+returns-then-lacks_another-clause-storage g c = left_loaded g.S.Storage.view c.args.writable c.args.storage.storage c.args.storage.storage c.load.new.storage.storage refl c.load.result c.load.ensures.reads _ c.into_inner-then-lacks_another.result c.into_inner-then-lacks_another.ensures
 
 pub returns-in-Err-new-clause-storage : goal.returns-in-Err-new-clause-storage
-returns-in-Err-new-clause-storage g c = left_loaded g.S.Storage.view c.args.writable c.args.metadata c.new-storage.result.storage c.load.new.storage.storage c.new-storage.ensures.storage c.load.result c.load.ensures.reads c.into_inner-in-Err-new.result c.into_inner-in-Err-new.ensures
+returns-in-Err-new-clause-storage g c = left_loaded g.S.Storage.view c.args.writable c.args.storage.storage c.args.storage.storage c.load.new.storage.storage refl c.load.result c.load.ensures.reads _ c.into_inner-in-Err-new.result c.into_inner-in-Err-new.ensures
 
 pub returns-in-Ok-load_tables-clause-storage : goal.returns-in-Ok-load_tables-clause-storage
 returns-in-Ok-load_tables-clause-storage g c =
-    left_opened g.S.Storage.view c.args.writable c.args.metadata c.new-storage.result.storage c.load.new.storage.storage c.new-storage.ensures.storage c.load.result c.load.ensures.reads c.in-Ok.header c.in-Ok.ensures.ok c.load_tables.new.file.storage.storage c.load_tables.new.file.storage.storage refl
-    c.load_tables.ensures.storage
+    let file : ImageFile _ = record { alloc = c.args.alloc; storage = c.load.new.storage; header = c.in-Ok.header; caches = c.in-Ok-new.caches; free_list = c.new-2.result } in
+    let tables = c.in-Ok-load_tables.field-0 in
+    let image : Qcow2 _ _ = record { number = c.args.number; is_failed = false; file = c.load_tables.new.file; l1_table = tables.l1_table; allocator = tables.allocator; backing = None } in
+    left_opened g.S.Storage.view c.args.writable c.args.storage.storage c.args.storage.storage file refl c.load.result c.load.ensures.reads c.in-Ok.ensures.ok tables image c.in-Ok-load_tables.ensures.storage
 
 pub returns-in-Err-load_tables-clause-storage : goal.returns-in-Err-load_tables-clause-storage
 returns-in-Err-load_tables-clause-storage g c =
-    left_opened g.S.Storage.view c.args.writable c.args.metadata c.new-storage.result.storage c.load.new.storage.storage c.new-storage.ensures.storage c.load.result c.load.ensures.reads c.in-Ok.header c.in-Ok.ensures.ok c.load_tables.new.file.storage.storage c.into_storage.result c.into_storage.ensures
-    c.load_tables.ensures.storage
+    let file : ImageFile _ = record { alloc = c.args.alloc; storage = c.load.new.storage; header = c.in-Ok.header; caches = c.in-Ok-new.caches; free_list = c.new-2.result } in
+    left_refused g.S.Storage.view c.args.writable c.args.storage.storage c.args.storage.storage file refl c.load.result c.load.ensures.reads c.in-Ok.ensures.ok c.load_tables.new.file c.in-Err-load_tables.e c.into_storage.result
+    c.into_storage.ensures c.in-Err-load_tables.ensures.storage
