@@ -12,7 +12,7 @@ use Rattle.qcow2_alloc.specs.declared.error.ImageError.{ImageError}
 use Rattle.qcow2_image.specs.CountedOpening.{OpeningCounts}
 use Rattle.qcow2_image.specs.declared.image.Qcow2.{Qcow2}
 use Rattle.qcow2_image.specs.Image.{is_failed, is_writable, number_of, storage_of_image}
-use Rattle.qcow2_image.specs.Opened.{IsKeptSince, IsOpenedFrom}
+use Rattle.qcow2_image.specs.Opened.{IsKeptSince, IsOpenedFrom, LeavesStorage}
 use Rattle.qcow2_image.specs.ImageInvariant.{abstract_of, image_abstraction}
 use Rattle.qcow2_image.specs.Readable.{OpensRightly}
 use Rattle.qcow2_session.specs.Commands.{command_of, reply_of}
@@ -37,7 +37,7 @@ module _ {S F : Type 0} (view : S → StorageView) (backing : F → BackingView)
       → HadNoRoom run.0 run.1.items ⊎ IsHeadline (image_abstraction view backing) before run.0 (map command_of commands) (map reply_of run.1.items)
   Headline commands (Err refused) = before.is_honest → IsConsistent (byte_at before.contents) → IsKeptSince before (view refused.0)
 
-  -- The image that was opened, whatever the contents were, has its number, is to be written and works. The replies tell of it.
+  -- The image that was opened, whatever the contents were, has its number, is to be written and works. Opening changed the autoclear field alone, and the replies tell of it.
   -- From consistent contents it is sound, has each surplus as they had it, and stands at the begin of a run from the disk that it showed.
   pub record IsToldOfOpened (number : ℕ) (commands : List Command) (image : Qcow2 S F) (replies : List Reply) : Type 0 where
     pub opened : Qcow2 S F
@@ -45,14 +45,15 @@ module _ {S F : Type 0} (view : S → StorageView) (backing : F → BackingView)
     pub writable : IsTrue (is_writable opened)
     pub works : is_failed opened ≡ false
     pub counts : OpeningCounts view before.faults (Ok opened)
+    pub leaves : LeavesStorage view true before (Ok opened)
     pub run : TellsThrough view backing opened image commands replies
     pub is : before.is_honest → IsConsistent (byte_at before.contents) → IsOpenedFrom view backing (byte_at before.contents) opened
     pub begins : before.is_honest → IsConsistent (byte_at before.contents) → let v = abstract_of view backing opened [] in RefinesState v.setting v (started (guest_of v))
 
-  -- So it is where it opens. Where it doesn't, it is refused as opening alone for writing is: for one of the reasons of these contents.
+  -- So it is where it opens. Where it doesn't, it is refused as opening alone for writing is: for one of the reasons of these contents, which stay unless the storage failed.
   abbrev pub TellsOfOpened : ℕ → List Command → Result (Qcow2 S F × Vec Reply Global) (S × ImageError) → Type 0
   TellsOfOpened number commands (Ok run) = IsToldOfOpened number commands run.0 run.1.items
-  TellsOfOpened number commands (Err refused) = OpensRightly {S = S} {F = F} before true true (Err refused)
+  TellsOfOpened number commands (Err refused) = OpensRightly {S = S} {F = F} before true true (Err refused) × LeavesStorage {F = F} view true before (Err refused)
 
   -- Opening counts the faults of the storage, refused or not, and each command those since.
   abbrev pub CountsSinceBefore : Result (Qcow2 S F × Vec Reply Global) (S × ImageError) → Type 0

@@ -1,4 +1,4 @@
-use Rattle.std.proofs.Common.{refl, sym, subst}
+use Rattle.std.proofs.Common.{inl, inr, sym, subst}
 use Rattle.program_parts.specs.Conversions.{IsExport, KeepsDisk}
 use Rattle.program_parts.proofs.Imported.{ok_then}
 use Rattle.program_parts.proofs.Exported.{keeps_itself, once_flushed, has_export, keeps_disk}
@@ -12,7 +12,7 @@ returns-in-Ok-clause-raw g c = λ raw_honest honest consistent.
     (c.flushed-exported.ensures.same (c.to_raw-copied.ensures.honest raw_honest)) c.flushed-exported.ensures.told
     (ok_then c.to_raw-copied.result
     (λ n exports.
-    has_export view _ (view c.args.storage) c.in-Ok.image c.to_raw-copied.new.image (c.in-Ok.ensures.opens honest consistent).opened c.in-Ok.ensures.below (c.in-Ok.ensures.storage.reading refl honest)
+    has_export view _ (view c.args.storage) c.in-Ok.image c.to_raw-copied.new.image (c.in-Ok.ensures.opens honest consistent).opened c.in-Ok.ensures.below (c.in-Ok.ensures.storage.contents honest).contents
     raw.contents n exports)
     (c.to_raw-copied.ensures.sees raw_honest))
 
@@ -20,8 +20,8 @@ pub returns-in-Ok-clause-image : goal.returns-in-Ok-clause-image
 returns-in-Ok-clause-image g c = λ honest consistent.
     let view = g.S.Storage.view in
     subst (λ s. KeepsDisk (view c.args.storage) (view s)) (sym c.into_storage.ensures)
-    (keeps_disk view _ (view c.args.storage) c.in-Ok.image c.to_raw-copied.new.image (c.in-Ok.ensures.opens honest consistent).opened c.in-Ok.ensures.below (c.in-Ok.ensures.storage.reading refl honest)
+    (keeps_disk view _ (view c.args.storage) c.in-Ok.image c.to_raw-copied.new.image (c.in-Ok.ensures.opens honest consistent).opened c.in-Ok.ensures.below (c.in-Ok.ensures.storage.contents honest).contents
     c.to_raw-copied.result c.to_raw-copied.ensures.same)
 
 pub returns-in-Err-clause-image : goal.returns-in-Err-clause-image
-returns-in-Err-clause-image g c = λ honest consistent. keeps_itself (g.S.Storage.view c.args.storage) (g.S.Storage.view c.in-Err.storage).contents consistent (c.in-Err.ensures.storage.reading refl honest)
+returns-in-Err-clause-image g c = λ honest consistent. keeps_itself (g.S.Storage.view c.args.storage) (g.S.Storage.view c.in-Err.storage).contents consistent (elim (c.in-Err.ensures.storage.contents honest) [ inl stay ↦ stay | inr made ↦ made.2 ])

@@ -60,6 +60,7 @@ returns-clause-tells g c =
       writable = c.in-Ok.ensures.ok.2;
       works = c.in-Ok.ensures.ok.1;
       counts = c.in-Ok.ensures.faults;
+      leaves = c.in-Ok.ensures.storage;
       run = c.run-replies.ensures.tells;
       is = λ honest consistent. c.in-Ok.ensures.opens honest consistent;
       begins = λ honest consistent. let is = c.in-Ok.ensures.opens honest consistent in begins v is.opened.sound (whole view below opened [] is.opened.sound) is.opened.clean;
@@ -67,3 +68,6 @@ returns-clause-tells g c =
 
 pub returns-clause-faults : goal.returns-clause-faults
 returns-clause-faults g c = (c.in-Ok.image, c.in-Ok.ensures.faults, c.run-replies.ensures.faults)
+
+pub returns-in-Err-clause-tells : goal.returns-in-Err-clause-tells
+returns-in-Err-clause-tells g c = (c.in-Err.ensures.cause, c.in-Err.ensures.storage)
