@@ -1,4 +1,5 @@
 pub mod Conversions
+pub mod Creating
 pub mod Lines
 pub mod Printing
 pub mod Program

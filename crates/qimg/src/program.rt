@@ -3,6 +3,7 @@ ghost use Rattle.std.specs.Io.KnownBytes.{Appends, Keeps};
 ghost use Rattle.image_access.specs.Moments.{ContentsStay};
 ghost use Rattle.qcow2_image.specs.Opened.{NeedsAnother};
 ghost use Rattle.qcow2_image.specs.Calls.{FlushesImage};
+ghost use Rattle.qimg.specs.Creating.{CreatesOrLeaves, HasCreated};
 ghost use Rattle.qimg.specs.Program.{ArePrinted, HasRun, HasRunText};
 
 use crate::messages::{report_bad_line, report_refused};
@@ -35,6 +36,8 @@ pub fn create<S: Storage, W: Write>(
 ) -> (u8, S)
     ensures bound { result.0 ≤ 2 }
     ensures created { result.0 ≡ 0 → Appends (W.contents output.old) (W.contents output.new) (codes "created" ++ 10 ∷ []) }
+    ensures image { result.0 ≡ 0 → HasCreated S.view storage result.1 invocation.now }
+    ensures left { CreatesOrLeaves S.view storage result.1 invocation.now }
 {
     let Invocation::Create {
         file: _,
