@@ -1,7 +1,10 @@
 #!/usr/bin/env -S python3 -B
 """Images that aren't consistent: what is refused, and what of the file stays as it was."""
 
-from checks import Checks, answers, contents, create, equal, put
+import re
+import subprocess
+
+from checks import Checks, answers, contents, create, equal, put, ran, shown
 
 POINTERS = slice(48, 60)
 
@@ -45,6 +48,17 @@ def a_first_range_without_a_refblock(cluster, width):
     equal(contents("disk"), before, "the contents")
 
 
+def one_full_refblock_many_times(count):
+    """What is free lies past the greatest place of a file, so the write is a fault, which ends the run. The checker would tell of each cluster that is counted, so only the run is tried."""
+    cluster = 65536
+    create("disk", 1 << 20, cluster, 1)
+    put("disk", cluster, (2 * cluster).to_bytes(8, "big") * count)
+    put("disk", 2 * cluster, b"\xff" * cluster)
+    status, text = ran("run", "disk", input=b"fill 0 512 11\n", stdout=subprocess.PIPE, stderr=subprocess.DEVNULL, timeout=10)
+    if status not in (0, 1) or not re.fullmatch(r"ok\n|refused \d+ .*\n(refused 16 failed\n)?", text):
+        raise AssertionError(f"status {status} and {shown(text)}")
+
+
 def needs_a_data_file(file):
     put(file, 72, (4).to_bytes(8, "big"))
 
@@ -77,6 +91,7 @@ def main():
         checks.run(check.__name__, check)
     for cluster, width in ((512, 16), (512, 64), (65536, 16), (2 << 20, 1)):
         checks.run(f"a first range without a refblock, {cluster} {width}", a_first_range_without_a_refblock, cluster, width)
+    checks.run("one full refblock four thousand times", one_full_refblock_many_times, 4000)
     for needs in (needs_a_data_file, names_a_data_file, names_a_backing_file):
         checks.run(f"an image that {needs.__name__}", an_image_with_a_bitmap, needs, "refused 12 dependency", b"\xff" * 8, 1)
     checks.run("an image that needs nothing", an_image_with_a_bitmap, needs_nothing, "size 65536", bytes(8), 0)
