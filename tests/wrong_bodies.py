@@ -148,8 +148,8 @@ def checked(rt, crate, texts, only, kept):
 
 @dataclass
 class Tried:
-    """What a check showed: the bodies that were refused, with the clauses that each breaks and the seconds that it took, those that weren't and those of which it says too little, each with why, those to be tried again;
-    and the functions without one that were refused."""
+    """What a check showed: the bodies that were refused, with the clauses that each breaks and the seconds that it took, those that weren't and those of which it says too little, each with
+    why, those to be tried again; and the functions without one that were refused."""
 
     seconds: float
     refused: list = field(default_factory=list)
