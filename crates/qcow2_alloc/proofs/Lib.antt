@@ -34,3 +34,4 @@ pub mod GrownReftables
 pub mod FormerReftables
 pub mod Limits
 pub mod LoadedTables
+pub mod HeaderClusters

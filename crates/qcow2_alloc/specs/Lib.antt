@@ -29,3 +29,4 @@ pub mod Limits
 pub mod LoadedTables
 pub mod Faults
 pub mod WriteKinds
+pub mod HeaderClusters

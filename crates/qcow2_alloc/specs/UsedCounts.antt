@@ -1,5 +1,5 @@
 -- Clusters in use, which a search for free ones passes over.
-use Rattle.std.specs.Prelude.{ℕ, ◌+◌, ◌<◌, ◌≤◌, ◌≢◌, Result, Ok, Err}
+use Rattle.std.specs.Prelude.{ℕ, ◌+◌, ◌<◌, ◌≤◌, ◌==◌, ◌≢◌, if◌then◌else◌, Result, Ok, Err}
 use Rattle.image_access.specs.Moments.{StorageView}
 use Rattle.qcow2_metadata.specs.Bytes.{Bytes}
 use Rattle.qcow2_metadata.specs.declared.header.HeaderFields.{HeaderFields}
@@ -14,6 +14,11 @@ use Rattle.qcow2_alloc.specs.declared.allocation.Allocator.{Allocator}
 use Rattle.qcow2_alloc.specs.declared.cache.MetadataCaches.{MetadataCaches}
 use Rattle.qcow2_alloc.specs.declared.error.ImageError.{ImageError}
 use Rattle.qcow2_alloc.specs.declared.image_file.ImageFile.{ImageFile}
+
+-- where the first free cluster is looked for, once a search that stood at a cluster goes on: it moves with a search that stood there
+abbrev pub passed_hint : ℕ → ℕ → Result ℕ ImageError → ℕ
+passed_hint hint from (Ok next) = if from == hint then next else hint
+passed_hint hint from (Err e) = hint
 
 module _ {S : Type 0} where
   -- none of so many counts of a held refblock from an index on is 0, where the caches are sound

@@ -2,7 +2,7 @@
 ghost use Rattle.std.specs.Prelude.{◌≡◌, ◌≢◌, ◌⊎◌, ℕ, ◌+◌, ◌/◌, ◌^◌, ◌<◌, ◌≤◌, false, OnOk, IfOk, IfErr, IsTrue};
 ghost use Rattle.qcow2_metadata.specs.Header.{counts_per_block};
 ghost use Rattle.qcow2_laws.specs.CrashInvariant.{Pending};
-ghost use Rattle.qcow2_alloc.specs.Allocation.{run_at, UnseenAllocatorStep, GivesBack};
+ghost use Rattle.qcow2_alloc.specs.Allocation.{run_at, UnseenAllocatorStep, GivesBack, SameLeaks};
 ghost use Rattle.qcow2_alloc.specs.CachePins.{KeepsPinsAndNotes};
 ghost use Rattle.qcow2_alloc.specs.Faults.{CountsFaults};
 ghost use Rattle.qcow2_alloc.specs.GrownTables.{counted_run, with_run};
@@ -59,6 +59,7 @@ impl Allocator {
         ensures list { file.new.free_list ≡ file.old.free_list }
         ensures cause { IfErr result IsOfTables }
         ensures storage_faults { CountsFaults S.view file.old.storage file.new.storage result }
+        ensures leaks { (p : Pending) → AllocatorInvariant S.view self.old p file.old → SameLeaks self.old self.new }
         ensures room { (p : Pending) → AllocatorInvariant S.view self.old p file.old → NoFreeBelowHint S.view self.old file.old → IfErr result (IsFaultOr (HasNoRoomBelow S.view file.new (λ k. 0) self.old.reftable clusters end)) }
     {
         let mut first = self.first_free_cluster.max(1);
@@ -170,6 +171,7 @@ impl Allocator {
         ensures list { file.new.free_list ≡ file.old.free_list }
         ensures cause { IfErr result IsOfTables }
         ensures storage_faults { CountsFaults S.view file.old.storage file.new.storage result }
+        ensures leaks { (p : Pending) (start : ImageFile S) → start.header ≡ file.old.header → UnseenAllocatorStep S.view p start self.old file.old (with_run p start.header.fields self.old.reftable first n) → SameLeaks self.old self.new }
         ensures kept { (p : Pending) (start : ImageFile S) → start.header ≡ file.old.header → UnseenAllocatorStep S.view p start self.old file.old (with_run p start.header.fields self.old.reftable first n)
             → OnOk result ((k : ℕ) → run_at first n k ≡ 0 → IsUsed S.view file.old k → IsUsed S.view file.new k) }
     {

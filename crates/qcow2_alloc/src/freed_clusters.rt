@@ -35,6 +35,7 @@ impl Allocator {
         ensures list { file.new.free_list ≡ file.old.free_list }
         ensures cause { IfErr result IsOfTables }
         ensures storage_faults { CountsFaults S.view file.old.storage file.new.storage result }
+        ensures leaks { (p : Pending) (is_data : Bool) → AllocatorInvariant S.view self.old (taken_as is_data p (run_at first n)) file.old → SameLeaks self.old self.new }
         ensures hint { (p : Pending) (is_data : Bool) → AllocatorInvariant S.view self.old (taken_as is_data p (run_at first n)) file.old → NoFreeBelowHint S.view self.old file.old → KeepsNoFreeBelowHint S.view self.new file.new result }
         ensures kept { (p : Pending) (is_data : Bool) → AllocatorInvariant S.view self.old (taken_as is_data p (run_at first n)) file.old → KeepsUsedBut S.view (run_at first n) file.old file.new result }
     {

@@ -7,12 +7,13 @@ ghost use Rattle.qcow2_metadata.specs.RefBlock.{IsRefBlock};
 ghost use Rattle.qcow2_metadata.specs.TableBytes.{HasPlace};
 ghost use Rattle.qcow2_laws.specs.Caches.{AreClean, BlocksMayGo};
 ghost use Rattle.qcow2_laws.specs.CrashInvariant.{Pending};
-ghost use Rattle.qcow2_alloc.specs.Allocation.{run_at, NamesBehindHeader};
+ghost use Rattle.qcow2_alloc.specs.Allocation.{run_at, NamesBehindHeader, SameLeaks};
 ghost use Rattle.qcow2_alloc.specs.CachePins.{KeepsPinsAndNotes};
 ghost use Rattle.qcow2_alloc.specs.Faults.{CountsFaults};
 ghost use Rattle.qcow2_alloc.specs.GrownTables.{with_run, NamesReftable};
 ghost use Rattle.qcow2_alloc.specs.ImageError.{IsOfTables};
-ghost use Rattle.qcow2_alloc.specs.ImageFile.{AllocatorInvariant, KeepsHeader};
+ghost use Rattle.qcow2_alloc.specs.HeaderClusters.{KeepsHeaderCluster};
+ghost use Rattle.qcow2_alloc.specs.ImageFile.{view_in, AllocatorInvariant, KeepsHeader};
 ghost use Rattle.qcow2_alloc.specs.LowestRuns.{KeepsUsed};
 ghost use Rattle.qcow2_alloc.specs.MetadataCaches.{order_of, l2_tables, refblocks, rb_at};
 ghost use Rattle.qcow2_alloc.specs.Rooms.{opened, room_length, placed_at, CountsRun, IsLonger, WritesTo, WritesTable, PlacesBlocks};
@@ -62,6 +63,7 @@ fn write_new_block<S: Storage>(
     cluster: HostCluster,
 ) -> Result<(), ImageError>
     requires place { block.now.cluster ≡ Some cluster }
+    requires elsewhere { 0 < cluster }
     requires whole { IsRefBlock block.now }
     ensures marks { KeepsPinsAndNotes file.old.caches file.new.caches }
     ensures order { order_of file.new.caches ≡ order_of file.old.caches }
@@ -71,6 +73,7 @@ fn write_new_block<S: Storage>(
     ensures sound { (p : Pending) (first n : ℕ) (allocator : AllocatorView) → AllocatorInvariant S.view allocator (with_run p file.old.header.fields allocator.reftable first n) file.old
         → BlocksMayGo (order_of file.old.caches) (l2_tables file.old.caches) → 0 < run_at first n cluster → IsBlockOf file.old.header.fields block.now
         → WritesTo S.view (with_run p file.old.header.fields allocator.reftable first n) file.old allocator file.new cluster block.now.bytes result }
+    ensures header_cluster { KeepsHeaderCluster block.now.cluster_bits (view_in S.view file.old) (view_in S.view file.new) }
     ensures header { file.new.header ≡ file.old.header }
     ensures list { file.new.free_list ≡ file.old.free_list }
     ensures cause { IfErr result IsOfTables }
@@ -78,7 +81,7 @@ fn write_new_block<S: Storage>(
 {
     file.caches.rb_remove(cluster);
     file.storage.will_write(WriteKind::Other);
-    file.storage.write_new_refblock(block)?;
+    file.storage.place_refblock(block)?;
     Ok(())
 }
 
@@ -89,13 +92,15 @@ pub(crate) fn place_table<S: Storage>(
     table: &mut RefTable,
     cluster: HostCluster,
 ) -> Result<(), ImageError>
-    requires { IsHostCluster table.old.cluster_bits cluster }
+    requires nameable { IsHostCluster table.old.cluster_bits cluster }
+    requires elsewhere { 0 < cluster }
     ensures caches { file.new.caches ≡ file.old.caches }
     ensures table { table.new ≡ placed_at table.old cluster }
     ensures sound { (p : Pending) (first n clusters : ℕ) (allocator : AllocatorView) → AllocatorInvariant S.view allocator (with_run p file.old.header.fields allocator.reftable first n) file.old
         → BlocksMayGo (order_of file.old.caches) (l2_tables file.old.caches) → first ≤ cluster → cluster + clusters ≤ first + n → table.old.cluster_bits ≡ file.old.header.fields.cluster_bits
         → length table.old.bytes ≡ clusters * cluster_size file.old.header.fields
         → WritesTable S.view (with_run p file.old.header.fields allocator.reftable first n) file.old allocator file.new cluster clusters table.old.bytes result }
+    ensures header_cluster { KeepsHeaderCluster table.old.cluster_bits (view_in S.view file.old) (view_in S.view file.new) }
     ensures header { file.new.header ≡ file.old.header }
     ensures list { file.new.free_list ≡ file.old.free_list }
     ensures cause { IfErr result IsOfTables }
@@ -103,7 +108,7 @@ pub(crate) fn place_table<S: Storage>(
 {
     table.set_cluster(cluster);
     file.storage.will_write(WriteKind::Other);
-    file.storage.write_reftable(table)?;
+    file.storage.place_reftable(table)?;
     Ok(())
 }
 
@@ -131,6 +136,7 @@ impl Allocator {
         ensures sound { (p : Pending) → AllocatorInvariant S.view self.now (with_run p file.old.header.fields self.now.reftable room.first (room_length room)) file.old
             → BlocksMayGo (order_of file.old.caches) (l2_tables file.old.caches) → IsLonger file.old.header.fields self.now.reftable table.old room.clusters
             → PlacesBlocks S.view (with_run p file.old.header.fields self.now.reftable room.first (room_length room)) file.old self.now file.new self.now.reftable table.new room result }
+        ensures header_cluster { KeepsHeaderCluster file.old.header.fields.cluster_bits (view_in S.view file.old) (view_in S.view file.new) }
         ensures header { file.new.header ≡ file.old.header }
         ensures list { file.new.free_list ≡ file.old.free_list }
         ensures cause { IfErr result IsOfTables }
@@ -189,6 +195,7 @@ impl Allocator {
         ensures cause { IfErr result IsOfTables }
         ensures kept { OnErr result (self.new.reftable ≡ self.old.reftable) }
         ensures storage_faults { CountsFaults S.view file.old.storage file.new.storage result }
+        ensures leaks { SameLeaks self.old self.new }
     {
         let mut table = table;
         file.caches.flush_rb(&mut file.storage)?;

@@ -1,6 +1,7 @@
 //! The header's pointer to a longer reftable.
 ghost use Rattle.std.specs.Prelude.{◌≡◌, ℕ, ◌+◌, OnOk, OnErr, IfErr, IsTrue};
 ghost use Rattle.qcow2_laws.specs.CrashInvariant.{Pending};
+ghost use Rattle.qcow2_alloc.specs.Allocation.{SameLeaks};
 ghost use Rattle.qcow2_alloc.specs.CachePins.{KeepsPinsAndNotes};
 ghost use Rattle.qcow2_alloc.specs.Faults.{CountsFaults};
 ghost use Rattle.qcow2_alloc.specs.GrownTables.{with_run, StandsGrown, NamesReftable};
@@ -35,6 +36,7 @@ impl Allocator {
         ensures cause { IfErr result IsOfTables }
         ensures kept { OnErr result (self.new.reftable ≡ self.old.reftable) }
         ensures storage_faults { CountsFaults S.view file.old.storage file.new.storage result }
+        ensures leaks { SameLeaks self.old self.new }
     {
         let Some(cluster) = table.get_cluster() else {
             return Err(ImageError::Limit);

@@ -10,6 +10,7 @@ ghost use Rattle.qcow2_metadata.specs.Bytes.{byte_at};
 ghost use Rattle.qcow2_metadata.specs.RefBlock.{IsRefBlockAt};
 ghost use Rattle.qcow2_metadata.specs.TableBytes.{HasPlace, entry_at};
 ghost use Rattle.qcow2_metadata.specs.EntryTable.{entry_count};
+ghost use Rattle.qcow2_alloc.specs.HeaderClusters.{KeepsHeaderCluster};
 ghost use Rattle.qcow2_alloc.specs.ImageStorage.{storage_of, NotesWrite};
 ghost use Rattle.qcow2_alloc.specs.WriteKinds.{IsToldData, IsToldL2Table, IsToldRefBlock, IsToldOther};
 
@@ -120,6 +121,20 @@ impl<S: Storage> ImageStorage<S> {
         self.noted(new_block_written)
     }
 
+    // Writes a new refblock of an image to its cluster, which is never the header's.
+    pub(crate) fn place_refblock(&mut self, block: &RefBlock) -> Result<(), StorageError>
+        requires placed { IsSome block.now.cluster }
+        requires elsewhere { IfSome block.now.cluster (λ cluster. 0 < cluster) }
+        requires told { IsToldOther self.old }
+        ensures written { IfSome block.now.cluster (λ cluster. Changes (S.view (storage_of self.old)) (S.view (storage_of self.new)) result
+            (overwritten (S.view (storage_of self.old)).contents (cluster * 2 ^ block.now.cluster_bits) block.now.bytes)) }
+        ensures header_cluster { KeepsHeaderCluster block.now.cluster_bits (S.view (storage_of self.old)) (S.view (storage_of self.new)) }
+        ensures calls { Calls (S.view (storage_of self.old)) (S.view (storage_of self.new)) result }
+        ensures noted { NotesWrite self.old self.new result }
+    {
+        self.write_new_refblock(block)
+    }
+
     /// Writes an L1 table to its clusters. Refused 14 (memory), 15 (storage), as the storage is.
     pub fn write_l1_table(&mut self, table: &L1Table) -> Result<(), StorageError>
         requires placed { IsSome table.now.cluster }
@@ -159,6 +174,20 @@ impl<S: Storage> ImageStorage<S> {
     {
         let reftable_written = table.write(&mut self.storage);
         self.noted(reftable_written)
+    }
+
+    // Writes a new reftable of an image to its clusters, of which none is the header's.
+    pub(crate) fn place_reftable(&mut self, table: &RefTable) -> Result<(), StorageError>
+        requires placed { IsSome table.now.cluster }
+        requires elsewhere { IfSome table.now.cluster (λ cluster. 0 < cluster) }
+        requires told { IsToldOther self.old }
+        ensures written { IfSome table.now.cluster (λ cluster. Changes (S.view (storage_of self.old)) (S.view (storage_of self.new)) result
+            (overwritten (S.view (storage_of self.old)).contents (cluster * 2 ^ table.now.cluster_bits) table.now.bytes)) }
+        ensures header_cluster { KeepsHeaderCluster table.now.cluster_bits (S.view (storage_of self.old)) (S.view (storage_of self.new)) }
+        ensures calls { Calls (S.view (storage_of self.old)) (S.view (storage_of self.new)) result }
+        ensures noted { NotesWrite self.old self.new result }
+    {
+        self.write_reftable(table)
     }
 
     /// Writes the entry of an index, below its length, of a reftable. Refused 14 (memory), 15 (storage), as the storage is.

@@ -7,7 +7,7 @@ ghost use Rattle.qcow2_alloc.specs.ImageError.{IsOfTables};
 ghost use Rattle.qcow2_alloc.specs.ImageFile.{AllocatorInvariant};
 ghost use Rattle.qcow2_alloc.specs.LowestRuns.{NoFreeBelowHint, KeepsNoFreeBelowHint};
 ghost use Rattle.qcow2_alloc.specs.MetadataCaches.{order_of};
-ghost use Rattle.qcow2_alloc.specs.UsedCounts.{PassesUsed};
+ghost use Rattle.qcow2_alloc.specs.UsedCounts.{passed_hint, PassesUsed};
 
 use crate::{Allocator, ImageError, ImageFile};
 use image_access::Storage;
@@ -23,7 +23,7 @@ impl Allocator {
         requires { cluster < 2 ^ 63 }
         ensures marks { KeepsPinsAndNotes file.old.caches file.new.caches }
         ensures order { order_of file.new.caches ≡ order_of file.old.caches }
-        ensures reftable { self.new.reftable ≡ self.old.reftable }
+        ensures moves { self.new ≡ record self.old { first_free_cluster = passed_hint self.old.first_free_cluster cluster result } }
         ensures sound { (p : Pending) → AllocatorInvariant S.view self.old p file.old → PassesUsed S.view p file.old self.new file.new cluster result }
         ensures header { file.new.header ≡ file.old.header }
         ensures list { file.new.free_list ≡ file.old.free_list }

@@ -5,25 +5,36 @@ use Rattle.image_access.specs.Moments.{Changes}
 use Rattle.qcow2_metadata.specs.EntryTable.{EntryTableView}
 use Rattle.qcow2_alloc.specs.GrownTables.{with_run}
 use Rattle.qcow2_alloc.specs.ImageError.{of_storage}
+use Rattle.qcow2_alloc.specs.HeaderClusters.{KeepsHeaderCluster}
 use Rattle.qcow2_alloc.specs.ImageStorage.{storage_of}
 use Rattle.qcow2_alloc.specs.Rooms.{WritesTable}
 use Rattle.qcow2_alloc.proofs.AllocationSteps.{handed_on}
 use Rattle.qcow2_alloc.proofs.RoomWrites.{table_refused, table_stands}
 use Rattle.qcow2_alloc.proofs.new_refblocks.place_table.Goals as goal
 
-pub returns-in_err-write_reftable-clause-sound : goal.returns-in_err-write_reftable-clause-sound
-returns-in_err-write_reftable-clause-sound g c = λ p first n clusters a sound may low high t_bits long.
+pub returns-in_err-place_reftable-clause-sound : goal.returns-in_err-place_reftable-clause-sound
+returns-in_err-place_reftable-clause-sound g c = λ p first n clusters a sound may low high t_bits long.
     let view = g.S.Storage.view in
     let old = c.args.file.now in
     let asked = storage_of c.will_write.new.self in
-    let written = subst (λ (x : EntryTableView). IfSome x.cluster (λ k. Changes (view asked) (view (storage_of c.write_reftable.new.self)) c.write_reftable.result (overwritten (view asked).contents (k * 2 ^ x.cluster_bits) x.bytes))) c.set_cluster.ensures c.write_reftable.ensures.written in
-    handed_on (WritesTable view (with_run p old.header.fields a.reftable first n) old a (record old { storage = c.write_reftable.new.self }) c.args.cluster clusters c.args.table.now.bytes) c.from_residual.result (of_storage c.in_err-write_reftable.field-0.0) c.from_residual.ensures
-    (table_refused view p first n old a sound may c.args.cluster clusters low high c.args.table.now t_bits long asked c.write_reftable.new.self c.write_reftable.result c.will_write.ensures.storage written c.write_reftable.ensures.calls c.in_err-write_reftable.field-0.0)
+    let written = subst (λ (x : EntryTableView). IfSome x.cluster (λ k. Changes (view asked) (view (storage_of c.place_reftable.new.self)) c.place_reftable.result (overwritten (view asked).contents (k * 2 ^ x.cluster_bits) x.bytes))) c.set_cluster.ensures c.place_reftable.ensures.written in
+    handed_on (WritesTable view (with_run p old.header.fields a.reftable first n) old a (record old { storage = c.place_reftable.new.self }) c.args.cluster clusters c.args.table.now.bytes) c.from_residual.result (of_storage c.in_err-place_reftable.field-0.0) c.from_residual.ensures
+    (table_refused view p first n old a sound may c.args.cluster clusters low high c.args.table.now t_bits long asked c.place_reftable.new.self c.place_reftable.result c.will_write.ensures.storage written c.place_reftable.ensures.calls c.in_err-place_reftable.field-0.0)
 
 pub returns-clause-sound : goal.returns-clause-sound
 returns-clause-sound g c = λ p first n clusters a sound may low high t_bits long.
     let view = g.S.Storage.view in
     let old = c.args.file.now in
     let asked = storage_of c.will_write.new.self in
-    let written = subst (λ (x : EntryTableView). IfSome x.cluster (λ k. Changes (view asked) (view (storage_of c.write_reftable.new.self)) c.write_reftable.result (overwritten (view asked).contents (k * 2 ^ x.cluster_bits) x.bytes))) c.set_cluster.ensures c.write_reftable.ensures.written in
-    table_stands view p first n old a sound may c.args.cluster clusters low high c.args.table.now t_bits long asked c.write_reftable.new.self c.write_reftable.result c.will_write.ensures.storage written c.write_reftable.ensures.calls c.in_ok-write_reftable.field-0 c.in_ok-write_reftable.was
+    let written = subst (λ (x : EntryTableView). IfSome x.cluster (λ k. Changes (view asked) (view (storage_of c.place_reftable.new.self)) c.place_reftable.result (overwritten (view asked).contents (k * 2 ^ x.cluster_bits) x.bytes))) c.set_cluster.ensures c.place_reftable.ensures.written in
+    table_stands view p first n old a sound may c.args.cluster clusters low high c.args.table.now t_bits long asked c.place_reftable.new.self c.place_reftable.result c.will_write.ensures.storage written c.place_reftable.ensures.calls c.in_ok-place_reftable.field-0 c.in_ok-place_reftable.was
+
+pub returns-in_err-place_reftable-clause-header_cluster : goal.returns-in_err-place_reftable-clause-header_cluster
+returns-in_err-place_reftable-clause-header_cluster g c =
+    subst (λ s. KeepsHeaderCluster c.args.table.now.cluster_bits (g.S.Storage.view s) (g.S.Storage.view (storage_of c.place_reftable.new.self))) c.will_write.ensures.storage
+    (subst (λ (x : EntryTableView). KeepsHeaderCluster x.cluster_bits (g.S.Storage.view (storage_of c.will_write.new.self)) (g.S.Storage.view (storage_of c.place_reftable.new.self))) c.set_cluster.ensures c.place_reftable.ensures.header_cluster)
+
+pub returns-clause-header_cluster : goal.returns-clause-header_cluster
+returns-clause-header_cluster g c =
+    subst (λ s. KeepsHeaderCluster c.args.table.now.cluster_bits (g.S.Storage.view s) (g.S.Storage.view (storage_of c.place_reftable.new.self))) c.will_write.ensures.storage
+    (subst (λ (x : EntryTableView). KeepsHeaderCluster x.cluster_bits (g.S.Storage.view (storage_of c.will_write.new.self)) (g.S.Storage.view (storage_of c.place_reftable.new.self))) c.set_cluster.ensures c.place_reftable.ensures.header_cluster)

@@ -1,8 +1,9 @@
-use Rattle.std.proofs.Common.{sym}
+use Rattle.std.proofs.Common.{sym, subst}
 use Rattle.std.proofs.lemmas.Bool.{ne_eqb}
 use Rattle.qcow2_alloc.specs.GrownTables.{with_run}
 use Rattle.qcow2_alloc.specs.ImageError.{of_storage}
 use Rattle.qcow2_alloc.specs.ImageFile.{contents_in}
+use Rattle.qcow2_alloc.specs.HeaderClusters.{KeepsHeaderCluster}
 use Rattle.qcow2_alloc.specs.ImageStorage.{storage_of}
 use Rattle.qcow2_alloc.specs.Rooms.{WritesTo}
 use Rattle.qcow2_alloc.proofs.AllocationSteps.{handed_on}
@@ -12,14 +13,14 @@ use Rattle.qcow2_alloc.proofs.new_refblocks.write_new_block.Goals as goal
 pub returns-clause-others : goal.returns-clause-others
 returns-clause-others g c = λ k other. c.rb_remove.ensures.others k (ne_eqb c.args.cluster k (λ e. other (sym e)))
 
-pub returns-in_err-write_new_refblock-clause-sound : goal.returns-in_err-write_new_refblock-clause-sound
-returns-in_err-write_new_refblock-clause-sound g c = λ p first n a sound may some fits.
+pub returns-in_err-place_refblock-clause-sound : goal.returns-in_err-place_refblock-clause-sound
+returns-in_err-place_refblock-clause-sound g c = λ p first n a sound may some fits.
     let view = g.S.Storage.view in
     let old = c.args.file.now in
     let q = with_run p old.header.fields a.reftable first n in
-    handed_on (WritesTo view q old a (record old { storage = c.write_new_refblock.new.self; caches = c.rb_remove.new.self }) c.args.cluster c.args.block.now.bytes) c.from_residual.result (of_storage c.in_err-write_new_refblock.field-0.0) c.from_residual.ensures
+    handed_on (WritesTo view q old a (record old { storage = c.place_refblock.new.self; caches = c.rb_remove.new.self }) c.args.cluster c.args.block.now.bytes) c.from_residual.result (of_storage c.in_err-place_refblock.field-0.0) c.from_residual.ensures
     (block_refused view p first n old a c.rb_remove.new.self c.args.cluster c.rb_remove.result sound may some c.rb_remove.ensures.order c.rb_remove.ensures.tables c.rb_remove.ensures.marks c.rb_remove.ensures.same c.rb_remove.ensures.taken
-    (storage_of c.will_write.new.self) c.write_new_refblock.new.self c.args.block.now c.write_new_refblock.result fits c.requires.place c.requires.whole.whole c.will_write.ensures.storage c.write_new_refblock.ensures.written c.write_new_refblock.ensures.calls c.in_err-write_new_refblock.field-0.0)
+    (storage_of c.will_write.new.self) c.place_refblock.new.self c.args.block.now c.place_refblock.result fits c.requires.place c.requires.whole.whole c.will_write.ensures.storage c.place_refblock.ensures.written c.place_refblock.ensures.calls c.in_err-place_refblock.field-0.0)
 
 pub returns-clause-sound : goal.returns-clause-sound
 returns-clause-sound g c = λ p first n a sound may some fits.
@@ -27,5 +28,11 @@ returns-clause-sound g c = λ p first n a sound may some fits.
     let old = c.args.file.now in
     let q = with_run p old.header.fields a.reftable first n in
     block_stands view p first n old a c.rb_remove.new.self c.args.cluster c.rb_remove.result sound may some c.rb_remove.ensures.order c.rb_remove.ensures.tables c.rb_remove.ensures.marks c.rb_remove.ensures.same c.rb_remove.ensures.taken
-    (storage_of c.will_write.new.self) c.write_new_refblock.new.self c.args.block.now c.write_new_refblock.result fits c.requires.place c.requires.whole.whole c.will_write.ensures.storage c.write_new_refblock.ensures.written c.write_new_refblock.ensures.calls c.in_ok-write_new_refblock.field-0 c.in_ok-write_new_refblock.was
+    (storage_of c.will_write.new.self) c.place_refblock.new.self c.args.block.now c.place_refblock.result fits c.requires.place c.requires.whole.whole c.will_write.ensures.storage c.place_refblock.ensures.written c.place_refblock.ensures.calls c.in_ok-place_refblock.field-0 c.in_ok-place_refblock.was
     (c.rb_remove.ensures.gone old.header.fields q (contents_in view old) sound.sound.caches sound.sound.room)
+
+pub returns-in_err-place_refblock-clause-header_cluster : goal.returns-in_err-place_refblock-clause-header_cluster
+returns-in_err-place_refblock-clause-header_cluster g c = subst (λ s. KeepsHeaderCluster c.args.block.now.cluster_bits (g.S.Storage.view s) (g.S.Storage.view (storage_of c.place_refblock.new.self))) c.will_write.ensures.storage c.place_refblock.ensures.header_cluster
+
+pub returns-clause-header_cluster : goal.returns-clause-header_cluster
+returns-clause-header_cluster g c = subst (λ s. KeepsHeaderCluster c.args.block.now.cluster_bits (g.S.Storage.view s) (g.S.Storage.view (storage_of c.place_refblock.new.self))) c.will_write.ensures.storage c.place_refblock.ensures.header_cluster

@@ -89,29 +89,29 @@ returns-in_err-flush_rb-clause-sound g c = λ p d t range at sound place fits is
     c.from_residual.result c.in_err-flush_rb.field-0.0 c.from_residual.ensures
     (c.in_err-flush_rb.ensures.faults c.args.file.now.header.fields (placing d p at) sound.sound.honest sound.sound.caches sound.sound.named_blocks, inl (one.file_step, one.reftable))
 
-pub returns-in_err-write_new_refblock-clause-sound : goal.returns-in_err-write_new_refblock-clause-sound
-returns-in_err-write_new_refblock-clause-sound g c = λ p d t range at sound place fits is.
+pub returns-in_err-place_refblock-clause-sound : goal.returns-in_err-place_refblock-clause-sound
+returns-in_err-place_refblock-clause-sound g c = λ p d t range at sound place fits is.
     let whole = subst (λ (b : RefBlockView). length b.bytes ≡ 2 ^ b.cluster_bits) c.block.view_is c.block.invariant.whole in
-    let two = still g.S.Storage.view d p range at c.args.file.now t c.flush_rb.new.storage c.flush_rb.new.self sound c.flush_rb.ensures.keeps c.flush_rb.ensures.marks (storage_of c.will_write.new.self) c.write_new_refblock.new.self
-    c.args.block c.write_new_refblock.result c.in_ok-flush_rb.ensures.first place fits is whole c.will_write.ensures.storage c.write_new_refblock.ensures.written c.write_new_refblock.ensures.calls in
-    handed_on (WritesBlock g.S.Storage.view (placing d p at) c.args.file.now t (record c.args.file.now { storage = c.write_new_refblock.new.self; caches = c.flush_rb.new.self }) c.args.block at)
-    c.from_residual-in_err-write_new_refblock.result (of_storage c.in_err-write_new_refblock.field-0.0) c.from_residual-in_err-write_new_refblock.ensures (fault_of_storage c.in_err-write_new_refblock.field-0.0, inl (two.file_step, two.reftable))
+    let two = still g.S.Storage.view d p range at c.args.file.now t c.flush_rb.new.storage c.flush_rb.new.self sound c.flush_rb.ensures.keeps c.flush_rb.ensures.marks (storage_of c.will_write.new.self) c.place_refblock.new.self
+    c.args.block c.place_refblock.result c.in_ok-flush_rb.ensures.first place fits is whole c.will_write.ensures.storage c.place_refblock.ensures.written c.place_refblock.ensures.calls in
+    handed_on (WritesBlock g.S.Storage.view (placing d p at) c.args.file.now t (record c.args.file.now { storage = c.place_refblock.new.self; caches = c.flush_rb.new.self }) c.args.block at)
+    c.from_residual-in_err-place_refblock.result (of_storage c.in_err-place_refblock.field-0.0) c.from_residual-in_err-place_refblock.ensures (fault_of_storage c.in_err-place_refblock.field-0.0, inl (two.file_step, two.reftable))
 
 pub returns-clause-sound : goal.returns-clause-sound
 returns-clause-sound g c = λ p d t range at sound place fits is.
     let h = c.args.file.now.header.fields in
     let whole = subst (λ (b : RefBlockView). length b.bytes ≡ 2 ^ b.cluster_bits) c.block.view_is c.block.invariant.whole in
     let long = whole ∙ ap (λ n. 2 ^ n) fits.bits in
-    let f2 : ImageFile g.row.S.Denot = record c.args.file.now { storage = c.write_new_refblock.new.self; caches = c.flush_rb.new.self } in
-    let two = still g.S.Storage.view d p range at c.args.file.now t c.flush_rb.new.storage c.flush_rb.new.self sound c.flush_rb.ensures.keeps c.flush_rb.ensures.marks (storage_of c.will_write.new.self) c.write_new_refblock.new.self
-    c.args.block c.write_new_refblock.result c.in_ok-flush_rb.ensures.first place fits is whole c.will_write.ensures.storage c.write_new_refblock.ensures.written c.write_new_refblock.ensures.calls in
-    let stands = stand_there g.S.Storage.view d p range at c.args.file.now t c.flush_rb.new.storage c.flush_rb.new.self sound c.flush_rb.ensures.keeps c.flush_rb.ensures.marks (storage_of c.will_write.new.self) c.write_new_refblock.new.self
-    c.args.block c.write_new_refblock.result c.in_ok-flush_rb.ensures.first place fits is whole c.will_write.ensures.storage c.write_new_refblock.ensures.written c.write_new_refblock.ensures.calls c.in_ok-write_new_refblock.field-0 c.in_ok-write_new_refblock.was in
+    let f2 : ImageFile g.row.S.Denot = record c.args.file.now { storage = c.place_refblock.new.self; caches = c.flush_rb.new.self } in
+    let two = still g.S.Storage.view d p range at c.args.file.now t c.flush_rb.new.storage c.flush_rb.new.self sound c.flush_rb.ensures.keeps c.flush_rb.ensures.marks (storage_of c.will_write.new.self) c.place_refblock.new.self
+    c.args.block c.place_refblock.result c.in_ok-flush_rb.ensures.first place fits is whole c.will_write.ensures.storage c.place_refblock.ensures.written c.place_refblock.ensures.calls in
+    let stands = stand_there g.S.Storage.view d p range at c.args.file.now t c.flush_rb.new.storage c.flush_rb.new.self sound c.flush_rb.ensures.keeps c.flush_rb.ensures.marks (storage_of c.will_write.new.self) c.place_refblock.new.self
+    c.args.block c.place_refblock.result c.in_ok-flush_rb.ensures.first place fits is whole c.will_write.ensures.storage c.place_refblock.ensures.written c.place_refblock.ensures.calls c.in_ok-place_refblock.field-0 c.in_ok-place_refblock.was in
     let room : HasPlaceFor d h t.reftable range at = record { none = place.none; first = place.first } in
     let cleared : IsBlockOf h (cleared_rb c.args.block) = record { bits = fits.bits; order = fits.order } in
     let known = holds_known g.S.Storage.view d p range at f2 t.reftable two.file_step.sound two.reftable c.in_ok-flush_rb.ensures.first room c.args.block fits long stands in
-    let keeps = subst (λ (b : RefBlockView). PutSound g.S.Storage.view c.write_new_refblock.new.self c.flush_rb.new.self c.rb_insert.new.storage c.rb_insert.new.self (λ h. IsBlockOf h b) b.cluster b.bytes b.is_modified) c.clear_modified.ensures c.rb_insert.ensures.keeps in
-    let faults = subst (λ (b : RefBlockView). PutRefusesBy IsFault g.S.Storage.view c.write_new_refblock.new.self c.flush_rb.new.self (λ h. IsBlockOf h b) b.cluster b.bytes b.is_modified c.rb_insert.result) c.clear_modified.ensures (c.rb_insert.ensures.faults two.file_step.sound.room) in
+    let keeps = subst (λ (b : RefBlockView). PutSound g.S.Storage.view c.place_refblock.new.self c.flush_rb.new.self c.rb_insert.new.storage c.rb_insert.new.self (λ h. IsBlockOf h b) b.cluster b.bytes b.is_modified) c.clear_modified.ensures c.rb_insert.ensures.keeps in
+    let faults = subst (λ (b : RefBlockView). PutRefusesBy IsFault g.S.Storage.view c.place_refblock.new.self c.flush_rb.new.self (λ h. IsBlockOf h b) b.cluster b.bytes b.is_modified c.rb_insert.result) c.clear_modified.ensures (c.rb_insert.ensures.faults two.file_step.sound.room) in
     let stays = keeps h (placing d p at) two.file_step.sound.honest two.file_step.sound.caches cleared refl (rw is known) in
     let three = allocator_step_cached g.S.Storage.view (placing d p at) f2 t c.rb_insert.new.storage c.rb_insert.new.self (is_sound_now g.S.Storage.view (placing d p at) (placing d p at) c.args.file.now f2 t two) stays c.rb_insert.ensures.marks in
     finish g.S.Storage.view (placing d p at) c.args.file.now (record f2 { storage = c.rb_insert.new.storage; caches = c.rb_insert.new.self }) t c.args.block at c.rb_insert.result

@@ -101,3 +101,9 @@ returns-in-Err-clause-storage_faults g c = told_err _ _ c.in-Err.refusal c.in-Er
 
 pub returns-in-Err-clause-cause : goal.returns-in-Err-clause-cause
 returns-in-Err-clause-cause g c = c.in-Err.ensures.cause
+
+pub returns-in-Ok-lowest_run-clause-leaks : goal.returns-in-Ok-lowest_run-clause-leaks
+returns-in-Ok-lowest_run-clause-leaks g c = λ p sound. c.lowest_run.ensures.leaks p sound
+
+pub returns-in-Err-clause-leaks : goal.returns-in-Err-clause-leaks
+returns-in-Err-clause-leaks g c = λ p sound. c.lowest_run.ensures.leaks p sound

@@ -124,3 +124,9 @@ returns-clause-order g c = on_ok _ c.allocate.result (c.allocate.ensures.order â
 
 pub returns-clause-storage_faults : goal.returns-clause-storage_faults
 returns-clause-storage_faults g c = told_since _ _ _ c.l2_depends_on_rb.ensures.storage_faults.no_fewer c.allocate.ensures.storage_faults
+
+pub returns-clause-leaks : goal.returns-clause-leaks
+returns-clause-leaks g c = Î» p sound.
+    let one = allocator_step_cached g.S.Storage.view p c.args.file.now c.args.self.now c.l2_depends_on_rb.new.storage c.l2_depends_on_rb.new.self sound (c.l2_depends_on_rb.ensures.keeps c.args.file.now.header.fields p sound.sound.honest sound.sound.caches) c.l2_depends_on_rb.ensures.marks in
+    let file : ImageFile g.row.S.Denot = record c.args.file.now { storage = c.l2_depends_on_rb.new.storage; caches = c.l2_depends_on_rb.new.self } in
+    c.allocate.ensures.leaks p (is_sound_now g.S.Storage.view p p c.args.file.now file c.args.self.now one)

@@ -303,3 +303,21 @@ returns-in-Err-clause-cause g c = c.in-Err.ensures.cause
 
 pub returns-in-Err-clause-storage_faults : goal.returns-in-Err-clause-storage_faults
 returns-in-Err-clause-storage_faults g c = told_since _ _ _ c.l2_depends_on_rb.ensures.storage_faults.no_fewer (told_err _ _ c.in-Err.refusal c.in-Err.ensures.storage_faults)
+
+pub returns-in-Ok-true-clause-leaks : goal.returns-in-Ok-true-clause-leaks
+returns-in-Ok-true-clause-leaks g c = λ p sound.
+    let one = allocator_step_cached g.S.Storage.view p c.args.file.now c.args.self.now c.l2_depends_on_rb.new.storage c.l2_depends_on_rb.new.self sound (c.l2_depends_on_rb.ensures.keeps c.args.file.now.header.fields p sound.sound.honest sound.sound.caches) c.l2_depends_on_rb.ensures.marks in
+    let file : ImageFile g.row.S.Denot = record c.args.file.now { storage = c.l2_depends_on_rb.new.storage; caches = c.l2_depends_on_rb.new.self } in
+    c.take.ensures.leaks p (is_sound_now g.S.Storage.view p p c.args.file.now file c.args.self.now one)
+
+pub returns-in-Ok-false-clause-leaks : goal.returns-in-Ok-false-clause-leaks
+returns-in-Ok-false-clause-leaks g c = λ p sound.
+    let one = allocator_step_cached g.S.Storage.view p c.args.file.now c.args.self.now c.l2_depends_on_rb.new.storage c.l2_depends_on_rb.new.self sound (c.l2_depends_on_rb.ensures.keeps c.args.file.now.header.fields p sound.sound.honest sound.sound.caches) c.l2_depends_on_rb.ensures.marks in
+    let file : ImageFile g.row.S.Denot = record c.args.file.now { storage = c.l2_depends_on_rb.new.storage; caches = c.l2_depends_on_rb.new.self } in
+    c.take.ensures.leaks p (is_sound_now g.S.Storage.view p p c.args.file.now file c.args.self.now one)
+
+pub returns-in-Err-clause-leaks : goal.returns-in-Err-clause-leaks
+returns-in-Err-clause-leaks g c = λ p sound.
+    let one = allocator_step_cached g.S.Storage.view p c.args.file.now c.args.self.now c.l2_depends_on_rb.new.storage c.l2_depends_on_rb.new.self sound (c.l2_depends_on_rb.ensures.keeps c.args.file.now.header.fields p sound.sound.honest sound.sound.caches) c.l2_depends_on_rb.ensures.marks in
+    let file : ImageFile g.row.S.Denot = record c.args.file.now { storage = c.l2_depends_on_rb.new.storage; caches = c.l2_depends_on_rb.new.self } in
+    c.take.ensures.leaks p (is_sound_now g.S.Storage.view p p c.args.file.now file c.args.self.now one)

@@ -234,3 +234,9 @@ returns-in_err-room-clause-behind g c = on_no_ok _ c.from_residual.result c.in_e
 
 pub returns-clause-behind : goal.returns-clause-behind
 returns-clause-behind g c = c.write_reftable.ensures.behind
+
+pub returns-in_err-room-clause-leaks : goal.returns-in_err-room-clause-leaks
+returns-in_err-room-clause-leaks g c = λ p sound. c.take_room.ensures.leaks p sound
+
+pub returns-clause-leaks : goal.returns-clause-leaks
+returns-clause-leaks g c = λ p sound. c.write_reftable.ensures.leaks ∙ c.take_room.ensures.leaks p sound

@@ -29,6 +29,7 @@ lowering-init g c = record {
       let whole : c.args.n ≡ c.args.first + c.args.n - c.args.first = omega arith in
       let file_step = subst (λ m. UnseenFileGrowth g.S.Storage.view p (taken_as d p' (run_at c.args.first m)) start c.args.file.now) whole b.file_step in
       record { file_step = file_step; reftable = b.reftable };
+  leaks = λ p d sound. refl;
   hint = λ p d sound hint. hint;
   kept = λ p d sound.
       let whole : c.args.n ≡ c.args.first + c.args.n - c.args.first = omega arith in
@@ -67,6 +68,11 @@ lowering-preserved g c = record {
             (λ k some. subst (λ (r : Pending). 0 < r.new_data k) (sym same) (new_data_more d p' (run_at c.lowering.cluster ((c.args.first + c.args.n) - c.lowering.cluster)) k (new_data k some))) moved (file_step_on g.S.Storage.view (taken_as d q (one_at c.lowering.cluster)) q c.lowering.file c.lower.new.file low.file_step);
         reftable = low.reftable;
       };
+  leaks = λ p d sound.
+      let one = c.lowering.invariant.kept p d sound in
+      let q : Pending = (taken_as d p (run_at (c.lowering.cluster + 1) ((c.args.first + c.args.n) - (c.lowering.cluster + 1)))) in
+      let same = taken_first d p c.lowering.cluster (c.args.first + c.args.n) c.lowering-test.true in
+      c.lower.ensures.leaks q (Taken d) (subst (λ (r : Pending). AllocatorInvariant g.S.Storage.view c.lowering.self r c.lowering.file) (sym same) one.0) tt ∙ c.lowering.invariant.leaks p d sound;
   hint = λ p d sound hint.
       let one = c.lowering.invariant.kept p d sound in
       let q : Pending = (taken_as d p (run_at (c.lowering.cluster + 1) ((c.args.first + c.args.n) - (c.lowering.cluster + 1)))) in
@@ -175,3 +181,16 @@ returns-clause-cause g c = tt
 
 pub returns-clause-storage_faults : goal.returns-clause-storage_faults
 returns-clause-storage_faults g c = told_ok _ _ tt c.lowering.invariant.faults
+
+pub returns-in_err-lower-clause-leaks : goal.returns-in_err-lower-clause-leaks
+returns-in_err-lower-clause-leaks g c = λ p d sound.
+    let one = c.lowering.invariant.kept p d sound in
+    let q : Pending = (taken_as d p (run_at (c.lowering.cluster + 1) ((c.args.first + c.args.n) - (c.lowering.cluster + 1)))) in
+    let same = taken_first d p c.lowering.cluster (c.args.first + c.args.n) c.lowering-test.true in
+    c.lower.ensures.leaks q (Taken d) (subst (λ (r : Pending). AllocatorInvariant g.S.Storage.view c.lowering.self r c.lowering.file) (sym same) one.0) tt ∙ c.lowering.invariant.leaks p d sound
+
+pub returns-clause-leaks : goal.returns-clause-leaks
+returns-clause-leaks g c = λ p d sound. c.lowering.invariant.leaks p d sound
+
+pub returns-then-n-eq0-clause-leaks : goal.returns-then-n-eq0-clause-leaks
+returns-then-n-eq0-clause-leaks g c = λ p d sound. refl

@@ -32,6 +32,7 @@ leaving-init g c = record {
   sound = λ p start same b.
       let whole : c.args.n ≡ c.args.first + c.args.n - c.args.first = omega arith in
       subst (λ m. UnseenAllocatorStep g.S.Storage.view p start c.args.self.now c.args.file.now (with_run p start.header.fields c.args.self.now.reftable c.args.first m)) whole b;
+  leaks = λ p start same b. refl;
   kept = λ p start same b k none used. used;
 }
 
@@ -75,6 +76,14 @@ leaving-preserved g c =
             let low = w.in_ok-lower.ensures.sound (with_run p start.header.fields t (at + 1) (end - (at + 1))) (Taken false) (owed_now view p t at end start c.leaving.file w.lower.new.file c.leaving.self w.lower.new.self c.leaving-test.true has before) tt in
             of_equal (λ a f. UnseenAllocatorStep view p start a f (with_run p start.header.fields t (at + 1) (end - (at + 1)))) c.if-not-lacks_block.self w.lower.new.self c.if-not-lacks_block.file w.lower.new.file w.self-is w.file-is
             (left_one view p t at end start c.leaving.file w.lower.new.file c.leaving.self w.lower.new.self c.leaving-test.true has before low);
+        leaks = λ p start same b.
+            let before = c.leaving.invariant.sound p start same b in
+            let has : lacks t (at / counts_per_block start.header.fields) ≡ false =
+            ap (λ x. lacks t (at / counts_per_block x.fields)) same ∙ ap (λ n. lacks t (at / n)) c.leaving.invariant.counts ∙ ap (λ x. lacks x (at / 2 ^ c.rb_bits-bits.result)) (sym c.leaving.invariant.reftable)
+            ∙ sym c.lacks_block.ensures ∙ w.if-not-lacks_block.true in
+            ap (λ a. a.leaked_clusters) w.self-is
+            ∙ w.lower.ensures.leaks (with_run p start.header.fields t (at + 1) (end - (at + 1))) (Taken false) (owed_now view p t at end start c.leaving.file w.lower.new.file c.leaving.self w.lower.new.self c.leaving-test.true has before) tt
+            ∙ c.leaving.invariant.leaks p start same b;
         kept = λ p start same b k none used.
             let before = c.leaving.invariant.sound p start same b in
             let has : lacks t (at / counts_per_block start.header.fields) ≡ false =
@@ -103,6 +112,7 @@ leaving-preserved g c =
             ∙ sym c.lacks_block.ensures ∙ w.if-not-lacks_block.false in
             of_equal (λ a f. UnseenAllocatorStep view p start a f (with_run p start.header.fields t (at + 1) (end - (at + 1)))) c.if-not-lacks_block.self c.leaving.self c.if-not-lacks_block.file c.leaving.file w.self-is w.file-is
             (left_none view p t at end start c.leaving.file c.leaving.self c.leaving-test.true none before);
+        leaks = λ p start same b. ap (λ a. a.leaked_clusters) w.self-is ∙ c.leaving.invariant.leaks p start same b;
         kept = λ p start same b k none used. subst (λ f. IsUsed view f k) (sym w.file-is) (c.leaving.invariant.kept p start same b k none used);
       }
     ]
@@ -159,3 +169,19 @@ returns-clause-cause g c = tt
 
 pub returns-clause-storage_faults : goal.returns-clause-storage_faults
 returns-clause-storage_faults g c = told_ok _ _ tt c.leaving.invariant.faults
+
+pub returns-in_err-lower-clause-leaks : goal.returns-in_err-lower-clause-leaks
+returns-in_err-lower-clause-leaks g c = λ p start same b.
+    let view = g.S.Storage.view in
+    let t = c.args.self.now.reftable in
+    let at = c.leaving.cluster in
+    let end = c.args.first + c.args.n in
+    let before = c.leaving.invariant.sound p start same b in
+    let has : lacks t (at / counts_per_block start.header.fields) ≡ false =
+    ap (λ x. lacks t (at / counts_per_block x.fields)) same ∙ ap (λ n. lacks t (at / n)) c.leaving.invariant.counts ∙ ap (λ x. lacks x (at / 2 ^ c.rb_bits-bits.result)) (sym c.leaving.invariant.reftable)
+    ∙ sym c.lacks_block.ensures ∙ c.if-not-lacks_block.true in
+    c.lower.ensures.leaks (with_run p start.header.fields t (at + 1) (end - (at + 1))) (Taken false) (owed_now view p t at end start c.leaving.file c.lower.new.file c.leaving.self c.lower.new.self c.leaving-test.true has before) tt
+    ∙ c.leaving.invariant.leaks p start same b
+
+pub returns-clause-leaks : goal.returns-clause-leaks
+returns-clause-leaks g c = λ p start same b. c.leaving.invariant.leaks p start same b

@@ -50,6 +50,7 @@ search-init g c = record {
       subst (λ (r : Pending). UnseenAllocatorGrowth g.S.Storage.view p c.args.file.now (record c.args.self.now { first_free_cluster = c.max-self.result }) c.args.file.now r) (sym (listed_after_same p c.args.file.now.free_list c.args.file.now.free_list refl))
       (on_none g.S.Storage.view p c.args.file.now (record c.args.self.now { first_free_cluster = c.max-self.result }) (record { sound = sound.sound; reftable = sound.reftable }));
   above = let first = c.max-self.ensures in omega (arith, first);
+  leaks = λ p sound. refl;
   hint = λ p d sound may hint. hint_header g.S.Storage.view p c.args.file.now c.args.self.now (record c.args.self.now { first_free_cluster = c.max-self.result }) sound.sound (λ k some below. let first = c.max-self.ensures in omega (arith, first, some, below)) hint;
   lowest = λ p d sound may hint some.
       let begin : Allocator = record c.args.self.now { first_free_cluster = c.max-self.result } in
@@ -61,7 +62,7 @@ search-preserved g c = record {
   header = header_then c.args.file.now.header c.take_run.new.file.header c.pass_used.new.file.header (header_then c.args.file.now.header c.search.file.header c.take_run.new.file.header c.search.invariant.header c.take_run.ensures.header) (header_same c.take_run.new.file.header c.pass_used.new.file.header c.pass_used.ensures.header);
   list = lists_then c.args.file.now.free_list c.take_run.new.file.free_list c.pass_used.new.file.free_list (lists_then c.args.file.now.free_list c.search.file.free_list c.take_run.new.file.free_list c.search.invariant.list c.take_run.ensures.list) (lists_same c.take_run.new.file.free_list c.pass_used.new.file.free_list c.pass_used.ensures.list);
   former = former_still c.args.self.now.reftable c.take_run.new.self.reftable c.pass_used.new.self.reftable c.args.file.now.free_list c.take_run.new.file.free_list c.pass_used.new.file.free_list
-      (former_then c.args.self.now.reftable c.search.self.reftable c.take_run.new.self.reftable c.args.file.now.free_list c.search.file.free_list c.take_run.new.file.free_list c.search.invariant.former c.take_run.ensures.former) c.pass_used.ensures.reftable c.pass_used.ensures.list;
+      (former_then c.args.self.now.reftable c.search.self.reftable c.take_run.new.self.reftable c.args.file.now.free_list c.search.file.free_list c.take_run.new.file.free_list c.search.invariant.former c.take_run.ensures.former) (ap (λ (t : Allocator). t.reftable) c.pass_used.ensures.moves) c.pass_used.ensures.list;
   limit = c.search.invariant.limit;
   near = c.search.invariant.near;
   above = let behind = c.in_ok-first.ensures.behind in omega (arith, behind);
@@ -79,6 +80,10 @@ search-preserved g c = record {
       then_none g.S.Storage.view p c.args.file.now c.take_run.new.file c.pass_used.new.file c.take_run.new.self c.pass_used.new.self lists (lists_same c.take_run.new.file.free_list c.pass_used.new.file.free_list c.pass_used.ensures.list) mid
       (subst (λ (s : Pending). UnseenAllocatorGrowth g.S.Storage.view r c.take_run.new.file c.pass_used.new.self c.pass_used.new.file s) (sym (listed_after_same r c.take_run.new.file.free_list c.pass_used.new.file.free_list c.pass_used.ensures.list))
       (on_of g.S.Storage.view r r c.take_run.new.file c.pass_used.new.file c.pass_used.new.self (c.in_ok-first.ensures.sound r there).0));
+  leaks = λ p sound.
+      let q : Pending = pending_then p c.args.file.now.free_list c.search.file.free_list in
+      let now = is_sound_on g.S.Storage.view p q c.args.file.now c.search.file c.search.self (c.search.invariant.sound p sound) in
+      ap (λ (t : Allocator). t.leaked_clusters) c.pass_used.ensures.moves ∙ c.take_run.ensures.leaks q now ∙ c.search.invariant.leaks p sound;
   hint = λ p d sound may hint.
       let before = c.search.invariant.sound p sound in
       let q : Pending = pending_then p c.args.file.now.free_list c.search.file.free_list in
@@ -153,7 +158,7 @@ returns-in_err-first-clause-list g c = lists_then c.args.file.now.free_list c.ta
 pub returns-in_err-first-clause-former : goal.returns-in_err-first-clause-former
 returns-in_err-first-clause-former g c =
     former_still c.args.self.now.reftable c.take_run.new.self.reftable c.pass_used.new.self.reftable c.args.file.now.free_list c.take_run.new.file.free_list c.pass_used.new.file.free_list
-    (former_then c.args.self.now.reftable c.search.self.reftable c.take_run.new.self.reftable c.args.file.now.free_list c.search.file.free_list c.take_run.new.file.free_list c.search.invariant.former c.take_run.ensures.former) c.pass_used.ensures.reftable c.pass_used.ensures.list
+    (former_then c.args.self.now.reftable c.search.self.reftable c.take_run.new.self.reftable c.args.file.now.free_list c.search.file.free_list c.take_run.new.file.free_list c.search.invariant.former c.take_run.ensures.former) (ap (λ (t : Allocator). t.reftable) c.pass_used.ensures.moves) c.pass_used.ensures.list
 
 pub returns-in_err-first-clause-marks : goal.returns-in_err-first-clause-marks
 returns-in_err-first-clause-marks g c = marks_then _ _ _ (marks_then _ _ _ c.search.invariant.marks c.take_run.ensures.marks) c.pass_used.ensures.marks
@@ -317,3 +322,24 @@ returns-clause-cause g c = tt
 
 pub returns-clause-storage_faults : goal.returns-clause-storage_faults
 returns-clause-storage_faults g c = told_limit _ _ c.search.invariant.faults
+
+pub returns-in_err-taken-clause-leaks : goal.returns-in_err-taken-clause-leaks
+returns-in_err-taken-clause-leaks g c = λ p sound.
+    let q : Pending = pending_then p c.args.file.now.free_list c.search.file.free_list in
+    let now = is_sound_on g.S.Storage.view p q c.args.file.now c.search.file c.search.self (c.search.invariant.sound p sound) in
+    c.take_run.ensures.leaks q now ∙ c.search.invariant.leaks p sound
+
+pub returns-then-taken-n-clause-leaks : goal.returns-then-taken-n-clause-leaks
+returns-then-taken-n-clause-leaks g c = λ p sound.
+    let q : Pending = pending_then p c.args.file.now.free_list c.search.file.free_list in
+    let now = is_sound_on g.S.Storage.view p q c.args.file.now c.search.file c.search.self (c.search.invariant.sound p sound) in
+    c.take_run.ensures.leaks q now ∙ c.search.invariant.leaks p sound
+
+pub returns-in_err-first-clause-leaks : goal.returns-in_err-first-clause-leaks
+returns-in_err-first-clause-leaks g c = λ p sound.
+    let q : Pending = pending_then p c.args.file.now.free_list c.search.file.free_list in
+    let now = is_sound_on g.S.Storage.view p q c.args.file.now c.search.file c.search.self (c.search.invariant.sound p sound) in
+    ap (λ (t : Allocator). t.leaked_clusters) c.pass_used.ensures.moves ∙ c.take_run.ensures.leaks q now ∙ c.search.invariant.leaks p sound
+
+pub returns-clause-leaks : goal.returns-clause-leaks
+returns-clause-leaks g c = λ p sound. c.search.invariant.leaks p sound

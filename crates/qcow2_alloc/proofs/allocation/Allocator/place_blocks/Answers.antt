@@ -12,7 +12,8 @@ use Rattle.qcow2_metadata.specs.TableBytes.{ChangesEntry}
 use Rattle.qcow2_alloc.specs.Allocation.{run_at, NamesBehindHeader, StandAt, UnseenAllocatorStep}
 use Rattle.qcow2_alloc.specs.CachePins.{KeepsPinsAndNotes}
 use Rattle.qcow2_alloc.specs.GrownTables.{with_run}
-use Rattle.qcow2_alloc.specs.ImageFile.{contents_in}
+use Rattle.qcow2_alloc.specs.HeaderClusters.{KeepsHeaderCluster}
+use Rattle.qcow2_alloc.specs.ImageFile.{view_in, contents_in}
 use Rattle.qcow2_alloc.specs.MetadataCaches.{order_of, l2_tables, refblocks, rb_at}
 use Rattle.qcow2_alloc.specs.Rooms.{opens, opened, room_length, PlacesBlocks}
 use Rattle.qcow2_alloc.specs.TableCaches.{IsBlockOf}
@@ -26,6 +27,7 @@ use Rattle.qcow2_alloc.proofs.RoomSteps.{entries_aligned, wrote_err, wrote_ok, m
 use Rattle.qcow2_alloc.proofs.PlacedBlocks.{file_sizes}
 use Rattle.qcow2_alloc.proofs.allocation.Allocator.place_blocks.Goals.{then-opens_range+in_ok-block+in_ok-write_new_block, else-opens_range}
 use Rattle.qcow2_alloc.specs.Faults.{faults_of}
+use Rattle.qcow2_alloc.proofs.HeaderClusters.{header_cluster_none, header_cluster_then}
 use Rattle.qcow2_alloc.proofs.allocation.Allocator.place_blocks.Goals as goal
 
 pub placing-init : goal.placing-init
@@ -40,6 +42,7 @@ placing-init g c =
       list = refl;
       marks = marks_none c.args.file.now.caches;
       faults = omega arith;
+      header_cluster = header_cluster_none c.args.file.now.header.fields.cluster_bits (view_in g.S.Storage.view c.args.file.now);
       order = refl;
       tables = refl;
       clean = λ all. all;
@@ -105,6 +108,8 @@ placing-preserved g c =
         list = ap (λ f. f.free_list) w.file-is ∙ w.write_new_block.ensures.list ∙ inv.list;
         marks = subst (λ f. KeepsPinsAndNotes old.caches f.caches) (sym w.file-is) (marks_then old.caches c.placing.file.caches w.write_new_block.new.file.caches inv.marks w.write_new_block.ensures.marks);
         faults = subst (λ f. faults_of g.S.Storage.view old.storage ≤ faults_of g.S.Storage.view f.storage) (sym w.file-is) (omega (arith, inv.faults, w.write_new_block.ensures.storage_faults.no_fewer));
+        header_cluster = subst (λ f. KeepsHeaderCluster h.cluster_bits (view_in view old) (view_in view f)) (sym w.file-is) (header_cluster_then h.cluster_bits (view_in view old) (view_in view c.placing.file) (view_in view w.write_new_block.new.file) inv.header_cluster
+            (subst (λ n. KeepsHeaderCluster n (view_in view c.placing.file) (view_in view w.write_new_block.new.file)) (w.in_ok-block.ensures.format.bits ∙ ap (λ x. x.fields.cluster_bits) inv.header) w.write_new_block.ensures.header_cluster));
         order = ap (λ f. order_of f.caches) w.file-is ∙ w.write_new_block.ensures.order ∙ inv.order;
         tables = ap (λ f. l2_tables f.caches) w.file-is ∙ w.write_new_block.ensures.tables ∙ inv.tables;
         clean = λ all. subst (λ f. AreClean (refblocks f.caches)) (sym w.file-is) (w.write_new_block.ensures.clean (inv.clean all));
@@ -163,6 +168,7 @@ placing-preserved g c =
         list = ap (λ f. f.free_list) w.file-is ∙ inv.list;
         marks = subst (λ f. KeepsPinsAndNotes old.caches f.caches) (sym w.file-is) inv.marks;
         faults = subst (λ f. faults_of g.S.Storage.view old.storage ≤ faults_of g.S.Storage.view f.storage) (sym w.file-is) inv.faults;
+        header_cluster = subst (λ f. KeepsHeaderCluster h.cluster_bits (view_in view old) (view_in view f)) (sym w.file-is) inv.header_cluster;
         order = ap (λ f. order_of f.caches) w.file-is ∙ inv.order;
         tables = ap (λ f. l2_tables f.caches) w.file-is ∙ inv.tables;
         clean = λ all. subst (λ f. AreClean (refblocks f.caches)) (sym w.file-is) (inv.clean all);
@@ -212,3 +218,17 @@ returns-clause-sound g c = λ p sound may longer.
       counts = subst (λ (x : HeaderFields). Counting x (contents_in view c.placing.file) t c.placing.table first n) (sym (ap (λ x. x.fields) inv.header)) before.2;
       uncached = λ k some. before.3 k (subst (λ m. 0 < run_at first m k) (sym blocks) some);
     }
+
+pub returns-in_err-block-clause-header_cluster : goal.returns-in_err-block-clause-header_cluster
+returns-in_err-block-clause-header_cluster g c = c.placing.invariant.header_cluster
+
+pub returns-in_err-write_new_block-clause-header_cluster : goal.returns-in_err-write_new_block-clause-header_cluster
+returns-in_err-write_new_block-clause-header_cluster g c =
+    let view = g.S.Storage.view in
+    let old = c.args.file.now in
+    let h = c.args.file.now.header.fields in
+    header_cluster_then h.cluster_bits (view_in view old) (view_in view c.placing.file) (view_in view c.write_new_block.new.file) c.placing.invariant.header_cluster
+    (subst (λ n. KeepsHeaderCluster n (view_in view c.placing.file) (view_in view c.write_new_block.new.file)) (c.in_ok-block.ensures.format.bits ∙ ap (λ x. x.fields.cluster_bits) c.placing.invariant.header) c.write_new_block.ensures.header_cluster)
+
+pub returns-clause-header_cluster : goal.returns-clause-header_cluster
+returns-clause-header_cluster g c = c.placing.invariant.header_cluster

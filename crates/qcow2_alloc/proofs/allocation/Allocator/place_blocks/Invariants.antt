@@ -6,7 +6,8 @@ use Rattle.qcow2_alloc.specs.Allocation.{run_at, NamesBehindHeader, UnseenAlloca
 use Rattle.qcow2_alloc.specs.CachePins.{KeepsPinsAndNotes}
 use Rattle.qcow2_alloc.specs.Faults.{faults_of}
 use Rattle.qcow2_alloc.specs.GrownTables.{with_run}
-use Rattle.qcow2_alloc.specs.ImageFile.{contents_in, AllocatorInvariant}
+use Rattle.qcow2_alloc.specs.HeaderClusters.{KeepsHeaderCluster}
+use Rattle.qcow2_alloc.specs.ImageFile.{view_in, contents_in, AllocatorInvariant}
 use Rattle.qcow2_alloc.specs.MetadataCaches.{order_of, l2_tables, refblocks, rb_at}
 use Rattle.qcow2_alloc.specs.Rooms.{opened, room_length, IsLonger}
 use Rattle.qcow2_alloc.proofs.PlacedRooms.{EntersSo, Counting}
@@ -31,6 +32,7 @@ invariant-placing g l = record {
   low : l.fn.room.first ≤ l.at;
   high : l.at ≤ l.cluster;
   placed : l.at - l.fn.room.first ≡ opened l.fn.self.reftable (counts_per_block l.fn.file.header.fields) l.fn.room.first (l.cluster - l.fn.room.first);
+  header_cluster : KeepsHeaderCluster l.fn.file.header.fields.cluster_bits (view_in g.S.Storage.view l.fn.file) (view_in g.S.Storage.view l.file);
   sound : (p : Pending) → AllocatorInvariant g.S.Storage.view l.fn.self (with_run p l.fn.file.header.fields l.fn.self.reftable l.fn.room.first (room_length l.fn.room)) l.fn.file
       → BlocksMayGo (order_of l.fn.file.caches) (l2_tables l.fn.file.caches) → IsLonger l.fn.file.header.fields l.fn.self.reftable l.fn.table l.fn.room.clusters
       → UnseenAllocatorStep g.S.Storage.view (with_run p l.fn.file.header.fields l.fn.self.reftable l.fn.room.first (room_length l.fn.room)) l.fn.file l.fn.self l.file (with_run p l.fn.file.header.fields l.fn.self.reftable l.fn.room.first (room_length l.fn.room))

@@ -166,3 +166,12 @@ returns-clause-cause g c = c.ensure_block-2.ensures.cause
 
 pub returns-clause-storage_faults : goal.returns-clause-storage_faults
 returns-clause-storage_faults g c = told_since _ _ _ c.grow_reftable.ensures.storage_faults.no_fewer c.ensure_block-2.ensures.storage_faults
+
+pub returns-then-in_bounds-clause-leaks : goal.returns-then-in_bounds-clause-leaks
+returns-then-in_bounds-clause-leaks g c = λ p sound. c.ensure_block.ensures.leaks
+
+pub returns-in_err-grow_reftable-clause-leaks : goal.returns-in_err-grow_reftable-clause-leaks
+returns-in_err-grow_reftable-clause-leaks g c = λ p sound. c.grow_reftable.ensures.leaks p sound
+
+pub returns-clause-leaks : goal.returns-clause-leaks
+returns-clause-leaks g c = λ p sound. c.ensure_block-2.ensures.leaks ∙ c.grow_reftable.ensures.leaks p sound

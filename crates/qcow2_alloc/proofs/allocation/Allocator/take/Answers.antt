@@ -216,3 +216,15 @@ returns-clause-storage_faults g c = told_ok _ _ _ (le_trans c.reach_block.ensure
 
 pub returns-clause-limit : goal.returns-clause-limit
 returns-clause-limit g c = λ p is_data sound may hint near. tt
+
+pub returns-in_err-reach_block-clause-leaks : goal.returns-in_err-reach_block-clause-leaks
+returns-in_err-reach_block-clause-leaks g c = λ p sound. c.reach_block.ensures.leaks p sound
+
+pub returns-in_err-taken-clause-leaks : goal.returns-in_err-taken-clause-leaks
+returns-in_err-taken-clause-leaks g c = λ p sound. ap (λ (t : Allocator). t.leaked_clusters) c.raise.ensures.same ∙ c.reach_block.ensures.leaks p sound
+
+pub returns-clause-leaks : goal.returns-clause-leaks
+returns-clause-leaks g c = λ p sound. elim c.if-cluster-self.branch [
+  | then-cluster-self w ↦ ap (λ (t : Allocator). t.leaked_clusters) w.self-is ∙ ap (λ (t : Allocator). t.leaked_clusters) c.raise.ensures.same ∙ c.reach_block.ensures.leaks p sound
+  | else-cluster-self w ↦ ap (λ (t : Allocator). t.leaked_clusters) w.self-is ∙ ap (λ (t : Allocator). t.leaked_clusters) c.raise.ensures.same ∙ c.reach_block.ensures.leaks p sound
+]

@@ -50,6 +50,7 @@ search-init g c = record {
   order = refl;
   above = let first = c.max-self.ensures in omega (arith, first);
   entries = record { cluster = refl; bits = refl; count = refl; others = λ k past. refl; behind = behind_none c.args.self.now.reftable };
+  leaks = refl;
   sound = λ p sound. allocator_step_none g.S.Storage.view p c.args.file.now (record c.args.self.now { first_free_cluster = c.max-self.result }) (record { sound = sound.sound; reftable = sound.reftable });
   hint = λ p sound hint. hint_header g.S.Storage.view p c.args.file.now c.args.self.now (record c.args.self.now { first_free_cluster = c.max-self.result }) sound.sound (λ k some below. let first = c.max-self.ensures in omega (arith, first, some, below)) hint;
 }
@@ -68,6 +69,7 @@ search-preserved g c = record {
       (covered_entries c.args.self.now.reftable c.search.self.reftable c.cover_range.new.self.reftable c.search.self.first_free_cluster c.args.end (2 ^ c.rb_bits-bits.result) (counts_per_block c.args.file.now.header.fields) c.search-test.true c.rb_bits-bits.ensures.counts
       c.search.invariant.entries c.cover_range.ensures.entries);
   above = let behind = c.in_ok-self.ensures.behind in omega (arith, behind);
+  leaks = ap (λ (t : Allocator). t.leaked_clusters) c.raise.ensures.same ∙ c.cover_range.ensures.leaks ∙ c.search.invariant.leaks;
   sound = λ p sound.
       let before = c.search.invariant.sound p sound in
       let covered = allocator_step_then g.S.Storage.view p p c.args.file.now c.search.file c.cover_range.new.file c.search.self c.cover_range.new.self before (c.in_ok-cover_range.ensures.sound p (is_sound_now g.S.Storage.view p p c.args.file.now c.search.file c.search.self before)) in
@@ -291,3 +293,18 @@ pub returns-then-taken-clause-entries : goal.returns-then-taken-clause-entries
 returns-then-taken-clause-entries g c = subst (λ (t : Allocator). KeepsEntries (λ k. c.args.end ≤ k * counts_per_block c.args.file.now.header.fields) c.args.self.now.reftable t.reftable) (sym c.raise.ensures.same)
     (covered_entries c.args.self.now.reftable c.search.self.reftable c.cover_range.new.self.reftable c.search.self.first_free_cluster c.args.end (2 ^ c.rb_bits-bits.result) (counts_per_block c.args.file.now.header.fields) c.search-test.true c.rb_bits-bits.ensures.counts
     c.search.invariant.entries c.cover_range.ensures.entries)
+
+pub returns-in_err-cover_range-clause-leaks : goal.returns-in_err-cover_range-clause-leaks
+returns-in_err-cover_range-clause-leaks g c = c.cover_range.ensures.leaks ∙ c.search.invariant.leaks
+
+pub returns-in_err-taken-clause-leaks : goal.returns-in_err-taken-clause-leaks
+returns-in_err-taken-clause-leaks g c = ap (λ (t : Allocator). t.leaked_clusters) c.raise.ensures.same ∙ c.cover_range.ensures.leaks ∙ c.search.invariant.leaks
+
+pub returns-then-taken-clause-leaks : goal.returns-then-taken-clause-leaks
+returns-then-taken-clause-leaks g c = ap (λ (t : Allocator). t.leaked_clusters) c.raise.ensures.same ∙ c.cover_range.ensures.leaks ∙ c.search.invariant.leaks
+
+pub returns-in_err-self-clause-leaks : goal.returns-in_err-self-clause-leaks
+returns-in_err-self-clause-leaks g c = ap (λ (t : Allocator). t.leaked_clusters) c.raise.ensures.same ∙ c.cover_range.ensures.leaks ∙ c.search.invariant.leaks
+
+pub returns-clause-leaks : goal.returns-clause-leaks
+returns-clause-leaks g c = c.search.invariant.leaks

@@ -34,6 +34,7 @@ search-init g c = record {
   low = let first = c.max-first.ensures in omega (arith, first);
   some = let first = c.max-first.ensures in omega (arith, first);
   sound = λ p sound. allocator_step_none g.S.Storage.view p c.args.file.now c.args.self.now sound;
+  leaks = λ p sound. refl;
   full = λ p sound hint start n above below is within.
       let first = c.max-first.ensures in
       let some = c.requires.some in
@@ -95,6 +96,14 @@ search-preserved g c = record {
       let mid = allocator_step_then view p p c.args.file.now c.search.file c.leave_run.new.file c.search.self c.leave_run.new.self before back in
       let there = is_sound_now view p p c.args.file.now c.leave_run.new.file c.leave_run.new.self mid in
       allocator_step_then view p p c.args.file.now c.leave_run.new.file c.behind_used.new.file c.leave_run.new.self c.leave_run.new.self mid (c.in_ok-first.ensures.sound p there).0;
+  leaks = λ p sound.
+      let view = g.S.Storage.view in
+      let before = c.search.invariant.sound p sound in
+      let reached = c.in_ok-reach.ensures.sound p (is_sound_now view p p c.args.file.now c.search.file c.search.self before) in
+      let t_same : c.search.self.reftable ≡ c.reach_room.new.self.reftable = ap (λ a. a.reftable) (sym c.reach_room.ensures.same) in
+      let same = run_of_same p c.search.file.header.fields c.search.file.header.fields c.search.self.reftable c.reach_room.new.self.reftable c.search.first c.in_ok-reach.reach.taken c.in_ok-reach.reach.taken refl t_same refl in
+      c.leave_run.ensures.leaks p c.search.file (sym c.reach_room.ensures.header) (subst (λ (r : Pending). UnseenAllocatorStep view p c.search.file c.reach_room.new.self c.reach_room.new.file r) same reached)
+      ∙ ap (λ (a : Allocator). a.leaked_clusters) c.reach_room.ensures.same ∙ c.search.invariant.leaks p sound;
   full = λ p sound hint.
       let view = g.S.Storage.view in
       let t = c.args.self.now.reftable in
@@ -366,3 +375,32 @@ returns-clause-cause g c = tt
 
 pub returns-clause-storage_faults : goal.returns-clause-storage_faults
 returns-clause-storage_faults g c = told_limit _ _ c.search.invariant.faults
+
+pub returns-in_err-leave_run-clause-leaks : goal.returns-in_err-leave_run-clause-leaks
+returns-in_err-leave_run-clause-leaks g c = λ p sound.
+    let view = g.S.Storage.view in
+    let before = c.search.invariant.sound p sound in
+    let reached = c.in_ok-reach.ensures.sound p (is_sound_now view p p c.args.file.now c.search.file c.search.self before) in
+    let t_same : c.search.self.reftable ≡ c.reach_room.new.self.reftable = ap (λ a. a.reftable) (sym c.reach_room.ensures.same) in
+    let same = run_of_same p c.search.file.header.fields c.search.file.header.fields c.search.self.reftable c.reach_room.new.self.reftable c.search.first c.in_ok-reach.reach.taken c.in_ok-reach.reach.taken refl t_same refl in
+    c.leave_run.ensures.leaks p c.search.file (sym c.reach_room.ensures.header) (subst (λ (r : Pending). UnseenAllocatorStep view p c.search.file c.reach_room.new.self c.reach_room.new.file r) same reached)
+    ∙ ap (λ (a : Allocator). a.leaked_clusters) c.reach_room.ensures.same ∙ c.search.invariant.leaks p sound
+
+pub returns-in_err-first-clause-leaks : goal.returns-in_err-first-clause-leaks
+returns-in_err-first-clause-leaks g c = λ p sound.
+    let view = g.S.Storage.view in
+    let before = c.search.invariant.sound p sound in
+    let reached = c.in_ok-reach.ensures.sound p (is_sound_now view p p c.args.file.now c.search.file c.search.self before) in
+    let t_same : c.search.self.reftable ≡ c.reach_room.new.self.reftable = ap (λ a. a.reftable) (sym c.reach_room.ensures.same) in
+    let same = run_of_same p c.search.file.header.fields c.search.file.header.fields c.search.self.reftable c.reach_room.new.self.reftable c.search.first c.in_ok-reach.reach.taken c.in_ok-reach.reach.taken refl t_same refl in
+    c.leave_run.ensures.leaks p c.search.file (sym c.reach_room.ensures.header) (subst (λ (r : Pending). UnseenAllocatorStep view p c.search.file c.reach_room.new.self c.reach_room.new.file r) same reached)
+    ∙ ap (λ (a : Allocator). a.leaked_clusters) c.reach_room.ensures.same ∙ c.search.invariant.leaks p sound
+
+pub returns-in_err-reach-clause-leaks : goal.returns-in_err-reach-clause-leaks
+returns-in_err-reach-clause-leaks g c = λ p sound. ap (λ (a : Allocator). a.leaked_clusters) c.reach_room.ensures.same ∙ c.search.invariant.leaks p sound
+
+pub returns-then-reach-clusters-clause-leaks : goal.returns-then-reach-clusters-clause-leaks
+returns-then-reach-clusters-clause-leaks g c = λ p sound. ap (λ (a : Allocator). a.leaked_clusters) c.reach_room.ensures.same ∙ c.search.invariant.leaks p sound
+
+pub returns-clause-leaks : goal.returns-clause-leaks
+returns-clause-leaks g c = λ p sound. c.search.invariant.leaks p sound

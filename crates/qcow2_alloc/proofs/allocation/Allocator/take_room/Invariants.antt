@@ -1,7 +1,7 @@
 use Rattle.std.proofs.Common.{◌≡◌, ◌-◌, ◌<◌, ◌≤◌}
 use Rattle.qcow2_metadata.specs.Header.{counts_per_block}
 use Rattle.qcow2_laws.specs.CrashInvariant.{Pending}
-use Rattle.qcow2_alloc.specs.Allocation.{UnseenAllocatorStep}
+use Rattle.qcow2_alloc.specs.Allocation.{SameLeaks, UnseenAllocatorStep}
 use Rattle.qcow2_alloc.specs.CachePins.{KeepsPinsAndNotes}
 use Rattle.qcow2_alloc.specs.Faults.{faults_of}
 use Rattle.qcow2_alloc.specs.ImageFile.{AllocatorInvariant}
@@ -23,6 +23,7 @@ invariant-search g l = record {
   low : l.fn.self.first_free_cluster ≤ l.first;
   some : 0 < l.first;
   sound : (p : Pending) → AllocatorInvariant g.S.Storage.view l.fn.self p l.fn.file → UnseenAllocatorStep g.S.Storage.view p l.fn.file l.self l.file p;
+  leaks : (p : Pending) → AllocatorInvariant g.S.Storage.view l.fn.self p l.fn.file → SameLeaks l.fn.self l.self;
   full : (p : Pending) → AllocatorInvariant g.S.Storage.view l.fn.self p l.fn.file → NoFreeBelowHint g.S.Storage.view l.fn.self l.fn.file
       → IsFullBelow g.S.Storage.view l.file l.fn.self.reftable (counts_per_block l.fn.file.header.fields) l.fn.clusters l.fn.end l.first;
 }

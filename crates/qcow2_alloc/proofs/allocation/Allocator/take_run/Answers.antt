@@ -1,4 +1,4 @@
-use Rattle.std.proofs.Common.{◌≡◌, ◌⊎◌, inl, inr, ℕ, ◌+◌, ◌<◌, Bool, IsTrue, refl, sym, ap, ◌∙◌, subst, arith, Result, Err}
+use Rattle.std.proofs.Common.{◌≡◌, ◌⊎◌, inl, inr, ℕ, ◌+◌, ◌<◌, Bool, false, IsTrue, refl, sym, ap, ◌∙◌, subst, arith, Result, Err}
 use Rattle.std.proofs.lemmas.Bool.{cases_eq, cases_lt}
 use Rattle.image_access.specs.Moments.{StorageView}
 use Rattle.qcow2_laws.specs.CrashInvariant.{Pending}
@@ -53,6 +53,7 @@ taking-init g c = record {
   faults = omega arith;
   order = refl;
   noted = λ some. absurd (omega (arith, some));
+  leaks = λ p sound. refl;
   hint = λ p d sound may hint. hint;
   uses = λ p d sound may k used. used;
   free = λ p d sound may k some used. let none = run_none c.args.first k in omega (arith, none, some);
@@ -139,6 +140,11 @@ taking-preserved g c = record {
       let may_now = may_still d c.args.file.now c.taking.file c.taking.invariant.order may in
       let two = rw c.in-Ok-true.field-0-test at (c.in-Ok-true.ensures.sound q d now may_now) in
       more_taken g.S.Storage.view d p (run_at c.args.first c.taking.taken) c.args.file.now c.taking.file c.take.new.file c.taking.self c.take.new.self c.taking.invariant.list c.take.ensures.list c.args.first c.taking.taken refl before two;
+  leaks = λ p sound.
+      let before = c.taking.invariant.sound p false sound tt in
+      let q : Pending = taken_as false (pending_then p c.args.file.now.free_list c.taking.file.free_list) (run_at c.args.first c.taking.taken) in
+      let now = is_sound_on g.S.Storage.view p q c.args.file.now c.taking.file c.taking.self before in
+      c.take.ensures.leaks q now ∙ c.taking.invariant.leaks p sound;
   hint = λ p d sound may hint.
       let q : Pending = taken_as d (pending_then p c.args.file.now.free_list c.taking.file.free_list) (run_at c.args.first c.taking.taken) in
       (c.in-Ok-true.ensures.hint q d (is_sound_on g.S.Storage.view p q c.args.file.now c.taking.file c.taking.self (c.taking.invariant.sound p d sound may))
@@ -483,3 +489,54 @@ returns-in-Err-clause-storage_faults g c = elim c.if-not-is_fault.branch [
   | then-not-is_fault+in_ok-give_back-in-Err w ↦ subst (λ (f : ImageFile g.row.S.Denot). FaultsTold {T = ℕ} (faults_of g.S.Storage.view c.args.file.now.storage) (faults_of g.S.Storage.view f.storage) (Err c.in-Err.refusal)) (sym w.file-is) (told_still _ _ _ _ (told_since _ _ _ c.taking.invariant.faults (told_err _ _ c.in-Err.refusal c.in-Err.ensures.storage_faults)) w.give_back-then-not-is_fault.ensures.storage_faults.no_fewer)
   | else-not-is_fault w ↦ subst (λ (f : ImageFile g.row.S.Denot). FaultsTold {T = ℕ} (faults_of g.S.Storage.view c.args.file.now.storage) (faults_of g.S.Storage.view f.storage) (Err c.in-Err.refusal)) (sym w.file-is) (told_since _ _ _ c.taking.invariant.faults (told_err _ _ c.in-Err.refusal c.in-Err.ensures.storage_faults))
 ]
+
+pub returns-in_err-give_back-in-Ok-false-clause-leaks : goal.returns-in_err-give_back-in-Ok-false-clause-leaks
+returns-in_err-give_back-in-Ok-false-clause-leaks g c = λ p sound.
+    let before = c.taking.invariant.sound p false sound tt in
+    let q : Pending = taken_as false (pending_then p c.args.file.now.free_list c.taking.file.free_list) (run_at c.args.first c.taking.taken) in
+    let now = is_sound_on g.S.Storage.view p q c.args.file.now c.taking.file c.taking.self before in
+    let two = rw c.in-Ok-false.field-0-test at (c.in-Ok-false.ensures.sound q false now tt) in
+    let taken = still_taken g.S.Storage.view false p (run_at c.args.first c.taking.taken) c.args.file.now c.taking.file c.take.new.file c.taking.self c.take.new.self c.taking.invariant.list c.take.ensures.list before two in
+    let r : Pending = pending_then p c.args.file.now.free_list c.take.new.file.free_list in
+    let there = is_sound_on g.S.Storage.view p (taken_as false r (run_at c.args.first c.taking.taken)) c.args.file.now c.take.new.file c.take.new.self taken in
+    c.give_back.ensures.leaks r false there ∙ c.take.ensures.leaks q now ∙ c.taking.invariant.leaks p sound
+
+pub returns-in-Ok-false-clause-leaks : goal.returns-in-Ok-false-clause-leaks
+returns-in-Ok-false-clause-leaks g c = λ p sound.
+    let before = c.taking.invariant.sound p false sound tt in
+    let q : Pending = taken_as false (pending_then p c.args.file.now.free_list c.taking.file.free_list) (run_at c.args.first c.taking.taken) in
+    let now = is_sound_on g.S.Storage.view p q c.args.file.now c.taking.file c.taking.self before in
+    let two = rw c.in-Ok-false.field-0-test at (c.in-Ok-false.ensures.sound q false now tt) in
+    let taken = still_taken g.S.Storage.view false p (run_at c.args.first c.taking.taken) c.args.file.now c.taking.file c.take.new.file c.taking.self c.take.new.self c.taking.invariant.list c.take.ensures.list before two in
+    let r : Pending = pending_then p c.args.file.now.free_list c.take.new.file.free_list in
+    let there = is_sound_on g.S.Storage.view p (taken_as false r (run_at c.args.first c.taking.taken)) c.args.file.now c.take.new.file c.take.new.self taken in
+    c.give_back.ensures.leaks r false there ∙ c.take.ensures.leaks q now ∙ c.taking.invariant.leaks p sound
+
+pub returns-in_err-give_back-in-Err-clause-leaks : goal.returns-in_err-give_back-in-Err-clause-leaks
+returns-in_err-give_back-in-Err-clause-leaks g c = λ p sound.
+    let before = c.taking.invariant.sound p false sound tt in
+    let q : Pending = taken_as false (pending_then p c.args.file.now.free_list c.taking.file.free_list) (run_at c.args.first c.taking.taken) in
+    let now = is_sound_on g.S.Storage.view p q c.args.file.now c.taking.file c.taking.self before in
+    let two = still_as g.S.Storage.view q (pending_then q c.taking.file.free_list c.take.new.file.free_list) c.taking.file c.take.new.file c.take.new.self c.in-Err.refusal (λ fault. not_both c.is_fault.result (c.is_fault.ensures.1 fault) c.if-not-is_fault.true) (c.in-Err.ensures.sound q false now tt) in
+    let taken = still_taken g.S.Storage.view false p (run_at c.args.first c.taking.taken) c.args.file.now c.taking.file c.take.new.file c.taking.self c.take.new.self c.taking.invariant.list c.take.ensures.list before two in
+    let r : Pending = pending_then p c.args.file.now.free_list c.take.new.file.free_list in
+    let there = is_sound_on g.S.Storage.view p (taken_as false r (run_at c.args.first c.taking.taken)) c.args.file.now c.take.new.file c.take.new.self taken in
+    c.give_back-then-not-is_fault.ensures.leaks r false there ∙ c.take.ensures.leaks q now ∙ c.taking.invariant.leaks p sound
+
+pub returns-in-Err-clause-leaks : goal.returns-in-Err-clause-leaks
+returns-in-Err-clause-leaks g c = λ p sound.
+    let before = c.taking.invariant.sound p false sound tt in
+    let q : Pending = taken_as false (pending_then p c.args.file.now.free_list c.taking.file.free_list) (run_at c.args.first c.taking.taken) in
+    let now = is_sound_on g.S.Storage.view p q c.args.file.now c.taking.file c.taking.self before in
+    elim c.if-not-is_fault.branch [
+      | then-not-is_fault+in_ok-give_back-in-Err w ↦
+          let two = still_as g.S.Storage.view q (pending_then q c.taking.file.free_list c.take.new.file.free_list) c.taking.file c.take.new.file c.take.new.self c.in-Err.refusal (λ fault. not_both c.is_fault.result (c.is_fault.ensures.1 fault) w.if-not-is_fault.true) (c.in-Err.ensures.sound q false now tt) in
+          let taken = still_taken g.S.Storage.view false p (run_at c.args.first c.taking.taken) c.args.file.now c.taking.file c.take.new.file c.taking.self c.take.new.self c.taking.invariant.list c.take.ensures.list before two in
+          let r : Pending = pending_then p c.args.file.now.free_list c.take.new.file.free_list in
+          let there = is_sound_on g.S.Storage.view p (taken_as false r (run_at c.args.first c.taking.taken)) c.args.file.now c.take.new.file c.take.new.self taken in
+          ap (λ (t : Allocator). t.leaked_clusters) w.self-is ∙ w.give_back-then-not-is_fault.ensures.leaks r false there ∙ c.take.ensures.leaks q now ∙ c.taking.invariant.leaks p sound
+      | else-not-is_fault w ↦ ap (λ (t : Allocator). t.leaked_clusters) w.self-is ∙ c.take.ensures.leaks q now ∙ c.taking.invariant.leaks p sound
+    ]
+
+pub returns-clause-leaks : goal.returns-clause-leaks
+returns-clause-leaks g c = λ p sound. c.taking.invariant.leaks p sound
