@@ -7,3 +7,4 @@ pub mod Creating
 pub mod Causes
 pub mod TakingPlace
 pub mod Leaks
+pub mod StillHonest

@@ -186,6 +186,7 @@ module _ {S : Type 0} (view : S → StorageView) (builder : Qcow2CreateBuilder S
     no_leaks = exact;
     no_backing_file = ap (λ (k : HeaderFields). k.backing_offset) h;
     no_autoclear = done.no_autoclear (ap (λ (k : HeaderFields). k.autoclear) (three.1.header_is ∙ ap (λ (w : HeaderView). w.fields) is));
+    no_compatible = ap (λ (k : HeaderFields). k.compatible) h;
   }
   created_so clusters counts (Err e) stops exact = tt
 
@@ -217,6 +218,7 @@ created_still builder old new made honest same =
       no_leaks = still HasNoLeaks made.no_leaks;
       no_backing_file = still (λ b. (header b).backing_offset ≡ 0) made.no_backing_file;
       no_autoclear = still (λ b. (header b).autoclear ≡ 0) made.no_autoclear;
+      no_compatible = still (λ b. (header b).compatible ≡ 0) made.no_compatible;
     }
 
 -- what was created is left so, and so it is on the way
