@@ -1,8 +1,9 @@
 -- A raw disk that was made of an image.
-use Rattle.std.proofs.Common.{◌≡◌, inl, ℕ, List, [], refl, sym, ap, ◌∙◌, subst, Result, Ok, Err, IfOk, false}
+use Rattle.std.proofs.Common.{◌≡◌, ⊎_elim, inl, ℕ, List, [], refl, sym, ap, ◌∙◌, subst, Result, Ok, Err, IfOk, false}
 use Rattle.std.specs.Option.{is_some}
 use Rattle.image_access.specs.Backing.{BackingView}
 use Rattle.image_access.specs.Moments.{StorageView}
+use Rattle.image_access.proofs.EachMomentSince.{passes_if}
 use Rattle.qcow2_metadata.specs.Bytes.{byte_at}
 use Rattle.qcow2_metadata.specs.Consistent.{IsConsistent}
 use Rattle.qcow2_disk.specs.AbstractImages.{IsOpened, guest_of}
@@ -13,7 +14,10 @@ use Rattle.qcow2_alloc.specs.declared.error.ImageError.{ImageError}
 use Rattle.qcow2_image.specs.declared.image.Qcow2.{Qcow2}
 use Rattle.qcow2_image.specs.Image.{storage_of_image}
 use Rattle.qcow2_image.specs.ImageInvariant.{abstract_of}
+use Rattle.qcow2_image.specs.Opened.{OpensAtOnce}
+use Rattle.qcow2_image.specs.Unwritten.{HoldsSame}
 use Rattle.qcow2_image.proofs.Free.{whole}
+use Rattle.qcow2_image.proofs.Map.Unmodified.{holds_still}
 use Rattle.qcow2_session.specs.Conversions.{IsRawOf, Exports, IsUnchanged}
 use Rattle.program_parts.specs.Conversions.{IsExport, KeepsDisk, disk_alone, zeros_below}
 use Rattle.program_parts.proofs.Imported.{none_below, of_ok}
@@ -52,3 +56,7 @@ module _ {S F : Type 0} (view : S → StorageView) (backing : F → BackingView)
   pub keeps_disk : (result : Result ℕ ImageError) → IsUnchanged view backing old new result → KeepsDisk storage (view (storage_of_image new))
   keeps_disk (Ok n) unchanged = keeps (unchanged []).acts
   keeps_disk (Err e) unchanged = keeps (unchanged []).acts
+
+-- a storage that was opened for reading, or that a refusal handed back, holds what it held
+pub opened_still : (old new : StorageView) → OpensAtOnce false old new → new.contents ≡ old.contents → HoldsSame old new
+opened_still old new time same = holds_still old new (passes_if (λ c. c ≡ old.contents) (λ c is. ⊎_elim (λ (e : c ≡ old.contents). e) (λ (e : c ≡ old.contents). e) is) time) same

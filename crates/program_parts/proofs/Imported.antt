@@ -1,5 +1,6 @@
 -- An image that was made of a raw disk.
 use Rattle.std.proofs.Common.{◌≡◌, ℕ, List, [], refl, sym, ap, ◌∙◌, subst, Option, None, Some, false, Result, Ok, Err, IfOk}
+use Rattle.std.specs.Prelude.{IsTrue}
 use Rattle.std.specs.Option.{is_some}
 use Rattle.image_access.specs.Backing.{BackingView}
 use Rattle.image_access.specs.Moments.{StorageView}
@@ -9,10 +10,15 @@ use Rattle.qcow2_metadata.specs.Header.{header, cluster_size}
 use Rattle.qcow2_metadata.specs.declared.header.HeaderFields.{HeaderFields}
 use Rattle.qcow2_disk.specs.AbstractImages.{Setting, IsOpened}
 use Rattle.qcow2_disk.specs.Disk.{disk}
+use Rattle.qcow2_disk.proofs.Compose.{rests_none, stops_none}
+use Rattle.qcow2_laws.specs.Opened.{HasNoLeaks}
+use Rattle.qcow2_alloc.specs.ImageFile.{contents_in, known_in}
 use Rattle.qcow2_image.specs.declared.image.Qcow2.{Qcow2}
-use Rattle.qcow2_image.specs.Growing.{SameFormat}
-use Rattle.qcow2_image.specs.Image.{storage_of_image}
+use Rattle.qcow2_image.specs.Calls.{FlushesImage}
+use Rattle.qcow2_image.specs.Growing.{KeepsSurplus, SameFormat}
+use Rattle.qcow2_image.specs.Image.{HasNothingToFree, IsSameImage, is_writable, storage_of_image}
 use Rattle.qcow2_image.specs.ImageInvariant.{abstract_of, backing_bytes}
+use Rattle.qcow2_image.proofs.Create.Leaks.{no_leaks_flushed}
 use Rattle.qcow2_image.proofs.Free.{whole}
 use Rattle.qcow2_session.specs.Conversions.{IsRawOf, Imports}
 use Rattle.program_parts.specs.Conversions.{IsImageOf, zeros_below}
@@ -30,14 +36,36 @@ pub ok_then : {A E : Type 0} {P Q : A → Type 0} (r : Result A E) → ((a : A) 
 ok_then (Ok a) to h = to a h
 ok_then (Err e) to h = tt
 
+pub ok_both : {A E : Type 0} {P Q R : A → Type 0} (r : Result A E) → ((a : A) → P a → Q a → R a) → IfOk r P → IfOk r Q → IfOk r R
+ok_both (Ok a) to h k = to a h k
+ok_both (Err e) to h k = tt
+
 -- a header of the same format has clusters of the same size
 same_clusters : (h h' : HeaderFields) → SameFormat h h' → cluster_size h' ≡ cluster_size h
 same_clusters h h' same = ap cluster_size same
 
 module _ {S F : Type 0} (view : S → StorageView) (backing : F → BackingView) (old new : Qcow2 S F) where
+  -- no call at all leaves what is known on the storage
+  flushed_still : known_in view new.file ≡ contents_in view new.file → FlushesImage view backing new new (Ok tt)
+  flushed_still clean out =
+      let w = abstract_of view backing new out in
+      record {
+        acts = record {
+          number = refl;
+          works = λ h. record { setting = refl; surplus = λ _. refl; stops = stops_none w w [] [] refl (λ _. refl) };
+          rests = λ failed. rests_none w w refl refl failed;
+        };
+        answer = λ h. (h, (clean, refl));
+      }
+
+  -- nothing leaks where nothing had a surplus, and nothing is left to be freed
+  leaks_none : KeepsSurplus view backing old new → IsTrue (is_writable old) → known_in view new.file ≡ contents_in view new.file → HasNothingToFree new
+      → ((k : ℕ) → (abstract_of view backing old []).surplus k ≡ 0) → HasNoLeaks (contents_in view new.file)
+  leaks_none kept writable clean empty none = no_leaks_flushed view backing old new new kept writable none (Ok tt) (flushed_still clean) (λ _. empty)
+
   pub has_image : (bytes : List ℕ) (n : ℕ) (h : HeaderFields) → IsOpened (abstract_of view backing old []) → is_some old.backing ≡ false → SameFormat h old.file.header.fields
-      → Imports view backing old new bytes (Ok n) → IsImageOf (view (storage_of_image new)) bytes (cluster_size h)
-  has_image bytes n h opened alone format imports =
+      → IsTrue (is_writable old) → ((k : ℕ) → (abstract_of view backing old []).surplus k ≡ 0) → IsSameImage old new → HasNothingToFree new → Imports view backing old new bytes (Ok n) → IsImageOf (view (storage_of_image new)) bytes (cluster_size h)
+  has_image bytes n h opened alone format writable none same empty imports =
       let v = abstract_of view backing old [] in
       let w = abstract_of view backing new [] in
       let does = imports [] in
@@ -56,4 +84,5 @@ module _ {S F : Type 0} (view : S → StorageView) (backing : F → BackingView)
           is_disk = subst (λ below. IsRawOf (disk (byte_at (view (storage_of_image new)).contents) below) bytes) below (subst (λ known. IsRawOf (disk known w.setting.backing) bytes) clean done.1.1);
         };
         clusters = ap (λ b. cluster_size (header b)) (sym clean) ∙ clusters;
+        no_leaks = leaks_none (record { sound = done.0; writable = same.writable; surplus = (does.acts.works opened.sound).surplus done.0 }) writable clean empty none;
       }

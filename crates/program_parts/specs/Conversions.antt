@@ -6,6 +6,7 @@ use Rattle.qcow2_metadata.specs.Consistent.{IsConsistent}
 use Rattle.qcow2_metadata.specs.Header.{header, cluster_size}
 use Rattle.qcow2_disk.specs.Disk.{Disk, disk}
 use Rattle.qcow2_disk.specs.Stops.{StopOkEverywhere, checkpoint_at}
+use Rattle.qcow2_laws.specs.Opened.{HasNoLeaks}
 use Rattle.qcow2_session.specs.Conversions.{IsRawOf}
 
 -- where there is no disk below, it is zeros
@@ -22,10 +23,11 @@ pub record HasDisk (storage : StorageView) (bytes : List ℕ) : Type 0 where
   pub consistent : IsConsistent (byte_at storage.contents)
   pub is_disk : IsRawOf (disk_alone (byte_at storage.contents)) bytes
 
--- and its clusters have this size
+-- and its clusters have this size, of which none is counted more often than it is named
 pub record IsImageOf (storage : StorageView) (bytes : List ℕ) (cluster : ℕ) : Type 0 where
   pub has_disk : HasDisk storage bytes
   pub clusters : cluster_size (header (byte_at storage.contents)) ≡ cluster
+  pub no_leaks : HasNoLeaks (byte_at storage.contents)
 
 -- a raw disk of so many bytes is the disk of the image in these contents
 pub record IsExport (image : List ℕ) (n : ℕ) (raw : List ℕ) : Type 0 where

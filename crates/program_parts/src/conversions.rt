@@ -1,9 +1,11 @@
 //! New images, images of raw disks, and raw disks of images.
-ghost use Rattle.std.specs.Prelude.{◌≡◌, length, IfOk, Ok};
+ghost use Rattle.std.specs.Prelude.{◌≡◌, length, IfOk, IsTrue, Ok};
 ghost use Rattle.image_access.specs.Moments.{ContentsStay};
 ghost use Rattle.qcow2_metadata.specs.Bytes.{byte_at};
 ghost use Rattle.qcow2_metadata.specs.Consistent.{IsConsistent};
+ghost use Rattle.qcow2_image.specs.Image.{HasNothingToFree, IsSameImage, is_writable};
 ghost use Rattle.qcow2_image.specs.Opened.{NeedsAnother};
+ghost use Rattle.qcow2_image.specs.Unwritten.{HoldsSame};
 ghost use Rattle.qcow2_session.specs.Conversions.{Imports, IsLeft};
 ghost use Rattle.program_parts.specs.Conversions.{IsImageOf, IsExport, KeepsDisk};
 
@@ -57,6 +59,8 @@ fn fill<R: Storage, S: Storage, F: WrappedFormat<S>>(
 ) -> Result<u64, ImageError>
     ensures sees { (R.view raw.old).is_honest → IfOk result (λ n. Imports S.view F.backing image.old image.new (R.view raw.old).contents (Ok n)) }
     ensures count { (R.view raw.old).is_honest → IfOk result (λ n. n ≡ length (R.view raw.old).contents) }
+    ensures image { IsSameImage image.old image.new }
+    ensures emptied { IsTrue (is_writable image.old) → IfOk result (λ n. HasNothingToFree image.new) }
     ensures raw { IsLeft (R.view raw.old) (R.view raw.new) }
 {
     let count = to_qcow2(alloc, raw, image)?;
@@ -66,7 +70,7 @@ fn fill<R: Storage, S: Storage, F: WrappedFormat<S>>(
     Ok(count)
 }
 
-/// Makes a raw disk of an image, which is only read, and hands the image's storage back. The answer is the number of bytes.
+/// Makes a raw disk of an image, which is only read and never written, and hands the image's storage back. The answer is the number of bytes.
 /// An image that doesn't open alone is refused as `open_alone` is: 19 (metadata), 13 (limit), 4 (unaligned table), 12 (dependency). The
 /// raw disk stays as it is then. Where the work meets them: 4 (unaligned table), 7 (compressed), 14 (memory), 15 (storage).
 pub fn make_raw_disk<S: Storage, R: Storage>(
@@ -77,6 +81,7 @@ pub fn make_raw_disk<S: Storage, R: Storage>(
     ensures raw { (R.view raw.old).is_honest → (S.view storage).is_honest → IsConsistent (byte_at (S.view storage).contents)
         → IfOk result.1 (λ n. IsExport (S.view storage).contents n (R.view raw.new).contents) }
     ensures image { (S.view storage).is_honest → IsConsistent (byte_at (S.view storage).contents) → KeepsDisk (S.view storage) (S.view result.0) }
+    ensures unwritten { (S.view storage).is_honest → IsConsistent (byte_at (S.view storage).contents) → HoldsSame (S.view storage) (S.view result.0) }
     ensures another { (S.view storage).is_honest → NeedsAnother (S.view storage).contents → ContentsStay (S.view storage) (S.view result.0) × (raw.new ≡ raw.old) }
 {
     match Qcow2::<S>::open_alone(alloc, storage, false, 1) {

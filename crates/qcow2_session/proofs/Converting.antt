@@ -1,8 +1,9 @@
 -- An image's disk is made as a raw disk is, range by range.
-use Rattle.std.proofs.Common.{◌≡◌, ◌⊎◌, ⊎_elim, inl, inr, ℕ, ◌+◌, ◌-◌, ◌*◌, ◌/◌, ◌%◌, ◌<◌, ◌≤◌, List, [], ◌∷◌, take, drop, length, refl, sym, ap, ◌∙◌, subst, arith}
+use Rattle.std.proofs.Common.{◌≡◌, ◌⊎◌, ⊎_elim, inl, inr, ℕ, ◌+◌, ◌-◌, ◌*◌, ◌/◌, ◌%◌, ◌<◌, ◌≤◌, List, [], ◌∷◌, ◌++◌, replicate, take, drop, length, refl, sym, ap, ◌∙◌, subst, arith}
 use Rattle.std.proofs.Math.Nat.{div-add-mod, mod-eq_of_lt, zero-mod, mul-add-mod_self_left}
 use Rattle.std.proofs.lemmas.Bool.{cases_lt}
 use Rattle.std.proofs.lemmas.Grind.{common_steps}
+use Rattle.std.proofs.lemmas.List.{length-replicate}
 use Rattle.std.specs.Prelude.{Option, Result, Ok, Err}
 use Rattle.image_access.specs.Contents.{bytes_at}
 use Rattle.image_access.proofs.Bytes.{same_contents, length-bytes_at, byte_at-bytes_at}
@@ -19,9 +20,10 @@ use Rattle.qcow2_alloc.specs.declared.error.ImageError.{ImageError}
 use Rattle.qcow2_image.specs.Calls.{refusal_of, FlushesImage}
 use Rattle.qcow2_image.specs.declared.image.Qcow2.{Qcow2}
 use Rattle.qcow2_image.specs.declared.prepared.Prepared.{Prepared}
+use Rattle.qcow2_image.specs.Image.{size_of}
 use Rattle.qcow2_image.specs.ImageInvariant.{abstract_of}
 use Rattle.qcow2_session.specs.Sessions.{HasWritten, ReadsInto, Writes, EndsCluster, cluster_size_of}
-use Rattle.qcow2_session.specs.Conversions.{RefusedConversion, HasSome, IsRawOf, Imports, ImportsAll, ImportsAt}
+use Rattle.qcow2_session.specs.Conversions.{RefusedConversion, HasSome, IsRawOf, Imports, ImportsAll, ImportsAt, ImportsAny, ImportsAnyAt, ImportsAnyOf}
 use Rattle.qcow2_session.proofs.Bytes.{cut_short, cut_part, byte_in, byte_out, cases_place, no_bytes, same_values, part_within, rest_long, rest_part}
 use Rattle.qcow2_session.proofs.Chunks.{may_write_none}
 use Rattle.qcow2_session.proofs.Turns.{IsWithin, none_within, does_if, does_why, does_less, does_then, acts_less, acts_then}
@@ -297,3 +299,83 @@ module _ {S F : Type 0} (view : S → StorageView) (backing : F → BackingView)
 -- the same range of the same bytes
 pub same_range : (c d : List ℕ) (at n m : ℕ) → c ≡ d → n ≡ m → bytes_at c at n ≡ bytes_at d at m
 same_range c d at n m lists counts = ap (λ k. bytes_at k at n) lists ∙ ap (λ k. bytes_at d at k) counts
+
+-- ---- whatever the raw disk is
+
+-- bytes that were written are the first of more
+module _ (read whole : List ℕ) (at : ℕ) (long : length read ≡ at) (front : take at whole ≡ read) where
+  first_within : (v : AbstractImage) → IsWithin v (given_of 0 read ∷ []) (given_of 0 whole ∷ [])
+  first_within v o w h = inr (part_within 0 0 0 whole (take at whole) (omega arith) (omega (arith, cut_short at whole)) (λ i lt. cut_part at whole i lt ∙ ap (byte_at whole) (omega arith)) o w (subst (λ (b : List ℕ). IsGiven (given_of 0 b ∷ []) o w) (sym front) h))
+
+  pub first_of : (v m : AbstractImage) → AnsweredEffect v m (given_of 0 read ∷ []) [] (HasWritten 0 read (guest_of v) (guest_of m))
+      → AnsweredEffect v m (given_of 0 whole ∷ []) [] (guest_of m ≡ with_disk (guest_of v) (with_bytes (guest_of v).disk 0 (take at whole)))
+  first_of v m first = does_if (λ e. subst (λ (b : List ℕ). guest_of m ≡ with_disk (guest_of v) (with_bytes (guest_of v).disk 0 b)) (sym front) e) (does_less (first_within v) first)
+
+-- a list, and parts of it in a row
+front_is : (read rest : List ℕ) → take (length read) (read ++ rest) ≡ read
+front_is read rest = grind (arith, common_steps)
+
+behind_is : (read rest : List ℕ) → drop (length read) (read ++ rest) ≡ rest
+behind_is read rest = grind (arith, common_steps)
+
+next_is : (read chunk rest : List ℕ) (at : ℕ) → length read ≡ at → chunk ≡ bytes_at (read ++ (chunk ++ rest)) at (length chunk)
+next_is read chunk rest at long =
+    let whole = read ++ (chunk ++ rest) in
+    let fits : at + length chunk ≤ length whole = fit read chunk rest at long in
+    sym (range_is whole at (length chunk) fits ∙ ap (λ k. take (length chunk) (drop k whole)) (sym long) ∙ ap (take (length chunk)) (behind_is read (chunk ++ rest)) ∙ front_is chunk rest)
+  where
+    fit : (read chunk rest : List ℕ) (at : ℕ) → length read ≡ at → at + length chunk ≤ length (read ++ (chunk ++ rest))
+    fit read chunk rest at long = grind (arith, common_steps)
+
+all_taken : (read chunk : List ℕ) (at : ℕ) → length read ≡ at → take (at + length chunk) (read ++ (chunk ++ [])) ≡ read ++ (chunk ++ [])
+all_taken read chunk at long = grind (arith, common_steps)
+
+in_row : (read chunk rest : List ℕ) (at : ℕ) → length read ≡ at → (at + length chunk) + length rest ≡ length (read ++ (chunk ++ rest))
+in_row read chunk rest at long = grind (arith, common_steps)
+
+-- nothing yet
+pub any_none : {S F : Type 0} (view : S → StorageView) (backing : F → BackingView) (old : Qcow2 S F) → ImportsAnyOf view backing old old 0 (Ok tt)
+any_none view backing old = ([], refl, λ out. imports_none (abstract_of view backing old out) [])
+
+-- nothing was done
+pub any_nothing : {S F : Type 0} (view : S → StorageView) (backing : F → BackingView) (old : Qcow2 S F) (e : ImageError) (r : Result ℕ ImageError) → r ≡ Err e → ImportsAny view backing old old r
+any_nothing view backing old e r is = (replicate (size_of old) 0, length-replicate (size_of old) 0, imports_nothing view backing old (replicate (size_of old) 0) e r is)
+
+module _ {S F : Type 0} (view : S → StorageView) (backing : F → BackingView) (old mid new : Qcow2 S F) (at : ℕ) (first : ImportsAnyOf view backing old mid at (Ok tt)) (n : ℕ) where
+  -- a range more
+  pub any_more : ImportsAnyAt view backing mid new at n (Ok tt) → ImportsAnyOf view backing old new (at + n) (Ok tt)
+  any_more next =
+      let read : List ℕ = first.0 in
+      let chunk : List ℕ = next.0 in
+      let long : length read ≡ at = first.1 in
+      let count : length chunk ≡ n = next.1 in
+      let whole : List ℕ = read ++ (chunk ++ []) in
+      let row : (at + length chunk) + 0 ≡ length whole = in_row read chunk [] at long in
+      let front : take at whole ≡ read = ap (λ k. take k whole) (sym long) ∙ front_is read (chunk ++ []) in (
+        whole,
+        omega (arith, row, count),
+        λ out.
+            let v = abstract_of view backing old out in
+            does_if (λ e. subst (λ (b : List ℕ). guest_of (abstract_of view backing new out) ≡ with_disk (guest_of v) (with_bytes (guest_of v).disk 0 b)) (all_taken read chunk at long) e)
+            (all_more view backing old whole mid new at (length chunk) (omega (arith, row)) chunk (next_is read chunk [] at long)
+            (λ out. first_of read whole at long front (abstract_of view backing old out) (abstract_of view backing mid out) (first.2 out)) next.2 out),
+      )
+
+  -- the range was refused; of those behind it any bytes may be said
+  pub any_refused : (size : ℕ) → at + n ≤ size → (e : ImageError) (r : Result (Unit {0}) ImageError) → r ≡ Err e → at % cluster_size_of old ≡ 0 → n ≤ cluster_size_of old
+      → ImportsAnyAt view backing mid new at n (Err e) → ImportsAnyOf view backing old new size r
+  any_refused size fits e r err start small next =
+      let read : List ℕ = first.0 in
+      let chunk : List ℕ = next.0 in
+      let long : length read ≡ at = first.1 in
+      let count : length chunk ≡ n = next.1 in
+      let rest : List ℕ = replicate (size - (at + n)) 0 in
+      let left : length rest ≡ size - (at + n) = length-replicate (size - (at + n)) 0 in
+      let whole : List ℕ = read ++ (chunk ++ rest) in
+      let row : (at + length chunk) + length rest ≡ length whole = in_row read chunk rest at long in
+      let front : take at whole ≡ read = ap (λ k. take k whole) (sym long) ∙ front_is read (chunk ++ rest) in (
+        whole,
+        omega (arith, row, count, left, fits),
+        all_refused view backing old whole mid new at (length chunk) (omega (arith, row)) chunk (next_is read chunk rest at long)
+            (λ out. first_of read whole at long front (abstract_of view backing old out) (abstract_of view backing mid out) (first.2 out)) e r err start (omega (arith, count, small)) next.2,
+      )

@@ -1,8 +1,10 @@
 -- A raw disk is made as an image's disk is, range by range.
-use Rattle.std.proofs.Common.{◌≡◌, inl, inr, ℕ, ◌+◌, ◌-◌, ◌<◌, ◌≤◌, List, [], length, replicate, sym, ap, ◌∙◌, subst, arith}
+use Rattle.std.proofs.Common.{◌≡◌, false, inl, inr, ℕ, ◌+◌, ◌-◌, ◌<◌, ◌≤◌, List, [], length, replicate, sym, ap, ◌∙◌, subst, arith}
 use Rattle.std.proofs.lemmas.Bool.{cases_lt}
+use Rattle.std.proofs.lemmas.Grind.{common_steps}
 use Rattle.std.proofs.lemmas.List.{length-replicate, get_or-replicate}
-use Rattle.std.specs.Prelude.{Option, Result, Err}
+use Rattle.std.specs.Prelude.{None, Option, Result, Err}
+use Rattle.std.specs.Option.{option_or}
 use Rattle.image_access.specs.Backing.{BackingView}
 use Rattle.image_access.specs.Contents.{overwritten, resized}
 use Rattle.image_access.specs.Moments.{StorageView}
@@ -13,11 +15,16 @@ use Rattle.qcow2_disk.specs.Disk.{Disk}
 use Rattle.qcow2_disk.specs.AbstractImages.{Guest, guest_of}
 use Rattle.qcow2_disk.specs.Calls.{AnsweredEffect, Shows, IsSame}
 use Rattle.qcow2_alloc.specs.declared.error.ImageError.{ImageError}
+use Rattle.qcow2_alloc.specs.declared.error.ImageError.TheVariants as I
 use Rattle.qcow2_image.specs.Calls.{refusal_of}
+use Rattle.qcow2_image.specs.Image.{IsSameImage, is_failed, size_of}
+use Rattle.qcow2_image.specs.Refusals.{passes, refuse_if, refuses_to_read, unusable}
 use Rattle.qcow2_image.specs.declared.image.Qcow2.{Qcow2}
 use Rattle.qcow2_image.specs.declared.prepared.Prepared.{Prepared}
 use Rattle.qcow2_image.specs.ImageInvariant.{abstract_of}
 use Rattle.qcow2_session.specs.Conversions.{RefusedConversion, IsRawOf, IsUnchanged, IsFilledUpTo, Fills}
+use Rattle.qcow2_session.proofs.Causing.{then_none}
+use Rattle.qcow2_session.proofs.Parts.{not_failed_yet, part_reads}
 
 -- a range of zeros isn't written
 pub filled_same : (d : Disk) (size at n : ℕ) (contents bytes : List ℕ) → IsFilledUpTo d size at contents → Shows d at bytes → bytes ≡ replicate n 0 → IsFilledUpTo d size (at + n) contents
@@ -83,3 +90,13 @@ module _ {S F : Type 0} (view : S → StorageView) (backing : F → BackingView)
       subst (λ k. IsFilledUpTo d size (at + k) c) count
       (subst (λ (k : Disk). IsFilledUpTo k size (at + n) c) disk-is
       (next out mid.0 size (omega (arith, le, count)) (subst (λ (k : Disk). IsFilledUpTo k size at b) (sym disk-is) (first out sound size (omega (arith, le)) filled))))
+
+-- a part of the disk is read, of an image that may be used
+pub part_of_disk : {S F : Type 0} (old mid : Qcow2 S F) → IsSameImage old mid → (at n : ℕ) → at + n ≤ size_of old → is_failed mid ≡ false → refuses_to_read old 0 0 ≡ None → refuses_to_read mid at n ≡ None
+part_of_disk old mid same at n fits works none =
+    let usable = (then_none (unusable old) (passes (size_of old) 0 0) I.BeyondSize none).0 in
+    let whole : refuses_to_read old 0 (size_of old) ≡ None = ap (λ u. option_or u (refuse_if (passes (size_of old) 0 (size_of old)) I.BeyondSize)) usable ∙ ap (λ b. refuse_if b I.BeyondSize) (all_within (size_of old)) in
+    part_reads old mid same 0 (size_of old) at n (omega arith) (omega (arith, fits)) (works ∙ sym (not_failed_yet old mid same usable)) whole
+  where
+    all_within : (size : ℕ) → passes size 0 size ≡ false
+    all_within size = grind (arith, common_steps)

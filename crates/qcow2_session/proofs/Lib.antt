@@ -11,6 +11,7 @@ mod Runs
 mod LookingUp
 mod Converting
 mod Exporting
+mod Reasons
 mod Cleared
 mod Resized
 mod SpecialReads

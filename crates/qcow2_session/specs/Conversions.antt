@@ -1,5 +1,5 @@
 -- What converting does: an image's disk is made as a raw disk is, or a raw disk as an image's disk is.
-use Rattle.std.specs.Prelude.{ℕ, ◌%◌, ◌≡◌, ◌⊎◌, ◌≤◌, ◌<◌, IsTrue, List, [], ◌∷◌, length, Option, Some, Result, Ok, Err}
+use Rattle.std.specs.Prelude.{ℕ, false, ◌%◌, ◌≡◌, ◌⊎◌, ◌≤◌, ◌<◌, IsTrue, List, [], ◌∷◌, length, Option, Some, Result, Ok, Err}
 use Rattle.image_access.specs.Backing.{BackingView}
 use Rattle.image_access.specs.Moments.{StorageView}
 use Rattle.qcow2_metadata.specs.Bytes.{byte_at}
@@ -11,12 +11,15 @@ use Rattle.qcow2_disk.specs.AbstractImages.{Guest, AbstractImage, guest_of, stor
 use Rattle.qcow2_disk.specs.Calls.{Refusal, IsRefusalByFault, CallEffect, AnsweredEffect, IsSame, Shows, MayWrite}
 use Rattle.qcow2_alloc.specs.ImageError.{IsFault as IsOfFault}
 use Rattle.qcow2_alloc.specs.declared.error.ImageError.{ImageError}
-use Rattle.qcow2_alloc.specs.declared.error.ImageError.TheVariants.{InvalidOption}
+use Rattle.qcow2_alloc.specs.declared.error.ImageError.TheVariants.{InvalidOption, ReadOnly, TablePrepared}
 use Rattle.qcow2_image.specs.declared.image.Qcow2.{Qcow2}
 use Rattle.qcow2_image.specs.declared.prepared.Prepared.{Prepared}
 use Rattle.qcow2_image.specs.Calls.{refusal_of}
+use Rattle.qcow2_image.specs.Image.{is_writable, size_of}
+use Rattle.qcow2_image.specs.Preallocation.{IsUnderMappingIn}
+use Rattle.qcow2_image.specs.Refusals.{IsMet}
 use Rattle.qcow2_image.specs.ImageInvariant.{abstract_of}
-use Rattle.qcow2_session.specs.Sessions.{HasWritten, cluster_size_of}
+use Rattle.qcow2_session.specs.Sessions.{HasWritten, IsOfWriting, cluster_size_of}
 
 -- the bytes of a disk below its size are these
 abbrev pub IsRawOf : Disk → List ℕ → Type 0
@@ -30,6 +33,14 @@ IsLeft old new = old.is_honest → new.is_honest × (new.contents ≡ old.conten
 abbrev pub IsRefusedUnequal : Option ImageError → Result ℕ ImageError → Type 0
 IsRefusedUnequal early (Ok n) = ⊥
 IsRefusedUnequal early (Err e) = (early ≡ Some e) ⊎ ((e ≡ InvalidOption) ⊎ IsOfFault e)
+
+-- what an import may be refused for: what a write is, and sizes that differ
+abbrev pub IsOfImporting : ImageError → Type 0
+IsOfImporting e = IsOfWriting e ⊎ (e ≡ InvalidOption)
+
+-- why a range isn't written that may be read: what the work meets, that the image isn't to be written, or that an L2 table of the range is kept for a mapping
+abbrev pub IsReasonNotToWrite : {S F : Type 0} → Qcow2 S F → (from to : ℕ) → List (Option Prepared) → ImageError → Type 0
+IsReasonNotToWrite image from to out e = IsMet e ⊎ (((e ≡ ReadOnly) × (is_writable image ≡ false)) ⊎ ((e ≡ TablePrepared) × IsUnderMappingIn image.file.header.fields from to out))
 
 -- It was refused, by the image or by the raw disk: the image is sound, and this is so; or it failed, by a fault or want of memory.
 pub record RefusedConversion (old new : AbstractImage) (given : List GivenBytes) (e : Refusal) (still : Type 0) : Type 0 where
@@ -60,6 +71,18 @@ module _ {S F : Type 0} (view : S → StorageView) (backing : F → BackingView)
       AnsweredEffect v w (given_of at bytes ∷ []) [] (HasWritten at bytes (guest_of v) (guest_of w))
   ImportsAt at bytes (Err e) = (out : List (Option Prepared)) → let v = abstract_of view backing old out in let w = abstract_of view backing new out in
       RefusedConversion v w (given_of at bytes ∷ []) (refusal_of e) (at % cluster_size_of old ≡ 0 → length bytes ≤ cluster_size_of old → MayWrite (refusal_of e) (guest_of v) at bytes 0 (guest_of w))
+
+  -- Whatever the raw disk is, the image is made as some bytes are, of its disk's size: those that were read.
+  abbrev pub ImportsAny : Result ℕ ImageError → Type 0
+  ImportsAny result = (bytes : List ℕ) × (length bytes ≡ size_of old) × Imports bytes result
+
+  -- so it is before the flush, of so many bytes
+  abbrev pub ImportsAnyOf : ℕ → Result (Unit {0}) ImageError → Type 0
+  ImportsAnyOf size result = (bytes : List ℕ) × (length bytes ≡ size) × ImportsAll bytes result
+
+  -- and of one range
+  abbrev pub ImportsAnyAt : (at n : ℕ) → Result (Unit {0}) ImageError → Type 0
+  ImportsAnyAt at n result = (bytes : List ℕ) × (length bytes ≡ n) × ImportsAt at bytes result
 
   -- the guest sees what it saw
   abbrev pub IsUnchanged : {A : Type 0} → Result A ImageError → Type 0

@@ -1,11 +1,14 @@
 //! Images of raw disks, and raw disks of images.
-ghost use Rattle.std.specs.Prelude.{◌≡◌, ◌≢◌, ◌+◌, ◌<◌, Err, length, replicate, IfSome, IfErr, IfOk, OnOk, IsTrue};
+ghost use Rattle.std.specs.Prelude.{◌≡◌, ◌≢◌, ◌⊎◌, ◌+◌, ◌<◌, List, Option, None, Err, length, replicate, IfSome, IfErr, IfOk, OnOk, IsTrue};
 ghost use Rattle.image_access.specs.Contents.{bytes_at};
-ghost use Rattle.qcow2_image.specs.Image.{number_of, size_of};
-ghost use Rattle.qcow2_image.specs.Refusals.{refuses_to_read};
+ghost use Rattle.qcow2_image.specs.Image.{HasNothingToFree, IsSameImage, is_writable, size_of};
+ghost use Rattle.qcow2_image.specs.ImageInvariant.{abstract_of};
+ghost use Rattle.qcow2_image.specs.declared.prepared.Prepared.{Prepared};
+ghost use Rattle.qcow2_image.specs.Refusals.{IsMet, refuses_to_read};
 ghost use Rattle.qcow2_alloc.specs.declared.error.ImageError.TheVariants.{InvalidOption};
-ghost use Rattle.qcow2_session.specs.Sessions.{IsOfWriting, cluster_size_of};
-ghost use Rattle.qcow2_session.specs.Conversions.{IsRefusedUnequal, IsLeft, IsUnchanged, Imports, ImportsAll, ImportsAt, Fills, Exports};
+ghost use Rattle.qcow2_session.specs.Sessions.{IsOfReading, IsOfWriting, cluster_size_of};
+ghost use Rattle.qcow2_session.specs.Conversions.{IsOfImporting, IsReasonNotToWrite, IsRefusedUnequal, IsLeft, IsUnchanged, Imports, ImportsAll, ImportsAt, ImportsAny, ImportsAnyAt, ImportsAnyOf, Fills, Exports};
+ghost use Rattle.qcow2_session.specs.Told.{StaysUnwritten};
 
 use crate::session::{read_into, write};
 use image_access::{Storage, StoragePreallocate, WrappedFormat};
@@ -14,7 +17,7 @@ use std::alloc::Global;
 
 /// Makes an image's disk as a raw disk of the same size is, cluster by cluster, and flushes the image. The answer is the number of bytes.
 /// Only a cluster that differs is written, so where both read zero nothing is. After a refusal other than 14 and 15 the disk has the raw
-/// disk's bytes up to a cluster's start, and its own from there on.
+/// disk's bytes up to a cluster's start, and its own from there on. Of a raw disk that answers other bytes than it has, those count.
 /// Before any work it is refused 16 (failed), 12 (dependency), then 5 (invalid option) for unequal sizes. A cluster that differs is
 /// refused 1 (read-only), 9 (table prepared) as a write is. Where the work meets them: 4 (unaligned table), 7 (compressed),
 /// 8 (everything is in use), 13 (limit), 14 (memory), 15 (storage).
@@ -23,12 +26,17 @@ pub fn to_qcow2<R: Storage, S: Storage, F: WrappedFormat<S>>(
     raw: &mut R,
     image: &mut Qcow2<S, F>,
 ) -> Result<u64, ImageError>
-    ensures number { number_of image.new ≡ number_of image.old }
+    ensures image { IsSameImage image.old image.new }
     ensures early { IfSome (refuses_to_read image.old 0 0) (λ e. (result ≡ Err e) × (image.new ≡ image.old) × (raw.new ≡ raw.old)) }
     ensures unequal { (R.view raw.old).is_honest → length (R.view raw.old).contents ≢ size_of image.old → IsRefusedUnequal (refuses_to_read image.old 0 0) result × (image.new ≡ image.old) }
     ensures option { (R.view raw.old).is_honest → IfErr result (λ e. e ≡ InvalidOption → length (R.view raw.old).contents ≢ size_of image.old) }
     ensures raw { IsLeft (R.view raw.old) (R.view raw.new) }
     ensures sees { (R.view raw.old).is_honest → Imports S.view F.backing image.old image.new (R.view raw.old).contents result }
+    ensures any { ImportsAny S.view F.backing image.old image.new result }
+    ensures cause { IfErr result IsOfImporting }
+    ensures late { refuses_to_read image.old 0 0 ≡ None → (out : List (Option Prepared)) → (abstract_of S.view F.backing image.old out).is_sound
+        → IfErr result (λ e. (e ≡ InvalidOption) ⊎ IsReasonNotToWrite image.old 0 (size_of image.old) out e) }
+    ensures emptied { IsTrue (is_writable image.old) → IfOk result (λ n. HasNothingToFree image.new) }
 {
     image.check_read(0, 0)?;
     let size = raw.size()?;
@@ -54,10 +62,12 @@ fn import_all<R: Storage, S: Storage, F: WrappedFormat<S>>(
     requires wanted { length wanted.old ≡ cluster_size_of image.old }
     requires present { length present.old ≡ cluster_size_of image.old }
     requires some { 0 < length wanted.old }
-    ensures number { number_of image.new ≡ number_of image.old }
+    ensures image { IsSameImage image.old image.new }
     ensures raw { IsLeft (R.view raw.old) (R.view raw.new) }
     ensures cause { IfErr result IsOfWriting }
     ensures sees { (R.view raw.old).is_honest → size ≡ length (R.view raw.old).contents → ImportsAll S.view F.backing image.old image.new (R.view raw.old).contents result }
+    ensures any { ImportsAnyOf S.view F.backing image.old image.new size result }
+    ensures late { refuses_to_read image.old 0 0 ≡ None → size ≡ size_of image.old → (out : List (Option Prepared)) → (abstract_of S.view F.backing image.old out).is_sound → IfErr result (IsReasonNotToWrite image.old 0 size out) }
 {
     let mut at = 0;
     while at < size {
@@ -77,10 +87,12 @@ fn import_at<R: Storage, S: Storage, F: WrappedFormat<S>>(
     present: &mut [u8],
 ) -> Result<(), ImageError>
     requires { length present.old ≡ length wanted.old }
-    ensures number { number_of image.new ≡ number_of image.old }
+    ensures image { IsSameImage image.old image.new }
     ensures raw { IsLeft (R.view raw.old) (R.view raw.new) }
     ensures cause { IfErr result IsOfWriting }
     ensures sees { (R.view raw.old).is_honest → ImportsAt S.view F.backing image.old image.new at (bytes_at (R.view raw.old).contents at (length wanted.old)) result }
+    ensures any { ImportsAnyAt S.view F.backing image.old image.new at (length wanted.old) result }
+    ensures late { refuses_to_read image.old at (length wanted.old) ≡ None → (out : List (Option Prepared)) → (abstract_of S.view F.backing image.old out).is_sound → IfErr result (IsReasonNotToWrite image.old at (at + length wanted.old) out) }
 {
     raw.read(at, wanted)?;
     read_into(image, at, present)?;
@@ -94,7 +106,8 @@ fn import_at<R: Storage, S: Storage, F: WrappedFormat<S>>(
 }
 
 /// Makes a raw disk as an image's disk is, cluster by cluster. It is resized to no bytes, then to the disk's size, and each cluster that
-/// isn't all zeros is written. The answer is the number of bytes. What the image's guest sees stays.
+/// isn't all zeros is written. The answer is the number of bytes. What the image's guest sees stays, and an image that was opened for
+/// reading isn't written.
 /// Before any work it is refused 16 (failed), 12 (dependency), then 14 (memory) where two clusters have no room. Where the work meets
 /// them: 4 (unaligned table), 7 (compressed), 8 (everything is in use), 14 (memory), 15 (storage). The raw disk may have any bytes then.
 pub fn to_raw<S: Storage, F: WrappedFormat<S>, R: Storage>(
@@ -102,11 +115,14 @@ pub fn to_raw<S: Storage, F: WrappedFormat<S>, R: Storage>(
     image: &mut Qcow2<S, F>,
     raw: &mut R,
 ) -> Result<u64, ImageError>
-    ensures number { number_of image.new ≡ number_of image.old }
+    ensures image { IsSameImage image.old image.new }
     ensures early { IfSome (refuses_to_read image.old 0 0) (λ e. (result ≡ Err e) × (image.new ≡ image.old) × (raw.new ≡ raw.old)) }
     ensures same { IsUnchanged S.view F.backing image.old image.new result }
+    ensures unwritten { StaysUnwritten S.view F.backing image.old image.new }
     ensures honest { (R.view raw.old).is_honest → (R.view raw.new).is_honest }
     ensures sees { (R.view raw.old).is_honest → IfOk result (λ n. Exports S.view F.backing image.old (R.view raw.new).contents n) }
+    ensures cause { IfErr result IsOfReading }
+    ensures late { refuses_to_read image.old 0 0 ≡ None → (out : List (Option Prepared)) → (abstract_of S.view F.backing image.old out).is_sound → IfErr result IsMet }
 {
     image.check_read(0, 0)?;
     let size = image.size();
@@ -129,10 +145,13 @@ fn export_all<S: Storage, F: WrappedFormat<S>, R: Storage>(
 ) -> Result<(), ImageError>
     requires some { 0 < length bytes.old }
     requires zeros { zeros.now ≡ replicate (length bytes.old) 0 }
-    ensures number { number_of image.new ≡ number_of image.old }
+    ensures image { IsSameImage image.old image.new }
     ensures same { IsUnchanged S.view F.backing image.old image.new result }
+    ensures unwritten { StaysUnwritten S.view F.backing image.old image.new }
     ensures honest { (R.view raw.old).is_honest → (R.view raw.new).is_honest }
     ensures sees { (R.view raw.old).is_honest → OnOk result (Fills S.view F.backing image.old 0 size (R.view raw.old).contents (R.view raw.new).contents) }
+    ensures cause { IfErr result IsOfReading }
+    ensures late { refuses_to_read image.old 0 0 ≡ None → size ≡ size_of image.old → (out : List (Option Prepared)) → (abstract_of S.view F.backing image.old out).is_sound → IfErr result IsMet }
 {
     let mut at = 0;
     while at < size {
@@ -152,10 +171,13 @@ fn export_at<S: Storage, F: WrappedFormat<S>, R: Storage>(
     zeros: &[u8],
 ) -> Result<(), ImageError>
     requires { zeros.now ≡ replicate (length bytes.old) 0 }
-    ensures number { number_of image.new ≡ number_of image.old }
+    ensures image { IsSameImage image.old image.new }
     ensures same { IsUnchanged S.view F.backing image.old image.new result }
+    ensures unwritten { StaysUnwritten S.view F.backing image.old image.new }
     ensures honest { (R.view raw.old).is_honest → (R.view raw.new).is_honest }
     ensures sees { (R.view raw.old).is_honest → OnOk result (Fills S.view F.backing image.old at (at + length bytes.old) (R.view raw.old).contents (R.view raw.new).contents) }
+    ensures cause { IfErr result IsOfReading }
+    ensures late { refuses_to_read image.old at (length bytes.old) ≡ None → IfErr result IsMet }
 {
     read_into(image, at, bytes)?;
     if is_same(bytes, zeros) {

@@ -1,3 +1,4 @@
+mod boxes;
 mod commands;
 mod creating;
 mod flushes;
@@ -7,6 +8,7 @@ mod sizes;
 mod writes;
 
 use super::{read, write};
+use crate::session::{Command, Reply, run};
 use image_access::{Storage, StorageError, TraceStorage};
 use qcow2_image::{ImageError, MappingKind, Qcow2, Qcow2CreateBuilder};
 use std::alloc::{AllocError, Global};
@@ -56,6 +58,18 @@ fn opened<S: Storage>(alloc: Global, storage: S, writable: bool) -> Result<Qcow2
         Ok(image) => Ok(image),
         Err((_storage, refusal)) => Err(refusal),
     }
+}
+
+// The replies to commands on an image that is opened for writing or not, and the storage afterwards.
+fn left_by<S: Storage>(
+    alloc: Global,
+    storage: S,
+    writable: bool,
+    commands: &[Command],
+) -> Result<(S, Vec<Reply>), ImageError> {
+    let mut image = opened(alloc, storage, writable)?;
+    let replies = run(alloc, &mut image, commands);
+    Ok((image.into_storage(), replies))
 }
 
 // What the image says of a range of its disk.

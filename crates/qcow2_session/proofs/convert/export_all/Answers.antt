@@ -1,9 +1,14 @@
-use Rattle.std.proofs.Common.{◌≡◌, ◌∙◌, [], length, take, subst, arith}
+use Rattle.std.proofs.Common.{◌≡◌, ◌∙◌, ◌+◌, ◌≤◌, sym, [], length, take, subst, arith}
 use Rattle.std.proofs.lemmas.Grind.{common_steps}
 use Rattle.qcow2_image.specs.ImageInvariant.{abstract_of}
 use Rattle.qcow2_session.specs.Conversions.{Fills}
 use Rattle.qcow2_session.proofs.Converting.{interrupted_if, interrupted_then}
-use Rattle.qcow2_session.proofs.Exporting.{unchanged_refused, fills_more}
+use Rattle.std.specs.Prelude.{IfErr}
+use Rattle.qcow2_image.specs.Image.{size_of}
+use Rattle.qcow2_image.specs.Refusals.{IsMet}
+use Rattle.qcow2_session.proofs.Exporting.{part_of_disk, unchanged_refused, fills_more}
+use Rattle.qcow2_image.proofs.Map.Unmodified.{read_then}
+use Rattle.qcow2_session.proofs.Told.{same_then}
 use Rattle.qcow2_session.proofs.Turns.{refused_is, none_within, does_if, does_then}
 use Rattle.qcow2_session.proofs.convert.export_all.Goals as goal
 
@@ -14,13 +19,21 @@ returns-in_err-export_at-clause-same g c =
     unchanged_refused view below c.args.image.now c.export_at.new.image c.in_err-export_at.field-0.0 _ (refused_is _ c.in_err-export_at.field-0.0 c.from_residual.ensures)
     (λ out. interrupted_if (λ h. h.1 ∙ h.0) (interrupted_then {more = []} (λ _. none_within (abstract_of view below c.loop-at.image out) []) (c.loop-at.invariant.same out) (c.in_err-export_at.ensures.same out)))
 
+pub returns-in_err-export_at-clause-unwritten : goal.returns-in_err-export_at-clause-unwritten
+returns-in_err-export_at-clause-unwritten g c = λ reading out sound clean.
+    let so_far = c.loop-at.invariant.unwritten reading out sound clean in
+    read_then g.S.Storage.view so_far (c.export_at.ensures.unwritten (c.loop-at.invariant.image.writable ∙ reading) out ((c.loop-at.invariant.same out).answer sound).0 so_far.unmodified)
+
 pub loop-at-preserved : goal.loop-at-preserved
 loop-at-preserved g c =
     let view = g.S.Storage.view in
     let below = g.F.BackingDisk.backing in
     record {
       within = grind (arith, common_steps);
-      number = c.export_at.ensures.number ∙ c.loop-at.invariant.number;
+      image = same_then c.loop-at.invariant.image c.export_at.ensures.image;
+      unwritten = λ reading out sound clean.
+          let so_far = c.loop-at.invariant.unwritten reading out sound clean in
+          read_then view so_far (c.export_at.ensures.unwritten (c.loop-at.invariant.image.writable ∙ reading) out ((c.loop-at.invariant.same out).answer sound).0 so_far.unmodified);
       honest = λ h. c.export_at.ensures.honest (c.loop-at.invariant.honest h);
       same = λ out. does_if (λ h. h.1 ∙ h.0) (does_then {more = []} (λ _. none_within (abstract_of view below c.loop-at.image out) []) (c.loop-at.invariant.same out) (c.in_ok-export_at.ensures.same out));
       filled = λ h.
@@ -33,3 +46,10 @@ pub returns-clause-sees : goal.returns-clause-sees
 returns-clause-sees g c = λ h.
     let done : c.loop-at.at ≡ c.args.size = omega (arith, c.loop-at.invariant.within, c.loop-at-test.false) in
     subst (λ k. Fills g.S.Storage.view g.F.BackingDisk.backing c.args.image.now 0 k (g.R.Storage.view c.args.raw.now).contents (g.R.Storage.view c.loop-at.raw).contents) done (c.loop-at.invariant.filled h)
+
+pub returns-in_err-export_at-clause-late : goal.returns-in_err-export_at-clause-late
+returns-in_err-export_at-clause-late g c = λ none size out sound.
+    let long : length (take c.min-count.result c.loop-at.bytes) ≡ c.min-count.result = grind (arith, common_steps) in
+    let fits : c.loop-at.at + length (take c.min-count.result c.loop-at.bytes) ≤ size_of c.args.image.now = omega (arith, c.min-count.ensures, c.loop-at-test.true, size, long) in
+    subst (λ r. IfErr r IsMet) (sym (refused_is _ c.in_err-export_at.field-0.0 c.from_residual.ensures))
+    (c.in_err-export_at.ensures.late (part_of_disk c.args.image.now c.loop-at.image c.loop-at.invariant.image c.loop-at.at (length (take c.min-count.result c.loop-at.bytes)) fits ((c.loop-at.invariant.same out).answer sound).0.works none))

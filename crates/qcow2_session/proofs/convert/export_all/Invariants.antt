@@ -2,16 +2,18 @@ use Rattle.std.proofs.Common.{◌≡◌, ◌-◌, ◌≤◌, [], List}
 use Rattle.std.specs.Prelude.{Option}
 use Rattle.qcow2_disk.specs.Calls.{AnsweredEffect}
 use Rattle.qcow2_disk.specs.AbstractImages.{guest_of}
-use Rattle.qcow2_image.specs.Image.{number_of}
+use Rattle.qcow2_image.specs.Image.{IsSameImage}
 use Rattle.qcow2_image.specs.ImageInvariant.{abstract_of}
 use Rattle.qcow2_image.specs.declared.prepared.Prepared.{Prepared}
 use Rattle.qcow2_session.specs.Conversions.{Fills}
+use Rattle.qcow2_session.specs.Told.{StaysUnwritten}
 use Rattle.qcow2_session.proofs.convert.export_all.Given as goal
 
 abbrev pub invariant-loop-at : goal.invariant-loop-at
 invariant-loop-at g l = record {
   within : l.at ≤ l.size;
-  number : number_of l.image ≡ number_of l.fn.image;
+  image : IsSameImage l.fn.image l.image;
+  unwritten : StaysUnwritten g.S.Storage.view g.F.BackingDisk.backing l.fn.image l.image;
   honest : (g.R.Storage.view l.fn.raw).is_honest → (g.R.Storage.view l.raw).is_honest;
   same : (out : List (Option Prepared)) → let v = abstract_of g.S.Storage.view g.F.BackingDisk.backing l.fn.image out in let w = abstract_of g.S.Storage.view g.F.BackingDisk.backing l.image out in
       AnsweredEffect v w [] [] (guest_of w ≡ guest_of v);

@@ -5,6 +5,9 @@ use Rattle.qcow2_alloc.specs.ImageError.{of_storage}
 use Rattle.qcow2_disk.specs.AbstractImages.{guest_of}
 use Rattle.qcow2_image.specs.Calls.{refusal_of}
 use Rattle.qcow2_image.specs.ImageInvariant.{abstract_of}
+use Rattle.std.specs.Prelude.{IfErr}
+use Rattle.qcow2_image.specs.Refusals.{IsMet}
+use Rattle.qcow2_image.proofs.Call.MetErrors.{storage_met}
 use Rattle.qcow2_session.specs.Conversions.{IsFilledUpTo}
 use Rattle.qcow2_session.proofs.Converting.{interrupted, interrupted_here}
 use Rattle.qcow2_session.proofs.Exporting.{filled_same, filled_more, unchanged_refused}
@@ -40,3 +43,9 @@ returns-clause-sees g c = λ honest out sound size le filled.
     subst (λ b. IsFilledUpTo d size (c.args.at + length c.args.bytes.now) b) (sym (c.in_ok-write.ensures.written honest))
     (subst (λ n. IsFilledUpTo d size (c.args.at + n) (overwritten (g.R.Storage.view c.args.raw.now).contents c.args.at c.read_into.new.bytes)) long
     (filled_more d size c.args.at (g.R.Storage.view c.args.raw.now).contents c.read_into.new.bytes filled shows.1.0 (omega (arith, le, long))))
+
+pub returns-in_err-read_into-clause-late : goal.returns-in_err-read_into-clause-late
+returns-in_err-read_into-clause-late g c = λ none. subst (λ r. IfErr r IsMet) (sym (refused_is _ c.in_err-read_into.field-0.0 c.from_residual.ensures)) (c.in_err-read_into.ensures.late none).0
+
+pub returns-in_err-write-clause-late : goal.returns-in_err-write-clause-late
+returns-in_err-write-clause-late g c = λ none. subst (λ r. IfErr r IsMet) (sym (refused_is _ (of_storage c.in_err-write.field-0.0) c.from_residual-in_err-write.ensures)) (storage_met c.in_err-write.field-0.0)

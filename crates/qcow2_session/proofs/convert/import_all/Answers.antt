@@ -1,4 +1,4 @@
-use Rattle.std.proofs.Common.{◌≡◌, ◌+◌, ◌-◌, ◌%◌, ◌<◌, ◌++◌, drop, length, take, refl, ap, ◌∙◌, subst, arith, min, ℕ}
+use Rattle.std.proofs.Common.{sym, ◌≡◌, ◌+◌, ◌-◌, ◌%◌, ◌<◌, ◌++◌, drop, length, take, refl, ap, ◌∙◌, subst, arith, min, ℕ}
 use Rattle.std.proofs.Math.Nat.{zero-mod, add-mod_right}
 use Rattle.std.proofs.lemmas.Grind.{common_steps}
 use Rattle.image_access.specs.Contents.{bytes_at}
@@ -6,7 +6,13 @@ use Rattle.qcow2_disk.specs.Calls.{with_disk}
 use Rattle.qcow2_disk.specs.Disk.{with_bytes}
 use Rattle.qcow2_disk.specs.AbstractImages.{guest_of}
 use Rattle.qcow2_image.specs.ImageInvariant.{abstract_of}
-use Rattle.qcow2_session.proofs.Converting.{imports_none, all_more, all_refused, same_range}
+use Rattle.std.specs.Prelude.{IfErr, Ok}
+use Rattle.qcow2_disk.specs.AbstractImages.{Setting}
+use Rattle.qcow2_session.specs.Conversions.{ImportsAnyOf, IsReasonNotToWrite}
+use Rattle.qcow2_session.proofs.Exporting.{part_of_disk}
+use Rattle.qcow2_session.proofs.Reasons.{reason_within}
+use Rattle.qcow2_session.proofs.Converting.{any_more, any_none, any_refused, imports_none, all_more, all_refused, same_range}
+use Rattle.qcow2_session.proofs.Told.{same_then}
 use Rattle.qcow2_session.proofs.Turns.{refused_is, does_if}
 use Rattle.qcow2_session.proofs.convert.import_all.Goals as goal
 
@@ -14,8 +20,9 @@ pub loop-at-init : goal.loop-at-init
 loop-at-init g c = record {
   within = omega arith;
   aligned = λ lt. zero-mod (length c.args.wanted.now);
-  number = refl;
+  image = record { number = refl; size = refl; writable = refl; external = refl };
   raw = λ honest. (honest, refl);
+  any = any_none g.S.Storage.view g.F.BackingDisk.backing c.args.image.now;
   written = λ honest size out. imports_none (abstract_of g.S.Storage.view g.F.BackingDisk.backing c.args.image.now out) (g.R.Storage.view c.args.raw.now).contents;
 }
 
@@ -33,8 +40,12 @@ loop-at-preserved g c =
       within = grind (arith, common_steps);
       aligned = λ more. subst (λ k. (c.loop-at.at + c.min-count.result) % k ≡ 0) whole
           (next_aligned c.loop-at.at c.min-count.result (length c.loop-at.wanted) c.args.size c.min-count.ensures (c.loop-at.invariant.aligned c.loop-at-test.true) more);
-      number = c.import_at.ensures.number ∙ c.loop-at.invariant.number;
+      image = same_then c.loop-at.invariant.image c.import_at.ensures.image;
       raw = λ honest. let before = c.loop-at.invariant.raw honest in let after = c.import_at.ensures.raw before.0 in (after.0, after.1 ∙ before.1);
+      any =
+          let long : length (take c.min-count.result c.loop-at.wanted) ≡ c.min-count.result = grind (arith, common_steps) in
+          subst (λ n. ImportsAnyOf g.S.Storage.view g.F.BackingDisk.backing c.args.image.now c.import_at.new.image (c.loop-at.at + n) (Ok tt)) long
+          (any_more g.S.Storage.view g.F.BackingDisk.backing c.args.image.now c.loop-at.image c.import_at.new.image c.loop-at.at c.loop-at.invariant.any (length (take c.min-count.result c.loop-at.wanted)) c.in_ok-import_at.ensures.any);
       written = λ honest size.
           let before = c.loop-at.invariant.raw honest in
           let long : length (take c.min-count.result c.loop-at.wanted) ≡ c.min-count.result = grind (arith, common_steps) in
@@ -62,3 +73,26 @@ returns-clause-sees g c = λ honest size out.
     let all : take c.loop-at.at contents ≡ contents = grind (arith, common_steps, size, c.loop-at.invariant.within, c.loop-at-test.false) in
     does_if (λ e. subst (λ b. guest_of (abstract_of g.S.Storage.view g.F.BackingDisk.backing c.loop-at.image out) ≡ with_disk (guest_of (abstract_of g.S.Storage.view g.F.BackingDisk.backing c.args.image.now out)) (with_bytes (guest_of (abstract_of g.S.Storage.view g.F.BackingDisk.backing c.args.image.now out)).disk 0 b)) all e)
     (c.loop-at.invariant.written honest size out)
+
+pub returns-in_err-import_at-clause-any : goal.returns-in_err-import_at-clause-any
+returns-in_err-import_at-clause-any g c =
+    let long : length (take c.min-count.result c.loop-at.wanted) ≡ c.min-count.result = grind (arith, common_steps) in
+    any_refused g.S.Storage.view g.F.BackingDisk.backing c.args.image.now c.loop-at.image c.import_at.new.image c.loop-at.at c.loop-at.invariant.any (length (take c.min-count.result c.loop-at.wanted)) c.args.size
+    (omega (arith, c.min-count.ensures, c.loop-at-test.true, long)) c.in_err-import_at.field-0.0 _ (refused_is _ c.in_err-import_at.field-0.0 c.from_residual.ensures)
+    (subst (λ k. c.loop-at.at % k ≡ 0) (c.loop-at.auto.wanted ∙ c.requires.wanted) (c.loop-at.invariant.aligned c.loop-at-test.true)) (omega (arith, c.min-count.ensures, c.loop-at.auto.wanted, c.requires.wanted, long)) c.in_err-import_at.ensures.any
+
+pub returns-clause-any : goal.returns-clause-any
+returns-clause-any g c =
+    let done : c.loop-at.at ≡ c.args.size = omega (arith, c.loop-at.invariant.within, c.loop-at-test.false) in
+    subst (λ n. ImportsAnyOf g.S.Storage.view g.F.BackingDisk.backing c.args.image.now c.loop-at.image n (Ok tt)) done c.loop-at.invariant.any
+
+pub returns-in_err-import_at-clause-late : goal.returns-in_err-import_at-clause-late
+returns-in_err-import_at-clause-late g c = λ none size out sound.
+    let count = length (take c.min-count.result c.loop-at.wanted) in
+    let long : length (take c.min-count.result c.loop-at.wanted) ≡ c.min-count.result = grind (arith, common_steps) in
+    let first = c.loop-at.invariant.any.2 out in
+    let now = (first.answer sound).0 in
+    subst (λ r. IfErr r (IsReasonNotToWrite c.args.image.now 0 c.args.size out)) (sym (refused_is _ c.in_err-import_at.field-0.0 c.from_residual.ensures))
+    (reason_within c.args.image.now c.loop-at.image c.loop-at.invariant.image (ap (λ (x : Setting). x.cluster_size) (first.acts.works sound).setting) 0 c.args.size c.loop-at.at (c.loop-at.at + count)
+    (omega arith) (omega (arith, c.min-count.ensures, c.loop-at-test.true, long)) out c.in_err-import_at.field-0.0
+    (c.in_err-import_at.ensures.late (part_of_disk c.args.image.now c.loop-at.image c.loop-at.invariant.image c.loop-at.at count (omega (arith, c.min-count.ensures, c.loop-at-test.true, long, size)) now.works none) out now))

@@ -1,21 +1,22 @@
 use Rattle.std.proofs.Common.{◌≡◌, ◌-◌, ◌%◌, ◌<◌, ◌≤◌, length, [], ◌∷◌, take, List}
-use Rattle.std.specs.Prelude.{Option}
+use Rattle.std.specs.Prelude.{Ok, Option}
 use Rattle.qcow2_disk.specs.Calls.{AnsweredEffect, with_disk}
 use Rattle.qcow2_disk.specs.Disk.{with_bytes}
 use Rattle.qcow2_disk.specs.Mappings.{given_of}
 use Rattle.qcow2_disk.specs.AbstractImages.{guest_of}
-use Rattle.qcow2_image.specs.Image.{number_of}
+use Rattle.qcow2_image.specs.Image.{IsSameImage}
 use Rattle.qcow2_image.specs.ImageInvariant.{abstract_of}
 use Rattle.qcow2_image.specs.declared.prepared.Prepared.{Prepared}
-use Rattle.qcow2_session.specs.Conversions.{IsLeft}
+use Rattle.qcow2_session.specs.Conversions.{ImportsAnyOf, IsLeft}
 use Rattle.qcow2_session.proofs.convert.import_all.Given as goal
 
 abbrev pub invariant-loop-at : goal.invariant-loop-at
 invariant-loop-at g l = record {
   within : l.at ≤ l.size;
   aligned : l.at < l.size → l.at % length l.wanted ≡ 0;
-  number : number_of l.image ≡ number_of l.fn.image;
+  image : IsSameImage l.fn.image l.image;
   raw : IsLeft (g.R.Storage.view l.fn.raw) (g.R.Storage.view l.raw);
+  any : ImportsAnyOf g.S.Storage.view g.F.BackingDisk.backing l.fn.image l.image l.at (Ok tt);
   written : (g.R.Storage.view l.fn.raw).is_honest → l.size ≡ length (g.R.Storage.view l.fn.raw).contents → (out : List (Option Prepared))
       → let v = abstract_of g.S.Storage.view g.F.BackingDisk.backing l.fn.image out in let w = abstract_of g.S.Storage.view g.F.BackingDisk.backing l.image out in
       AnsweredEffect v w (given_of 0 (g.R.Storage.view l.fn.raw).contents ∷ []) [] (guest_of w ≡ with_disk (guest_of v) (with_bytes (guest_of v).disk 0 (take l.at (g.R.Storage.view l.fn.raw).contents)));

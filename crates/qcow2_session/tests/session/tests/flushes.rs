@@ -3,8 +3,8 @@ ghost use Rattle.std.specs.Prelude.{◌≡◌};
 ghost use Rattle.image_access.specs.Changes.{counts_all, only_all};
 ghost use Rattle.image_access.specs.TraceStorage.{view_of_trace};
 
-use super::{fresh, made, opened, refusal, write_all};
-use crate::session::{Command, Reply, run};
+use super::{fresh, left_by, made, opened, refusal, write_all};
+use crate::session::{Command, Reply};
 use image_access::{Storage, StorageError, StoragePreallocate, TraceStorage};
 use qcow2_image::{ImageError, Qcow2};
 use std::alloc::{AllocError, Global};
@@ -103,18 +103,6 @@ fn flushed(alloc: Global, fails: bool) -> Result<FlushedStorage, Fail> {
     Ok(FlushedStorage::new(alloc, inner, fails))
 }
 
-// Answers the commands on an image.
-fn replies<S: Storage>(
-    alloc: Global,
-    storage: S,
-    writable: bool,
-    commands: &[Command],
-) -> Result<(S, Vec<Reply>), ImageError> {
-    let mut image = opened(alloc, storage, writable)?;
-    let replies = run(alloc, &mut image, commands);
-    Ok((image.into_storage(), replies))
-}
-
 fn a_write(alloc: Global) -> Result<Command, AllocError> {
     let bytes = vec![in alloc; 0x11; 512]?;
     Ok(Command::Write { offset: 0, bytes })
@@ -124,7 +112,7 @@ fn a_write(alloc: Global) -> Result<Command, AllocError> {
 fn a_flush_flushes_the_storage_last(rt: HostRuntime) -> Result<(), Fail> {
     let alloc = rt.alloc();
     let commands = vec![in alloc; a_write(alloc)?, Command::Flush]?;
-    let (storage, replies) = replies(alloc, flushed(alloc, false)?, true, &commands)?;
+    let (storage, replies) = left_by(alloc, flushed(alloc, false)?, true, &commands)?;
     assert_eq!(rt; replies.as_slice(), [Reply::Done, Reply::Done].as_slice());
     assert_eq!(rt; storage.told(), (1, true));
     Ok(())
@@ -135,7 +123,7 @@ fn each_flush_flushes_the_storage(rt: HostRuntime) -> Result<(), Fail> {
     let alloc = rt.alloc();
     for writable in [false, true] {
         let commands = vec![in alloc; Command::Flush, Command::Flush]?;
-        let (storage, replies) = replies(alloc, flushed(alloc, false)?, writable, &commands)?;
+        let (storage, replies) = left_by(alloc, flushed(alloc, false)?, writable, &commands)?;
         assert_eq!(rt; replies.as_slice(), [Reply::Done, Reply::Done].as_slice());
         assert_eq!(rt; storage.told(), (2, true));
     }
@@ -146,7 +134,7 @@ fn each_flush_flushes_the_storage(rt: HostRuntime) -> Result<(), Fail> {
 fn nothing_else_flushes_the_storage(rt: HostRuntime) -> Result<(), Fail> {
     let alloc = rt.alloc();
     let commands = vec![in alloc; a_write(alloc)?, Command::Size]?;
-    let (storage, replies) = replies(alloc, flushed(alloc, true)?, true, &commands)?;
+    let (storage, replies) = left_by(alloc, flushed(alloc, true)?, true, &commands)?;
     assert_eq!(rt;
         replies.as_slice(),
         [Reply::Done, Reply::Size(65536)].as_slice()
@@ -176,12 +164,12 @@ fn an_image_fails_where_its_storage_is_not_flushed(rt: HostRuntime) -> Result<()
         Reply::Refused(ImageError::Failed),
         Reply::Size(65536),
     ];
-    let (storage, all) = replies(alloc, flushed(alloc, true)?, true, &commands)?;
+    let (storage, all) = left_by(alloc, flushed(alloc, true)?, true, &commands)?;
     assert_eq!(rt; all.first(), Some(&Reply::Done));
     assert_eq!(rt; &all[1..], refused.as_slice());
     assert_eq!(rt; storage.told(), (1, true));
     for writable in [false, true] {
-        let (storage, all) = replies(alloc, flushed(alloc, true)?, writable, &commands[1..])?;
+        let (storage, all) = left_by(alloc, flushed(alloc, true)?, writable, &commands[1..])?;
         assert_eq!(rt; all.as_slice(), refused.as_slice());
         assert_eq!(rt; storage.told(), (1, true));
     }

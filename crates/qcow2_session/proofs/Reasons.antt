@@ -1,0 +1,62 @@
+-- Why a range isn't written, of an image that may be read.
+use Rattle.std.proofs.Common.{◌≡◌, ◌⊎◌, ⊎_elim, inl, inr, ℕ, ◌+◌, ◌<◌, ◌≤◌, Bool, true, false, not, List, Option, Some, None, refl, sym, ap, ◌∙◌, subst, arith}
+use Rattle.std.specs.Prelude.{◌&&◌, nat_lt, IfSome, Result, Err}
+use Rattle.std.specs.Option.{option_or}
+use Rattle.std.proofs.lemmas.Bool.{cases_Bool}
+use Rattle.qcow2_alloc.specs.declared.error.ImageError.{ImageError}
+use Rattle.qcow2_alloc.specs.declared.error.ImageError.TheVariants as I
+use Rattle.qcow2_image.specs.Image.{IsSameImage, is_failed, is_writable, size_of}
+use Rattle.qcow2_image.specs.Preallocation.{IsUnderMappingIn}
+use Rattle.qcow2_image.specs.Refusals.{IsMet, IsMetPreparing, passes, refuse_if, refuses_to_prepare, refuses_to_read, unusable}
+use Rattle.qcow2_image.specs.declared.image.Qcow2.{Qcow2}
+use Rattle.qcow2_image.specs.declared.prepared.Prepared.{Prepared}
+use Rattle.qcow2_session.specs.Conversions.{IsReasonNotToWrite}
+use Rattle.qcow2_session.specs.Sessions.{cluster_size_of}
+use Rattle.qcow2_session.proofs.Causing.{same_error, then_none}
+use Rattle.qcow2_session.proofs.Parts.{not_failed_yet, part_reads, part_under}
+
+writing_left : (u : Option ImageError) (c t : Bool) → u ≡ None → c ≡ false → option_or u (option_or (refuse_if c I.BeyondSize) (refuse_if t I.ReadOnly)) ≡ refuse_if t I.ReadOnly
+writing_left u c t none within = ap (λ v. option_or v (option_or (refuse_if c I.BeyondSize) (refuse_if t I.ReadOnly))) none ∙ ap (λ b. option_or (refuse_if b I.BeyondSize) (refuse_if t I.ReadOnly)) within
+
+not_writable : (a w : Bool) → (a && not w) ≡ true → w ≡ false
+not_writable true true is = absurd (let no : false ≡ true = is in cc)
+not_writable false true is = absurd (let no : false ≡ true = is in cc)
+not_writable a false is = refl
+
+pair_error : {A : Type 0} {e x : ImageError} {k : ℕ} → (◌≡◌ {A = Result A (ImageError × ℕ)} (Err (e, k)) (Err (x, 0))) → e ≡ x
+pair_error is = ap (λ (p : ImageError × ℕ). p.0) (same_error is)
+
+module _ {S F : Type 0} (old mid : Qcow2 S F) (same : IsSameImage old mid) (clusters : cluster_size_of mid ≡ cluster_size_of old) where
+  carried : (from to first last : ℕ) → from ≤ first → last ≤ to → (out : List (Option Prepared)) → IsUnderMappingIn mid.file.header.fields first last out → IsUnderMappingIn old.file.header.fields from to out
+  carried from to first last low high out under =
+      part_under old.file.header.fields mid.file.header.fields clusters from to under.offset out (omega (arith, low, under.low)) (omega (arith, high, under.high)) under.under
+
+  -- a part of a range that is looked at later
+  pub reason_within : (from to first last : ℕ) → from ≤ first → last ≤ to → (out : List (Option Prepared)) (e : ImageError) → IsReasonNotToWrite mid first last out e → IsReasonNotToWrite old from to out e
+  reason_within from to first last low high out e reason = ⊎_elim
+      (λ (met : IsMet e). inl met)
+      (λ (rest : ((e ≡ I.ReadOnly) × (is_writable mid ≡ false)) ⊎ ((e ≡ I.TablePrepared) × IsUnderMappingIn mid.file.header.fields first last out)). ⊎_elim
+      (λ (r : (e ≡ I.ReadOnly) × (is_writable mid ≡ false)). inr (inl (r.0, sym same.writable ∙ r.1)))
+      (λ (t : (e ≡ I.TablePrepared) × IsUnderMappingIn mid.file.header.fields first last out). inr (inr (t.0, carried from to first last low high out t.1)))
+      rest)
+      reason
+
+  -- a write that was refused, of a range that may be read
+  pub write_reason : (at n : ℕ) → is_failed mid ≡ false → refuses_to_read old at n ≡ None → (out : List (Option Prepared)) (e : ImageError) (k : ℕ) (X : Type 0)
+      → IfSome (refuses_to_prepare mid at n) (λ x. (◌≡◌ {A = Result (Unit {0}) (ImageError × ℕ)} (Err (e, k)) (Err (x, 0))) × X)
+      → (refuses_to_prepare mid at n ≡ None → IsMetPreparing e × (0 < n)) → (refuses_to_prepare mid at n ≡ None → e ≡ I.TablePrepared → IsUnderMappingIn mid.file.header.fields at (at + n) out)
+      → IsReasonNotToWrite old at (at + n) out e
+  write_reason at n works none out e k X early late taken =
+      let usable = (then_none (unusable old) (passes (size_of old) at n) I.BeyondSize none).0 in
+      let read = then_none (unusable mid) (passes (size_of mid) at n) I.BeyondSize (part_reads old mid same at n at n (omega arith) (omega arith) (works ∙ sym (not_failed_yet old mid same usable)) none) in
+      let test : Bool = nat_lt 0 n && not (is_writable mid) in
+      let is : refuses_to_prepare mid at n ≡ refuse_if test I.ReadOnly = writing_left (unusable mid) (passes (size_of mid) at n) test read.0 read.1 in
+      elim (cases_Bool test) [
+        | inl refused ↦
+            let some : refuses_to_prepare mid at n ≡ Some I.ReadOnly = is ∙ ap (λ b. refuse_if b I.ReadOnly) refused in
+            let told = subst (λ o. IfSome o (λ x. (◌≡◌ {A = Result (Unit {0}) (ImageError × ℕ)} (Err (e, k)) (Err (x, 0))) × X)) some early in
+            inr (inl (pair_error told.0, sym same.writable ∙ not_writable (nat_lt 0 n) (is_writable mid) refused))
+        | inr passed ↦
+            let free : refuses_to_prepare mid at n ≡ None = is ∙ ap (λ b. refuse_if b I.ReadOnly) passed in
+            ⊎_elim (λ (met : IsMet e). inl met) (λ (t : e ≡ I.TablePrepared). inr (inr (t, carried at (at + n) at (at + n) (omega arith) (omega arith) out (taken free t)))) (late free).0
+      ]

@@ -1,0 +1,59 @@
+//! That the headline's call takes storages and disks below of all types, in boxes.
+use super::made;
+use crate::headline::open_and_run;
+use crate::session::{Command, Reply};
+use image_access::{BackingDisk, DynStorage, MemStorage, Storage, TraceStorage};
+use qcow2_image::ImageError;
+use std::alloc::{AllocError, Global};
+use std::test::Fail;
+
+// New images, one in memory and one in a storage that keeps its changes.
+fn mixed(alloc: Global) -> Result<[Box<dyn DynStorage>; 2], ImageError> {
+    let memory: Box<dyn DynStorage> = Box::new(alloc, MemStorage::new(Vec::new(alloc)))?;
+    let trace: Box<dyn DynStorage> = Box::new(alloc, TraceStorage::new(alloc, Vec::new(alloc))?)?;
+    Ok([
+        made(alloc, memory, 65536, 16)?,
+        made(alloc, trace, 65536, 16)?,
+    ])
+}
+
+// Writes over the edge of two clusters, flushes, and reads around it.
+fn commands(alloc: Global) -> Result<Vec<Command>, AllocError> {
+    let mut commands = Vec::new(alloc);
+    let bytes = vec![in alloc; 0x33; 2]?;
+    commands.push(Command::Write { offset: 511, bytes })?;
+    commands.push(Command::Flush)?;
+    commands.push(Command::Read {
+        offset: 510,
+        length: 4,
+    })?;
+    Ok(commands)
+}
+
+// Runs commands on an image in a storage, and hands the storage back with the replies.
+fn ran<S: Storage>(
+    alloc: Global,
+    storage: S,
+    commands: &[Command],
+) -> Result<(S, Vec<Reply>), ImageError> {
+    match open_and_run::<S, Box<dyn BackingDisk>>(alloc, storage, 1, commands) {
+        Ok((image, replies)) => Ok((image.into_storage(), replies)),
+        Err((_storage, refusal)) => Err(refusal),
+    }
+}
+
+#[test]
+fn storages_of_all_types_run_alike(rt: HostRuntime) -> Result<(), Fail> {
+    let alloc = rt.alloc();
+    let commands = commands(alloc)?;
+    for (storage, name) in mixed(alloc)?.into_iter().zip(["mem", "trace"]) {
+        let (storage, replies) = ran(alloc, storage, &commands)?;
+        let bytes = [0, 0x33, 0x33, 0].to_vec(alloc)?;
+        assert_eq!(rt;
+            replies.as_slice(),
+            [Reply::Done, Reply::Done, Reply::Bytes(bytes)].as_slice()
+        );
+        assert_eq!(rt; storage.name(), name);
+    }
+    Ok(())
+}
