@@ -1,11 +1,14 @@
 -- Lines that are read one after the other, where the bytes are known.
-use Rattle.std.proofs.Common.{◌≡◌, ℕ, Bool, false, List, [], ◌∷◌, ◌++◌, map, Option, Some, None, IfSome, refl, sym, ap, ◌∙◌, subst}
+use Rattle.std.proofs.Common.{◌≡◌, ◌≢◌, ◌⊎◌, ℕ, Bool, true, false, List, [], ◌∷◌, ◌++◌, map, Option, Some, None, IfSome, refl, sym, ap, ◌∙◌, subst}
 use Rattle.std.proofs.lemmas.List.{map-append}
 use Rattle.std.specs.Io.BufRead.{take_through, drop_through, strip_last}
 use Rattle.std.specs.Option.{MatchOption}
+use Rattle.std.specs.Str.{IsUtf8}
 use Rattle.qcow2_session.specs.declared.session.Command.{Command}
 use Rattle.qimg.specs.Lines.{Order, order_of_command, order_of_line}
-use Rattle.qimg.specs.Reading.{BeginsWith, Asks, IsScriptOf, no_orders, and_then}
+use Rattle.qimg.specs.Reading.{AsksNothing, BeginsWith, Asks, IsScriptOf, is_cut, no_orders, and_then}
+use Rattle.qimg.specs.declared.reading.ScriptEnd.{ScriptEnd}
+use Rattle.qimg.specs.declared.reading.ScriptEnd.TheVariants as E
 
 -- what a call that read a line leaves known
 abbrev pub ReadsOn : Option (List ℕ) → Order → Option (List ℕ) → Type 0
@@ -46,6 +49,38 @@ asked_more (Some text) (Some between) left commands all command e before (rest, 
 }
 
 -- where nothing was cut off, all lines are asked
-pub asked_all : (known : Option (List ℕ)) (orders : List Order) (is_cut : Bool) → IfSome known (λ text. IsScriptOf text orders is_cut) → is_cut ≡ false → IfSome known (λ text. Asks text orders [])
-asked_all None orders is_cut script uncut = tt
-asked_all (Some text) orders is_cut script uncut = subst (λ rest. Asks text orders rest) (script.all uncut) script.asks
+pub asked_all : (known : Option (List ℕ)) (orders : List Order) (end : ScriptEnd) → IfSome known (λ text. IsScriptOf text orders end) → is_cut end ≡ false → IfSome known (λ text. Asks text orders [])
+asked_all None orders end script uncut = tt
+asked_all (Some text) orders E.Whole script uncut = subst (λ rest. Asks text orders rest) (script.all refl) script.asks
+asked_all (Some text) orders E.BadLine script uncut = let never : true ≡ false = uncut in cc
+asked_all (Some text) orders E.FailedRead script uncut = let never : true ≡ false = uncut in cc
+
+-- a line that was read, and isn't UTF-8 or asks for nothing
+pub asks_nothing : (known : Option (List ℕ)) (start bytes : List ℕ) → start ≡ [] → bytes ≢ [] → IfSome known (λ text. bytes ≡ start ++ take_through 10 text) → ¬ IsUtf8 (strip_last 10 bytes) ⊎ (order_of_line (strip_last 10 bytes) ≡ None) → IfSome known AsksNothing
+asks_nothing None start bytes empty some is line = tt
+asks_nothing (Some text) start bytes empty some is line =
+    let whole : bytes ≡ take_through 10 text = is ∙ ap (λ it. it ++ take_through 10 text) empty in
+    record {
+      more = λ none. some (whole ∙ ap (take_through 10) none);
+      line = subst (λ it. ¬ IsUtf8 (strip_last 10 it) ⊎ (order_of_line (strip_last 10 it) ≡ None)) whole line;
+    }
+
+-- the script ends before a line that asks for nothing
+pub script_bad : (known left : Option (List ℕ)) (commands : List Command) → IfSome known (λ text. HasAsked text commands left) → IfSome left AsksNothing → IfSome known (λ text. IsScriptOf text (map order_of_command commands) E.BadLine)
+script_bad None left commands asked bad = tt
+script_bad (Some text) left commands asked bad = record {
+  rest = asked.rest;
+  asks = asked.asks;
+  all = λ is. let never : E.BadLine ≡ E.Whole = is in cc;
+  bad = λ is. subst (λ it. IfSome it AsksNothing) asked.left_is bad;
+}
+
+-- it ends where a read failed
+pub script_failed : (known left : Option (List ℕ)) (commands : List Command) → IfSome known (λ text. HasAsked text commands left) → IfSome known (λ text. IsScriptOf text (map order_of_command commands) E.FailedRead)
+script_failed None left commands asked = tt
+script_failed (Some text) left commands asked = record {
+  rest = asked.rest;
+  asks = asked.asks;
+  all = λ is. let never : E.FailedRead ≡ E.Whole = is in cc;
+  bad = λ is. let never : E.FailedRead ≡ E.BadLine = is in cc;
+}

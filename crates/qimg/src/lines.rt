@@ -18,6 +18,8 @@ const LONGEST: u64 = 1_048_576;
 pub enum LineError {
     /// It isn't the line of a command.
     Unreadable,
+    /// A read failed in it.
+    FailedRead,
     /// There was no room for its command.
     Memory,
 }

@@ -4,7 +4,8 @@ ghost use Rattle.image_access.specs.Moments.{ContentsStay};
 ghost use Rattle.qcow2_image.specs.Opened.{NeedsAnother};
 ghost use Rattle.qcow2_image.specs.Calls.{FlushesImage};
 ghost use Rattle.qimg.specs.Creating.{CreatesOrLeaves, HasCreated};
-ghost use Rattle.qimg.specs.Program.{ArePrinted, HasRun, HasRunText};
+ghost use Rattle.qimg.specs.Program.{ArePrinted, EndsOrLeaves, EndsRun, HasRun, HasRunText, IsFlushed};
+ghost use Rattle.qimg.specs.Reading.{is_cut};
 
 use crate::messages::{report_bad_line, report_refused};
 use crate::printing::{any_refused, print_refusal, print_replies};
@@ -74,6 +75,7 @@ pub fn script<S: Storage, F: WrappedFormat<S>, R: BufRead, W: Write, M: Write>(
 ) -> (u8, S)
     ensures bound { result.0 ≤ 2 }
     ensures done { result.0 ≡ 0 → HasRunText S.view F.backing storage result.1 (R.remaining input.old) (W.contents output.old) (W.contents output.new) }
+    ensures ends { EndsOrLeaves S.view F.backing storage result.1 (R.remaining input.old) result.0 }
     ensures another { (S.view storage).is_honest → NeedsAnother (S.view storage).contents → ContentsStay (S.view storage) (S.view result.1) }
 {
     let Ok(script) = read_script(alloc, input) else {
@@ -81,7 +83,7 @@ pub fn script<S: Storage, F: WrappedFormat<S>, R: BufRead, W: Write, M: Write>(
     };
     let (printed, storage) = run_script::<S, F, W, M>(alloc, storage, &script, output, messages);
     let flushed = output.flush();
-    let status = match (script.is_cut, printed, flushed) {
+    let status = match (script.is_cut(), printed, flushed) {
         (true, _, _) => UNREADABLE,
         (false, Ok(true), Ok(())) => DONE,
         (false, _, _) => REFUSED,
@@ -130,7 +132,8 @@ fn run_script<S: Storage, F: WrappedFormat<S>, W: Write, M: Write>(
     output: &mut W,
     messages: &mut M,
 ) -> (io::Result<bool>, S)
-    ensures done { result.0 ≡ Ok true → (script.now.is_cut ≡ false) × HasRun S.view F.backing storage result.1 script.now.commands.items (W.contents output.old) (W.contents output.new) }
+    ensures done { result.0 ≡ Ok true → (is_cut script.now.end ≡ false) × HasRun S.view F.backing storage result.1 script.now.commands.items (W.contents output.old) (W.contents output.new) }
+    ensures ends { EndsRun S.view F.backing storage result.1 script.now.commands.items }
     ensures another { (S.view storage).is_honest → NeedsAnother (S.view storage).contents → ContentsStay (S.view storage) (S.view result.1) }
 {
     let (printed, storage) = run_commands::<S, F, W, M>(
@@ -140,7 +143,7 @@ fn run_script<S: Storage, F: WrappedFormat<S>, W: Write, M: Write>(
         output,
         messages,
     );
-    if !script.is_cut {
+    if !script.is_cut() {
         return (printed, storage);
     }
     let number = script.commands.len() + 1;
@@ -158,6 +161,7 @@ fn run_commands<S: Storage, F: WrappedFormat<S>, W: Write, M: Write>(
     messages: &mut M,
 ) -> (io::Result<bool>, S)
     ensures done { result.0 ≡ Ok true → HasRun S.view F.backing storage result.1 commands.now (W.contents output.old) (W.contents output.new) }
+    ensures ends { EndsRun S.view F.backing storage result.1 commands.now }
     ensures another { (S.view storage).is_honest → NeedsAnother (S.view storage).contents → ContentsStay (S.view storage) (S.view result.1) }
 {
     match open_and_run::<S, F>(alloc, storage, 1, commands) {
@@ -171,6 +175,7 @@ fn run_commands<S: Storage, F: WrappedFormat<S>, W: Write, M: Write>(
 }
 
 // Prints the answers of an image, which is flushed whatever could be printed.
+#[tactic(auto, using(crate::proofs::Runs::is_flushed))]
 fn print_and_flush<S: Storage, F: WrappedFormat<S>, W: Write>(
     image: &mut Qcow2<S, F>,
     commands: &[Command],
@@ -179,6 +184,7 @@ fn print_and_flush<S: Storage, F: WrappedFormat<S>, W: Write>(
 ) -> io::Result<bool>
     ensures printed { result ≡ Ok true → ArePrinted (length commands.now) replies.now (W.contents output.old) (W.contents output.new) }
     ensures flushed { result ≡ Ok true → FlushesImage S.view F.backing image.old image.new (Ok tt) }
+    ensures flushes { IsFlushed S.view F.backing image.old image.new }
 {
     let printed = print_answers(output, commands, replies);
     let flushed = image.flush();

@@ -1,8 +1,9 @@
-ghost use Rattle.std.specs.Prelude.{◌≡◌, List, ℕ, [], map, Some, IfOk, IfSome};
+ghost use Rattle.std.specs.Prelude.{◌≡◌, List, ℕ, [], map, Some, IfOk, IfSome, IsErrOf};
 ghost use Rattle.std.specs.Option.{MatchOption};
 ghost use Rattle.std.specs.Io.BufRead.{strip_last};
 ghost use Rattle.qimg.specs.Lines.{order_of_command};
-ghost use Rattle.qimg.specs.Reading.{BeginsWith, IsScriptOf};
+ghost use Rattle.qimg.specs.Reading.{AsksNothing, BeginsWith, IsScriptOf, is_cut};
+ghost use Rattle.qimg.specs.declared.lines.LineError.TheVariants.{Unreadable};
 
 use crate::lines::{LineError, parse_line};
 use qcow2_session::Command;
@@ -10,19 +11,40 @@ use std::alloc::{AllocError, Global};
 use std::io;
 use std::io::BufRead;
 
+/// Where the commands of an input end.
+#[derive(Clone, Copy, Debug, PartialEq, Eq)]
+pub enum ScriptEnd {
+    /// At the end of the input.
+    Whole,
+    /// Before a line that asks for no command, or whose bytes aren't UTF-8.
+    BadLine,
+    /// Before a line in which a read failed.
+    FailedRead,
+}
+
 /// The commands of an input.
 #[derive(Debug, Drop)]
 pub struct Script {
     /// The commands of the lines before that, in their order.
     pub commands: Vec<Command>,
+    /// Where they end.
+    pub end: ScriptEnd,
+}
+
+impl Script {
     /// Whether the line after those of the commands couldn't be read, and ended the input.
-    pub is_cut: bool,
+    pub fn is_cut(&self) -> bool
+        ensures { result ≡ is_cut self.now.end }
+    {
+        self.end != ScriptEnd::Whole
+    }
 }
 
 /// Reads lines to the end of the input, or to the first one that can't be read. Such a line asks for no command, its bytes aren't UTF-8,
 /// or a read fails in it. Refused where memory is missing.
+#[tactic(auto, using(crate::proofs::Scripts::script_failed))]
 pub fn read_script<R: BufRead>(alloc: Global, input: &mut R) -> Result<Script, AllocError>
-    ensures { IfSome (R.remaining input.old) (λ text. IfOk result (λ script. IsScriptOf text (map order_of_command script.commands.items) script.is_cut)) }
+    ensures { IfSome (R.remaining input.old) (λ text. IfOk result (λ script. IsScriptOf text (map order_of_command script.commands.items) script.end)) }
 {
     let mut commands = Vec::new(alloc);
     for _ in 0..u64::MAX {
@@ -31,29 +53,39 @@ pub fn read_script<R: BufRead>(alloc: Global, input: &mut R) -> Result<Script, A
             Ok(None) => {
                 return Ok(Script {
                     commands,
-                    is_cut: false,
+                    end: ScriptEnd::Whole,
                 });
             }
-            Err(LineError::Unreadable) => break,
+            Err(LineError::Unreadable) => {
+                return Ok(Script {
+                    commands,
+                    end: ScriptEnd::BadLine,
+                });
+            }
+            Err(LineError::FailedRead) => {
+                return Ok(Script {
+                    commands,
+                    end: ScriptEnd::FailedRead,
+                });
+            }
             Err(LineError::Memory) => return Err(AllocError),
         }
     }
-    Ok(Script {
-        commands,
-        is_cut: true,
-    })
+    Err(AllocError)
 }
 
 // The command of the next line; None at the end of the input.
+#[tactic(auto, using(crate::proofs::Scripts::asks_nothing))]
 fn next_command<R: BufRead>(alloc: Global, input: &mut R) -> Result<Option<Command>, LineError>
-    ensures { IfSome (R.remaining input.old) (λ text. IfOk result (λ next. MatchOption next (text ≡ []) (λ command. (rest : List ℕ) × (R.remaining input.new ≡ Some rest) × BeginsWith text (order_of_command command) rest))) }
+    ensures asked { IfSome (R.remaining input.old) (λ text. IfOk result (λ next. MatchOption next (text ≡ []) (λ command. (rest : List ℕ) × (R.remaining input.new ≡ Some rest) × BeginsWith text (order_of_command command) rest))) }
+    ensures unreadable { IsErrOf result Unreadable → IfSome (R.remaining input.old) AsksNothing }
 {
     let mut line = Vec::new(alloc);
     match input.read_until(b'\n', &mut line) {
         Ok(0) => return Ok(None),
         Ok(_) => {}
         Err(e) if e.kind() == io::ErrorKind::OutOfMemory => return Err(LineError::Memory),
-        Err(_) => return Err(LineError::Unreadable),
+        Err(_) => return Err(LineError::FailedRead),
     }
     let Ok(text) = std::str::from_utf8(without_end(&line)) else {
         return Err(LineError::Unreadable);
