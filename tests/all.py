@@ -1,6 +1,6 @@
 #!/usr/bin/env python3
-"""Runs the merge gate and the wrong bodies beside it, then the tests of the crates, then the scripts on real files. At the end stands how long each part took, and what it took of
-processors; the last line sums what passed and what failed."""
+"""Runs the merge gate and the wrong bodies beside it, then the tests of the crates and the scripts on real files beside them. At the end stands how long each part took, and what it
+took of processors; the last line sums what passed and what failed."""
 
 import os
 import re
@@ -125,12 +125,19 @@ def proofs(parts):
         beside.join()
 
 
+def units(parts):
+    """Tries how wrong bodies are tried, and runs the tests of the crates."""
+    parts.command("the trial of the wrong bodies", ["tests/trial.py"])
+    parts.command("the tests of the crates", ["tests/units.py"])
+
+
 def main():
     parts = Parts()
     proofs(parts)
-    parts.command("the trial of the wrong bodies", ["tests/trial.py"])
-    parts.command("the tests of the crates", ["tests/units.py"])
+    beside = threading.Thread(target=units, args=(parts,))
+    beside.start()
     scripts(parts)
+    beside.join()
     return int(parts.tell())
 
 

@@ -1,7 +1,7 @@
 #!/usr/bin/env -S python3 -B
 """Prepared mappings on real files: where they lie, what is seen of them before and after their commit, what is left of those that are dropped, and how slots are misused."""
 
-from checks import Checks, answers, contents, create, equal, number_at, put, qimg
+from checks import Checks, answers, consistent, contents, create, equal, number_at, put, qimg, run
 
 REFBLOCK = 1024
 ONES, TWOS, THREES = ("11" * 512, "22" * 512, "33" * 512)
@@ -20,6 +20,7 @@ def count_of(cluster):
 def a_dropped_cluster_is_taken_again():
     rows([
         (f"write 0 {ONES}", "ok"),
+        ("flush", "ok"),
         ("prepare 0 512 512 overwrite", "prepared 3072 512"),
         (f"put 0 0 {TWOS}", "ok"),
         ("read 512 2", "data 0000"),
@@ -47,6 +48,18 @@ def a_part_is_prepared_with_its_cluster():
         ("map 0 512", "raw image 2560 512 rw"),
     ])
     equal(contents("disk")[2560:3072], bytes(100) + b"\x44" * 100 + bytes(312), "the cluster")
+
+
+def a_part_of_a_used_cluster_is_zeroed_whole_first():
+    """Another cluster's old bytes stand where the range is prepared."""
+    rows([
+        (f"write 0 {ONES}", "ok"),
+        ("dback 0 512", "range 0 512"),
+        ("flush", "ok"),
+        ("prepare 0 100 100 overwrite", "prepared 2660 412"),
+        ("drop 0", "ok"),
+    ])
+    equal(contents("disk")[2560:3072], bytes(512), "the cluster")
 
 
 def an_existing_mapping_is_written_at_once():
@@ -257,6 +270,16 @@ def a_kept_cluster_elsewhere_is_dropped():
     equal([count_of(c) for c in (5, 6, 7, 8, 9)], [1, 0, 1, 1, 0], "the counts")
 
 
+def as_many_tables_are_prepared_as_are_kept():
+    """No other table is loaded until one of them is let go."""
+    create("disk", 4227072, 512)
+    tables = [f"prepare {slot} {slot * 32768} 512 overwrite" for slot in range(128)]
+    said = run("disk", f"write 4194304 {ONES}", *tables, "read 4194304 1", "drop 77", "read 4194304 1", status=1)
+    equal({(words[0], words[2]) for words in map(str.split, said[1:129])}, {("prepared", "512")}, "the ranges")
+    equal([said[0], *said[129:]], ["ok", "refused 8 everything is in use", "ok", "data 11"], "the other answers")
+    consistent("disk", 0)
+
+
 def slots_are_misused():
     rows([
         ("prepare 7 512 512 overwrite", "prepared 2560 512"),
@@ -304,6 +327,7 @@ checks = Checks()
 for check in [
     a_dropped_cluster_is_taken_again,
     a_part_is_prepared_with_its_cluster,
+    a_part_of_a_used_cluster_is_zeroed_whole_first,
     an_existing_mapping_is_written_at_once,
     what_is_kept_is_seen_after_the_commit,
     a_mapping_that_is_left_is_dropped,
@@ -318,6 +342,7 @@ for check in [
     kept_clusters_stand_among_data_and_new_ones,
     a_kept_cluster_of_a_dropped_range_is_kept,
     a_kept_cluster_elsewhere_is_dropped,
+    as_many_tables_are_prepared_as_are_kept,
     slots_are_misused,
     ranges_are_refused,
 ]:

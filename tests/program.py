@@ -342,6 +342,14 @@ def refuses_a_header_that_names_a_file():
     equal(qimg("run", "disk", given=b"read 0 1\n"), (1, "refused 12 dependency\n"), "a data file")
 
 
+def refuses_a_reftable_off_a_cluster():
+    put(disk(), 48, (513).to_bytes(8, "big"))
+    before = contents("disk")
+    equal(qimg("run", "disk", given=b"size\n"), (1, "refused 4 unaligned table\n"))
+    equal(qimg("run", "disk", given=b"size\nno\n"), (2, "refused 4 unaligned table\nbad line 2\n"))
+    equal(contents("disk"), before, "the file")
+
+
 def clears_the_autoclear_bits():
     before = contents(disk_with_a_cluster())
     put("disk", 88, b"\xff" * 8)
@@ -400,6 +408,7 @@ def main():
         leaves_the_input_where_the_file_is_missing,
         refuses_what_is_no_image,
         refuses_a_header_that_names_a_file,
+        refuses_a_reftable_off_a_cluster,
         clears_the_autoclear_bits,
         reads_zeros_past_the_end_of_the_file,
         says_that_a_line_was_not_written,

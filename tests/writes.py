@@ -108,6 +108,15 @@ def writes_in_order():
     equal(numbers_at("disk", 1024), [0x0001000100010001], "the first counts")
 
 
+def clears_the_autoclear_bits_by_one_write():
+    create("disk", 65536, 512)
+    put("disk", 88, b"\xff" * 8)
+    lines = b"size\nread 0 2\nmap 0 512\nflush\n"
+    answered = "size 65536\ndata 0000\nzero 512 implicit\nok\n"
+    equal(written(["run", "disk"], lines), (answered, [(88, bytes(8))]), "the first run")
+    equal(written(["run", "disk"], lines), (answered, []), "the second run")
+
+
 def makes_refblocks_on_the_way():
     create("disk", 65536, 512, 64)
     run("disk", *[f"fill {cluster * 512} 512 44" for cluster in range(60)], "flush")
@@ -224,6 +233,7 @@ def main():
     tests = checks.Checks()
     tests.run("creates in order", creates_in_order)
     tests.run("writes in order", writes_in_order)
+    tests.run("clears the autoclear bits by one write", clears_the_autoclear_bits_by_one_write)
     tests.run("makes refblocks on the way", makes_refblocks_on_the_way)
     tests.run("names a refblock before its clusters are used", names_a_refblock_before_its_clusters_are_used)
     tests.run("a shared cluster is copied", a_shared_cluster_is_copied)

@@ -2,7 +2,7 @@ use crate::{
     BackingDisk, Change, DynStorage, MemBacking, MemStorage, Storage, StorageError,
     StoragePreallocate, TraceStorage, WrappedFormat,
 };
-use std::alloc::Global;
+use std::alloc::{AllocError, Global};
 use std::process::Abort;
 use std::test::Fail;
 
@@ -104,6 +104,29 @@ fn boxes_mix_storages(rt: HostRuntime) -> Result<(), Fail> {
         assert_eq!(rt; storage.name(), name);
         assert_eq!(rt; storage.req_align(), storage.mem_align());
     }
+    Ok(())
+}
+
+// A storage that fails at its first call.
+fn failing(alloc: Global) -> Result<Box<dyn DynStorage>, AllocError> {
+    let mut trace = TraceStorage::new(alloc, Vec::new(alloc))?;
+    trace.fail_at(1);
+    Ok(Box::new(alloc, trace)?)
+}
+
+#[test]
+fn a_box_hands_each_call_on(rt: HostRuntime) -> Result<(), Fail> {
+    let alloc = rt.alloc();
+    let fault = Err(StorageError::Fault);
+    assert_eq!(rt; failing(alloc)?.size(), Err(StorageError::Fault));
+    assert_eq!(rt; failing(alloc)?.read(0, &mut [0]), fault);
+    assert_eq!(rt; failing(alloc)?.write(0, &[1]), fault);
+    assert_eq!(rt; failing(alloc)?.write_zeroes(0, 1), fault);
+    assert_eq!(rt; failing(alloc)?.write_allocated_zeroes(0, 1), fault);
+    assert_eq!(rt; failing(alloc)?.resize(1, StoragePreallocate::None), fault);
+    assert_eq!(rt; failing(alloc)?.flush(), fault);
+    assert_eq!(rt; failing(alloc)?.sync(), fault);
+    assert_eq!(rt; failing(alloc)?.invalidate_cache(), fault);
     Ok(())
 }
 
