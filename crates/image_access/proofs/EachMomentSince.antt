@@ -12,12 +12,13 @@ whole_or_nothing (Err Fault) old changed new either = either
 
 -- no call at all
 pub passes_none : (view : StorageView) (P : List ℕ → Type 0) → EachMomentSince view view P
-passes_none view P = record { later = omega arith; each = λ t c le had. inl had }
+passes_none view P = record { honest = λ h. h; later = omega arith; each = λ t c le had. inl had }
 
 module _ {old mid new : StorageView} where
   -- one run after another
   pub passes_more : {P Q : List ℕ → Type 0} → EachMomentSince old mid P → EachMomentSince mid new Q → EachMomentSince old new (λ c. P c ⊎ Q c)
   passes_more first second = record {
+    honest = λ h. second.honest (first.honest h);
     later = omega (arith, first.later, second.later);
     each = λ t c le had. ⊎_elim
         (λ before. ⊎_elim (λ h. inl h) (λ p. inr (inl p)) (first.each t c le before))
@@ -28,6 +29,7 @@ module _ {old mid new : StorageView} where
   -- one call or run more, at whose moments P holds too
   pub passes_on : {Q : List ℕ → Type 0} (P : List ℕ → Type 0) → EachMomentSince old mid P → EachMomentSince mid new Q → ((c : List ℕ) → Q c → P c) → EachMomentSince old new P
   passes_on P so_far more here = record {
+    honest = λ h. more.honest (so_far.honest h);
     later = omega (arith, so_far.later, more.later);
     each = λ t c le had. ⊎_elim (so_far.each t c le) (λ q. inr (here c q)) (more.each t c (omega (arith, le, so_far.later)) had);
   }
@@ -47,7 +49,7 @@ module _ {old mid new : StorageView} where
 
 module _ {old new : StorageView} where
   pub passes_if : {P : List ℕ → Type 0} (Q : List ℕ → Type 0) → ((c : List ℕ) → P c → Q c) → EachMomentSince old new P → EachMomentSince old new Q
-  passes_if Q implies passes = record { later = passes.later; each = λ t c le had. ⊎_elim (λ h. inl h) (λ p. inr (implies c p)) (passes.each t c le had) }
+  passes_if Q implies passes = record { honest = passes.honest; later = passes.later; each = λ t c le had. ⊎_elim (λ h. inl h) (λ p. inr (implies c p)) (passes.each t c le had) }
 
   -- Since its start there are the contents of the start and those with P. The first premise is the trait's `only_now`.
   pub since_start : {P : List ℕ → Type 0} → ((c : List ℕ) → old.had_since old.moment c → c ≡ old.contents) → EachMomentSince old new P → (c : List ℕ) → new.had_since old.moment c → (c ≡ old.contents) ⊎ P c

@@ -36,8 +36,9 @@ pub record HasCause {T : Type 0} (before now : ℕ) (result : Result T StorageEr
   pub no_fewer : before ≤ now
   pub fault : IsErrOf result Fault → Rose before now
 
--- time goes on: each content since an earlier moment was there before already, or has P
+-- time goes on: an honest storage stays so, and each content since an earlier moment was there before already, or has P
 pub record EachMomentSince (old new : StorageView) (P : List ℕ → Type 0) : Type 0 where
+  pub honest : old.is_honest → new.is_honest
   pub later : old.moment ≤ new.moment
   pub each : (t : ℕ) (c : List ℕ) → t ≤ old.moment → new.had_since t c → old.had_since t c ⊎ P c
 

@@ -7,4 +7,3 @@ pub mod Creating
 pub mod Causes
 pub mod TakingPlace
 pub mod Leaks
-pub mod StillHonest

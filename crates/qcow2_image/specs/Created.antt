@@ -20,7 +20,6 @@ use Rattle.qcow2_disk.specs.Disk.{disk}
 use Rattle.qcow2_disk.specs.Mappings.{is_copied_data}
 use Rattle.qcow2_laws.specs.NewImages.{IsNewImage}
 use Rattle.qcow2_laws.specs.Opened.{HasNoLeaks}
-use Rattle.qcow2_alloc.specs.ImageError.{IsFault}
 use Rattle.qcow2_alloc.specs.declared.error.ImageError.{ImageError}
 use Rattle.qcow2_alloc.specs.declared.error.ImageError.TheVariants as I
 use Rattle.qcow2_image.specs.Growing.{GrowsDisk, SameFormat, ReachesSize}
@@ -75,10 +74,6 @@ StopsCreating mode n old new = EachMomentSince old new (λ c. IsStopOfCreating m
 pub record StaysCreating (mode : PreallocateMode) (n : ℕ) (old new : StorageView) : Type 0 where
   pub honest : new.is_honest
   pub moments : StopsCreating mode n old new
-
--- what a refusal leaves of an honest storage: it is honest still, where the refusal is neither of a storage nor of memory
-abbrev pub IsFaultOrHonest : StorageView → ImageError → Type 0
-IsFaultOrHonest new e = IsFault e ⊎ new.is_honest
 
 module _ {S : Type 0} where
   -- clusters and counts that images may have

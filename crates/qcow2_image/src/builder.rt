@@ -14,7 +14,7 @@ ghost use Rattle.qcow2_image.specs.Resizing.{refuses_to_resize};
 ghost use Rattle.qcow2_image.specs.ImageInvariant.{abstract_of};
 ghost use Rattle.qcow2_image.specs.Growing.{KeepsSurplus};
 ghost use Rattle.qcow2_laws.specs.Opened.{HasNoLeaks};
-ghost use Rattle.qcow2_image.specs.Created.{IsFaultOrHonest, IsUnwritten, IsNewHeader, CountsThree, NamesOne, WritesThree, Enlarges, GrowsBy};
+ghost use Rattle.qcow2_image.specs.Created.{IsUnwritten, IsNewHeader, CountsThree, NamesOne, WritesThree, Enlarges, GrowsBy};
 
 use crate::Qcow2;
 use image_access::{BackingDisk, PreallocateMode, Storage, StorageError, WrappedFormat};
@@ -150,7 +150,6 @@ impl<S: Storage> Qcow2CreateBuilder<S> {
         ensures created { (S.view self.image).is_honest → IfOk result.1 (λ done. IsCreated self (S.view result.0)) }
         ensures refused { ¬ IsAllowed self → (result.1 ≡ Err InvalidOption) × (result.0 ≡ self.image) }
         ensures cause { (S.view self.image).is_honest → IfErr result.1 (IsReasonNotToCreate self) }
-        ensures honest { (S.view self.image).is_honest → IfErr result.1 (IsFaultOrHonest (S.view result.0)) }
         ensures faults { FaultsTold (S.view self.image).faults (S.view result.0).faults result.1 }
     {
         let Qcow2CreateBuilder {
@@ -192,7 +191,6 @@ impl<S: Storage> Qcow2CreateBuilder<S> {
         ensures new_disk { (S.view self.image).is_honest → IfOk result (λ image. IsNewDisk self.preallocate self.size (abstract_of S.view F.backing image []).known) }
         ensures ok { IfOk result (λ image. (number_of image ≡ number) × (is_failed image ≡ false) × (is_writable image ≡ true) × (is_some image.backing ≡ false)) }
         ensures cause { (S.view self.image).is_honest → IfErr result (λ refused. IsReasonNotToCreate self refused.1) }
-        ensures honest { (S.view self.image).is_honest → IfErr result (λ refused. IsFaultOrHonest (S.view refused.0) refused.1) }
         ensures faults { OpeningCounts S.view (S.view self.image).faults result }
     {
         let (storage, done) = self.create(alloc);
@@ -300,7 +298,6 @@ fn grow_new_image<S: Storage, F: WrappedFormat<S>>(
     ensures enlarges { (S.view (storage_of storage)).is_honest → IsUnwritten 0 (byte_at (S.view (storage_of storage)).contents) → Enlarges mode size (S.view (storage_of storage)) (S.view result.0) result.1 }
     ensures leaks { (S.view (storage_of storage)).is_honest → IsUnwritten 0 (byte_at (S.view (storage_of storage)).contents) → HasNoLeaks (byte_at (S.view (storage_of storage)).contents) → OnOk result.1 (HasNoLeaks (byte_at (S.view result.0).contents)) }
     ensures cause { (S.view (storage_of storage)).is_honest → IsUnwritten 0 (byte_at (S.view (storage_of storage)).contents) → IfErr result.1 IsMet }
-    ensures honest { (S.view (storage_of storage)).is_honest → IsUnwritten 0 (byte_at (S.view (storage_of storage)).contents) → IfErr result.1 (IsFaultOrHonest (S.view result.0)) }
     ensures faults { ((below : F) → (F.backing below).faults ≡ 0) → FaultsTold (S.view (storage_of storage)).faults (S.view result.0).faults result.1 }
 {
     match Qcow2::<S, F>::open(alloc, storage, true, 0, false) {
@@ -322,7 +319,6 @@ fn grow_and_flush<S: Storage, F: WrappedFormat<S>>(
     ensures leaks { IsOpened (abstract_of S.view F.backing image.old []) → IsTrue (is_writable image.old) → ((c : ℕ) → (abstract_of S.view F.backing image.old []).surplus c ≡ 0)
         → OnOk result (HasNoLeaks (byte_at (view_in S.view image.new.file).contents)) }
     ensures cause { refuses_to_resize image.old ≡ None → IsTrue (is_writable image.old) → is_some image.old.backing ≡ false → (abstract_of S.view F.backing image.old []).is_sound → IfErr result IsMet }
-    ensures honest { refuses_to_resize image.old ≡ None → (abstract_of S.view F.backing image.old []).is_sound → IfErr result (IsFaultOrHonest (view_in S.view image.new.file)) }
     ensures faults { CountsImageFaults S.view F.backing image.old image.new result }
 {
     grow_by(image, size, mode)?;
@@ -338,7 +334,6 @@ fn grow_by<S: Storage, F: WrappedFormat<S>>(
     ensures grows { GrowsBy S.view F.backing mode image.old image.new size result }
     ensures surplus { refuses_to_resize image.old ≡ None → (abstract_of S.view F.backing image.old []).is_sound → OnOk result (KeepsSurplus S.view F.backing image.old image.new) }
     ensures cause { refuses_to_resize image.old ≡ None → IsTrue (is_writable image.old) → is_some image.old.backing ≡ false → (abstract_of S.view F.backing image.old []).is_sound → IfErr result IsMet }
-    ensures honest { (abstract_of S.view F.backing image.old []).is_sound → IfErr result (IsFaultOrHonest (view_in S.view image.new.file)) }
     ensures marks { MarksFailed image.old image.new result }
     ensures faults { CountsImageFaults S.view F.backing image.old image.new result }
 {

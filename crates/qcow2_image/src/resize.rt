@@ -1,7 +1,6 @@
 //! A larger disk.
 ghost use Rattle.std.specs.Prelude.{◌≡◌, ◌<◌, [], false, IfErr, IsTrue, OnOk};
 ghost use Rattle.qcow2_alloc.specs.ImageFile.{view_in};
-ghost use Rattle.qcow2_image.specs.Created.{IsFaultOrHonest};
 ghost use Rattle.qcow2_image.specs.Faults.{CountsImageFaults};
 ghost use Rattle.qcow2_image.specs.Image.{is_failed, is_writable};
 ghost use Rattle.qcow2_image.specs.Refusals.{IsMet, MarksFailed};
@@ -20,7 +19,6 @@ impl<S: Storage, F: WrappedFormat<S>> Qcow2<S, F> {
     pub(crate) fn grow(&mut self, size: u64) -> Result<(), ImageError>
         ensures grows { (abstract_of S.view F.backing self.old []).is_sound → GrowsDisk S.view F.backing self.old self.new size result }
         ensures surplus { (abstract_of S.view F.backing self.old []).is_sound → OnOk result (KeepsSurplus S.view F.backing self.old self.new) }
-        ensures honest { (abstract_of S.view F.backing self.old []).is_sound → IfErr result (IsFaultOrHonest (view_in S.view self.new.file)) }
         ensures cause { is_failed self.old ≡ false → IsTrue (is_writable self.old) → IfErr result IsMet }
         ensures marks { MarksFailed self.old self.new result }
         ensures faults { CountsImageFaults S.view F.backing self.old self.new result }
@@ -41,7 +39,6 @@ impl<S: Storage, F: WrappedFormat<S>> Qcow2<S, F> {
         ensures resizes { (p : Pending) → ImageInvariant S.view F.backing p self.old [] → Resizes S.view F.backing p self.old self.new size result }
         ensures list { OnOk result (ListGrows self.old self.new) }
         ensures reaches { (p : Pending) → ImageInvariant S.view F.backing p self.old [] → OnOk result (ReachesSize self.new.file.header.fields) }
-        ensures honest { (p : Pending) → ImageInvariant S.view F.backing p self.old [] → IfErr result (IsFaultOrHonest (view_in S.view self.new.file)) }
         ensures cause { IsTrue (is_writable self.old) → IfErr result IsMet }
         ensures failed { is_failed self.new ≡ is_failed self.old }
         ensures writable { is_writable self.new ≡ is_writable self.old }

@@ -15,6 +15,7 @@ module _ {old new : StorageView} (counts : (t : ℕ) → t ≤ old.moment → ol
   -- a call after which the contents are those of before, or these
   pub passes_as : (P : List ℕ → Type 0) → EachMomentSince old new (λ c. c ≡ new.contents) → (new.contents ≡ old.contents) ⊎ P new.contents → EachMomentSince old new P
   passes_as P time either = record {
+    honest = time.honest;
     later = time.later;
     each = λ t c le had. ⊎_elim (λ before. inl before)
         (λ (is : c ≡ new.contents). ⊎_elim

@@ -8,11 +8,10 @@ use Rattle.qcow2_image.proofs.Call.FaultCounts.{counted_on, counted_since, untou
 use Rattle.qcow2_image.proofs.Sizing.ShrinkCalls.{resize_works}
 use Rattle.qcow2_alloc.specs.ImageFile.{view_in}
 use Rattle.qcow2_alloc.proofs.AllocationSteps.{handed_on}
-use Rattle.qcow2_image.specs.Created.{Enlarges, GrowsBy, IsFaultOrHonest}
+use Rattle.qcow2_image.specs.Created.{Enlarges, GrowsBy}
 use Rattle.qcow2_image.proofs.Create.Causes.{usable_opened}
 use Rattle.qcow2_image.proofs.Create.Leaks.{no_leaks_flushed}
 use Rattle.qcow2_image.proofs.Create.TakingPlace.{grown_by, refused_by}
-use Rattle.qcow2_image.proofs.Create.StillHonest.{honest_flushed}
 use Rattle.qcow2_image.proofs.builder.grow_and_flush.Goals as goal
 
 pub returns-in_err-grow_by-clause-enlarges : goal.returns-in_err-grow_by-clause-enlarges
@@ -59,11 +58,3 @@ returns-clause-leaks g c = λ opened writable none.
     let below = g.F.BackingDisk.backing in
     let grew = c.in_ok-grow_by.ensures.surplus (usable_opened view below c.args.image.now opened writable) opened.sound in
     no_leaks_flushed view below c.args.image.now c.grow_by.new.image c.flush.new.self grew writable none c.flush.result c.flush.ensures.sees c.flush.ensures.emptied
-
-pub returns-in_err-grow_by-clause-honest : goal.returns-in_err-grow_by-clause-honest
-returns-in_err-grow_by-clause-honest g c = λ usable sound.
-    handed_on (λ (r : Result _ _). IfErr r (IsFaultOrHonest (view_in g.S.Storage.view c.grow_by.new.image.file))) c.from_residual.result c.in_err-grow_by.field-0.0 c.from_residual.ensures (c.in_err-grow_by.ensures.honest sound)
-
-pub returns-clause-honest : goal.returns-clause-honest
-returns-clause-honest g c = λ usable sound.
-    honest_flushed g.S.Storage.view g.F.BackingDisk.backing c.grow_by.new.image c.flush.new.self c.flush.result (c.in_ok-grow_by.ensures.surplus usable sound).sound c.flush.ensures.sees

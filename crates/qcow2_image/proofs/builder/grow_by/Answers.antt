@@ -4,7 +4,6 @@ use Rattle.qcow2_image.proofs.Create.Causes.{grown_alone}
 use Rattle.qcow2_image.proofs.Sizing.ShrinkCalls.{resize_works}
 use Rattle.qcow2_image.proofs.Create.Leaks.{surplus_taken}
 use Rattle.qcow2_image.proofs.Create.TakingPlace.{takes_by}
-use Rattle.qcow2_image.proofs.Create.StillHonest.{honest_taken}
 use Rattle.qcow2_image.proofs.builder.grow_by.Goals as goal
 
 pub returns-in-None-clause-grows : goal.returns-in-None-clause-grows
@@ -32,6 +31,3 @@ pub returns-in_default-clause-surplus : goal.returns-in_default-clause-surplus
 returns-in_default-clause-surplus g c = λ usable sound.
     let does = c.resize_grow.ensures in
     surplus_taken g.S.Storage.view g.F.BackingDisk.backing c.args.image.now c.resize_grow.new.self c.args.size c.args.mode c.resize_grow.result sound (does.no_larger usable) does.image does.sees
-
-pub returns-in_default-clause-honest : goal.returns-in_default-clause-honest
-returns-in_default-clause-honest g c = λ sound. honest_taken g.S.Storage.view g.F.BackingDisk.backing c.args.image.now c.resize_grow.new.self c.args.size c.args.mode c.resize_grow.result sound c.resize_grow.ensures.sees

@@ -1,4 +1,4 @@
-use Rattle.std.proofs.Common.{inr, ◌≡◌, ◌∙◌, ℕ, ap, subst, sym, true}
+use Rattle.std.proofs.Common.{◌≡◌, ◌∙◌, ℕ, ap, subst, sym, true}
 use Rattle.std.specs.Prelude.{OnOk}
 use Rattle.qcow2_metadata.specs.Bytes.{byte_at}
 use Rattle.qcow2_metadata.specs.Header.{header}
@@ -8,7 +8,6 @@ use Rattle.qcow2_laws.specs.Opened.{HasNoLeaks}
 use Rattle.qcow2_image.proofs.Create.Causes.{opening_met, told_closed, told_opening, usable_opened}
 use Rattle.qcow2_image.proofs.Create.Creating.{opening_stops, enlarged_so, unwritten_mid}
 use Rattle.qcow2_image.proofs.Open.Left.{opened_none}
-use Rattle.qcow2_image.proofs.Create.StillHonest.{honest_closed}
 use Rattle.qcow2_image.proofs.builder.grow_new_image.Goals as goal
 
 pub returns-in-Err-clause-enlarges : goal.returns-in-Err-clause-enlarges
@@ -48,12 +47,3 @@ returns-in-Ok-clause-leaks g c = λ honest unwritten none.
     let opens = c.in-Ok.ensures.opens honest unwritten.consistent in
     let flushed = c.grow_and_flush-done.ensures.leaks opens.opened c.in-Ok.ensures.ok.2 (λ k. ap (λ (f : ℕ → ℕ). f k) opens.surplus ∙ none k) in
     subst (λ s. OnOk c.grow_and_flush-done.result (HasNoLeaks (byte_at (view s).contents))) (sym c.into_storage.ensures) flushed
-
-pub returns-in-Err-clause-honest : goal.returns-in-Err-clause-honest
-returns-in-Err-clause-honest g c = λ honest unwritten. inr (c.in-Err.ensures.storage.honest honest)
-
-pub returns-in-Ok-clause-honest : goal.returns-in-Ok-clause-honest
-returns-in-Ok-clause-honest g c = λ honest unwritten.
-    let opened = (c.in-Ok.ensures.opens honest unwritten.consistent).opened in
-    honest_closed g.S.Storage.view c.grow_and_flush-done.new.image c.into_storage.result c.grow_and_flush-done.result c.into_storage.ensures
-    (c.grow_and_flush-done.ensures.honest (usable_opened g.S.Storage.view g.F.BackingDisk.backing c.in-Ok.image opened c.in-Ok.ensures.ok.2) opened.sound)

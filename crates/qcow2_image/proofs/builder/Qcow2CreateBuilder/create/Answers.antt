@@ -49,15 +49,3 @@ returns-clause-cause g c = λ honest.
     let mid = storage_of c.write_new_image.new.storage in
     let none = unwritten view builder bits order v c.new-header.ensures.value start mid c.grow_new_image.result.0 c.new-storage.ensures.storage there in
     reasons_met builder c.grow_new_image.result.1 (c.grow_new_image.ensures.cause there.0.honest none)
-
-pub returns-clause-honest : goal.returns-clause-honest
-returns-clause-honest g c = λ honest.
-    let view = g.S.Storage.view in
-    let builder = c.args.self in
-    let bits = c.in-Some.cluster_bits in
-    let order = c.in-Some-power_of_two.refcount_order in
-    let v = c.new-header.result in
-    let start = storage_of c.new-storage.result in
-    let there = c.in_default-write_new_image.ensures.writes (subst (λ s. (view s).is_honest) (sym c.new-storage.ensures.storage) honest) (new_header_is v bits order c.new-header.ensures.value c.new-header.ensures.names) in
-    let mid = storage_of c.write_new_image.new.storage in
-    c.grow_new_image.ensures.honest there.0.honest (unwritten view builder bits order v c.new-header.ensures.value start mid c.grow_new_image.result.0 c.new-storage.ensures.storage there)

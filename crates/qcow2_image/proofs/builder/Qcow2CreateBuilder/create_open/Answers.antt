@@ -2,11 +2,10 @@ use Rattle.std.proofs.Common.{◌≡◌, ◌∙◌, Result, Ok, Err, sym, subst}
 use Rattle.std.specs.Prelude.{IfErr, IfOk}
 use Rattle.qcow2_alloc.specs.declared.error.ImageError.{ImageError}
 use Rattle.qcow2_alloc.specs.declared.error.ImageError.TheVariants as I
-use Rattle.qcow2_image.specs.Created.{IsCreated, IsFaultOrHonest, IsReasonNotToCreate}
+use Rattle.qcow2_image.specs.Created.{IsCreated, IsReasonNotToCreate}
 use Rattle.qcow2_image.specs.Opened.{storage_after}
 use Rattle.qcow2_image.proofs.Create.Causes.{counts_opened, counts_refused, opening_reasons}
 use Rattle.qcow2_image.proofs.Create.Creating.{created_opened, made_so, no_surplus, opened_new, refused_open, stops_opened}
-use Rattle.qcow2_image.proofs.Create.StillHonest.{honest_opening}
 use Rattle.qcow2_image.proofs.builder.Qcow2CreateBuilder.create_open.Goals as goal
 
 pub returns-clause-new_disk : goal.returns-clause-new_disk
@@ -57,12 +56,3 @@ pub returns-clause-refused : goal.returns-clause-refused
 returns-clause-refused g c = λ none.
     let told = (c.create-storage.ensures.refused none).0 in
     absurd (let bad : ◌≡◌ {A = Result _ ImageError} (Ok c.in_default.field-0) (Err I.InvalidOption) = sym c.in_default.is ∙ told in cc)
-
-pub returns-in-Err-clause-honest : goal.returns-in-Err-clause-honest
-returns-in-Err-clause-honest g c = λ honest. subst (λ (r : Result _ _). IfErr r (IsFaultOrHonest (g.S.Storage.view c.create-storage.result.0))) c.in-Err.is (c.create-storage.ensures.honest honest)
-
-pub returns-clause-honest : goal.returns-clause-honest
-returns-clause-honest g c = λ honest.
-    let view = g.S.Storage.view in
-    let made = made_so view c.args.self c.create-storage.result.0 c.create-storage.result.1 c.in_default.field-0 c.in_default.is (c.create-storage.ensures.created honest) in
-    honest_opening view (view c.create-storage.result.0) c.open_image.result made.honest c.open_image.ensures.storage

@@ -6,7 +6,6 @@ use Rattle.qcow2_image.proofs.Call.FaultCounts.{counted_marked}
 use Rattle.qcow2_image.specs.ImageInvariant.{pending_in}
 use Rattle.qcow2_image.proofs.Call.Marked.{may_mark, marks_since}
 use Rattle.qcow2_image.proofs.Grow.Grown.{grown_so, surplus_grown}
-use Rattle.qcow2_image.proofs.Create.StillHonest.{honest_marked}
 use Rattle.qcow2_image.proofs.image.Qcow2.grow.Goals as goal
 
 pub returns-clause-grows : goal.returns-clause-grows
@@ -39,9 +38,3 @@ returns-clause-surplus g c = λ sound.
     surplus_grown g.S.Storage.view g.F.BackingDisk.backing old c.begin.new.self c.grow_to-done.new.self sound begun c.begin.ensures.list c.args.size larger (c.grow_to-done.ensures.writable ∙ c.begin.ensures.stays.image.writable) c.mark_failure.new.self c.grow_to-done.result
     c.mark_failure.result c.mark_failure.ensures.answer c.mark_failure.ensures.rest (may_mark c.grow_to-done.new.self c.mark_failure.new.self c.grow_to-done.result c.mark_failure.ensures.marks)
     (c.grow_to-done.ensures.resizes (pending_in g.S.Storage.view g.F.BackingDisk.backing old []) begun.sound) c.grow_to-done.ensures.list
-
-pub returns-clause-honest : goal.returns-clause-honest
-returns-clause-honest g c = λ sound.
-    let p = pending_in g.S.Storage.view g.F.BackingDisk.backing c.args.self.now [] in
-    let begun = c.begin.ensures.keeps p [] sound in
-    honest_marked g.S.Storage.view c.grow_to-done.new.self c.mark_failure.new.self c.grow_to-done.result c.mark_failure.result c.mark_failure.ensures.answer c.mark_failure.ensures.rest (c.grow_to-done.ensures.honest p begun.sound)

@@ -2,15 +2,11 @@ use Rattle.qcow2_alloc.proofs.AllocationSteps.{handed_on}
 use Rattle.qcow2_image.specs.declared.image.Qcow2.{Qcow2}
 use Rattle.qcow2_image.specs.Growing.{Resizes}
 use Rattle.qcow2_image.specs.UnseenSteps.{pending_with_listed}
-use Rattle.std.proofs.Common.{Result, arith, [], refl, ap, ◌∙◌, ◌-◌, ◌/◌, ◌^◌}
+use Rattle.std.proofs.Common.{arith, [], refl, ap, ◌∙◌, ◌-◌, ◌/◌, ◌^◌}
 use Rattle.qcow2_image.specs.Image.{is_failed, is_writable}
 use Rattle.qcow2_image.proofs.Call.FaultCounts.{counted_on, counted_since, untouched}
 use Rattle.qcow2_image.proofs.Create.Causes.{faults_met}
 use Rattle.qcow2_image.proofs.Grow.Grown.{extends_moving, lasts_more, lasts_refused, resized_then, resized_reaches}
-use Rattle.std.specs.Prelude.{IfErr}
-use Rattle.qcow2_image.specs.Created.{IsFaultOrHonest}
-use Rattle.qcow2_alloc.specs.ImageFile.{view_in}
-use Rattle.qcow2_image.proofs.Create.StillHonest.{honest_fault, honest_refused}
 use Rattle.qcow2_image.proofs.image.Qcow2.grow_to.Goals as goal
 
 pub returns-in_err-grow_l1_table-clause-resizes : goal.returns-in_err-grow_l1_table-clause-resizes
@@ -52,11 +48,3 @@ returns-clause-failed g c = ap is_failed c.write_size.ensures.rest ∙ c.grow_l1
 
 pub returns-clause-writable : goal.returns-clause-writable
 returns-clause-writable g c = ap is_writable c.write_size.ensures.rest ∙ c.grow_l1_table.ensures.stays.image.writable
-
-pub returns-in_err-grow_l1_table-clause-honest : goal.returns-in_err-grow_l1_table-clause-honest
-returns-in_err-grow_l1_table-clause-honest g c = λ p sound.
-    handed_on (λ (r : Result _ _). IfErr r (IsFaultOrHonest (view_in g.S.Storage.view c.grow_l1_table.new.self.file))) c.from_residual.result c.in_err-grow_l1_table.field-0.0 c.from_residual.ensures
-    (honest_refused g.S.Storage.view g.F.BackingDisk.backing p c.args.self.now c.grow_l1_table.new.self c.in_err-grow_l1_table.field-0.0 (c.in_err-grow_l1_table.ensures.lengthens p [] sound))
-
-pub returns-clause-honest : goal.returns-clause-honest
-returns-clause-honest g c = λ p sound. honest_fault (view_in g.S.Storage.view c.write_size.new.self.file) c.write_size.result c.write_size.ensures.cause
