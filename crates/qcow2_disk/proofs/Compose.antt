@@ -86,6 +86,7 @@ module _ (v : AbstractImage) (gs fewer : List GivenBytes) (asked : List ℕ) (wi
   kept_less : (b : Bytes) → StopOkEverywhere v.setting.backing (checkpoint_with gs asked m) b → StopOkEverywhere v.setting.backing (checkpoint_with fewer asked m) b
   kept_less b k = record {
     consistent = k.consistent;
+    rest = k.rest;
     size = k.size;
     values = λ o. ⊎_elim (λ h. inl h)
         (λ h. ⊎_elim

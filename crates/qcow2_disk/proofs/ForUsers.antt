@@ -12,7 +12,7 @@ use Rattle.qcow2_disk.specs.Mappings.{PreparedMapping, given_by_put, put_disk, p
 use Rattle.qcow2_disk.specs.ForUsers.{PrivateBytesAreUnseen, CommittedIsReadBack, PutIsReadInPlace, HiddenBytesAreNotGiven, FlushedIsExact}
 
 pub exact : FlushedIsExact
-exact backing b d stop =
+exact backing header_bytes b d stop =
     let size = ⊎_elim (λ (e : (disk b backing).size ≡ d.size). e) (λ h. absurd h) stop.size in
     (size, (λ o lt. ⊎_elim (λ (e : (disk b backing).value o ≡ d.value o). e) (λ h. absurd h) (stop.values o (subst (λ s. o < s) (sym size) lt) lt)))
 

@@ -6,22 +6,24 @@ use Rattle.image_access.proofs.EachMomentSince.{passes_if, passes_on}
 use Rattle.qcow2_metadata.specs.Bytes.{Bytes, byte_at}
 use Rattle.qcow2_metadata.specs.Consistent.{IsConsistent}
 use Rattle.qcow2_disk.specs.Disk.{Disk, disk, disk_with}
+use Rattle.qcow2_disk.specs.HeaderRest.{KeepsHeaderRest}
 use Rattle.qcow2_disk.specs.Stops.{checkpoint_at, StopOkEverywhere, StopOk, SafeThroughout}
 use Rattle.qcow2_disk.specs.AbstractImages.{Setting, Guest, Abstraction, abstract_image, guest_of}
 use Rattle.qcow2_disk.specs.Runs.{Command, Reply, State, Run, RefinesDisk, IsStopIn, started, given_by, asked_by}
 use Rattle.qcow2_disk.specs.Headline.{nothing_below, setting_in, guest_in, IsHeadline}
+use Rattle.qcow2_disk.proofs.HeaderRest.{header_rest_same, header_rest_then, header_rest_back}
 use Rattle.qcow2_disk.proofs.Stops.{stop_of_kept, stop_more}
 use Rattle.qcow2_disk.proofs.RunSteps.{passes_run}
 
 -- nothing was given since, so the disk is the same
-same_disk : (backing : Bytes) (d : Disk) (b : Bytes) → StopOkEverywhere backing (checkpoint_at d) b → disk b backing ≡ d
-same_disk backing d b kept =
+same_disk : (backing header_bytes : Bytes) (d : Disk) (b : Bytes) → StopOkEverywhere backing (checkpoint_at d header_bytes) b → disk b backing ≡ d
+same_disk backing header_bytes d b kept =
     let size : (disk b backing).size ≡ d.size = ⊎_elim (λ (e : (disk b backing).size ≡ d.size). e) (λ h. absurd h) kept.size in
     let values : (disk b backing).value ≡ d.value = fun_ext (λ o. ⊎_elim (λ (e : (disk b backing).value o ≡ d.value o). e) (λ h. absurd h) (kept.values o)) in
     λ i. record { size = size i; value = values i }
 
-at_once : (backing b : Bytes) → IsConsistent b → StopOkEverywhere backing (checkpoint_at (disk b backing)) b
-at_once backing b consistent = record { consistent = consistent; size = inl refl; values = λ o. inl refl }
+at_once : (backing b : Bytes) → IsConsistent b → StopOkEverywhere backing (checkpoint_at (disk b backing) b) b
+at_once backing b consistent = record { consistent = consistent; rest = header_rest_same b; size = inl refl; values = λ o. inl refl }
 
 -- what a stop may leave where a run begins falls under its first command, or its end
 first_stop : (x : Setting) (s end : State) (commands : List Command) (replies : List Reply) (run : Run x s commands replies end) (b : Bytes) → StopOk x.backing s.checkpoint b → IsStopIn x s end commands replies run b
@@ -37,7 +39,7 @@ module _ {D P : Type 0} (spec : Abstraction D P) (before : StorageView) (opened 
   abbrev b : Bytes
   b = byte_at before.contents
 
-  start : StopOkEverywhere nothing_below (checkpoint_at (disk b nothing_below)) b
+  start : StopOkEverywhere nothing_below (checkpoint_at (disk b nothing_below) b) b
   start = at_once nothing_below b consistent
 
   backing-is : (spec.setting opened).backing ≡ nothing_below
@@ -48,18 +50,30 @@ module _ {D P : Type 0} (spec : Abstraction D P) (before : StorageView) (opened 
       let known : disk_with (spec.known opened) (spec.data_bytes opened) (spec.setting opened).backing ≡ disk (byte_at (spec.storage opened).contents) nothing_below =
       ap (λ (k : Bytes). disk_with (spec.known opened) k (spec.setting opened).backing) in_image
       ∙ ap (λ (k : Bytes). disk k (spec.setting opened).backing) clean ∙ ap (λ (k : Bytes). disk (byte_at (spec.storage opened).contents) k) backing-is in
-      ap (λ (d : Disk). record (guest_in b) { disk = d }) (known ∙ same_disk nothing_below (disk b nothing_below) (byte_at (spec.storage opened).contents) (since.contents nothing_below (checkpoint_at (disk b nothing_below)) start start))
+      ap (λ (d : Disk). record (guest_in b) { disk = d }) (known ∙ same_disk nothing_below b (disk b nothing_below) (byte_at (spec.storage opened).contents) (since.contents nothing_below (checkpoint_at (disk b nothing_below) b) start start))
 
   abbrev In : List ℕ → Type 0
-  In c = IsStopIn (spec.setting opened) (started (guest_of (abstract_image spec opened []))) refines.end commands replies refines.run (byte_at c)
+  In c = IsStopIn (spec.setting opened) (started (abstract_image spec opened [])) refines.end commands replies refines.run (byte_at c)
 
-  kept_in : (c : List ℕ) → StopOkEverywhere nothing_below (checkpoint_at (disk b nothing_below)) (byte_at c) → In c
-  kept_in c kept = first_stop (spec.setting opened) (started (guest_of (abstract_image spec opened []))) refines.end commands replies refines.run (byte_at c)
-      (subst (λ (g : Guest). StopOk (spec.setting opened).backing (checkpoint_at g.disk) (byte_at c)) (sym shows)
-      (subst (λ (k : Bytes). StopOk k (checkpoint_at (disk b nothing_below)) (byte_at c)) (sym backing-is) (stop_of_kept nothing_below (checkpoint_at (disk b nothing_below)) (byte_at c) kept)))
+  rest : KeepsHeaderRest b (byte_at (spec.storage opened).contents)
+  rest = (since.contents nothing_below (checkpoint_at (disk b nothing_below) b) start start).rest
+
+  -- what kept the rest of the header before keeps that of the opened image
+  since_opened : (c : List ℕ) → StopOk nothing_below (checkpoint_at (disk b nothing_below) b) (byte_at c) → StopOk nothing_below (checkpoint_at (disk b nothing_below) (byte_at (spec.storage opened).contents)) (byte_at c)
+  since_opened c stop = record {
+    consistent = stop.consistent;
+    rest = header_rest_then (byte_at (spec.storage opened).contents) b (byte_at c) (header_rest_back b (byte_at (spec.storage opened).contents) rest) stop.rest;
+    size = stop.size;
+    values = stop.values;
+  }
+
+  kept_in : (c : List ℕ) → StopOkEverywhere nothing_below (checkpoint_at (disk b nothing_below) b) (byte_at c) → In c
+  kept_in c kept = first_stop (spec.setting opened) (started (abstract_image spec opened [])) refines.end commands replies refines.run (byte_at c)
+      (subst (λ (g : Guest). StopOk (spec.setting opened).backing (checkpoint_at g.disk (byte_at (spec.storage opened).contents)) (byte_at c)) (sym shows)
+      (subst (λ (k : Bytes). StopOk k (checkpoint_at (disk b nothing_below) (byte_at (spec.storage opened).contents)) (byte_at c)) (sym backing-is) (since_opened c (stop_of_kept nothing_below (checkpoint_at (disk b nothing_below) b) (byte_at c) kept))))
 
   opening : EachMomentSince before (spec.storage opened) In
-  opening = passes_if In (λ c kept. kept_in c (kept nothing_below (checkpoint_at (disk b nothing_below)) start start)) since.moments
+  opening = passes_if In (λ c kept. kept_in c (kept nothing_below (checkpoint_at (disk b nothing_below) b) start start)) since.moments
 
   whole : EachMomentSince before (spec.storage new) In
   whole = passes_on In opening (passes_run spec opened new commands replies refines) (λ c h. h)
@@ -69,6 +83,7 @@ module _ {D P : Type 0} (spec : Abstraction D P) (before : StorageView) (opened 
     opened = opened;
     setting = setting;
     shows = shows;
+    rest = rest;
     refines = refines;
     stops = λ c had. ⊎_elim (λ (h : before.had_since before.moment c). subst In (sym (nothing_before c h)) (kept_in before.contents start)) (λ p. p) (whole.each before.moment c (omega arith) had);
   }

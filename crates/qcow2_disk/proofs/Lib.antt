@@ -1,4 +1,5 @@
 pub mod ForUsers
+pub mod HeaderRest
 pub mod Stops
 pub mod RunSteps
 pub mod Headline

@@ -7,12 +7,14 @@ use Rattle.qcow2_metadata.specs.Bytes.{Bytes, byte_at}
 use Rattle.qcow2_metadata.specs.Consistent.{IsConsistent}
 use Rattle.qcow2_metadata.specs.Guest.{Value}
 use Rattle.qcow2_disk.specs.Disk.{Disk, disk, disk_with}
+use Rattle.qcow2_disk.specs.HeaderRest.{KeepsHeaderRest}
 use Rattle.qcow2_disk.specs.Stops.{GivenBytes, IsGiven, Checkpoint, checkpoint_at, checkpoint_with, StopOkEverywhere, StopOk}
 use Rattle.qcow2_disk.specs.Mappings.{PreparedMapping}
 use Rattle.qcow2_disk.specs.AbstractImages.{Setting, Guest, Abstraction, AbstractImage, abstract_image, guest_of, stored_bytes, IsWhole}
 use Rattle.qcow2_disk.specs.Calls.{Refusal, CallEffect, AnsweredEffect, RefusedEffect, IsRefusalByFault, EffectOnSound, EffectOnFailed, Stops}
 use Rattle.qcow2_disk.specs.Runs.{Command, Reply, Found, CommandMeaning, IsFaultReply, MayAnswer, IsAnswerOfFailed, IsRightlyTold, ResizesLast, State, CommandStep, Run, IsSafeWhile, IsCommandInterval, RefinesGuest, RefinesAlong, IsStopIn, RefinesState, RefinesCommand, RefinesRun, RefinesWholeRun, RefinesDisk, IsOwnInterval, started, checkpoint_during, checkpoint_after, stepped, given_by, asked_by, flush, shrink, done, number_is}
 use Rattle.qcow2_disk.proofs.Compose.{works_less, stops_none, rests_none}
+use Rattle.qcow2_disk.proofs.HeaderRest.{header_rest_same}
 use Rattle.qcow2_disk.proofs.Stops.{stop_of_kept, stop_more}
 
 bool_cases : (b : Bool) → (b ≡ true) ⊎ (b ≡ false)
@@ -207,11 +209,12 @@ acts_none v given asked = record {
 }
 
 -- a flush that succeeded: what is on the storage is what the guest sees
-kept_at_once : (v : AbstractImage) (b : Bytes) → IsWhole v → b ≡ v.known → StopOkEverywhere v.setting.backing (checkpoint_at (guest_of v).disk) b
-kept_at_once v b whole same =
+kept_at_once : (v : AbstractImage) (header_bytes b : Bytes) → IsWhole v → b ≡ v.known → KeepsHeaderRest header_bytes b → StopOkEverywhere v.setting.backing (checkpoint_at (guest_of v).disk header_bytes) b
+kept_at_once v header_bytes b whole same rest =
     let shown : disk b v.setting.backing ≡ (guest_of v).disk =
     ap (λ (a : Bytes). disk a v.setting.backing) same ∙ ap (λ (a : Bytes). disk_with v.known a v.setting.backing) (sym whole.in_image) in record {
       consistent = subst (λ (a : Bytes). IsConsistent a) (sym same) whole.consistent;
+      rest = rest;
       size = inl (ap (λ (d : Disk). d.size) shown);
       values = λ o. inl (ap (λ (d : Disk). d.value o) shown);
     }
@@ -219,16 +222,19 @@ kept_at_once v b whole same =
 pub flushed_as : (x : Setting) (old new : AbstractImage) (s : State) (command is : Command) (reply : Reply) → command ≡ is → RefinesState x old s → IsAnswer old new is reply
     → AnsweredEffect old new (given_by old.setting (guest_of old) is) (asked_by is) ((new.known ≡ stored_bytes new) × CommandMeaning old.setting s.found (guest_of old) is reply (guest_of new))
     → (new.is_sound → IsWhole new)
-    → ((x' : Setting) (s' : State) → checkpoint_after x' s' is reply (guest_of new) ≡ checkpoint_at (guest_of new).disk) → IsRightlyTold new.setting old.known new is reply → RefinesCommand x old new s command reply
+    → ((x' : Setting) (s' : State) → checkpoint_after x' s' is reply (guest_of new) ≡ checkpoint_at (guest_of new).disk s'.checkpoint.header_bytes) → IsRightlyTold new.setting old.known new is reply → RefinesCommand x old new s command reply
 flushed_as x old new s command is reply e stands answer does whole checkpoint finds =
     subst (λ q. RefinesCommand x old new s q reply) (sym e) (called x old new s is reply stands answer does.acts
     (λ sound. let a = does.answer sound in record {
       ends = inl (a.0, a.1.1);
       finds = λ _. finds;
-      checkpoint = λ x' s' _ _ _. inr (
-        subst (λ m. StopOkEverywhere new.setting.backing m new.known) (sym (checkpoint x' s')) (kept_at_once new new.known (whole a.0) refl),
-        subst (λ m. StopOkEverywhere new.setting.backing m (stored_bytes new)) (sym (checkpoint x' s')) (kept_at_once new (stored_bytes new) (whole a.0) (sym a.1.0)),
-      );
+      checkpoint = λ x' s' there ok _.
+          let below : old.setting.backing ≡ x'.backing = ap (λ (y : Setting). y.backing) there.setting in
+          let stops = (does.acts.works sound).stops s'.checkpoint (subst (λ b. StopOkEverywhere b s'.checkpoint (stored_bytes old)) (sym below) (there.contents ok), subst (λ b. StopOkEverywhere b s'.checkpoint old.known) (sym below) (there.known ok)) in
+          inr (
+            subst (λ m. StopOkEverywhere new.setting.backing m new.known) (sym (checkpoint x' s')) (kept_at_once new s'.checkpoint.header_bytes new.known (whole a.0) refl (stops.known a.0).rest),
+            subst (λ m. StopOkEverywhere new.setting.backing m (stored_bytes new)) (sym (checkpoint x' s')) (kept_at_once new s'.checkpoint.header_bytes (stored_bytes new) (whole a.0) (sym a.1.0) stops.contents.rest),
+          );
     }))
 
 -- One that was answered, and gave less than it might have given. Its mark afterwards has what it gave alone.
@@ -268,16 +274,19 @@ none_as x v s command is reply e stands answer means checkpoint finds =
     (λ sound. record { ends = inl (sound, means sound); finds = λ _. finds; checkpoint = λ x' s' _ _ _. inl (checkpoint x' s') }))
 
 -- where a run begins
-pub begins : (v : AbstractImage) → v.is_sound → IsWhole v → v.known ≡ stored_bytes v → RefinesState v.setting v (started (guest_of v))
+pub begins : (v : AbstractImage) → v.is_sound → IsWhole v → v.known ≡ stored_bytes v → RefinesState v.setting v (started v)
 begins v sound whole same = record {
   setting = refl;
   works = λ _. sound;
   failed = λ e. absurd (let t : false ≡ true = e in cc);
   guest = λ _. refl;
-  known = λ _. kept_at_once v v.known whole refl;
-  contents = λ _. kept_at_once v (stored_bytes v) whole (sym same);
-  at_rest = stop_of_kept v.setting.backing (checkpoint_at (guest_of v).disk) (stored_bytes v) (kept_at_once v (stored_bytes v) whole (sym same));
+  known = λ _. kept_at_once v (stored_bytes v) v.known whole refl (subst (KeepsHeaderRest (stored_bytes v)) (sym same) (header_rest_same (stored_bytes v)));
+  contents = λ _. at_once;
+  at_rest = stop_of_kept v.setting.backing (started v).checkpoint (stored_bytes v) at_once;
 }
+  where
+    at_once : StopOkEverywhere v.setting.backing (started v).checkpoint (stored_bytes v)
+    at_once = kept_at_once v (stored_bytes v) (stored_bytes v) whole (sym same) (header_rest_same (stored_bytes v))
 
 -- a run goes on by one step
 pub Run-push : (x : Setting) (old mid new : State) (commands : List Command) (replies : List Reply) (command : Command) (reply : Reply)
@@ -439,8 +448,8 @@ module _ {D P : Type 0} (spec : Abstraction D P) where
 
   -- a whole run of an image that was just opened
   pub refines_the_disk : (old new : D) (commands : List Command) (replies : List Reply) → ((c : List ℕ) → (spec.storage old).had_since (spec.storage old).moment c → c ≡ (spec.storage old).contents)
-      → RefinesState (spec.setting old) (abstract_image spec old []) (started (guest_of (abstract_image spec old [])))
-      → RefinesWholeRun spec (spec.setting old) old new (started (guest_of (abstract_image spec old []))) commands replies → RefinesDisk spec old new commands replies
+      → RefinesState (spec.setting old) (abstract_image spec old []) (started (abstract_image spec old []))
+      → RefinesWholeRun spec (spec.setting old) old new (started (abstract_image spec old [])) commands replies → RefinesDisk spec old new commands replies
   refines_the_disk old new commands replies only stands all = record {
     end = all.end;
     run = all.run;
@@ -450,11 +459,11 @@ module _ {D P : Type 0} (spec : Abstraction D P) where
     leaves = all.leaves;
     at_end = said_at (spec.surplus old []) all.stands all.surplus;
     setting = all.stands.setting;
-    since_start = since_start spec (spec.setting old) (spec.surplus old []) old all.last new (started (guest_of (abstract_image spec old []))) all.end commands replies all.run only stands.at_rest all.along all.leaves;
+    since_start = since_start spec (spec.setting old) (spec.surplus old []) old all.last new (started (abstract_image spec old [])) all.end commands replies all.run only stands.at_rest all.along all.leaves;
   }
 
   -- the moments of a whole run, with what is let go at its end
   pub passes_run : (old new : D) (commands : List Command) (replies : List Reply) (all : RefinesDisk spec old new commands replies)
-      → EachMomentSince (spec.storage old) (spec.storage new) (λ c. IsStopIn (spec.setting old) (started (guest_of (abstract_image spec old []))) all.end commands replies all.run (byte_at c))
+      → EachMomentSince (spec.storage old) (spec.storage new) (λ c. IsStopIn (spec.setting old) (started (abstract_image spec old [])) all.end commands replies all.run (byte_at c))
   passes_run old new commands replies all =
-      whole_passes spec (spec.setting old) (spec.surplus old []) old all.last new (started (guest_of (abstract_image spec old []))) all.end commands replies all.run all.at_start all.along all.leaves
+      whole_passes spec (spec.setting old) (spec.surplus old []) old all.last new (started (abstract_image spec old [])) all.end commands replies all.run all.at_start all.along all.leaves

@@ -4,7 +4,9 @@ use Rattle.qcow2_metadata.specs.Bytes.{Bytes}
 use Rattle.qcow2_metadata.specs.Guest.{Value}
 use Rattle.qcow2_metadata.specs.Consistent.{IsConsistent}
 use Rattle.qcow2_disk.specs.Disk.{disk}
+use Rattle.qcow2_disk.specs.HeaderRest.{KeepsHeaderRest}
 use Rattle.qcow2_disk.specs.Stops.{GivenBytes, IsGiven, IsAsked, Checkpoint, checkpoint_with, StopOk, StopOkEverywhere}
+use Rattle.qcow2_disk.proofs.HeaderRest.{header_rest_same, header_rest_then}
 
 -- ---- gifts and sizes of several calls
 
@@ -40,12 +42,13 @@ asked_split (k ∷ ns) ms n (inr asked) = ⊎_elim (λ l. inl (inr l)) (λ r. in
 
 -- the kept clause is stronger than the stop clause
 pub stop_of_kept : (backing : Bytes) (m : Checkpoint) (b : Bytes) → StopOkEverywhere backing m b → StopOk backing m b
-stop_of_kept backing m b kept = record { consistent = kept.consistent; size = kept.size; values = λ o _ _. kept.values o }
+stop_of_kept backing m b kept = record { consistent = kept.consistent; rest = kept.rest; size = kept.size; values = λ o _ _. kept.values o }
 
 -- what is safe stays so with more given and asked
 pub stop_more : (backing : Bytes) (given : List GivenBytes) (asked : List ℕ) (m : Checkpoint) (b : Bytes) → StopOk backing m b → StopOk backing (checkpoint_with given asked m) b
 stop_more backing given asked m b stop = record {
   consistent = stop.consistent;
+  rest = stop.rest;
   size = ⊎_elim (λ (e : (disk b backing).size ≡ m.last.size). inl e) (λ (a : IsAsked m.asked (disk b backing).size). inr (asked_more asked m.asked _ a)) stop.size;
   values = λ o lt below. ⊎_elim
       (λ (e : (disk b backing).value o ≡ m.last.value o). inl e)
@@ -53,12 +56,13 @@ stop_more backing given asked m b stop = record {
 }
 
 -- an image of which each value is that of a kept one, or given, and the size that of the kept one or asked
-pub kept_on : (backing : Bytes) (m : Checkpoint) (given : List GivenBytes) (asked : List ℕ) (b b' : Bytes) → IsConsistent b'
+pub kept_on : (backing : Bytes) (m : Checkpoint) (given : List GivenBytes) (asked : List ℕ) (b b' : Bytes) → IsConsistent b' → KeepsHeaderRest b b'
     → ((disk b' backing).size ≡ (disk b backing).size) ⊎ IsAsked asked (disk b' backing).size
     → ((o : ℕ) → ((disk b' backing).value o ≡ (disk b backing).value o) ⊎ IsGiven given o ((disk b' backing).value o))
     → StopOkEverywhere backing m b → StopOkEverywhere backing (checkpoint_with given asked m) b'
-kept_on backing m given asked b b' consistent size values kept = record {
+kept_on backing m given asked b b' consistent rest size values kept = record {
   consistent = consistent;
+  rest = header_rest_then m.header_bytes b b' kept.rest rest;
   size = ⊎_elim
       (λ (e : (disk b' backing).size ≡ (disk b backing).size). ⊎_elim (λ (l : (disk b backing).size ≡ m.last.size). inl (e ∙ l))
       (λ (a : IsAsked m.asked (disk b backing).size). inr (asked_more asked m.asked _ (subst (λ n. IsAsked m.asked n) (sym e) a))) kept.size)
@@ -70,12 +74,13 @@ kept_on backing m given asked b b' consistent size values kept = record {
 }
 
 -- an image of which each value is that of one of two kept ones
-pub kept_either : (backing : Bytes) (m : Checkpoint) (on_storage known b : Bytes) → IsConsistent b
+pub kept_either : (backing : Bytes) (m : Checkpoint) (on_storage known b : Bytes) → IsConsistent b → KeepsHeaderRest on_storage b
     → (disk b backing).size ≡ (disk on_storage backing).size
     → ((o : ℕ) → ((disk b backing).value o ≡ (disk on_storage backing).value o) ⊎ ((disk b backing).value o ≡ (disk known backing).value o))
     → StopOkEverywhere backing m on_storage → StopOkEverywhere backing m known → StopOkEverywhere backing m b
-kept_either backing m on_storage known b consistent size values kept known_kept = record {
+kept_either backing m on_storage known b consistent rest size values kept known_kept = record {
   consistent = consistent;
+  rest = header_rest_then m.header_bytes on_storage b kept.rest rest;
   size = subst (λ n. (n ≡ m.last.size) ⊎ IsAsked m.asked n) (sym size) kept.size;
   values = λ o. ⊎_elim
       (λ (e : (disk b backing).value o ≡ (disk on_storage backing).value o). subst (λ v. (v ≡ m.last.value o) ⊎ IsGiven m.given o v) (sym e) (kept.values o))
@@ -86,10 +91,11 @@ kept_either backing m on_storage known b consistent size values kept known_kept 
 pub kept_twice : (backing : Bytes) (given : List GivenBytes) (asked : List ℕ) (m : Checkpoint) (b : Bytes) → StopOkEverywhere backing (checkpoint_with given asked (checkpoint_with given asked m)) b → StopOkEverywhere backing (checkpoint_with given asked m) b
 kept_twice backing given asked m b kept = record {
   consistent = kept.consistent;
+  rest = kept.rest;
   size = ⊎_elim (λ h. inl h) (λ h. inr (⊎_elim (λ l. asked_front asked m.asked _ l) (λ r. r) (asked_split asked (asked ++ m.asked) _ h))) kept.size;
   values = λ o. ⊎_elim (λ h. inl h) (λ h. inr (⊎_elim (λ l. given_front given m.given o _ l) (λ r. r) (given_split given (given ++ m.given) o _ h))) (kept.values o);
 }
 
 -- what is kept is kept with more given
 pub kept_more : (backing : Bytes) (given : List GivenBytes) (asked : List ℕ) (m : Checkpoint) (b : Bytes) → StopOkEverywhere backing m b → StopOkEverywhere backing (checkpoint_with given asked m) b
-kept_more backing given asked m b kept = kept_on backing m given asked b b kept.consistent (inl refl) (λ o. inl refl) kept
+kept_more backing given asked m b kept = kept_on backing m given asked b b kept.consistent (header_rest_same b) (inl refl) (λ o. inl refl) kept

@@ -42,5 +42,5 @@ HiddenBytesAreNotGiven =
 -- A stop right after a flush gives exactly the disk.
 abbrev pub FlushedIsExact : Type 0
 FlushedIsExact =
-    (backing b : Bytes) (d : Disk) → StopOk backing (checkpoint_at d) b
+    (backing header_bytes b : Bytes) (d : Disk) → StopOk backing (checkpoint_at d header_bytes) b
     → ((disk b backing).size ≡ d.size) × ((o : ℕ) → o < d.size → (disk b backing).value o ≡ d.value o)

@@ -4,7 +4,8 @@ use Rattle.image_access.specs.Moments.{StorageView}
 use Rattle.qcow2_metadata.specs.Bytes.{Bytes, byte_at}
 use Rattle.qcow2_metadata.specs.Header.{header, cluster_size}
 use Rattle.qcow2_disk.specs.Disk.{disk}
-use Rattle.qcow2_disk.specs.AbstractImages.{Setting, Guest, Abstraction, abstract_image, guest_of}
+use Rattle.qcow2_disk.specs.HeaderRest.{KeepsHeaderRest}
+use Rattle.qcow2_disk.specs.AbstractImages.{Setting, Guest, Abstraction, abstract_image, guest_of, stored_bytes}
 use Rattle.qcow2_disk.specs.Runs.{Command, Reply, RefinesDisk, IsStopIn, started}
 
 -- no disk below: all its bytes are zero
@@ -19,12 +20,13 @@ setting_in b = record { cluster_size = cluster_size (header b); is_backed = fals
 abbrev pub guest_in : Bytes → Guest
 guest_in b = record { disk = disk b nothing_below; slots = λ _. None }
 
--- An image was opened from these contents and answered these commands. It shows the disk that they hold, and the replies are a run of that disk.
+-- An image was opened from these contents and answered these commands. It shows the disk that they hold, its header has their extensions and names, and the replies are a run of that disk.
 -- At each return the disk is the run's, the known bytes are consistent, and each surplus is as at the start. Whatever the storage held since before the opening may be left by a stop.
 pub record IsHeadline {D P : Type 0} (spec : Abstraction D P) (before : StorageView) (new : D) (commands : List Command) (replies : List Reply) : Type 0 where
   pub opened : D
   pub setting : spec.setting opened ≡ setting_in (byte_at before.contents)
   pub shows : guest_of (abstract_image spec opened []) ≡ guest_in (byte_at before.contents)
+  pub rest : KeepsHeaderRest (byte_at before.contents) (stored_bytes (abstract_image spec opened []))
   pub refines : RefinesDisk spec opened new commands replies
   pub stops : (c : List ℕ) → (spec.storage new).had_since before.moment c
-      → IsStopIn (spec.setting opened) (started (guest_of (abstract_image spec opened []))) refines.end commands replies refines.run (byte_at c)
+      → IsStopIn (spec.setting opened) (started (abstract_image spec opened [])) refines.end commands replies refines.run (byte_at c)

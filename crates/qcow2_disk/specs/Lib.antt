@@ -1,4 +1,5 @@
 pub mod Disk
+pub mod HeaderRest
 pub mod Stops
 pub mod Rules
 pub mod Mappings

@@ -165,8 +165,8 @@ pub record State : Type 0 where
   pub is_failed : Bool
   pub checkpoint : Checkpoint
 
-abbrev pub started : Guest → State
-started g = record { guest = g; found = λ _. None; is_failed = false; checkpoint = checkpoint_at g.disk }
+abbrev pub started : AbstractImage → State
+started v = record { guest = guest_of v; found = λ _. None; is_failed = false; checkpoint = checkpoint_at (guest_of v).disk (stored_bytes v) }
 
 -- the same with nothing found yet
 abbrev pub begun : State → State
@@ -182,7 +182,7 @@ checkpoint_during x old command = checkpoint_with (given_by x old.guest command)
 
 -- a flush that succeeded is the last one from then on; a shrink that was answered gave what it uncovered
 abbrev pub checkpoint_after : Setting → State → Command → Reply → Guest → Checkpoint
-checkpoint_after x old flush done new = checkpoint_at new.disk
+checkpoint_after x old flush done new = checkpoint_at new.disk old.checkpoint.header_bytes
 checkpoint_after x old (shrink size) (number_is answer) new = checkpoint_with (given_by_shrunk x old.guest.disk size answer ∷ []) (asked_by (shrink size)) old.checkpoint
 checkpoint_after x old command reply new = checkpoint_during x old command
 
@@ -335,17 +335,17 @@ module _ {D P : Type 0} (spec : Abstraction D P) where
   pub record RefinesDisk (old new : D) (commands : List Command) (replies : List Reply) : Type 0 where
     pub end : State
     -- the replies are a run of the disk
-    pub run : Run (spec.setting old) (started (guest_of (abstract_image spec old []))) commands replies end
+    pub run : Run (spec.setting old) (started (abstract_image spec old [])) commands replies end
     -- Where it begins a stop is safe. Along it each moment is safe at the checkpoint of the command under way, and at each return the guest sees what the run says.
-    pub at_start : StopOk (spec.setting old).backing (checkpoint_at (guest_of (abstract_image spec old [])).disk) (byte_at (spec.storage old).contents)
+    pub at_start : StopOk (spec.setting old).backing (started (abstract_image spec old [])).checkpoint (byte_at (spec.storage old).contents)
     pub last : D
-    pub along : RefinesAlong spec (spec.setting old) (spec.surplus old []) old last (started (guest_of (abstract_image spec old []))) end commands replies run
+    pub along : RefinesAlong spec (spec.setting old) (spec.surplus old []) old last (started (abstract_image spec old [])) end commands replies run
     -- Then the mappings that are left are let go, as safely, and the guest still sees it.
     pub leaves : IsSafeWhile (spec.setting old).backing (spec.storage last) (spec.storage new) end.is_failed end.checkpoint end.checkpoint
     pub at_end : RefinesGuest (abstract_image spec new []) (over end) (spec.surplus old [])
     pub setting : spec.setting new ≡ spec.setting old
     -- There is no other moment since it began.
-    pub since_start : (c : List ℕ) → (spec.storage new).had_since (spec.storage old).moment c → IsStopIn (spec.setting old) (started (guest_of (abstract_image spec old []))) end commands replies run (byte_at c)
+    pub since_start : (c : List ℕ) → (spec.storage new).had_since (spec.storage old).moment c → IsStopIn (spec.setting old) (started (abstract_image spec old [])) end commands replies run (byte_at c)
 
 -- the prepared mappings are this image's own
 abbrev pub AreOwn : {D P : Type 0} → Abstraction D P → D → List (Option P) → Type 0

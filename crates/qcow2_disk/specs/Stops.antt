@@ -5,6 +5,7 @@ use Rattle.qcow2_metadata.specs.Bytes.{Bytes, byte_at}
 use Rattle.qcow2_metadata.specs.Guest.{Value}
 use Rattle.qcow2_metadata.specs.Consistent.{IsConsistent}
 use Rattle.qcow2_disk.specs.Disk.{Disk, disk}
+use Rattle.qcow2_disk.specs.HeaderRest.{KeepsHeaderRest}
 
 -- values that a call writes, zeroes or uncovers from an offset on
 pub record GivenBytes : Type 0 where
@@ -26,19 +27,22 @@ IsAsked (asked ∷ sizes) size = (size ≡ asked) ⊎ IsAsked sizes size
 -- what was flushed last, and what was given and asked since
 pub record Checkpoint : Type 0 where
   pub last : Disk
+  -- the contents with the header whose extensions and names stay
+  pub header_bytes : Bytes
   pub given : List GivenBytes
   pub asked : List ℕ
 
 -- nothing was given since
-abbrev pub checkpoint_at : Disk → Checkpoint
-checkpoint_at d = record { last = d; given = []; asked = [] }
+abbrev pub checkpoint_at : Disk → Bytes → Checkpoint
+checkpoint_at d b = record { last = d; header_bytes = b; given = []; asked = [] }
 
 abbrev pub checkpoint_with : List GivenBytes → List ℕ → Checkpoint → Checkpoint
 checkpoint_with given asked m = record m { given = given ++ m.given; asked = asked ++ m.asked }
 
--- The image is consistent. Its size is that of the last flush or one asked for since; each byte below both sizes is that of the last flush or one given since.
+-- The image is consistent, and its header has the same extensions and names. Its size is that of the last flush or one asked for since; each byte below both sizes is that of the last flush or one given since.
 pub record StopOk (backing : Bytes) (m : Checkpoint) (image : Bytes) : Type 0 where
   pub consistent : IsConsistent image
+  pub rest : KeepsHeaderRest m.header_bytes image
   pub size : ((disk image backing).size ≡ m.last.size) ⊎ IsAsked m.asked (disk image backing).size
   pub values : (o : ℕ) → o < (disk image backing).size → o < m.last.size
       → ((disk image backing).value o ≡ m.last.value o) ⊎ IsGiven m.given o ((disk image backing).value o)
@@ -46,6 +50,7 @@ pub record StopOk (backing : Bytes) (m : Checkpoint) (image : Bytes) : Type 0 wh
 -- What calls keep: the same with values past both sizes too, since a size that grows again may show them.
 pub record StopOkEverywhere (backing : Bytes) (m : Checkpoint) (image : Bytes) : Type 0 where
   pub consistent : IsConsistent image
+  pub rest : KeepsHeaderRest m.header_bytes image
   pub size : ((disk image backing).size ≡ m.last.size) ⊎ IsAsked m.asked (disk image backing).size
   pub values : (o : ℕ) → ((disk image backing).value o ≡ m.last.value o) ⊎ IsGiven m.given o ((disk image backing).value o)
 

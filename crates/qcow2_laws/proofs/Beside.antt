@@ -11,6 +11,7 @@ use Rattle.qcow2_metadata.specs.Entries.{l1_entry, l2_entry, reftable_entry}
 use Rattle.qcow2_metadata.specs.Cover.{cover, entry_cover}
 use Rattle.qcow2_metadata.specs.Named.{in_cluster}
 use Rattle.qcow2_metadata.specs.Tables.{CachedTable}
+use Rattle.qcow2_disk.specs.HeaderRest.{IsOfHeaderRest}
 use Rattle.qcow2_disk.specs.Stops.{GivenBytes}
 use Rattle.qcow2_laws.specs.Clusters.{Direction}
 use Rattle.qcow2_laws.specs.Guests.{marks, table_at}
@@ -74,9 +75,9 @@ module _ (h : HeaderFields) (d : Direction) (p : Pending) (l2s rbs : List Cached
   }
 
   -- ---- the header
-  pub header_beside : (a : Places) (place n : ℕ) → place + n ≤ 104 → IsSameBut place n on_storage on_storage' → header on_storage' ≡ with_places h a → HeaderReads (with_places h a) on_storage'
+  pub header_beside : (a : Places) (place n : ℕ) → place + n ≤ 104 → ((o : ℕ) → IsOfHeaderRest h o → (o < place) ⊎ (place + n ≤ o)) → IsSameBut place n on_storage on_storage' → header on_storage' ≡ with_places h a → HeaderReads (with_places h a) on_storage'
       → WritesHeader h a on_storage (known_bytes (cluster_size h) l2s rbs on_storage) on_storage' (known_bytes (cluster_size h) l2s rbs on_storage')
-  header_beside a place n small but is reads =
+  header_beside a place n small apart but is reads =
       writes_header h d p on_storage (known_bytes (cluster_size h) l2s rbs on_storage) on_storage' (known_bytes (cluster_size h) l2s rbs on_storage') kept.crash_invariant a place n
       (record {
         others = but;
@@ -92,7 +93,7 @@ module _ (h : HeaderFields) (d : Direction) (p : Pending) (l2s rbs : List Cached
               let free = first_free 0 (omega arith) in
               inr (free.0 o zero, free.1 o zero)
         ]);
-      }) small is reads
+      }) small apart is reads
 
   -- ---- data, and bytes of new tables: no refblock is modified that nothing names
   pub data_beside : (given : List GivenBytes) → ((c : ℕ) → SameIn (cluster_size h) c on_storage on_storage' ⊎ (IsFreeOf (cluster_size h) l2s c × IsFreeOf (cluster_size h) rbs c))

@@ -70,6 +70,7 @@ module _ (h : HeaderFields) (d d' : Direction) (p p' : Pending) (on_storage know
   covers_kept backing m kept =
       kept_shown h backing m [] known known' (IsTop-top h on_storage known crash_invariant.same_top crash_invariant.top).header_is (IsTop-top h on_storage known' crash_invariant'.same_top crash_invariant'.top).header_is
       (known_consistent h d' p' on_storage known' crash_invariant')
+      (λ i lt. sym (crash_invariant.same_top.first_cluster i lt) ∙ crash_invariant'.same_top.first_cluster i lt)
       (λ o. inl (sym (guest_value-same h known known' backing o (covers (o / cluster_size h)) (crash_invariant.known_aligned (o / cluster_size h)) (λ place some.
       bytes place (
       let within = names_within h known (place / cluster_size h) (o / cluster_size h) (Sizes-from h on_storage crash_invariant.top.header_reads) some in
@@ -205,7 +206,7 @@ module _ (h : HeaderFields) (d : Direction) (p : Pending) (on_storage known know
       → StopOkEverywhere backing m known → StopOkEverywhere backing (checkpoint_with given [] m) known'
   mapping_kept backing m given there kept =
       kept_shown h backing m given known known' (IsTop-top h on_storage known crash_invariant.same_top crash_invariant.top).header_is (IsTop-top h on_storage known' entry_mapped.same_top crash_invariant.top).header_is
-      (known_consistent h d (remapped p (λ c. names h known c g0) (λ c. names h known' c g0)) on_storage known' entry_mapped)
+      (known_consistent h d (remapped p (λ c. names h known c g0) (λ c. names h known' c g0)) on_storage known' entry_mapped) top.first_cluster
       (λ o. elim (cases_eq (o / cluster_size h) g0) [
         | inl here ↦ there o here
         | inr other ↦ inl (sym (guest_value-same h known known' backing o (others (o / cluster_size h) other) (crash_invariant.known_aligned (o / cluster_size h)) (λ place some.

@@ -19,7 +19,9 @@ use Rattle.qcow2_laws.proofs.Places.{Sizes-from}
 use Rattle.qcow2_laws.proofs.Guests.{past_guests}
 use Rattle.qcow2_laws.proofs.Consistency.{crash_invariant_consistent, known_consistent}
 use Rattle.qcow2_laws.proofs.Values.{value_is, size_is}
+use Rattle.qcow2_laws.proofs.Tops.{first_keeps_rest}
 use Rattle.qcow2_laws.proofs.Unseen.{known_header}
+use Rattle.qcow2_disk.proofs.HeaderRest.{header_rest_same}
 use Rattle.qcow2_laws.proofs.L1Moves.{guests_kept}
 
 pub longer_l1_table_keeps_guests : LongerL1TableKeepsGuests
@@ -40,16 +42,17 @@ module _ (s : DriverState) (backing : Bytes) (sound : StateInvariant s) where
 
   -- the disk of the storage, with all given that the known one shows
   abbrev checkpoint : Checkpoint
-  checkpoint = record { last = disk s.on_storage backing; given = given_shown (disk s.known backing) 0 (guests s.header * cluster_size s.header) ∷ []; asked = [] }
+  checkpoint = record { last = disk s.on_storage backing; header_bytes = s.on_storage; given = given_shown (disk s.known backing) 0 (guests s.header * cluster_size s.header) ∷ []; asked = [] }
 
   pub storage_kept : StopOkEverywhere backing checkpoint s.on_storage
   unfolding disk_with
-  storage_kept = record { consistent = crash_invariant_consistent s.header s.direction s.pending s.on_storage s.known sound; size = inl refl; values = λ o. inl refl }
+  storage_kept = record { consistent = crash_invariant_consistent s.header s.direction s.pending s.on_storage s.known sound; rest = header_rest_same s.on_storage; size = inl refl; values = λ o. inl refl }
 
   pub known_kept : StopOkEverywhere backing checkpoint s.known
   unfolding disk_with
   known_kept = record {
     consistent = known_consistent s.header s.direction s.pending s.on_storage s.known sound;
+    rest = first_keeps_rest s.header s.on_storage s.known sound.top.header_is known_is sound.same_top.first_cluster;
     size = inl (size_is s.header s.known backing known_is ∙ sym (size_is s.header s.on_storage backing sound.top.header_is));
     values = λ o. elim (cases_lt o (guests s.header * cluster_size s.header)) [
       | inl below ↦ inr (inl (omega arith, omega arith, ap (disk s.known backing).value (let e : o ≡ 0 + (o - 0) = omega arith in e)))

@@ -1,12 +1,15 @@
 -- The calls that write numbers of the header, as steps beside the modified tables of the caches.
-use Rattle.std.proofs.Common.{◌≡◌, ℕ, List, replicate, ap, ◌∙◌, subst, lit≤}
+use Rattle.std.proofs.Common.{◌≡◌, ◌≢◌, ◌⊎◌, ◌+◌, ◌<◌, ◌≤◌, inl, inr, ℕ, List, replicate, ap, ◌∙◌, subst, lit≤, arith}
+use Rattle.std.proofs.lemmas.Bool.{eq-eqb}
+use Rattle.std.specs.Prelude.{if◌then◌else◌}
 use Rattle.std.specs.Int.{w64, to_be_bytes}
-use Rattle.qcow2_metadata.specs.Bytes.{Bytes, byte_at}
+use Rattle.qcow2_metadata.specs.Bytes.{Bytes, byte_at, number_at}
 use Rattle.qcow2_metadata.specs.declared.header.HeaderFields.{HeaderFields}
 use Rattle.qcow2_metadata.specs.Header.{HeaderView, header, HeaderReads, cluster_size, with_size, with_l1_table, with_reftable, without_autoclear}
 use Rattle.qcow2_metadata.specs.HeaderLoad.{IsHeaderIn}
 use Rattle.qcow2_metadata.specs.HeaderWrite.{bytes_of_numbers, size_written, l1_table_pointer_written, reftable_pointer_written, autoclear_cleared}
 use Rattle.qcow2_metadata.specs.Tables.{CachedTable}
+use Rattle.qcow2_disk.specs.HeaderRest.{IsOfHeaderRest}
 use Rattle.qcow2_laws.specs.Clusters.{Direction}
 use Rattle.qcow2_laws.specs.CrashInvariant.{Pending}
 use Rattle.qcow2_laws.specs.Tops.{Places, with_places, IsSameBut, WritesHeader, resized_places, with_l1_at, with_reftable_at}
@@ -21,6 +24,36 @@ l1_pointer_but h contents = overwritten_but contents 36 _
 reftable_pointer_but : (h : HeaderFields) (contents : List ℕ) → IsSameBut 48 12 (byte_at contents) (byte_at (reftable_pointer_written h contents))
 unfolding bytes_of_numbers
 reftable_pointer_but h contents = overwritten_but contents 48 _
+
+-- the size, and where the tables stand, lie beside the rest of the header
+rest_apart : (h : HeaderFields) (place n o : ℕ) → 24 ≤ place → (place + n ≤ 32) ⊎ (36 ≤ place) → place + n ≤ 60 → IsOfHeaderRest h o → (o < place) ⊎ (place + n ≤ o)
+rest_apart h place n o from gap to of_rest = elim of_rest [
+  | inl front ↦ inl (omega (arith, front))
+  | inr more ↦ elim more [
+    | inl middle ↦ elim gap [ inl before ↦ inr (omega (arith, middle.0)) | inr behind ↦ inl (omega (arith, middle.1)) ]
+    | inr far ↦ inr (omega (arith, far.0))
+  ]
+]
+
+-- so do the autoclear bits, where there are any
+old_has_none : (b : Bytes) → (header b).version ≡ 2 → (header b).autoclear ≡ 0
+unfolding header
+old_has_none b old = ap (λ test. if test then 0 else number_at b 88 8) (eq-eqb (number_at b 4 4) 2 old)
+
+bits_apart : (h : HeaderFields) (b : Bytes) (o : ℕ) → header b ≡ h → h.autoclear ≢ 0 → IsOfHeaderRest h o → (o < 88) ⊎ (96 ≤ o)
+bits_apart h b o is some of_rest = elim of_rest [
+  | inl front ↦ inl (omega (arith, front))
+  | inr more ↦ elim more [
+    | inl middle ↦ inl (omega (arith, middle.1))
+    | inr far ↦ elim far.1 [
+      | inl before ↦ inl before
+      | inr behind ↦ elim behind [
+        | inl past ↦ inr past
+        | inr old ↦ absurd (some (subst (λ k. k.autoclear ≡ 0) is (old_has_none b (ap (λ (k : HeaderFields). k.version) is ∙ old))))
+      ]
+    ]
+  ]
+]
 
 module _ (h : HeaderFields) (d : Direction) (p : Pending) (l2s rbs : List CachedTable) (contents : List ℕ) (kept : CacheInvariantOver h d p l2s rbs (byte_at contents)) where
   abbrev known : List ℕ → Bytes
@@ -40,7 +73,7 @@ module _ (h : HeaderFields) (d : Direction) (p : Pending) (l2s rbs : List Cached
       let a = resized_places h v.fields.size h.autoclear in
       let new = size_written v.fields contents in
       let is : header (byte_at new) ≡ with_places h a = fields ∙ ap (λ k. with_size k v.fields.size) header_is in
-      header_beside h d p l2s rbs (byte_at contents) (byte_at new) kept a 24 8 (lit≤ tt) (overwritten_but contents 24 (to_be_bytes w64 v.fields.size)) is (reads_as a v new is there)
+      header_beside h d p l2s rbs (byte_at contents) (byte_at new) kept a 24 8 (lit≤ tt) (λ o of_rest. rest_apart h 24 8 o (lit≤ tt) (inl (lit≤ tt)) (lit≤ tt) of_rest) (overwritten_but contents 24 (to_be_bytes w64 v.fields.size)) is (reads_as a v new is there)
 
   -- the place of the L1 table
   pub l1_pointer_beside : (v : HeaderView)
@@ -52,7 +85,7 @@ module _ (h : HeaderFields) (d : Direction) (p : Pending) (l2s rbs : List Cached
       let a = with_l1_at h v.fields.l1_offset v.fields.l1_entries in
       let new = l1_table_pointer_written v.fields contents in
       let is : header (byte_at new) ≡ with_places h a = fields ∙ ap (λ k. with_l1_table k v.fields.l1_offset v.fields.l1_entries) header_is in
-      header_beside h d p l2s rbs (byte_at contents) (byte_at new) kept a 36 12 (lit≤ tt) (l1_pointer_but v.fields contents) is (reads_as a v new is there)
+      header_beside h d p l2s rbs (byte_at contents) (byte_at new) kept a 36 12 (lit≤ tt) (λ o of_rest. rest_apart h 36 12 o (lit≤ tt) (inr (lit≤ tt)) (lit≤ tt) of_rest) (l1_pointer_but v.fields contents) is (reads_as a v new is there)
 
   -- that of the reftable
   pub reftable_pointer_beside : (v : HeaderView)
@@ -64,13 +97,13 @@ module _ (h : HeaderFields) (d : Direction) (p : Pending) (l2s rbs : List Cached
       let a = with_reftable_at h v.fields.reftable_offset v.fields.reftable_clusters in
       let new = reftable_pointer_written v.fields contents in
       let is : header (byte_at new) ≡ with_places h a = fields ∙ ap (λ k. with_reftable k v.fields.reftable_offset v.fields.reftable_clusters) header_is in
-      header_beside h d p l2s rbs (byte_at contents) (byte_at new) kept a 48 12 (lit≤ tt) (reftable_pointer_but v.fields contents) is (reads_as a v new is there)
+      header_beside h d p l2s rbs (byte_at contents) (byte_at new) kept a 48 12 (lit≤ tt) (λ o of_rest. rest_apart h 48 12 o (lit≤ tt) (inr (lit≤ tt)) (lit≤ tt) of_rest) (reftable_pointer_but v.fields contents) is (reads_as a v new is there)
 
-  -- no autoclear bit any more
-  pub autoclear_beside : (v : HeaderView) → header (byte_at (autoclear_cleared contents)) ≡ without_autoclear (header (byte_at contents)) → IsHeaderIn v (autoclear_cleared contents)
+  -- no autoclear bit any more, where one was set
+  pub autoclear_beside : (v : HeaderView) → h.autoclear ≢ 0 → header (byte_at (autoclear_cleared contents)) ≡ without_autoclear (header (byte_at contents)) → IsHeaderIn v (autoclear_cleared contents)
       → WritesHeader h (resized_places h h.size 0) (byte_at contents) (known contents) (byte_at (autoclear_cleared contents)) (known (autoclear_cleared contents))
-  autoclear_beside v fields there =
+  autoclear_beside v some fields there =
       let a = resized_places h h.size 0 in
       let new = autoclear_cleared contents in
       let is : header (byte_at new) ≡ with_places h a = fields ∙ ap without_autoclear header_is in
-      header_beside h d p l2s rbs (byte_at contents) (byte_at new) kept a 88 8 (lit≤ tt) (overwritten_but contents 88 (replicate 8 0)) is (reads_as a v new is there)
+      header_beside h d p l2s rbs (byte_at contents) (byte_at new) kept a 88 8 (lit≤ tt) (λ o of_rest. bits_apart h (byte_at contents) o header_is some of_rest) (overwritten_but contents 88 (replicate 8 0)) is (reads_as a v new is there)

@@ -9,6 +9,7 @@ use Rattle.qcow2_metadata.specs.Entries.{l1_entry, reftable_entry, count, count_
 use Rattle.qcow2_metadata.specs.Cover.{cover, cover_under}
 use Rattle.qcow2_metadata.specs.Named.{in_cluster, named_for_tables, named_by_header, named_by_reftable, named_by_l1_table}
 use Rattle.qcow2_metadata.specs.Consistent.{IsAligned}
+use Rattle.qcow2_disk.specs.HeaderRest.{IsOfHeaderRest}
 use Rattle.qcow2_disk.specs.Stops.{IsAsked, Checkpoint, checkpoint_with, StopOkEverywhere}
 use Rattle.qcow2_laws.specs.Clusters.{Direction}
 use Rattle.qcow2_laws.specs.Guests.{named_in_either, marked_by_l1_table}
@@ -23,11 +24,13 @@ use Rattle.qcow2_laws.proofs.Renaming.{tables_renamed, moved_kept, moved_known_k
 
 -- bytes among the header's own numbers are written, and it reads
 pub writes_header : (h : HeaderFields) (d : Direction) (p : Pending) (on_storage known on_storage' known' : Bytes) → CrashInvariant h d p on_storage known → (a : Places) (place n : ℕ) → WritesAt place n on_storage known on_storage' known' → place + n ≤ 104
+    → ((o : ℕ) → IsOfHeaderRest h o → (o < place) ⊎ (place + n ≤ o))
     → header on_storage' ≡ with_places h a → HeaderReads (with_places h a) on_storage' → WritesHeader h a on_storage known on_storage' known'
-writes_header h d p on_storage known on_storage' known' crash_invariant a place n writes small is reads = record {
+writes_header h d p on_storage known on_storage' known' crash_invariant a place n writes small apart is reads = record {
   others = outside on_storage on_storage' writes.others;
   known_others = outside known known' writes.known_others;
   same_first = λ i lt. writes.agree (0 + i) (crash_invariant.same_top.first_cluster i lt);
+  rest = λ o _ of_rest. sym (writes.others o (apart o of_rest));
   is = is;
   reads = reads;
 }
@@ -200,11 +203,11 @@ module _ (h : HeaderFields) (size autoclear : ℕ) (d : Direction) (p : Pending)
         moved_kept h (resized_places h size autoclear) d p p on_storage known on_storage' known' crash_invariant
         resized_top resized_same_top (omega arith) resized_covers resized_known_covers resized_unlaid size_written
         (λ o some. writes.others o (header_elsewhere h (resized_places h size autoclear) d p on_storage known on_storage' known' crash_invariant writes o (omega arith)))
-        (λ o some. writes.known_others o (header_elsewhere h (resized_places h size autoclear) d p on_storage known on_storage' known' crash_invariant writes o (omega arith))) backing m asked ask kept
+        (λ o some. writes.known_others o (header_elsewhere h (resized_places h size autoclear) d p on_storage known on_storage' known' crash_invariant writes o (omega arith))) writes.rest backing m asked ask kept
 
     pub size_written_known_kept : StopOkEverywhere backing m known → StopOkEverywhere backing (checkpoint_with [] asked m) known'
     size_written_known_kept kept =
         moved_known_kept h (resized_places h size autoclear) d p p on_storage known on_storage' known' crash_invariant
         resized_top resized_same_top (omega arith) resized_covers resized_known_covers resized_unlaid size_written
         (λ o some. writes.others o (header_elsewhere h (resized_places h size autoclear) d p on_storage known on_storage' known' crash_invariant writes o (omega arith)))
-        (λ o some. writes.known_others o (header_elsewhere h (resized_places h size autoclear) d p on_storage known on_storage' known' crash_invariant writes o (omega arith))) backing m asked ask kept
+        (λ o some. writes.known_others o (header_elsewhere h (resized_places h size autoclear) d p on_storage known on_storage' known' crash_invariant writes o (omega arith))) writes.rest backing m asked ask kept

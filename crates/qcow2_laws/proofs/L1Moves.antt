@@ -157,13 +157,13 @@ module _ (h : HeaderFields) (offset entries : ℕ) (d : Direction) (p : Pending)
   l1_moved_kept backing m kept =
       moved_kept h (with_l1_at h offset entries) d p (renamed p (λ c. in_run h c offset (8 * entries)) (in_l1 h)) on_storage known on_storage' known' crash_invariant
       top_now same_top_now new.longer covers known_covers not_overlaid l1_moved
-      (λ o some. writes.others o (elsewhere o some)) (λ o some. writes.known_others o (elsewhere o some)) backing m [] (inl refl) kept
+      (λ o some. writes.others o (elsewhere o some)) (λ o some. writes.known_others o (elsewhere o some)) writes.rest backing m [] (inl refl) kept
 
   pub l1_moved_known_kept : (backing : Bytes) (m : Checkpoint) → StopOkEverywhere backing m known → StopOkEverywhere backing m known'
   l1_moved_known_kept backing m kept =
       moved_known_kept h (with_l1_at h offset entries) d p (renamed p (λ c. in_run h c offset (8 * entries)) (in_l1 h)) on_storage known on_storage' known' crash_invariant
       top_now same_top_now new.longer covers known_covers not_overlaid l1_moved
-      (λ o some. writes.others o (elsewhere o some)) (λ o some. writes.known_others o (elsewhere o some)) backing m [] (inl refl) kept
+      (λ o some. writes.others o (elsewhere o some)) (λ o some. writes.known_others o (elsewhere o some)) writes.rest backing m [] (inl refl) kept
 
   -- ---- what guests use
   bytes_stay : (o : ℕ) → 0 < named_in_either h on_storage known (o / cluster_size h) + p.new_data (o / cluster_size h) → known' o ≡ known o

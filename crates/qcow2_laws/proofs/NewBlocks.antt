@@ -17,7 +17,7 @@ use Rattle.qcow2_laws.specs.Changes.{named_now}
 use Rattle.qcow2_laws.specs.Tops.{places_of, IsSameBut, IsSameOutside, WritesReftableEntry, IsNewBlock}
 use Rattle.qcow2_laws.proofs.Sums.{sum_below-change}
 use Rattle.qcow2_laws.proofs.Places.{Sizes, Sizes-from, SameFrom-in, cond-same, block_count-moved, count_in, count_none}
-use Rattle.qcow2_laws.proofs.Tops.{header-first, HeaderReads-same, IsTop-top, for_tables-top, l1_names-same, l1_marks-same}
+use Rattle.qcow2_laws.proofs.Tops.{from_start, header-first, HeaderReads-same, IsTop-top, for_tables-top, l1_names-same, l1_marks-same}
 use Rattle.qcow2_laws.proofs.Writes.{new_tables_is_unnamed, unused_is_unnamed}
 use Rattle.qcow2_laws.proofs.Blocks.{table_apart, table_once}
 use Rattle.qcow2_laws.proofs.NewTables.{outside_eight, table_in-le, table_in-at}
@@ -207,13 +207,13 @@ module _ (h : HeaderFields) (d : Direction) (p p' : Pending) (on_storage known o
   reftable_named_kept backing m kept =
       moved_kept h (places_of h) d p p' on_storage known on_storage' known' crash_invariant
       top_now same_top_now (omega arith) covers known_covers not_overlaid reftable_named
-      (λ o some. outside o (elsewhere o (omega arith))) (λ o some. known_outside o (elsewhere o (omega arith))) backing m [] (inl refl) kept
+      (λ o some. outside o (elsewhere o (omega arith))) (λ o some. known_outside o (elsewhere o (omega arith))) (λ o lt _. sym (from_start (cluster_size h) on_storage on_storage' first o lt)) backing m [] (inl refl) kept
 
   pub reftable_named_known_kept : (backing : Bytes) (m : Checkpoint) → StopOkEverywhere backing m known → StopOkEverywhere backing m known'
   reftable_named_known_kept backing m kept =
       moved_known_kept h (places_of h) d p p' on_storage known on_storage' known' crash_invariant
       top_now same_top_now (omega arith) covers known_covers not_overlaid reftable_named
-      (λ o some. outside o (elsewhere o (omega arith))) (λ o some. known_outside o (elsewhere o (omega arith))) backing m [] (inl refl) kept
+      (λ o some. outside o (elsewhere o (omega arith))) (λ o some. known_outside o (elsewhere o (omega arith))) (λ o lt _. sym (from_start (cluster_size h) on_storage on_storage' first o lt)) backing m [] (inl refl) kept
 
 -- ---- a refblock of zeros in a fresh cluster
 module _ (h : HeaderFields) (d : Direction) (p : Pending) (on_storage known on_storage' known' : Bytes) (crash_invariant : CrashInvariant h d p on_storage known) (k0 entry : ℕ)

@@ -17,7 +17,7 @@ use Rattle.qcow2_laws.specs.Changes.{renamed}
 use Rattle.qcow2_laws.specs.Tops.{places_of, IsSameBut, IsSameOutside, WritesL1Entry, IsNewTable}
 use Rattle.qcow2_laws.proofs.Sums.{sum_below-change}
 use Rattle.qcow2_laws.proofs.Places.{Sizes, Sizes-from, eight_in, SameFrom-in, l2_entry-same, cover_in, cond-same}
-use Rattle.qcow2_laws.proofs.Tops.{header-first, HeaderReads-same, IsTop-top, for_tables-top, reftable_names-same}
+use Rattle.qcow2_laws.proofs.Tops.{from_start, header-first, HeaderReads-same, IsTop-top, for_tables-top, reftable_names-same}
 use Rattle.qcow2_laws.proofs.Writes.{new_tables_is_unnamed}
 use Rattle.qcow2_laws.proofs.Blocks.{table_apart, table_once}
 use Rattle.std.proofs.lemmas.Nat.{mod_below}
@@ -238,10 +238,10 @@ module _ (h : HeaderFields) (d : Direction) (p : Pending) (on_storage known on_s
   l1_named_kept backing m kept =
       moved_kept h (places_of h) d p (renamed p (λ c. table_in h c (host_offset entry)) (λ c. table_in h c (table_at h on_storage i0))) on_storage known on_storage' known' crash_invariant
       top_now same_top_now (omega arith) covers known_covers not_overlaid l1_named
-      (λ o some. outside o (elsewhere_named o some)) (λ o some. known_outside o (elsewhere_named o some)) backing m [] (inl refl) kept
+      (λ o some. outside o (elsewhere_named o some)) (λ o some. known_outside o (elsewhere_named o some)) (λ o lt _. sym (from_start (cluster_size h) on_storage on_storage' first o lt)) backing m [] (inl refl) kept
 
   pub l1_named_known_kept : (backing : Bytes) (m : Checkpoint) → StopOkEverywhere backing m known → StopOkEverywhere backing m known'
   l1_named_known_kept backing m kept =
       moved_known_kept h (places_of h) d p (renamed p (λ c. table_in h c (host_offset entry)) (λ c. table_in h c (table_at h on_storage i0))) on_storage known on_storage' known' crash_invariant
       top_now same_top_now (omega arith) covers known_covers not_overlaid l1_named
-      (λ o some. outside o (elsewhere_named o some)) (λ o some. known_outside o (elsewhere_named o some)) backing m [] (inl refl) kept
+      (λ o some. outside o (elsewhere_named o some)) (λ o some. known_outside o (elsewhere_named o some)) (λ o lt _. sym (from_start (cluster_size h) on_storage on_storage' first o lt)) backing m [] (inl refl) kept

@@ -229,10 +229,10 @@ module _ (h : HeaderFields) (offset clusters : ℕ) (blocks counted : ℕ → �
   reftable_moved_kept backing m kept =
       moved_kept h (with_reftable_at h offset clusters) d p (renamed p (λ c. in_run h c offset (clusters * cluster_size h) + blocks c - counted c) (in_reftable h)) on_storage known on_storage' known' crash_invariant
       top_now same_top_now (omega arith) covers known_covers not_overlaid reftable_moved
-      (λ o some. writes.others o (elsewhere o some)) (λ o some. writes.known_others o (elsewhere o some)) backing m [] (inl refl) kept
+      (λ o some. writes.others o (elsewhere o some)) (λ o some. writes.known_others o (elsewhere o some)) writes.rest backing m [] (inl refl) kept
 
   pub reftable_moved_known_kept : (backing : Bytes) (m : Checkpoint) → StopOkEverywhere backing m known → StopOkEverywhere backing m known'
   reftable_moved_known_kept backing m kept =
       moved_known_kept h (with_reftable_at h offset clusters) d p (renamed p (λ c. in_run h c offset (clusters * cluster_size h) + blocks c - counted c) (in_reftable h)) on_storage known on_storage' known' crash_invariant
       top_now same_top_now (omega arith) covers known_covers not_overlaid reftable_moved
-      (λ o some. writes.others o (elsewhere o some)) (λ o some. writes.known_others o (elsewhere o some)) backing m [] (inl refl) kept
+      (λ o some. writes.others o (elsewhere o some)) (λ o some. writes.known_others o (elsewhere o some)) writes.rest backing m [] (inl refl) kept

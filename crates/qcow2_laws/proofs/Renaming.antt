@@ -12,6 +12,7 @@ use Rattle.qcow2_metadata.specs.Consistent.{CoverIsAligned}
 use Rattle.qcow2_metadata.specs.declared.l2_mapping.L2Mapping.{L2Mapping}
 use Rattle.qcow2_metadata.specs.declared.l2_mapping.L2Mapping.TheVariants.{Uncovered}
 use Rattle.qcow2_disk.specs.Disk.{disk}
+use Rattle.qcow2_disk.specs.HeaderRest.{IsOfHeaderRest}
 use Rattle.qcow2_disk.specs.Stops.{IsAsked, Checkpoint, checkpoint_with, StopOkEverywhere}
 use Rattle.qcow2_laws.specs.Clusters.{Direction, RbDependsOnL2}
 use Rattle.qcow2_laws.specs.Guests.{guests, over_guests, names, named_in_either, marked_by_cover, marked_by_l1_table}
@@ -24,7 +25,7 @@ use Rattle.qcow2_laws.proofs.Guests.{past_guests, guest_le, names_within, l1_mar
 use Rattle.qcow2_laws.proofs.Mixes.{tied, good}
 use Rattle.qcow2_laws.proofs.Shares.{shares}
 use Rattle.qcow2_laws.proofs.Writes.{written_covers}
-use Rattle.qcow2_laws.proofs.Tops.{IsTop-top}
+use Rattle.qcow2_laws.proofs.Tops.{IsTop-top, rest_kept, from_start}
 use Rattle.qcow2_laws.proofs.Consistency.{crash_invariant_consistent, known_consistent}
 use Rattle.qcow2_laws.proofs.Values.{shown, value_is, size_is}
 use Rattle.qcow2_disk.proofs.Stops.{kept_on}
@@ -157,6 +158,7 @@ module _ (h : HeaderFields) (a : Places) (d : Direction) (p p' : Pending) (on_st
   module _ (crash_invariant' : CrashInvariant (with_places h a) d p' on_storage' known')
       (storage_bytes : (o : ℕ) → 0 < named_in_either h on_storage known (o / cluster_size h) → on_storage o ≡ on_storage' o)
       (known_bytes : (o : ℕ) → 0 < named_in_either h on_storage known (o / cluster_size h) → known o ≡ known' o)
+      (rest : (o : ℕ) → o < cluster_size h → IsOfHeaderRest h o → on_storage' o ≡ on_storage o)
       (backing : Bytes) (m : Checkpoint) (asked : List ℕ) (size : (a.size ≡ h.size) ⊎ IsAsked asked a.size) where
     in_sum : (b : Bytes) (c g : ℕ) → 0 < names h b c g → (names h b c g ≤ max (names h on_storage c g) (names h known c g)) → 0 < named_in_either h on_storage known c
     in_sum b c g some le = let sum = guest_le h (λ k. max (names h on_storage c k) (names h known c k)) g (names_within h b c g sizes some) in omega arith
@@ -172,7 +174,8 @@ module _ (h : HeaderFields) (a : Places) (d : Direction) (p p' : Pending) (on_st
 
     pub moved_kept : StopOkEverywhere backing m on_storage → StopOkEverywhere backing (checkpoint_with [] asked m) on_storage'
     moved_kept kept =
-        kept_on backing m [] asked on_storage on_storage' (crash_invariant_consistent (with_places h a) d p' on_storage' known' crash_invariant') (size_too on_storage on_storage' crash_invariant.top.header_is top.header_is)
+        kept_on backing m [] asked on_storage on_storage' (crash_invariant_consistent (with_places h a) d p' on_storage' known' crash_invariant')
+        (rest_kept h (with_places h a) on_storage on_storage' crash_invariant.top.header_is top.header_is refl refl rest) (size_too on_storage on_storage' crash_invariant.top.header_is top.header_is)
         (λ o. inl (value_is (with_places h a) on_storage' backing o top.header_is
         ∙ sym (same_value on_storage on_storage' backing covers crash_invariant.aligned (λ g place some. storage_bytes place (in_sum on_storage (place / cluster_size h) g some (omega arith))) o)
         ∙ sym (value_is h on_storage backing o crash_invariant.top.header_is))) kept
@@ -181,7 +184,9 @@ module _ (h : HeaderFields) (a : Places) (d : Direction) (p p' : Pending) (on_st
     moved_known_kept kept =
         let was = (IsTop-top h on_storage known crash_invariant.same_top crash_invariant.top).header_is in
         let is = (IsTop-top (with_places h a) on_storage' known' same_top top).header_is in
-        kept_on backing m [] asked known known' (known_consistent (with_places h a) d p' on_storage' known' crash_invariant') (size_too known known' was is)
+        kept_on backing m [] asked known known' (known_consistent (with_places h a) d p' on_storage' known' crash_invariant')
+        (rest_kept h (with_places h a) known known' was is refl refl (λ o lt of_rest.
+        sym (from_start (cluster_size h) on_storage' known' same_top.first_cluster o lt) ∙ rest o lt of_rest ∙ from_start (cluster_size h) on_storage known crash_invariant.same_top.first_cluster o lt)) (size_too known known' was is)
         (λ o. inl (value_is (with_places h a) known' backing o is
         ∙ sym (same_value known known' backing known_covers crash_invariant.known_aligned (λ g place some. known_bytes place (in_sum known (place / cluster_size h) g some (omega arith))) o)
         ∙ sym (value_is h known backing o was))) kept

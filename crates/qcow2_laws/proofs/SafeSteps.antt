@@ -156,6 +156,7 @@ kept_less : (backing : Bytes) (given fewer : List GivenBytes) (asked : List ℕ)
     → StopOkEverywhere backing m known → StopOkEverywhere backing (checkpoint_with given asked m) b → StopOkEverywhere backing (checkpoint_with fewer asked m) b
 kept_less backing given fewer asked m known b within known_kept kept = record {
   consistent = kept.consistent;
+  rest = kept.rest;
   size = kept.size;
   values = λ o. ⊎_elim (λ same. inl same)
       (λ any. ⊎_elim

@@ -7,6 +7,7 @@ use Rattle.qcow2_metadata.specs.Entries.{l1_entry, reftable_entry, host_offset, 
 use Rattle.qcow2_metadata.specs.Named.{named_for_tables, named_by_reftable, named_by_l1_table, table_in}
 use Rattle.qcow2_metadata.specs.Consistent.{IsAligned}
 use Rattle.qcow2_metadata.proofs.SameHeader.{header-same, well_formed-same}
+use Rattle.qcow2_disk.specs.HeaderRest.{IsOfHeaderRest, KeepsHeaderRest}
 use Rattle.qcow2_laws.specs.Guests.{marked_by_l1_table}
 use Rattle.qcow2_laws.specs.CrashInvariant.{IsTop, SameTop}
 use Rattle.qcow2_laws.proofs.Sums.{sum_below-same}
@@ -14,7 +15,7 @@ use Rattle.qcow2_laws.proofs.Places.{SameFrom-sym, Sizes, Sizes-from}
 
 -- ---- the header and its names
 
-from_start : (n : ℕ) (b c : Bytes) → SameFrom 0 n b c → (i : ℕ) → i < n → b i ≡ c i
+pub from_start : (n : ℕ) (b c : Bytes) → SameFrom 0 n b c → (i : ℕ) → i < n → b i ≡ c i
 from_start n b c same i lt = let here : 0 + i ≡ i = omega arith in ap b (sym here) ∙ same i lt ∙ ap c here
 
 pub header-first : (h : HeaderFields) (b c : Bytes) → Sizes h → SameFrom 0 (cluster_size h) b c → header b ≡ header c
@@ -32,6 +33,18 @@ bytes_from-same b c place (suc n) same =
 
 pub HeaderReads-same : (h : HeaderFields) (b c : Bytes) → SameFrom 0 (cluster_size h) b c → HeaderReads h b → HeaderReads h c
 HeaderReads-same h b c same reads = record { well_formed = well_formed-same h b c (λ i low lt. from_start (cluster_size h) b c same i lt) reads.well_formed; within_limits = reads.within_limits }
+
+-- the rest of its cluster stays while a header becomes another one of the same version and cluster size
+pub rest_kept : (h h' : HeaderFields) (b b' : Bytes) → header b ≡ h → header b' ≡ h' → h'.version ≡ h.version → cluster_size h' ≡ cluster_size h
+    → ((o : ℕ) → o < cluster_size h → IsOfHeaderRest h o → b' o ≡ b o) → KeepsHeaderRest b b'
+rest_kept h h' b b' is is' version size same = record {
+  version = ap (λ (k : HeaderFields). k.version) is' ∙ version ∙ sym (ap (λ (k : HeaderFields). k.version) is);
+  bytes = λ o lt of_rest. same o (subst (λ k. o < cluster_size k) is lt) (subst (λ k. IsOfHeaderRest k o) is of_rest);
+  cluster_size = ap cluster_size is' ∙ size ∙ sym (ap cluster_size is);
+}
+
+pub first_keeps_rest : (h : HeaderFields) (b b' : Bytes) → header b ≡ h → header b' ≡ h → SameFrom 0 (cluster_size h) b b' → KeepsHeaderRest b b'
+first_keeps_rest h b b' is is' same = rest_kept h h b b' is is' refl refl (λ o lt _. sym (from_start (cluster_size h) b b' same o lt))
 
 -- ---- the same top
 

@@ -2,7 +2,7 @@
 use Rattle.std.proofs.Common.{◌≡◌, ℕ, ◌+◌, ◌-◌, ◌*◌, ◌/◌, ◌%◌, ◌<◌, ◌⊎◌, List, [], refl, sym, ap, ◌∙◌, arith, inl, inr, subst, max}
 use Rattle.std.proofs.lemmas.Bool.{cond-true, le-leb, and_from}
 use Rattle.std.proofs.lemmas.Nat.{mod_below, pow_pos}
-use Rattle.qcow2_metadata.specs.Bytes.{Bytes}
+use Rattle.qcow2_metadata.specs.Bytes.{Bytes, SameFrom}
 use Rattle.qcow2_metadata.specs.declared.header.HeaderFields.{HeaderFields}
 use Rattle.qcow2_metadata.specs.Header.{header, cluster_size}
 use Rattle.qcow2_metadata.specs.Cover.{cover}
@@ -17,10 +17,10 @@ use Rattle.qcow2_laws.specs.Clusters.{Direction}
 use Rattle.qcow2_laws.specs.Guests.{names}
 use Rattle.qcow2_laws.specs.CrashInvariant.{Pending, CrashInvariant, IsMixed}
 use Rattle.qcow2_laws.proofs.Places.{Sizes, Sizes-from, in_one, div_mono}
-use Rattle.qcow2_laws.proofs.Tops.{bytes_from-same, IsTop-top}
+use Rattle.qcow2_laws.proofs.Tops.{bytes_from-same, first_keeps_rest, IsTop-top}
 use Rattle.qcow2_laws.proofs.Guests.{guest_le, names_within}
 use Rattle.qcow2_laws.proofs.Consistency.{in_own, crash_invariant_consistent}
-use Rattle.qcow2_laws.proofs.Mixes.{mixed_crash_invariant, either_cover}
+use Rattle.qcow2_laws.proofs.Mixes.{mixed_crash_invariant, either_cover, top_kept}
 use Rattle.qcow2_disk.proofs.Stops.{kept_on, kept_either}
 
 -- the value that a cover shows is as in another image where the bytes are so in each cluster that the cover names
@@ -57,12 +57,12 @@ pub size_is : (h : HeaderFields) (b backing : Bytes) → header b ≡ h → (dis
 unfolding disk_with
 size_is h b backing is = ap (λ (t : HeaderFields). t.size) is
 
--- an image that shows the same, but for what is given
-pub kept_shown : (h : HeaderFields) (backing : Bytes) (m : Checkpoint) (given : List GivenBytes) (b b' : Bytes) → header b ≡ h → header b' ≡ h → IsConsistent b'
+-- an image that shows the same, but for what is given, with the same first cluster
+pub kept_shown : (h : HeaderFields) (backing : Bytes) (m : Checkpoint) (given : List GivenBytes) (b b' : Bytes) → header b ≡ h → header b' ≡ h → IsConsistent b' → SameFrom 0 (cluster_size h) b b'
     → ((o : ℕ) → (guest_value h b' b' backing o ≡ guest_value h b b backing o) ⊎ IsGiven given o (guest_value h b' b' backing o))
     → StopOkEverywhere backing m b → StopOkEverywhere backing (checkpoint_with given [] m) b'
-kept_shown h backing m given b b' is is' consistent values kept =
-    kept_on backing m given [] b b' consistent (inl (size_is h b' backing is' ∙ sym (size_is h b backing is)))
+kept_shown h backing m given b b' is is' consistent first values kept =
+    kept_on backing m given [] b b' consistent (first_keeps_rest h b b' is is' first) (inl (size_is h b' backing is' ∙ sym (size_is h b backing is)))
     (λ o. elim (values o) [
       | inl same ↦ inl (value_is h b' backing o is' ∙ same ∙ sym (value_is h b backing o is))
       | inr bytes_given ↦ inr (subst (λ v. IsGiven given o v) (sym (value_is h b' backing o is')) bytes_given)
@@ -104,7 +104,9 @@ module _ (h : HeaderFields) (d : Direction) (p : Pending) (on_storage known b : 
       let at_b = now.top.header_is in
       let at_storage = crash_invariant.top.header_is in
       let at_known = (IsTop-top h on_storage known crash_invariant.same_top crash_invariant.top).header_is in
-      kept_either backing m on_storage known b (crash_invariant_consistent h d p b known now) (size_is h b backing at_b ∙ sym (size_is h on_storage backing at_storage))
+      kept_either backing m on_storage known b (crash_invariant_consistent h d p b known now)
+      (first_keeps_rest h on_storage b at_storage at_b (top_kept h on_storage known b crash_invariant.top crash_invariant.same_top mixed.partly).first_cluster)
+      (size_is h b backing at_b ∙ sym (size_is h on_storage backing at_storage))
       (λ o. elim (either_value backing o) [
         | inl is ↦ inl (value_is h b backing o at_b ∙ is ∙ sym (value_is h on_storage backing o at_storage))
         | inr is ↦ inr (value_is h b backing o at_b ∙ is ∙ sym (value_is h known backing o at_known))

@@ -248,10 +248,12 @@ module _ (h : HeaderFields) (d : Direction) (p : Pending) (on_storage known on_s
   pub written_kept : (backing : Bytes) (m : Checkpoint) → StopOkEverywhere backing m on_storage → StopOkEverywhere backing (checkpoint_with given [] m) on_storage'
   written_kept backing m kept =
       kept_shown h backing m given on_storage on_storage' crash_invariant.top.header_is written_crash_invariant.top.header_is (crash_invariant_consistent h d p on_storage' known' written_crash_invariant)
+      (top_stays h on_storage on_storage' crash_invariant.top storage_stays).first_cluster
       (λ o. guest_given h on_storage on_storage' backing o given (now_covers (o / cluster_size h)) (crash_invariant.aligned (o / cluster_size h)) (storage_place o)) kept
 
   pub written_known_kept : (backing : Bytes) (m : Checkpoint) → StopOkEverywhere backing m known → StopOkEverywhere backing (checkpoint_with given [] m) known'
   written_known_kept backing m kept =
       kept_shown h backing m given known known' (IsTop-top h on_storage known crash_invariant.same_top crash_invariant.top).header_is
       (IsTop-top h on_storage' known' written_crash_invariant.same_top written_crash_invariant.top).header_is (known_consistent h d p on_storage' known' written_crash_invariant)
+      (top_stays h known known' (IsTop-top h on_storage known crash_invariant.same_top crash_invariant.top) known_stays).first_cluster
       (λ o. guest_given h known known' backing o given (known_covers (o / cluster_size h)) (crash_invariant.known_aligned (o / cluster_size h)) (known_place o)) kept

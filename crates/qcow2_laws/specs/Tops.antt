@@ -7,6 +7,7 @@ use Rattle.qcow2_metadata.specs.Entries.{l1_entry, l2_entry, reftable_entry, cou
 use Rattle.qcow2_metadata.specs.Cover.{cover, entry_cover}
 use Rattle.qcow2_metadata.specs.Named.{in_run, named_by_reftable}
 use Rattle.qcow2_metadata.specs.Consistent.{IsAligned}
+use Rattle.qcow2_disk.specs.HeaderRest.{IsOfHeaderRest}
 use Rattle.qcow2_laws.specs.Clusters.{Direction, RbDependsOnL2}
 use Rattle.qcow2_laws.specs.CrashInvariant.{Pending, SameCovers}
 
@@ -91,11 +92,12 @@ pub record IsNewBlock (h : HeaderFields) (on_storage known : Bytes) (k entry : �
 
 -- ---- the header's own numbers are written
 
--- numbers of the header become these, on the storage and as known
+-- numbers of the header become these, on the storage and as known, and the rest of its cluster stays
 pub record WritesHeader (h : HeaderFields) (a : Places) (on_storage known on_storage' known' : Bytes) : Type 0 where
   pub others : IsSameOutside (cluster_size h) 0 on_storage on_storage'
   pub known_others : IsSameOutside (cluster_size h) 0 known known'
   pub same_first : SameFrom 0 (cluster_size h) on_storage' known'
+  pub rest : (o : ℕ) → o < cluster_size h → IsOfHeaderRest h o → on_storage' o ≡ on_storage o
   pub is : header on_storage' ≡ with_places h a
   pub reads : HeaderReads (with_places h a) on_storage'
 
