@@ -1,5 +1,6 @@
 pub mod ForUsers
 pub mod HeaderRest
+pub mod HeaderNames
 pub mod Stops
 pub mod RunSteps
 pub mod Headline

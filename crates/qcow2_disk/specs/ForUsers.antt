@@ -2,7 +2,9 @@
 use Rattle.std.specs.Prelude.{ℕ, ◌+◌, ◌≡◌, ◌<◌, Bool, false, IsTrue, List, length, Option, Some}
 use Rattle.qcow2_metadata.specs.Bytes.{Bytes, byte_at}
 use Rattle.qcow2_metadata.specs.Guest.{Value, known_byte}
+use Rattle.qcow2_metadata.specs.Header.{header, cluster_size, backing_name, AreExtensions, HeaderReads}
 use Rattle.qcow2_disk.specs.Disk.{Disk, disk, with_bytes}
+use Rattle.qcow2_disk.specs.HeaderRest.{KeepsHeaderRest}
 use Rattle.qcow2_disk.specs.Stops.{IsGiven, checkpoint_at, StopOk}
 use Rattle.qcow2_disk.specs.Mappings.{PreparedMapping}
 use Rattle.qcow2_disk.specs.AbstractImages.{Setting, Guest}
@@ -44,3 +46,12 @@ abbrev pub FlushedIsExact : Type 0
 FlushedIsExact =
     (backing header_bytes b : Bytes) (d : Disk) → StopOk backing (checkpoint_at d header_bytes) b
     → ((disk b backing).size ≡ d.size) × ((o : ℕ) → o < d.size → (disk b backing).value o ≡ d.value o)
+
+-- other contents name the same backing file, and have the same extensions behind the header
+pub record SameNames (old new : Bytes) : Type 0 where
+  pub backing_name : backing_name (header new) new ≡ backing_name (header old) old
+  pub extensions : (list : List (ℕ × List ℕ)) → AreExtensions old (cluster_size (header old)) (header old).header_length list → AreExtensions new (cluster_size (header new)) (header new).header_length list
+
+-- Where the rest of a header that reads stays, so do its names and its extensions.
+abbrev pub HeaderRestHasNames : Type 0
+HeaderRestHasNames = (old new : Bytes) → HeaderReads (header old) old → KeepsHeaderRest old new → SameNames old new

@@ -1,6 +1,6 @@
 //! Laws: no function here does anything, its contract is the law.
 
-ghost use Rattle.qcow2_disk.specs.ForUsers.{PrivateBytesAreUnseen, CommittedIsReadBack, PutIsReadInPlace, HiddenBytesAreNotGiven, FlushedIsExact};
+ghost use Rattle.qcow2_disk.specs.ForUsers.{PrivateBytesAreUnseen, CommittedIsReadBack, PutIsReadInPlace, HiddenBytesAreNotGiven, FlushedIsExact, HeaderRestHasNames};
 
 /// Preparing, writing to private clusters and discarding leaves every guest byte.
 pub fn private_bytes_are_unseen()
@@ -25,4 +25,9 @@ pub fn hidden_bytes_are_not_given()
 /// A stop right after a flush gives exactly the disk.
 pub fn flushed_is_exact()
     ensures { FlushedIsExact }
+{}
+
+/// What stays of a header in use has its names and its extensions.
+pub fn header_rest_has_names()
+    ensures { HeaderRestHasNames }
 {}

@@ -4,6 +4,6 @@
 mod laws;
 
 pub use laws::{
-    committed_is_read_back, flushed_is_exact, hidden_bytes_are_not_given, private_bytes_are_unseen,
-    put_is_read_in_place,
+    committed_is_read_back, flushed_is_exact, header_rest_has_names, hidden_bytes_are_not_given,
+    private_bytes_are_unseen, put_is_read_in_place,
 };
