@@ -9,6 +9,7 @@ use Rattle.qcow2_metadata.specs.Consistent.{IsConsistent}
 use Rattle.qcow2_disk.specs.AbstractImages.{IsOpened, guest_of}
 use Rattle.qcow2_disk.specs.Calls.{CallEffect}
 use Rattle.qcow2_disk.specs.Disk.{disk}
+use Rattle.qcow2_disk.specs.HeaderRest.{KeepsHeaderRest}
 use Rattle.qcow2_disk.specs.Stops.{StopOkEverywhere, checkpoint_at}
 use Rattle.qcow2_alloc.specs.declared.error.ImageError.{ImageError}
 use Rattle.qcow2_image.specs.declared.image.Qcow2.{Qcow2}
@@ -16,6 +17,7 @@ use Rattle.qcow2_image.specs.Image.{storage_of_image}
 use Rattle.qcow2_image.specs.ImageInvariant.{abstract_of}
 use Rattle.qcow2_image.specs.Opened.{OpensAtOnce}
 use Rattle.qcow2_image.specs.Unwritten.{HoldsSame}
+use Rattle.qcow2_disk.proofs.HeaderRest.{header_rest_same}
 use Rattle.qcow2_image.proofs.Free.{whole}
 use Rattle.qcow2_image.proofs.Map.Unmodified.{holds_still}
 use Rattle.qcow2_session.specs.Conversions.{IsRawOf, Exports, IsUnchanged}
@@ -24,10 +26,10 @@ use Rattle.program_parts.proofs.Imported.{none_below, of_ok}
 
 -- contents that are consistent keep their disk
 pub keeps_itself : (storage : StorageView) (contents : List ℕ) → IsConsistent (byte_at storage.contents) → contents ≡ storage.contents
-    → StopOkEverywhere zeros_below (checkpoint_at (disk_alone (byte_at storage.contents))) (byte_at contents)
+    → StopOkEverywhere zeros_below (checkpoint_at (disk_alone (byte_at storage.contents)) (byte_at storage.contents)) (byte_at contents)
 keeps_itself storage contents consistent same =
-    subst (λ c. StopOkEverywhere zeros_below (checkpoint_at (disk_alone (byte_at storage.contents))) (byte_at c)) (sym same)
-    (record { consistent = consistent; size = inl refl; values = λ o. inl refl })
+    subst (λ c. StopOkEverywhere zeros_below (checkpoint_at (disk_alone (byte_at storage.contents)) (byte_at storage.contents)) (byte_at c)) (sym same)
+    (record { consistent = consistent; rest = header_rest_same (byte_at storage.contents); size = inl refl; values = λ o. inl refl })
 
 -- what is so of a raw disk that was copied is so once it was flushed
 pub once_flushed : (P : ℕ → List ℕ → Type 0) (before now : List ℕ) (copied told : Result ℕ ImageError) → now ≡ before → IfOk told (λ n. copied ≡ Ok n)
@@ -48,10 +50,12 @@ module _ {S F : Type 0} (view : S → StorageView) (backing : F → BackingView)
   keeps acts =
       let v = abstract_of view backing old [] in
       let here : IsConsistent v.known = (whole view backing old [] opened.sound).consistent in
-      let start : StopOkEverywhere v.setting.backing (checkpoint_at (guest_of v).disk) v.known = record { consistent = here; size = inl refl; values = λ o. inl refl } in
-      let stops = (acts.works opened.sound).stops (checkpoint_at (guest_of v).disk) (subst (StopOkEverywhere v.setting.backing (checkpoint_at (guest_of v).disk)) opened.clean start, start) in
-      subst (λ d. StopOkEverywhere zeros_below (checkpoint_at d) (byte_at (view (storage_of_image new)).contents)) disk_is
-      (subst (λ below. StopOkEverywhere below (checkpoint_at (guest_of v).disk) (byte_at (view (storage_of_image new)).contents)) (none_below view backing old.backing alone) stops.contents)
+      let b = byte_at storage.contents in
+      let is : v.known ≡ b = opened.clean ∙ ap byte_at same in
+      let start : StopOkEverywhere v.setting.backing (checkpoint_at (guest_of v).disk b) v.known = record { consistent = here; rest = subst (KeepsHeaderRest b) (sym is) (header_rest_same b); size = inl refl; values = λ o. inl refl } in
+      let stops = (acts.works opened.sound).stops (checkpoint_at (guest_of v).disk b) (subst (StopOkEverywhere v.setting.backing (checkpoint_at (guest_of v).disk b)) opened.clean start, start) in
+      subst (λ d. StopOkEverywhere zeros_below (checkpoint_at d b) (byte_at (view (storage_of_image new)).contents)) disk_is
+      (subst (λ below. StopOkEverywhere below (checkpoint_at (guest_of v).disk b) (byte_at (view (storage_of_image new)).contents)) (none_below view backing old.backing alone) stops.contents)
 
   pub keeps_disk : (result : Result ℕ ImageError) → IsUnchanged view backing old new result → KeepsDisk storage (view (storage_of_image new))
   keeps_disk (Ok n) unchanged = keeps (unchanged []).acts

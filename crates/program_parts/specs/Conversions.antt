@@ -34,6 +34,6 @@ pub record IsExport (image : List ℕ) (n : ℕ) (raw : List ℕ) : Type 0 where
   pub count : n ≡ length raw
   pub is_disk : IsRawOf (disk_alone (byte_at image)) raw
 
--- the image on a storage is consistent still, and its disk is what it was
+-- The image on a storage is consistent still. Its disk is what it was, and so are the extensions and the names of its header.
 abbrev pub KeepsDisk : StorageView → StorageView → Type 0
-KeepsDisk old new = StopOkEverywhere zeros_below (checkpoint_at (disk_alone (byte_at old.contents))) (byte_at new.contents)
+KeepsDisk old new = StopOkEverywhere zeros_below (checkpoint_at (disk_alone (byte_at old.contents)) (byte_at old.contents)) (byte_at new.contents)

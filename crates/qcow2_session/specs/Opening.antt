@@ -5,7 +5,6 @@ use Rattle.image_access.specs.Backing.{BackingView}
 use Rattle.image_access.specs.Moments.{StorageView, ContentsStay}
 use Rattle.qcow2_metadata.specs.Bytes.{byte_at}
 use Rattle.qcow2_metadata.specs.Consistent.{IsConsistent}
-use Rattle.qcow2_disk.specs.AbstractImages.{guest_of}
 use Rattle.qcow2_disk.specs.Headline.{IsHeadline}
 use Rattle.qcow2_disk.specs.Runs.{RefinesState, started}
 use Rattle.qcow2_alloc.specs.declared.error.ImageError.{ImageError}
@@ -48,7 +47,7 @@ module _ {S F : Type 0} (view : S → StorageView) (backing : F → BackingView)
     pub leaves : LeavesStorage view true before (Ok opened)
     pub run : TellsThrough view backing opened image commands replies
     pub is : before.is_honest → IsConsistent (byte_at before.contents) → IsOpenedFrom view backing (byte_at before.contents) opened
-    pub begins : before.is_honest → IsConsistent (byte_at before.contents) → let v = abstract_of view backing opened [] in RefinesState v.setting v (started (guest_of v))
+    pub begins : before.is_honest → IsConsistent (byte_at before.contents) → let v = abstract_of view backing opened [] in RefinesState v.setting v (started v)
 
   -- So it is where it opens. Where it doesn't, it is refused as opening alone for writing is: for one of the reasons of these contents, which stay unless the storage failed.
   abbrev pub TellsOfOpened : ℕ → List Command → Result (Qcow2 S F × Vec Reply Global) (S × ImageError) → Type 0

@@ -27,6 +27,7 @@ use Rattle.qcow2_image.specs.Growing.{SameFormat, GrowsWhole, ReachesSize}
 use Rattle.qcow2_image.specs.Image.{size_of, storage_of_image}
 use Rattle.qcow2_image.specs.Opened.{IsKeptSince, LeavesStorage, Opens, storage_after}
 use Rattle.qcow2_image.specs.ImageInvariant.{abstract_of}
+use Rattle.qcow2_disk.proofs.HeaderRest.{header_rest_same}
 use Rattle.qcow2_image.proofs.Open.Left.{opened_none}
 use Rattle.qcow2_image.proofs.Create.NewDisks.{new_disk_consistent, unwritten_covers, unwritten_new}
 use Rattle.qcow2_image.proofs.Create.ThreeWrites.{new_unwritten}
@@ -37,8 +38,8 @@ disk_size b backing = refl
 
 -- what is kept of an unwritten image is unwritten
 module _ (n : ℕ) (old c : Bytes) (asked : List ℕ) (unwritten : IsUnwritten n old) (kept : (backing : Bytes) (m : Checkpoint) → StopOkEverywhere backing m old → StopOkEverywhere backing (checkpoint_with [] asked m) c) where
-  here : (backing : Bytes) → StopOkEverywhere backing (checkpoint_with [] asked (checkpoint_at (disk old backing))) c
-  here backing = kept backing (checkpoint_at (disk old backing)) (record { consistent = unwritten.consistent; size = inl refl; values = λ o. inl refl })
+  here : (backing : Bytes) → StopOkEverywhere backing (checkpoint_with [] asked (checkpoint_at (disk old backing) old)) c
+  here backing = kept backing (checkpoint_at (disk old backing) old) (record { consistent = unwritten.consistent; rest = header_rest_same old; size = inl refl; values = λ o. inl refl })
 
   pub unwritten_as : (k : ℕ) → (header c).size ≡ k → IsUnwritten k c
   unwritten_as k is = record {
@@ -71,8 +72,8 @@ opens_unwritten n old new unwritten since = unwritten_still n (byte_at old.conte
 -- what is kept of an image that shows zeros shows them
 zeros_still : (n : ℕ) (b c : Bytes) → ShowsZeros n b → ((backing : Bytes) (m : Checkpoint) → StopOkEverywhere backing m b → StopOkEverywhere backing (checkpoint_with [] [] m) c) → ShowsZeros n c
 zeros_still n b c shows keep =
-    let start : StopOkEverywhere (λ o. 0) (checkpoint_at (disk b (λ o. 0))) b = record { consistent = shows.consistent; size = inl refl; values = λ o. inl refl } in
-    let kept : StopOkEverywhere (λ o. 0) (checkpoint_with [] [] (checkpoint_at (disk b (λ o. 0)))) c = keep (λ o. 0) (checkpoint_at (disk b (λ o. 0))) start in
+    let start : StopOkEverywhere (λ o. 0) (checkpoint_at (disk b (λ o. 0)) b) b = record { consistent = shows.consistent; rest = header_rest_same b; size = inl refl; values = λ o. inl refl } in
+    let kept : StopOkEverywhere (λ o. 0) (checkpoint_with [] [] (checkpoint_at (disk b (λ o. 0)) b)) c = keep (λ o. 0) (checkpoint_at (disk b (λ o. 0)) b) start in
     record {
       consistent = kept.consistent;
       size = ⊎_elim (λ same. sym (disk_size c (λ o. 0)) ∙ same ∙ disk_size b (λ o. 0) ∙ shows.size) (λ none. absurd none) kept.size;

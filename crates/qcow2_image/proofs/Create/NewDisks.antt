@@ -19,6 +19,7 @@ use Rattle.qcow2_disk.specs.AbstractImages.{Setting}
 use Rattle.qcow2_disk.specs.GrownCovers.{FilledCovers, Touches, first_zeros}
 use Rattle.qcow2_disk.specs.Mappings.{given_shown, is_copied_data}
 use Rattle.qcow2_disk.specs.Stops.{GivenBytes, IsGiven, Checkpoint, checkpoint_at, checkpoint_with, StopOkEverywhere}
+use Rattle.qcow2_disk.proofs.HeaderRest.{header_rest_same}
 use Rattle.qcow2_disk.proofs.Stops.{given_split}
 use Rattle.qcow2_image.specs.Created.{IsCoverOf, IsNewDisk, IsPreallocated, IsUnwritten, ShowsZeros}
 use Rattle.qcow2_image.specs.MovedTables.{CoversStay}
@@ -131,7 +132,7 @@ grow_gives_zeros x d size mode o v given = by_test (nat_le size d.size || shows_
   by_test false some = ⊎_elim (λ bytes_given. bytes_given.2) (λ no. absurd no) (shown_zeros d d.size (rounded_up x.cluster_size size) o v some)
 
 abbrev pub kept_since : (size : ℕ) (backing old : Bytes) → List GivenBytes → Checkpoint
-kept_since size backing old given = checkpoint_with given (size ∷ []) (checkpoint_at (disk old backing))
+kept_since size backing old given = checkpoint_with given (size ∷ []) (checkpoint_at (disk old backing) old)
 
 module _ (size : ℕ) (backing : Bytes) (alone : backing ≡ (λ i. 0)) (old : Bytes) (unwritten : IsUnwritten 0 old) (given : List GivenBytes) (zeros : (o : ℕ) (v : Value) → IsGiven given o v → v ≡ known_byte 0) where
   sizes : (c : Bytes) → (disk c backing).size ≡ (header c).size
@@ -154,5 +155,5 @@ module _ (size : ℕ) (backing : Bytes) (alone : backing ≡ (λ i. 0)) (old : B
       (λ asked. ⊎_elim (λ is. inr (kept_zeros c kept size (sym (sizes c) ∙ is))) (λ no. absurd no) asked)
       kept.size
 
-pub starts_unwritten : (backing : Bytes) (old : Bytes) → IsUnwritten 0 old → StopOkEverywhere backing (checkpoint_at (disk old backing)) old
-starts_unwritten backing old unwritten = record { consistent = unwritten.consistent; size = inl refl; values = λ o. inl refl }
+pub starts_unwritten : (backing : Bytes) (old : Bytes) → IsUnwritten 0 old → StopOkEverywhere backing (checkpoint_at (disk old backing) old) old
+starts_unwritten backing old unwritten = record { consistent = unwritten.consistent; rest = header_rest_same old; size = inl refl; values = λ o. inl refl }

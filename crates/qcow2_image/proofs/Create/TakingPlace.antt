@@ -88,8 +88,8 @@ module _ {S F : Type 0} (view : S → StorageView) (backing : F → BackingView)
         (kept_either size below (none_below backing view old.backing alone) before unwritten given_bytes (grow_gives_zeros (setting_of view backing old) (disk_of view backing old) size mode) c kept)
 
     module _ (works : EffectOnSound (abstract_of view backing old []) (abstract_of view backing mid []) given_bytes (size ∷ [])) where
-      stops : Stops (abstract_of view backing old []) (abstract_of view backing mid []) given_bytes (size ∷ []) (checkpoint_at (disk before below))
-      stops = works.stops (checkpoint_at (disk before below)) (starts_unwritten below before unwritten, subst (StopOkEverywhere below (checkpoint_at (disk before below))) (sym opened.clean) (starts_unwritten below before unwritten))
+      stops : Stops (abstract_of view backing old []) (abstract_of view backing mid []) given_bytes (size ∷ []) (checkpoint_at (disk before below) before)
+      stops = works.stops (checkpoint_at (disk before below) before) (starts_unwritten below before unwritten, subst (StopOkEverywhere below (checkpoint_at (disk before below) before)) (sym opened.clean) (starts_unwritten below before unwritten))
 
       taking_stops : StopsCreating mode size (view_in view old.file) (view_in view mid.file)
       taking_stops = passes_if (λ c. IsStopOfCreating mode size (byte_at c)) (λ c kept. keeps_either (byte_at c) kept) stops.moments

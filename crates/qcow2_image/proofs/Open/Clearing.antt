@@ -54,15 +54,15 @@ module _ {S F : Type 0} (view : S → StorageView) (backing : F → BackingView)
     cleared_sound : CacheInvariant h' p file.caches on_storage'
     cleared_sound = placed_sound view p p file new_tables.sound (resized_places h h.size 0) on_storage' writes cleared_crash_invariant l1_still reftable_still
 
-  pub stays_cleared : (storage : ImageStorage S) → (view (storage_of storage)).is_honest → (view (storage_of storage)).contents ≡ autoclear_cleared (view_in view file).contents
+  pub stays_cleared : (storage : ImageStorage S) → file.header.fields.autoclear ≢ 0 → (view (storage_of storage)).is_honest → (view (storage_of storage)).contents ≡ autoclear_cleared (view_in view file).contents
       → header (byte_at (autoclear_cleared (view_in view file).contents)) ≡ without_autoclear (header (byte_at (view_in view file).contents))
       → IsHeaderIn (with_fields file.header (without_autoclear file.header.fields)) (autoclear_cleared (view_in view file).contents)
       → StaysFresh view backing p file (record file { storage = storage; header = with_fields file.header (without_autoclear file.header.fields) })
-  stays_cleared storage honest same fields there =
+  stays_cleared storage some honest same fields there =
       let on_storage' : Bytes = byte_at (view (storage_of storage)).contents in
       let writes : WritesHeader h (resized_places h h.size 0) on_storage (known_in view file) on_storage' (known_of h file.caches on_storage') =
       subst (λ (c : List ℕ). WritesHeader h (resized_places h h.size 0) on_storage (known_in view file) (byte_at c) (known_of h file.caches (byte_at c))) (sym same)
-      (autoclear_beside h (order_of file.caches) p (l2_tables file.caches) (refblocks file.caches) (view_in view file).contents kept (with_fields file.header h') fields there) in record {
+      (autoclear_beside h (order_of file.caches) p (l2_tables file.caches) (refblocks file.caches) (view_in view file).contents kept (with_fields file.header h') some fields there) in record {
         new_tables = record {
           sound = record { honest = honest; caches = cleared_sound on_storage' writes; named_blocks = cleared_named_blocks on_storage' writes; room = new_tables.sound.room };
           header = subst (IsHeaderIn (with_fields file.header h')) (sym same) there;
@@ -89,7 +89,7 @@ module _ {S F : Type 0} (view : S → StorageView) (backing : F → BackingView)
             ap (λ (s : ImageStorage S). record file { storage = s; header = with_fields file.header (without_autoclear file.header.fields) }) (untouched none)
             ∙ ap (λ (n : ℕ). record file { header = with_fields file.header (record file.header.fields { autoclear = n }) }) (sym none) in
             subst (StaysFresh view backing p file) (sym same) (record { new_tables = new_tables; l1_table = λ t has. has; reftable = λ t has. has })
-        | inr some ↦ stays_cleared storage (honest new_tables.sound.honest) (written some new_tables.sound.honest) fields (reads some new_tables.header)
+        | inr some ↦ stays_cleared storage some (honest new_tables.sound.honest) (written some new_tables.sound.honest) fields (reads some new_tables.header)
       ])
 
   -- whatever the storage answers
@@ -102,7 +102,7 @@ module _ {S F : Type 0} (view : S → StorageView) (backing : F → BackingView)
     | inl none ↦ subst (λ (s : ImageStorage S). IsKeptSince (view_in view file) (view (storage_of s))) (sym (untouched none)) (safe_throughout_none (view_in view file) on_storage)
     | inr some ↦
         let new = autoclear_cleared (view_in view file).contents in
-        let writes = autoclear_beside h (order_of file.caches) p (l2_tables file.caches) (refblocks file.caches) (view_in view file).contents kept (with_fields file.header h') fields (reads some new_tables.header) in
+        let writes = autoclear_beside h (order_of file.caches) p (l2_tables file.caches) (refblocks file.caches) (view_in view file).contents kept (with_fields file.header h') some fields (reads some new_tables.header) in
         let safe_step = header_is_written.same_size (state_in view file p) (byte_at new) (known_of h file.caches (byte_at new)) 0 kept.crash_invariant writes in
         safe_throughout_write (view_in view file) (view (storage_of storage)) on_storage nothing_given [] new call (written some) new_tables.sound.honest
         (λ backing m ok known_ok. safe_step.on_storage backing m ok (subst (StopOkEverywhere backing m) (sym (new_tables.clean on_storage)) ok))

@@ -228,7 +228,7 @@ works_asking old new gs asked w = record {
 }
   where
     more : (m : Checkpoint) (b : Bytes) → StopOkEverywhere old.setting.backing (checkpoint_with gs [] m) b → StopOkEverywhere old.setting.backing (checkpoint_with gs asked m) b
-    more m b k = record { consistent = k.consistent; size = elim k.size [ inl e ↦ inl e | inr a ↦ inr (asked_more asked m.asked _ a) ]; values = k.values }
+    more m b k = record { consistent = k.consistent; rest = k.rest; size = elim k.size [ inl e ↦ inl e | inr a ↦ inr (asked_more asked m.asked _ a) ]; values = k.values }
 
 -- ---- parts
 module _ {S F : Type 0} (view : S → StorageView) (backing : F → BackingView) (out : List (Option Prepared)) where

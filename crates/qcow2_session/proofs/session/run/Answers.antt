@@ -4,7 +4,6 @@ use Rattle.std.proofs.lemmas.Grind.{common_steps}
 use Rattle.std.proofs.lemmas.List.{take_more, take_all, map-append}
 use Rattle.qcow2_image.specs.ImageInvariant.{abstract_of, image_abstraction}
 use Rattle.qcow2_disk.specs.Runs.{RefinesWholeRun, begun, started}
-use Rattle.qcow2_disk.specs.AbstractImages.{guest_of}
 use Rattle.qcow2_disk.proofs.RunSteps.{begins, completes, refines_the_disk}
 use Rattle.qcow2_session.specs.Commands.{command_of, reply_of}
 use Rattle.qcow2_image.proofs.Free.{free_places, nothing_since, whole}
@@ -97,7 +96,7 @@ returns-clause-means g c = λ opened.
     let stands = begins before opened.sound (whole view below old [] opened.sound) opened.clean in
     ⊎_elim (λ h. inl h)
     (λ all. inr (refines_the_disk (image_abstraction view below) old new (map command_of c.args.commands.now) (map reply_of c.loop-command.replies.items) (nothing_since view below g.S.Storage.only_now old) stands all))
-    (returns-clause-runs g c before.setting (started (guest_of before)) stands)
+    (returns-clause-runs g c before.setting (started before) stands)
 
 pub returns-in_default-clause-maps : goal.returns-in_default-clause-maps
 returns-in_default-clause-maps g c = λ opened.
@@ -116,7 +115,7 @@ returns-clause-maps g c = λ opened.
     let commands = map command_of c.args.commands.now in
     let replies = c.loop-command.replies.items in
     ⊎_elim (λ untouched. none_said b (is_some old.backing) commands replies untouched.0)
-    (λ means. looked_up spec (spec.setting old) (spec.surplus old []) b old means.last (started (guest_of (abstract_of view g.F.BackingDisk.backing old []))) means.end commands (map reply_of replies) means.run means.along refl opened.clean)
+    (λ means. looked_up spec (spec.setting old) (spec.surplus old []) b old means.last (started (abstract_of view g.F.BackingDisk.backing old [])) means.end commands (map reply_of replies) means.run means.along refl opened.clean)
     (returns-clause-means g c opened)
 
 pub returns-in_default-clause-faults : goal.returns-in_default-clause-faults
@@ -150,7 +149,7 @@ returns-clause-unwritten g c = λ reading opened.
     let old = c.args.image.now in
     let before = abstract_of view below old [] in
     let x = before.setting in
-    let s = started (guest_of before) in
+    let s = started before in
     let stands = begins before opened.sound (whole view below old [] opened.sound) opened.clean in
     let told = c.loop-command.invariant.told in
     let so_far = told.so_far x s stands in
