@@ -103,7 +103,7 @@ module _ {S : Type 0} (view : S → StorageView) (p : Pending) (first blocks clu
 
   near : place < 2 ^ 64
   near =
-      let room : HasRoomIfPlaced t.cluster_bits (length t.bytes) (Some (first + blocks)) = subst (λ (c : Option ℕ). HasRoomIfPlaced t.cluster_bits (length t.bytes) c) ready.grown.cluster is_table.table.placed in
+      let room : HasRoomIfPlaced t.cluster_bits (length t.bytes) (Some (first + blocks)) = subst (λ (c : Option ℕ). HasRoomIfPlaced t.cluster_bits (length t.bytes) c) ready.grown.cluster is_table.room in
       let there : (first + blocks) * 2 ^ h.cluster_bits + length t.bytes < 2 ^ 64 = subst (λ b. (first + blocks) * 2 ^ b + length t.bytes < 2 ^ 64) ready.grown.bits room in
       omega (arith, there)
 

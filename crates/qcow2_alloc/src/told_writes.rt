@@ -9,7 +9,7 @@ ghost use Rattle.qcow2_metadata.specs.HeaderWrite.{autoclear_cleared, header_wri
 ghost use Rattle.qcow2_metadata.specs.Bytes.{byte_at};
 ghost use Rattle.qcow2_metadata.specs.RefBlock.{IsRefBlockAt};
 ghost use Rattle.qcow2_metadata.specs.TableBytes.{HasPlace, entry_at};
-ghost use Rattle.qcow2_metadata.specs.EntryTable.{entry_count};
+ghost use Rattle.qcow2_metadata.specs.EntryTable.{entry_count, HasRoomIfPlaced};
 ghost use Rattle.qcow2_alloc.specs.HeaderClusters.{KeepsHeaderCluster};
 ghost use Rattle.qcow2_alloc.specs.ImageStorage.{storage_of, NotesWrite};
 ghost use Rattle.qcow2_alloc.specs.WriteKinds.{IsToldData, IsToldL2Table, IsToldRefBlock, IsToldOther};
@@ -148,10 +148,12 @@ impl<S: Storage> ImageStorage<S> {
         self.noted(l1_table_written)
     }
 
-    /// Writes the entry of an index, below its length, of an L1 table. Refused 14 (memory), 15 (storage), as the storage is.
+    /// Writes the entry of an index, below its length, of an L1 table, to where it lies, which 64 bits are to hold. Refused 14 (memory),
+    /// 15 (storage), as the storage is.
     pub fn write_l1_entry(&mut self, table: &L1Table, index: usize) -> Result<(), StorageError>
         requires placed { IsSome table.now.cluster }
         requires within { index < entry_count table.now }
+        requires room { HasRoomIfPlaced table.now.cluster_bits (8 * index) table.now.cluster }
         requires told { IsToldOther self.old }
         ensures written { IfSome table.now.cluster (λ cluster. Changes (S.view (storage_of self.old)) (S.view (storage_of self.new)) result
             (overwritten (S.view (storage_of self.old)).contents (cluster * 2 ^ table.now.cluster_bits + 8 * index) (to_be_bytes w64 (entry_at table.now.bytes index)))) }

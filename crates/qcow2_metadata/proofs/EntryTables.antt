@@ -10,7 +10,7 @@ use Rattle.qcow2_metadata.specs.Bytes.{byte_at, number_at}
 use Rattle.qcow2_metadata.specs.Header.{HeaderFields, reftable_entries}
 use Rattle.qcow2_metadata.specs.Entries.{l1_entry, l2_entry, reftable_entry, L1EntryReads, ReftableEntryReads}
 use Rattle.qcow2_metadata.specs.TableBytes.{entry_at, ChangesEntry}
-use Rattle.qcow2_metadata.specs.EntryTable.{EntryTableView, EachReads, IsClear, IsL1TableOf, IsReasonNotToLoad, IsRefTableOf, NamesL1Table, NamesRefTable, SomeUnread}
+use Rattle.qcow2_metadata.specs.EntryTable.{EntryTableView, EachReads, HasRoomIfPlaced, IsClear, IsL1TableOf, IsReasonNotToLoad, IsRefTableOf, NamesL1Table, NamesRefTable, PassesLimit, SomeUnread}
 use Rattle.qcow2_metadata.specs.declared.error.MetadataError.{MetadataError}
 use Rattle.qcow2_metadata.specs.declared.error.MetadataError.TheVariants.{Storage, Memory, Version, Unaligned, Limit, Format}
 use Rattle.qcow2_metadata.proofs.TableEntries.{byte_at-zeros, entry_at-loaded, entry_at-zeros, number_at-moved, number_at-zeros}
@@ -33,6 +33,10 @@ no_bytes_at contents at n none = nil_from_length (bytes_at contents at n) (lengt
 pub same_table : (cluster cluster' : Option ℕ) (bytes bytes' : List ℕ) (bits bits' : ℕ) → cluster ≡ cluster' → bytes ≡ bytes' → bits ≡ bits'
     → record { cluster = cluster; bytes = bytes; cluster_bits = bits } ≡ (let t : EntryTableView = record { cluster = cluster'; bytes = bytes'; cluster_bits = bits' } in t)
 same_table cluster cluster' bytes bytes' bits bits' p q r = rw (p, q, r)
+
+-- 64 bits hold the end of a table of this place and length
+pub room_as : (t : EntryTableView) (cluster : Option ℕ) (bits n : ℕ) → t.cluster ≡ cluster → t.cluster_bits ≡ bits → length t.bytes ≡ n → HasRoomIfPlaced bits n cluster → HasRoomIfPlaced t.cluster_bits (length t.bytes) t.cluster
+room_as t cluster bits n p q r room = rw (p, q, r) room
 
 -- a table laid over a longer one of zeros
 pub overwritten-zeros : (bytes : List ℕ) (n : ℕ) → length bytes ≤ n → overwritten (replicate n 0) 0 bytes ≡ bytes ++ replicate (n - length bytes) 0
@@ -91,14 +95,18 @@ EachReads-set Reads old new i entry changes here reads = λ j. elim (cases_eq j 
 -- ---- why a table isn't loaded
 
 -- an entry with a reserved bit is one that doesn't read
-pub IsReasonNotToLoad-reads : (Reads Clear : ℕ → Type 0) (bytes : List ℕ) (passes honest : Type 0) (e : MetadataError) → ((entry : ℕ) → Reads entry → Clear entry)
-    → IsReasonNotToLoad passes (honest → SomeUnread Clear bytes) e → IsReasonNotToLoad passes (honest → SomeUnread Reads bytes) e
-IsReasonNotToLoad-reads Reads Clear bytes passes honest (Storage _) clear why = why
-IsReasonNotToLoad-reads Reads Clear bytes passes honest Memory clear why = why
-IsReasonNotToLoad-reads Reads Clear bytes passes honest Limit clear why = why
-IsReasonNotToLoad-reads Reads Clear bytes passes honest Format clear why = λ h. let some = why h in (some.0, some.1, λ reads. some.2 (clear _ reads))
-IsReasonNotToLoad-reads Reads Clear bytes passes honest Version clear why = why
-IsReasonNotToLoad-reads Reads Clear bytes passes honest Unaligned clear why = why
+pub IsReasonNotToLoad-reads : (Reads Clear : ℕ → Type 0) (bytes : List ℕ) (passes passes' honest : Type 0) (e : MetadataError) → (passes → passes') → ((entry : ℕ) → Reads entry → Clear entry)
+    → IsReasonNotToLoad passes (honest → SomeUnread Clear bytes) e → IsReasonNotToLoad passes' (honest → SomeUnread Reads bytes) e
+IsReasonNotToLoad-reads Reads Clear bytes passes passes' honest (Storage _) so clear why = why
+IsReasonNotToLoad-reads Reads Clear bytes passes passes' honest Memory so clear why = why
+IsReasonNotToLoad-reads Reads Clear bytes passes passes' honest Limit so clear why = so why
+IsReasonNotToLoad-reads Reads Clear bytes passes passes' honest Format so clear why = λ h. let some = why h in (some.0, some.1, λ reads. some.2 (clear _ reads))
+IsReasonNotToLoad-reads Reads Clear bytes passes passes' honest Version so clear why = why
+IsReasonNotToLoad-reads Reads Clear bytes passes passes' honest Unaligned so clear why = why
+
+-- what passes the limit by where it begins passes it by where it ends
+pub passes_further : (greatest bits n cluster entries : ℕ) → PassesLimit greatest bits 0 cluster entries → PassesLimit greatest bits n cluster entries
+passes_further greatest bits n cluster entries passes = elim passes [ inl many ↦ inl many | inr past ↦ inr (omega (arith, past)) ]
 
 -- ---- entries of a loaded table
 

@@ -20,7 +20,7 @@ entry_table h cluster bytes = record { cluster = cluster; bytes = bytes; cluster
 abbrev pub entry_count : EntryTableView → ℕ
 entry_count t = length t.bytes / 8
 
--- 64 bits hold the end of so many bytes that lie from the begin of a cluster on
+-- 64 bits hold the place so many bytes behind the begin of a cluster
 abbrev pub HasRoom : ℕ → ℕ → ℕ → Type 0
 HasRoom cluster_bits n cluster = cluster * 2 ^ cluster_bits + n < 2 ^ 64
 
@@ -29,12 +29,12 @@ abbrev pub HasRoomIfPlaced : ℕ → ℕ → Option ℕ → Type 0
 HasRoomIfPlaced cluster_bits n None = Unit {0}
 HasRoomIfPlaced cluster_bits n (Some cluster) = HasRoom cluster_bits n cluster
 
--- it has whole entries, at most so many
+-- it has whole entries, at most so many, and 64 bits hold where it begins
 pub record IsEntryTable (greatest : ℕ) (t : EntryTableView) : Type 0 where
   pub bits : IsClusterBits t.cluster_bits
   pub whole : length t.bytes % 8 ≡ 0
   pub few : entry_count t ≤ greatest
-  pub placed : HasRoomIfPlaced t.cluster_bits (length t.bytes) t.cluster
+  pub placed : HasRoomIfPlaced t.cluster_bits 0 t.cluster
 
 -- each entry of these bytes reads
 abbrev pub EachReads : (ℕ → Type 0) → List ℕ → Type 0
@@ -52,8 +52,10 @@ pub record IsL1Table (t : EntryTableView) : Type 0 where
   pub table : IsEntryTable 4194304 t
   pub reads : EachReads L1EntryReads t.bytes
 
+-- 64 bits hold its end too
 pub record IsRefTable (t : EntryTableView) : Type 0 where
   pub table : IsEntryTable 1048576 t
+  pub room : HasRoomIfPlaced t.cluster_bits (length t.bytes) t.cluster
   pub reads : EachReads ReftableEntryReads t.bytes
 
 -- the header names so many entries from this place on as the L1 table
@@ -80,9 +82,9 @@ IsRefTableOf h b t = (i : ℕ) → entry_at t.bytes i ≡ reftable_entry h b i
 abbrev pub IsRefTableBut : ℕ → HeaderFields → Bytes → EntryTableView → Type 0
 IsRefTableBut index h b t = (i : ℕ) → i ≢ index → entry_at t.bytes i ≡ reftable_entry h b i
 
--- so many entries are more than the greatest number, or 64 bits don't hold the end of the table
-abbrev pub PassesLimit : ℕ → ℕ → ℕ → ℕ → Type 0
-PassesLimit greatest cluster_bits cluster entries = (greatest < entries) ⊎ (2 ^ 64 ≤ cluster * 2 ^ cluster_bits + 8 * entries)
+-- so many entries are more than the greatest number, or 64 bits don't hold the place so many bytes behind the table's begin
+abbrev pub PassesLimit : ℕ → ℕ → ℕ → ℕ → ℕ → Type 0
+PassesLimit greatest cluster_bits n cluster entries = (greatest < entries) ⊎ (2 ^ 64 ≤ cluster * 2 ^ cluster_bits + n)
 
 -- a table was refused for its length, or memory was
 abbrev pub IsOfLengthOrMemory : Type 0 → MetadataError → Type 0

@@ -8,7 +8,7 @@ ghost use Rattle.image_access.specs.Moments.{ContentsStay, Changes, Calls, Quiet
 ghost use Rattle.qcow2_metadata.specs.MetadataError.{storage_result};
 ghost use Rattle.qcow2_metadata.specs.L2Mapping.{IsHostCluster};
 ghost use Rattle.qcow2_metadata.specs.TableBytes.{entry_at as entry_of, ChangesEntry, IsClusterBits, IsOfStorageOrMemory};
-ghost use Rattle.qcow2_metadata.specs.EntryTable.{entry_count, HasRoom, IsEntryTable, EachReads, SomeUnread, IsClear, PassesLimit, IsOfLengthOrMemory, IsReasonNotToLoad};
+ghost use Rattle.qcow2_metadata.specs.EntryTable.{entry_count, HasRoom, HasRoomIfPlaced, IsEntryTable, EachReads, SomeUnread, IsClear, PassesLimit, IsOfLengthOrMemory, IsReasonNotToLoad};
 
 use crate::table_bytes::{entry_at, load, put, set_entry, zeros};
 use crate::{ClusterCount, HostCluster, MAX_HOST_OFFSET, MetadataError};
@@ -55,16 +55,15 @@ impl Model for EntryTable {
     }) };
 }
 
-/// Where so many bytes from a cluster's begin on begin, if 64 bits hold their end.
-fn place(cluster: HostCluster, cluster_bits: u32, length: u64) -> Option<u64>
+/// Whether 64 bits hold the place so many bytes behind a cluster's begin.
+pub(crate) fn has_room(cluster: HostCluster, cluster_bits: u32, length: u64) -> bool
     requires { cluster_bits < 64 }
-    ensures none { IfNone result (2 ^ 64 ≤ cluster * 2 ^ cluster_bits + length) }
-    ensures room { IfSome result (λ at. HasRoom cluster_bits length cluster) }
-    ensures place { IfSome result (λ at. at ≡ cluster * 2 ^ cluster_bits) }
+    ensures { IsTrue result ↔ HasRoom cluster_bits length cluster }
 {
-    let at = cluster.checked_offset(cluster_bits)?.value();
-    at.checked_add(length)?;
-    Some(at)
+    match cluster.checked_offset(cluster_bits) {
+        Some(at) => at.value().checked_add(length).is_some(),
+        None => false,
+    }
 }
 
 /// So many bytes of a storage, which isn't asked for none.
@@ -143,8 +142,8 @@ impl EntryTable {
         ensures bytes { (S.view storage.old).is_honest → IfOk result (λ t. t.bytes ≡ bytes_at (S.view storage.old).contents (cluster * 2 ^ cluster_bits) (8 * entries)) }
         ensures few { IfOk result (IsEntryTable greatest) }
         ensures reads { IfOk result (λ t. EachReads (IsClear reserved) t.bytes) }
-        ensures limit { PassesLimit greatest cluster_bits cluster entries → result ≡ Err MetadataError.Limit }
-        ensures err { IfErr result (IsReasonNotToLoad (PassesLimit greatest cluster_bits cluster entries)
+        ensures limit { PassesLimit greatest cluster_bits 0 cluster entries → result ≡ Err MetadataError.Limit }
+        ensures err { IfErr result (IsReasonNotToLoad (PassesLimit greatest cluster_bits 0 cluster entries)
             ((S.view storage.old).is_honest → SomeUnread (IsClear reserved) (bytes_at (S.view storage.old).contents (cluster * 2 ^ cluster_bits) (8 * entries)))) }
         ensures same { ContentsStay (S.view storage.old) (S.view storage.new) }
         ensures calls { QuietCalls (S.view storage.old) (S.view storage.new) (storage_result result) }
@@ -153,11 +152,10 @@ impl EntryTable {
         if entries > greatest {
             return Err(MetadataError::Limit);
         }
-        let length = 8 * entries;
-        let Some(at) = place(cluster, cluster_bits, length as u64) else {
+        let Some(at) = cluster.checked_offset(cluster_bits) else {
             return Err(MetadataError::Limit);
         };
-        let bytes = load_bytes(alloc, storage, at, length)?;
+        let bytes = load_bytes(alloc, storage, at.value(), 8 * entries)?;
         if !is_clear(&bytes, reserved) {
             return Err(MetadataError::Format);
         }
@@ -215,6 +213,17 @@ impl EntryTable {
         storage.write(at, &self.bytes)
     }
 
+    /// Whether 64 bits hold where an entry lies, if the table has a place.
+    pub(crate) fn has_entry_room(&self, index: usize) -> bool
+        requires { index < entry_count self.now }
+        ensures { IsTrue result ↔ HasRoomIfPlaced self.now.cluster_bits (8 * index) self.now.cluster }
+    {
+        match self.cluster {
+            Some(cluster) => has_room(cluster, self.cluster_bits, 8 * index as u64),
+            None => true,
+        }
+    }
+
     /// Writes one entry to where it lies.
     pub(crate) fn write_entry<S: Storage>(
         &self,
@@ -223,6 +232,7 @@ impl EntryTable {
     ) -> Result<(), StorageError>
         requires placed { IsSome self.now.cluster }
         requires within { index < entry_count self.now }
+        requires room { HasRoomIfPlaced self.now.cluster_bits (8 * index) self.now.cluster }
         ensures written { IfSome self.now.cluster (λ cluster. Changes (S.view storage.old) (S.view storage.new) result
             (overwritten (S.view storage.old).contents (cluster * 2 ^ self.now.cluster_bits + 8 * index) (to_be_bytes w64 (entry_of self.now.bytes index)))) }
         ensures fits { entry_of self.now.bytes index < 2 ^ 64 }

@@ -11,7 +11,7 @@ ghost use Rattle.qcow2_metadata.specs.MetadataError.{storage_result};
 ghost use Rattle.qcow2_metadata.specs.L2Mapping.{greatest_offset, IsHostCluster};
 ghost use Rattle.qcow2_metadata.specs.L2Table.{copied_entry as copied_entry_of};
 ghost use Rattle.qcow2_metadata.specs.TableBytes.{entry_at, ChangesEntry};
-ghost use Rattle.qcow2_metadata.specs.EntryTable.{entry_table, entry_count, IsL1Table, IsL1TableOf, IsL1TableBut, NamesL1Table, SomeUnread, PassesLimit, IsOfLengthOrMemory, IsReasonNotToLoad};
+ghost use Rattle.qcow2_metadata.specs.EntryTable.{entry_table, entry_count, HasRoomIfPlaced, IsL1Table, IsL1TableOf, IsL1TableBut, NamesL1Table, SomeUnread, PassesLimit, IsOfLengthOrMemory, IsReasonNotToLoad};
 
 use crate::entry_table::EntryTable;
 use crate::l2_mapping::{COPIED, host_offset, is_copied};
@@ -77,9 +77,9 @@ impl L1Table {
         Ok(L1Table { table })
     }
 
-    /// Loads a table of so many entries that lies from a cluster on. With no entries the storage isn't read. Refused `Limit` for more
-    /// than 4,194,304 entries or an end past 64 bits, and `Format` where an entry has a bit without meaning. Where the work meets them:
-    /// `Memory`, `Storage`.
+    /// Loads a table of so many entries that lies from a cluster on. It may end past 64 bits. With no entries the storage isn't read.
+    /// Refused `Limit` for more than 4,194,304 entries or a begin past 64 bits, and `Format` where an entry has a bit without meaning.
+    /// Where the work meets them: `Memory`, `Storage`.
     pub fn load<S: Storage>(
         alloc: Global,
         storage: &mut S,
@@ -94,8 +94,8 @@ impl L1Table {
             ≡ bytes_at (S.view storage.old).contents (cluster * cluster_size header.now.fields) (8 * entries)) }
         ensures of_image { (S.view storage.old).is_honest → NamesL1Table header.now.fields (cluster * cluster_size header.now.fields) entries
             → IfOk result (IsL1TableOf header.now.fields (byte_at (S.view storage.old).contents)) }
-        ensures limit { PassesLimit 4194304 header.now.fields.cluster_bits cluster entries → result ≡ Err MetadataError.Limit }
-        ensures err { IfErr result (IsReasonNotToLoad (PassesLimit 4194304 header.now.fields.cluster_bits cluster entries)
+        ensures limit { PassesLimit 4194304 header.now.fields.cluster_bits 0 cluster entries → result ≡ Err MetadataError.Limit }
+        ensures err { IfErr result (IsReasonNotToLoad (PassesLimit 4194304 header.now.fields.cluster_bits 0 cluster entries)
             ((S.view storage.old).is_honest → SomeUnread L1EntryReads (bytes_at (S.view storage.old).contents (cluster * cluster_size header.now.fields) (8 * entries)))) }
         ensures same { ContentsStay (S.view storage.old) (S.view storage.new) }
         ensures calls { QuietCalls (S.view storage.old) (S.view storage.new) (storage_result result) }
@@ -184,10 +184,19 @@ impl L1Table {
         self.table.write(storage)
     }
 
-    /// Writes the entry of an index, below its length, to where it lies. Refused as the storage is.
+    /// Whether 64 bits hold where an entry lies, if the table has a place.
+    pub fn has_entry_room(&self, index: usize) -> bool
+        requires { index < entry_count self.now }
+        ensures { IsTrue result ↔ HasRoomIfPlaced self.now.cluster_bits (8 * index) self.now.cluster }
+    {
+        self.table.has_entry_room(index)
+    }
+
+    /// Writes the entry of an index, below its length, to where it lies, which 64 bits are to hold. Refused as the storage is.
     pub fn write_entry<S: Storage>(&self, storage: &mut S, index: usize) -> Result<(), StorageError>
         requires placed { IsSome self.now.cluster }
         requires within { index < entry_count self.now }
+        requires room { HasRoomIfPlaced self.now.cluster_bits (8 * index) self.now.cluster }
         ensures written { IfSome self.now.cluster (λ cluster. Changes (S.view storage.old) (S.view storage.new) result
             (overwritten (S.view storage.old).contents (cluster * 2 ^ self.now.cluster_bits + 8 * index) (to_be_bytes w64 (entry_at self.now.bytes index)))) }
         ensures fits { entry_at self.now.bytes index < 2 ^ 64 }

@@ -12,7 +12,7 @@ ghost use Rattle.qcow2_metadata.specs.L2Mapping.{IsHostCluster};
 ghost use Rattle.qcow2_metadata.specs.TableBytes.{entry_at, ChangesEntry};
 ghost use Rattle.qcow2_metadata.specs.EntryTable.{entry_table, entry_count, IsRefTable, IsRefTableOf, IsRefTableBut, NamesRefTable, SomeUnread, PassesLimit, IsOfLengthOrMemory, IsReasonNotToLoad};
 
-use crate::entry_table::EntryTable;
+use crate::entry_table::{EntryTable, has_room};
 use crate::{ClusterCount, Header, HostCluster, HostOffset, MAX_REFTABLE_ENTRIES, MetadataError};
 use image_access::{Storage, StorageError};
 use std::alloc::Global;
@@ -29,14 +29,14 @@ pub struct RefTable {
 
 impl Model for RefTable {
     ghost use Rattle.qcow2_metadata.specs.Entries.{ReftableEntryReads};
-    ghost use Rattle.std.specs.Prelude.{◌≤◌};
-    ghost use Rattle.qcow2_metadata.specs.EntryTable.{EntryTableView, entry_count, EachReads};
+    ghost use Rattle.std.specs.Prelude.{◌≤◌, length};
+    ghost use Rattle.qcow2_metadata.specs.EntryTable.{EntryTableView, entry_count, EachReads, HasRoomIfPlaced};
 
     ghost Value = { EntryTableView };
 
     ghost view = { λ t. t.table };
 
-    ghost invariant = { λ t. (entry_count t.table ≤ 1048576) × EachReads ReftableEntryReads t.table.bytes };
+    ghost invariant = { λ t. (entry_count t.table ≤ 1048576) × EachReads ReftableEntryReads t.table.bytes × HasRoomIfPlaced t.table.cluster_bits (length t.table.bytes) t.table.cluster };
 }
 
 /// The bits of an entry of the reftable that are the offset of a refblock, 0 for none.
@@ -84,14 +84,17 @@ impl RefTable {
             ≡ bytes_at (S.view storage.old).contents (cluster * cluster_size header.now.fields) (8 * entries)) }
         ensures of_image { (S.view storage.old).is_honest → NamesRefTable header.now.fields (cluster * cluster_size header.now.fields) entries
             → IfOk result (IsRefTableOf header.now.fields (byte_at (S.view storage.old).contents)) }
-        ensures limit { PassesLimit 1048576 header.now.fields.cluster_bits cluster entries → result ≡ Err MetadataError.Limit }
-        ensures err { IfErr result (IsReasonNotToLoad (PassesLimit 1048576 header.now.fields.cluster_bits cluster entries)
+        ensures limit { PassesLimit 1048576 header.now.fields.cluster_bits (8 * entries) cluster entries → result ≡ Err MetadataError.Limit }
+        ensures err { IfErr result (IsReasonNotToLoad (PassesLimit 1048576 header.now.fields.cluster_bits (8 * entries) cluster entries)
             ((S.view storage.old).is_honest → SomeUnread ReftableEntryReads (bytes_at (S.view storage.old).contents (cluster * cluster_size header.now.fields) (8 * entries)))) }
         ensures same { ContentsStay (S.view storage.old) (S.view storage.new) }
         ensures calls { QuietCalls (S.view storage.old) (S.view storage.new) (storage_result result) }
         ensures none { entries ≡ 0 → storage.new ≡ storage.old }
     {
         let bits = header.cluster_bits();
+        if entries > MAX_REFTABLE_ENTRIES || !has_room(cluster, bits, 8 * entries as u64) {
+            return Err(MetadataError::Limit);
+        }
         let table = EntryTable::load(
             alloc,
             storage,

@@ -1,5 +1,5 @@
 use Rattle.qcow2_alloc.proofs.AllocationSteps.{table_loaded, handed_on}
-use Rattle.std.proofs.Common.{◌≡◌, ℕ, ◌*◌, ◌^◌, Result, sym, ap, ◌∙◌, subst, refl}
+use Rattle.std.proofs.Common.{◌≡◌, ℕ, ◌+◌, ◌*◌, ◌<◌, ◌≤◌, ◌^◌, Ok, Result, sym, ap, ◌∙◌, subst, refl}
 use Rattle.std.specs.Prelude.{MatchResult}
 use Rattle.image_access.specs.Contents.{bytes_at}
 use Rattle.qcow2_metadata.specs.Bytes.{byte_at}
@@ -12,8 +12,8 @@ use Rattle.qcow2_alloc.specs.declared.allocation.Allocator.{Allocator}
 use Rattle.qcow2_alloc.specs.declared.error.ImageError.{ImageError}
 use Rattle.qcow2_alloc.specs.ImageError.{of_metadata}
 use Rattle.qcow2_alloc.specs.ImageFile.{contents_in, view_in}
-use Rattle.qcow2_alloc.specs.LoadedTables.{IsReasonAgainst, IsReasonAgainstReftable, ReftableReads, TableReads}
-use Rattle.qcow2_alloc.proofs.LoadedTables.{not_loaded, table_reads}
+use Rattle.qcow2_alloc.specs.LoadedTables.{HasUnreadEntry, IsReasonAgainst, IsReasonAgainstReftable, ReftableReads}
+use Rattle.qcow2_alloc.proofs.LoadedTables.{entries_read, fits_so, not_loaded}
 use Rattle.qcow2_alloc.proofs.allocation.Allocator.new.Goals as goal
 
 pub returns-clause-reftable : goal.returns-clause-reftable
@@ -31,9 +31,10 @@ returns-clause-why g c = λ honest.
     let few = c.reftable_entries-entries.ensures.limit in
     let at : c.in-Some.cluster * 2 ^ h.cluster_bits ≡ h.reftable_offset = ap (λ n. c.in-Some.cluster * 2 ^ n) (sym c.cluster_bits-bits.ensures.value) ∙ c.in-Some.ensures.cluster ∙ c.reftable_offset.ensures in
     let t = c.in_ok-reftable.reftable in
-    subst (λ m. TableReads h.reftable_offset m (λ k. ReftableEntryReads (reftable_entry h b k))) entries
-    (table_reads 1048576 h.cluster_bits c.in-Some.cluster h.reftable_offset n at few t t.bytes (reftable_entry h b) ReftableEntryReads c.in_ok-reftable.ensures.limit c.in_ok-reftable.ensures.is_table.reads
-    (c.in_ok-reftable.ensures.of_image honest (sym at, sym entries)))
+    record {
+      fits = subst (λ m. h.reftable_offset + 8 * m < 2 ^ 64) entries (fits_so 1048576 h.cluster_bits (8 * n) c.in-Some.cluster h.reftable_offset n at few (Ok t) c.in_ok-reftable.ensures.limit (λ e. absurd (cc e)));
+      each = entries_read (reftable_entries h) t.bytes (reftable_entry h b) ReftableEntryReads c.in_ok-reftable.ensures.is_table.reads (c.in_ok-reftable.ensures.of_image honest (sym at, sym entries));
+    }
 
 pub returns-in_err-reftable-clause-why : goal.returns-in_err-reftable-clause-why
 returns-in_err-reftable-clause-why g c = λ honest.
@@ -47,7 +48,7 @@ returns-in_err-reftable-clause-why g c = λ honest.
     let e = c.in_err-reftable.field-0.0 in
     let is = subst (λ m. (i : ℕ) → entry_at (bytes_at contents h.reftable_offset (8 * m)) i ≡ reftable_entry h b i) (sym entries) (reftable_entries-loaded h contents _ refl) in
     let There : Type 0 = (view_in g.S.Storage.view c.args.file.now).is_honest → SomeUnread ReftableEntryReads (bytes_at contents (c.in-Some.cluster * cluster_size h) (8 * n)) in
-    let why = not_loaded 1048576 h.cluster_bits c.in-Some.cluster h.reftable_offset n at few h contents (reftable_entry h b) ReftableEntryReads is There
-    (λ some. subst (λ p. SomeUnread ReftableEntryReads (bytes_at contents p (8 * n))) at (some honest)) e c.in_err-reftable.ensures.limit c.in_err-reftable.ensures.err in
+    let why = not_loaded 1048576 h.cluster_bits (8 * n) c.in-Some.cluster h.reftable_offset n at few h contents (reftable_entry h b) ReftableEntryReads is There
+    (λ some. subst (λ p. SomeUnread ReftableEntryReads (bytes_at contents p (8 * n))) at (some honest)) (2 ^ 64 ≤ h.reftable_offset + 8 * n) ((h.reftable_offset + 8 * n < 2 ^ 64) × HasUnreadEntry n (λ k. ReftableEntryReads (reftable_entry h b k))) (λ past. past) (λ fits unread. (fits, unread)) e c.in_err-reftable.ensures.limit c.in_err-reftable.ensures.err in
     handed_on (λ (r : Result Allocator ImageError). MatchResult r (λ a. ReftableReads h b) (IsReasonAgainstReftable h b)) c.from_residual.result (of_metadata e) c.from_residual.ensures
-    (subst (λ m. IsReasonAgainst h h.reftable_offset m (λ k. ReftableEntryReads (reftable_entry h b k)) (of_metadata e)) entries why)
+    (subst (λ m. IsReasonAgainst h h.reftable_offset (2 ^ 64 ≤ h.reftable_offset + 8 * m) ((h.reftable_offset + 8 * m < 2 ^ 64) × HasUnreadEntry m (λ k. ReftableEntryReads (reftable_entry h b k))) (of_metadata e)) entries why)

@@ -18,4 +18,4 @@ returns-in_err-bytes-clause-err g c =
     let view = g.S.Storage.view c.args.storage.now in
     let p = err_from_is_err_and c.from_residual.result c.from_residual.ensures.1 in
     rw (p.1, p.2) (IsReasonNotToLoad-reads L1EntryReads (IsClear 0x7f000000000001ff) (bytes_at view.contents c.args.self.now.l1_offset (8 * c.args.self.now.l1_entries))
-    (2 ^ 64 ≤ c.args.self.now.l1_offset + 8 * c.args.self.now.l1_entries) view.is_honest _ l1_reads_clear c.in_err-bytes.ensures.err)
+    (2 ^ 64 ≤ c.args.self.now.l1_offset + 8 * c.args.self.now.l1_entries) (2 ^ 64 ≤ c.args.self.now.l1_offset + 8 * c.args.self.now.l1_entries) view.is_honest _ (λ p. p) l1_reads_clear c.in_err-bytes.ensures.err)

@@ -19,4 +19,4 @@ returns-in_err-bytes-clause-err g c =
     let view = g.S.Storage.view c.args.storage.now in
     let p = err_from_is_err_and c.from_residual.result c.from_residual.ensures.1 in
     rw (p.1, p.2, ← c.reftable_entries.ensures.value) (IsReasonNotToLoad-reads ReftableEntryReads (IsClear 511) (bytes_at view.contents c.args.self.now.reftable_offset (8 * c.reftable_entries.result))
-    (2 ^ 64 ≤ c.args.self.now.reftable_offset + 8 * c.reftable_entries.result) view.is_honest _ reftable_reads_clear c.in_err-bytes.ensures.err)
+    (2 ^ 64 ≤ c.args.self.now.reftable_offset + 8 * c.reftable_entries.result) (2 ^ 64 ≤ c.args.self.now.reftable_offset + 8 * c.reftable_entries.result) view.is_honest _ (λ p. p) reftable_reads_clear c.in_err-bytes.ensures.err)

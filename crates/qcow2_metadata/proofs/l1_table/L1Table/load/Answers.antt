@@ -12,7 +12,7 @@ returns-in_err-table-clause-err g c =
     let view = g.S.Storage.view c.args.storage.now in
     rw (p.1, p.2, ← c.cluster_bits-bits.ensures.value)
     (IsReasonNotToLoad-reads L1EntryReads (IsClear 0x7f000000000001ff) (bytes_at view.contents (c.args.cluster * 2 ^ c.cluster_bits-bits.result) (8 * c.args.entries))
-    (PassesLimit 4194304 c.cluster_bits-bits.result c.args.cluster c.args.entries) view.is_honest _ l1_reads_clear c.in_err-table.ensures.err)
+    (PassesLimit 4194304 c.cluster_bits-bits.result 0 c.args.cluster c.args.entries) (PassesLimit 4194304 c.cluster_bits-bits.result 0 c.args.cluster c.args.entries) view.is_honest _ (λ p. p) l1_reads_clear c.in_err-table.ensures.err)
 
 pub invariant_of-result : goal.invariant_of-result
 invariant_of-result g c = λ i. clear_l1_reads _ (c.in_ok-table.ensures.reads i)

@@ -1,9 +1,9 @@
-use Rattle.std.proofs.Common.{◌*◌, ◌^◌}
+use Rattle.std.proofs.Common.{◌*◌, ◌^◌, Some, ap}
 use Rattle.std.proofs.lemmas.Result.{err_from_is_err_and}
 use Rattle.image_access.specs.Contents.{bytes_at}
 use Rattle.qcow2_metadata.specs.Entries.{ReftableEntryReads}
-use Rattle.qcow2_metadata.specs.EntryTable.{IsClear, PassesLimit}
-use Rattle.qcow2_metadata.proofs.EntryTables.{IsRefTableOf-loaded, IsReasonNotToLoad-reads, clear_reftable_reads, reftable_reads_clear}
+use Rattle.qcow2_metadata.specs.EntryTable.{EntryTableView, IsClear, PassesLimit}
+use Rattle.qcow2_metadata.proofs.EntryTables.{IsRefTableOf-loaded, IsReasonNotToLoad-reads, clear_reftable_reads, passes_further, reftable_reads_clear, room_as}
 use Rattle.qcow2_metadata.proofs.ref_table.RefTable.load.Goals as goal
 
 pub returns-in_err-table-clause-err : goal.returns-in_err-table-clause-err
@@ -12,16 +12,21 @@ returns-in_err-table-clause-err g c =
     let view = g.S.Storage.view c.args.storage.now in
     rw (p.1, p.2, ← c.cluster_bits-bits.ensures.value)
     (IsReasonNotToLoad-reads ReftableEntryReads (IsClear 511) (bytes_at view.contents (c.args.cluster * 2 ^ c.cluster_bits-bits.result) (8 * c.args.entries))
-    (PassesLimit 1048576 c.cluster_bits-bits.result c.args.cluster c.args.entries) view.is_honest _ reftable_reads_clear c.in_err-table.ensures.err)
-
-pub invariant_of-result : goal.invariant_of-result
-invariant_of-result g c = (c.in_ok-table.ensures.few.few, λ i. clear_reftable_reads _ (c.in_ok-table.ensures.reads i))
+    (PassesLimit 1048576 c.cluster_bits-bits.result 0 c.args.cluster c.args.entries) (PassesLimit 1048576 c.cluster_bits-bits.result (8 * c.args.entries) c.args.cluster c.args.entries) view.is_honest _
+    (passes_further 1048576 c.cluster_bits-bits.result (8 * c.args.entries) c.args.cluster c.args.entries) reftable_reads_clear c.in_err-table.ensures.err)
 
 pub returns-clause-is_table : goal.returns-clause-is_table
 returns-clause-is_table g c = record {
   table = c.in_ok-table.ensures.few;
   reads = λ i. clear_reftable_reads _ (c.in_ok-table.ensures.reads i);
+  room =
+      let t = c.in_ok-table.table in
+      room_as t (Some c.args.cluster) c.cluster_bits-bits.result (8 * c.args.entries) (ap (λ (t : EntryTableView). t.cluster) c.in_ok-table.ensures.table) (ap (λ (t : EntryTableView). t.cluster_bits) c.in_ok-table.ensures.table)
+      c.in_ok-table.ensures.length (c.has_room.ensures.0 c.if-not-has_room.false);
 }
+
+pub invariant_of-result : goal.invariant_of-result
+invariant_of-result g c = (c.in_ok-table.ensures.few.few, λ i. clear_reftable_reads _ (c.in_ok-table.ensures.reads i), (returns-clause-is_table g c).room)
 
 pub returns-clause-of_image : goal.returns-clause-of_image
 returns-clause-of_image g c = λ honest names.
