@@ -1,17 +1,17 @@
 -- What is written behind cluster 0 leaves its bytes alone.
-use Rattle.std.proofs.Common.{◌≡◌, inl, inr, ℕ, ◌*◌, ◌/◌, ◌^◌, ◌<◌, ◌≤◌, false, true, List, Option, Some, None, Result, Ok, Err, IsSome, refl, sym, ap, ◌∙◌, arith}
+use Rattle.std.proofs.Common.{◌≡◌, ◌⊎◌, inl, inr, ℕ, ◌*◌, ◌/◌, ◌^◌, ◌<◌, ◌≤◌, false, true, List, Option, Some, None, Result, Ok, Err, IsSome, refl, sym, ap, ◌∙◌, subst, arith}
 use Rattle.std.specs.Prelude.{IfSome}
 use Rattle.std.proofs.lemmas.Nat.{div-add-mod', mod_below, mul-le, pow_pos}
 use Rattle.image_access.specs.Contents.{overwritten}
-use Rattle.image_access.specs.Moments.{StorageView, Calls, Changes, ContentsBecome}
+use Rattle.image_access.specs.Moments.{StorageView, EachMomentSince, Calls, QuietCalls, Changes, ContentsStay, ContentsBecome}
 use Rattle.image_access.specs.declared.error.StorageError.{StorageError}
-use Rattle.image_access.specs.declared.error.StorageError.TheVariants.{Fault, Memory}
 use Rattle.image_access.proofs.Bytes.{byte_at-overwritten_below}
+use Rattle.image_access.proofs.EachMomentSince.{passes_none, passes_on, passes_if, whole_or_nothing}
 use Rattle.qcow2_metadata.specs.Bytes.{byte_at}
-use Rattle.qcow2_alloc.specs.HeaderClusters.{KeepsHeaderCluster}
+use Rattle.qcow2_alloc.specs.HeaderClusters.{IsInHeaderCluster, SameAt, BytesStay, KeepsHeaderCluster}
 
 -- a byte of cluster 0 lies below each other cluster
-below_others : (bits c o : ℕ) → 0 < c → o / 2 ^ bits ≡ 0 → o < c * 2 ^ bits
+pub below_others : (bits c o : ℕ) → 0 < c → o / 2 ^ bits ≡ 0 → o < c * 2 ^ bits
 below_others bits c o above in_first =
     let split = div-add-mod' o (2 ^ bits) in
     let none : o / 2 ^ bits * 2 ^ bits ≡ 0 * 2 ^ bits = ap (λ q. q * 2 ^ bits) in_first in
@@ -19,21 +19,57 @@ below_others bits c o above in_first =
     let first : 1 * 2 ^ bits ≤ c * 2 ^ bits = mul-le 1 (2 ^ bits) c (2 ^ bits) (omega (arith, above)) (omega arith) in
     omega (arith, split, none, low, first)
 
--- a byte below those that are written stays, whatever is answered
-stays_below : {T : Type 0} (result : Result T StorageError) (old new : List ℕ) (at : ℕ) (bytes : List ℕ) (o : ℕ) → o < at → ContentsBecome result old (overwritten old at bytes) new → byte_at old o ≡ byte_at new o
-stays_below (Ok _) old new at bytes o lt is = sym (ap (λ l. byte_at l o) is ∙ byte_at-overwritten_below old at bytes o lt)
-stays_below (Err Memory) old new at bytes o lt is = sym (ap (λ l. byte_at l o) is)
-stays_below (Err Fault) old new at bytes o lt (inl is) = sym (ap (λ l. byte_at l o) is)
-stays_below (Err Fault) old new at bytes o lt (inr is) = sym (ap (λ l. byte_at l o) is ∙ byte_at-overwritten_below old at bytes o lt)
+-- ---- bytes that stay, call after call
+module _ (IsKept : ℕ → Type 0) where
+  pub bytes_stay : (v : StorageView) → BytesStay IsKept v v
+  bytes_stay v = record { moments = passes_none v _; contents = λ o kept. refl }
+
+  pub bytes_then : (a b c : StorageView) → BytesStay IsKept a b → BytesStay IsKept b c → BytesStay IsKept a c
+  bytes_then a b c first then = record {
+    moments = passes_on _ first.moments then.moments (λ l same o kept. first.contents o kept ∙ same o kept);
+    contents = λ o kept. first.contents o kept ∙ then.contents o kept;
+  }
+
+  pub fewer_stay : (IsLess : ℕ → Type 0) (a b : StorageView) → ((o : ℕ) → IsLess o → IsKept o) → BytesStay IsKept a b → BytesStay IsLess a b
+  fewer_stay IsLess a b less stay = record {
+    moments = passes_if _ (λ l same o kept. same o (less o kept)) stay.moments;
+    contents = λ o kept. stay.contents o (less o kept);
+  }
+
+  -- one call of a storage that keeps them
+  pub call_keeps : {T : Type 0} (a b : StorageView) (result : Result T StorageError) → Calls a b result → a.is_honest → SameAt IsKept a.contents b.contents → BytesStay IsKept a b
+  call_keeps a b result calls honest same = record {
+    moments = passes_if _ (λ l is o kept. same o kept ∙ ap (λ m. byte_at m o) (sym is)) (calls.time honest);
+    contents = same;
+  }
+
+  -- one that changes nothing
+  pub quiet_keeps : {T : Type 0} (a b : StorageView) (result : Result T StorageError) → QuietCalls a b result → ContentsStay a b → a.is_honest → BytesStay IsKept a b
+  quiet_keeps a b result calls keeps honest =
+      let same : SameAt IsKept a.contents b.contents = λ o kept. ap (λ m. byte_at m o) (sym (keeps honest)) in
+      record { moments = passes_if _ (λ l is o kept. same o kept ∙ ap (λ m. byte_at m o) (sym is)) calls.time; contents = same }
+
+  pub same_kept : (old new : List ℕ) → new ≡ old → SameAt IsKept old new
+  same_kept old new is o kept = ap (λ l. byte_at l o) (sym is)
+
+  -- what is written above all of them, or isn't
+  pub above_kept : (old new : List ℕ) (at : ℕ) (bytes : List ℕ) → ((o : ℕ) → IsKept o → o < at) → (new ≡ old) ⊎ (new ≡ overwritten old at bytes) → SameAt IsKept old new
+  above_kept old new at bytes above (inl is) = same_kept old new is
+  above_kept old new at bytes above (inr is) = λ o kept. sym (ap (λ l. byte_at l o) is ∙ byte_at-overwritten_below old at bytes o (above o kept))
+
+  pub wrote_above : {T : Type 0} (old new : StorageView) (result : Result T StorageError) (at : ℕ) (bytes : List ℕ) → ((o : ℕ) → IsKept o → o < at)
+      → Changes old new result (overwritten old.contents at bytes) → Calls old new result → old.is_honest → BytesStay IsKept old new
+  wrote_above old new result at bytes above written calls honest =
+      call_keeps old new result calls honest (above_kept old.contents new.contents at bytes above (whole_or_nothing result old.contents (overwritten old.contents at bytes) new.contents (written honest)))
 
 -- a table that is written to another cluster
 pub placed_elsewhere : {T : Type 0} (bits : ℕ) (cluster : Option ℕ) (bytes : List ℕ) (old new : StorageView) (result : Result T StorageError) → IsSome cluster → IfSome cluster (λ c. 0 < c)
     → IfSome cluster (λ c. Changes old new result (overwritten old.contents (c * 2 ^ bits) bytes)) → Calls old new result → KeepsHeaderCluster bits old new
 placed_elsewhere bits None bytes old new result some above written calls = absurd (let e : false ≡ true = some in cc)
-placed_elsewhere bits (Some c) bytes old new result some above written calls = λ honest. (calls.honest honest, λ o in_first. stays_below result old.contents new.contents (c * 2 ^ bits) bytes o (below_others bits c o above in_first) (written honest))
+placed_elsewhere bits (Some c) bytes old new result some above written calls = wrote_above (IsInHeaderCluster bits) old new result (c * 2 ^ bits) bytes (λ o in_first. below_others bits c o above in_first) written calls
 
 pub header_cluster_none : (bits : ℕ) (now : StorageView) → KeepsHeaderCluster bits now now
-header_cluster_none bits now = λ honest. (honest, λ o in_first. refl)
+header_cluster_none bits now = λ honest. bytes_stay (IsInHeaderCluster bits) now
 
 pub header_cluster_then : (bits : ℕ) (old mid new : StorageView) → KeepsHeaderCluster bits old mid → KeepsHeaderCluster bits mid new → KeepsHeaderCluster bits old new
-header_cluster_then bits old mid new one two = λ honest. let first = one honest in let then = two first.0 in (then.0, λ o in_first. first.1 o in_first ∙ then.1 o in_first)
+header_cluster_then bits old mid new one two = λ honest. let first = one honest in bytes_then (IsInHeaderCluster bits) old mid new first (two (first.moments.honest honest))

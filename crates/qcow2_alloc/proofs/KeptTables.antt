@@ -27,3 +27,4 @@ pub mod Ordering
 pub mod InOrder
 pub mod Quiet
 pub mod OneChanged
+pub mod BehindHeader

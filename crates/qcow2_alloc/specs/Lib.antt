@@ -30,3 +30,4 @@ pub mod LoadedTables
 pub mod Faults
 pub mod WriteKinds
 pub mod HeaderClusters
+pub mod SparedHeaders

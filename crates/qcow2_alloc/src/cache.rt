@@ -17,6 +17,7 @@ ghost use Rattle.qcow2_alloc.specs.UsedCounts.{TellsUsed};
 ghost use Rattle.qcow2_alloc.specs.TableChanges.{CountsMore, CountsLess, SetsEntry};
 ghost use Rattle.qcow2_alloc.specs.Quiet.{WritesNothing, GetsTableQuietly, GetsBlockQuietly, PutsTableQuietly, PutsBlockQuietly, OtherTablesStay, OtherBlocksStay};
 ghost use Rattle.qcow2_alloc.specs.Faults.{CountsFaults};
+ghost use Rattle.qcow2_alloc.specs.SparedHeaders.{AreBehindHeader, KeepBehindHeader, CachesSpareHeader};
 ghost use Rattle.qcow2_alloc.specs.CachePins.{l2_pins, CachesHaveRoom, KeepsPinsAndNotes, SameTables, SetsPins, IsInUseOrFault, LeavesPinned};
 
 mod backends;
@@ -67,6 +68,7 @@ impl<S: Storage> MetadataCaches<S> {
         ensures room { IfOk result (λ caches. 0 < l2_entries → 0 < rb_entries → CachesHaveRoom caches) }
         ensures pins { IfOk result (λ caches. (cluster : ℕ) → l2_pins caches cluster ≡ 0) }
         ensures unchanged { IfOk result (λ caches. IsFalse caches.is_changed) }
+        ensures header_cluster { IfOk result (AreBehindHeader header.now.fields.cluster_bits) }
     {
         let l2 = AsyncLruCache::new(alloc, L2CacheBackend::new(header), l2_entries)?;
         let rb = AsyncLruCache::new(alloc, RefBlockCacheBackend::new(header), rb_entries)?;
@@ -91,6 +93,7 @@ impl<S: Storage> MetadataCaches<S> {
         ensures free { (size cluster : ℕ) → IsFreeOf size (l2_tables self.old) cluster → IsFreeOf size (l2_tables self.new) cluster }
         ensures ordered { TablesMayGo (order_of self.old) (refblocks self.old) → WritesInOrder S.view storage.old self.old storage.new }
         ensures quiet { AreClean (l2_tables self.old) → WritesNothing S.view storage.old storage.new }
+        ensures header_cluster { CachesSpareHeader S.view storage.old self.old storage.new self.new }
     {
         self.l2.flush(storage)?;
         Ok(())
@@ -109,6 +112,7 @@ impl<S: Storage> MetadataCaches<S> {
         ensures clean { AreClean (refblocks self.old) → AreClean (refblocks self.new) }
         ensures ordered { BlocksMayGo (order_of self.old) (l2_tables self.old) → WritesInOrder S.view storage.old self.old storage.new }
         ensures quiet { AreClean (refblocks self.old) → WritesNothing S.view storage.old storage.new }
+        ensures header_cluster { CachesSpareHeader S.view storage.old self.old storage.new self.new }
     {
         self.rb.flush(storage)?;
         Ok(())
@@ -127,6 +131,7 @@ impl<S: Storage> MetadataCaches<S> {
         ensures ordered { WritesInOrder S.view storage.old self.old storage.new }
         ensures blocks { self.new.rb ≡ self.old.rb }
         ensures quiet { BlocksMayGo (order_of self.old) (l2_tables self.old) → WritesNothing S.view storage.old storage.new }
+        ensures header_cluster { CachesSpareHeader S.view storage.old self.old storage.new self.new }
     {
         match self.direction {
             Direction::L2DependsOnRb => {}
@@ -152,6 +157,7 @@ impl<S: Storage> MetadataCaches<S> {
         ensures ordered { WritesInOrder S.view storage.old self.old storage.new }
         ensures tables { self.new.l2 ≡ self.old.l2 }
         ensures quiet { TablesMayGo (order_of self.old) (refblocks self.old) → WritesNothing S.view storage.old storage.new }
+        ensures header_cluster { CachesSpareHeader S.view storage.old self.old storage.new self.new }
     {
         match self.direction {
             Direction::RbDependsOnL2 => {}
@@ -175,6 +181,7 @@ impl<S: Storage> MetadataCaches<S> {
         ensures keeps { KeepSound S.view storage.old self.old storage.new self.new }
         ensures ordered { WritesInOrder S.view storage.old self.old storage.new }
         ensures quiet { AreAllWritten self.old → WritesNothing S.view storage.old storage.new }
+        ensures header_cluster { CachesSpareHeader S.view storage.old self.old storage.new self.new }
     {
         match self.direction {
             Direction::None | Direction::RbDependsOnL2 => {
@@ -202,6 +209,7 @@ impl<S: Storage> MetadataCaches<S> {
         ensures ordered { WritesInOrder S.view storage.old self.old storage.new }
         ensures tables { order_of self.old ≢ RbDependsOnL2 → self.new.l2 ≡ self.old.l2 }
         ensures quiet { AreClean (refblocks self.old) → BlocksMayGo (order_of self.old) (l2_tables self.old) → WritesNothing S.view storage.old storage.new }
+        ensures header_cluster { CachesSpareHeader S.view storage.old self.old storage.new self.new }
     {
         match self.direction {
             Direction::RbDependsOnL2 => {
@@ -226,6 +234,7 @@ impl<S: Storage> MetadataCaches<S> {
         ensures ordered { WritesInOrder S.view storage.old self.old storage.new }
         ensures quiet { TablesMayGo (order_of self.old) (refblocks self.old) → WritesNothing S.view storage.old storage.new }
         ensures blocks_stay { order_of self.old ≢ L2DependsOnRb → self.new.rb ≡ self.old.rb }
+        ensures header_cluster { CachesSpareHeader S.view storage.old self.old storage.new self.new }
     {
         match self.direction {
             Direction::L2DependsOnRb => self.write_blocks(storage),
@@ -247,6 +256,7 @@ impl<S: Storage> MetadataCaches<S> {
         ensures ordered { WritesInOrder S.view storage.old self.old storage.new }
         ensures quiet { BlocksMayGo (order_of self.old) (l2_tables self.old) → WritesNothing S.view storage.old storage.new }
         ensures tables_stay { order_of self.old ≢ RbDependsOnL2 → self.new.l2 ≡ self.old.l2 }
+        ensures header_cluster { CachesSpareHeader S.view storage.old self.old storage.new self.new }
     {
         match self.direction {
             Direction::RbDependsOnL2 => self.write_tables(storage),
@@ -273,6 +283,7 @@ impl<S: Storage> MetadataCaches<S> {
         ensures quiet { GetsTableQuietly self.old cluster → WritesNothing S.view storage.old storage.new }
         ensures tables_stay { OtherTablesStay self.old self.new cluster }
         ensures blocks_stay { order_of self.old ≢ L2DependsOnRb → self.new.rb ≡ self.old.rb }
+        ensures header_cluster { 0 < cluster → CachesSpareHeader S.view storage.old self.old storage.new self.new }
     {
         if self.l2.get_or_insert(storage, cluster, false)? {
             return Ok(());
@@ -301,6 +312,7 @@ impl<S: Storage> MetadataCaches<S> {
         ensures quiet { GetsBlockQuietly self.old cluster → WritesNothing S.view storage.old storage.new }
         ensures blocks_stay { OtherBlocksStay self.old self.new cluster }
         ensures tables_stay { order_of self.old ≢ RbDependsOnL2 → self.new.l2 ≡ self.old.l2 }
+        ensures header_cluster { 0 < cluster → CachesSpareHeader S.view storage.old self.old storage.new self.new }
     {
         if self.rb.get_or_insert(storage, cluster, false)? {
             return Ok(());
@@ -336,6 +348,7 @@ impl<S: Storage> MetadataCaches<S> {
         ensures blocks { AreClean (refblocks self.old) → AreClean (refblocks self.new) }
         ensures first { BlocksMayGo (order_of self.old) (l2_tables self.old) → IsFalse table.is_modified → BlocksMayGo (order_of self.new) (l2_tables self.new) }
         ensures may_go { TablesMayGo (order_of self.old) (refblocks self.old) → TablesMayGo (order_of self.new) (refblocks self.new) }
+        ensures header_cluster { IfSome table.cluster (λ cluster. 0 < cluster → CachesSpareHeader S.view storage.old self.old storage.new self.new) }
     {
         let Some(cluster) = table.get_cluster() else {
             unreachable!();
@@ -373,6 +386,7 @@ impl<S: Storage> MetadataCaches<S> {
         ensures tables_stay { order_of self.old ≢ RbDependsOnL2 → self.new.l2 ≡ self.old.l2 }
         ensures clean { AreClean (refblocks self.old) → IsFalse block.is_modified → OnOk result (AreClean (refblocks self.new)) }
         ensures first { BlocksMayGo (order_of self.old) (l2_tables self.old) → OnOk result (BlocksMayGo (order_of self.new) (l2_tables self.new)) }
+        ensures header_cluster { IfSome block.cluster (λ cluster. 0 < cluster → CachesSpareHeader S.view storage.old self.old storage.new self.new) }
     {
         let Some(cluster) = block.get_cluster() else {
             unreachable!();
@@ -435,6 +449,7 @@ impl<S: Storage> MetadataCaches<S> {
         ensures taken { IsTrue result → TakesBlock self.old self.new cluster }
         ensures clean { AreClean (refblocks self.old) → AreClean (refblocks self.new) }
         ensures gone { (h : HeaderFields) (p : Pending) (on_storage : Bytes) → CacheInvariant h p self.old on_storage → CachesHaveRoom self.old → rb_at self.new cluster ≡ None }
+        ensures header_cluster { KeepBehindHeader self.old self.new }
     {
         self.rb.remove(cluster)
     }
@@ -607,6 +622,7 @@ impl<S: Storage> MetadataCaches<S> {
         ensures made { RaisesZero self.old cluster index result }
         ensures counts { IfSome (rb_at self.old cluster) (λ b. CountsMore self.old self.new cluster index b result) }
         ensures missing { IsNone (rb_at self.old cluster) → IsFalse result }
+        ensures header_cluster { KeepBehindHeader self.old self.new }
     {
         let Some(block) = self.rb.peek_mut(cluster) else {
             return false;
@@ -629,6 +645,7 @@ impl<S: Storage> MetadataCaches<S> {
         ensures cached { IsTrue result → IsSome (rb_at self.new cluster) }
         ensures counts { IfSome (rb_at self.old cluster) (λ b. CountsLess self.old self.new cluster index b result) }
         ensures missing { IsNone (rb_at self.old cluster) → IsFalse result }
+        ensures header_cluster { KeepBehindHeader self.old self.new }
     {
         let Some(block) = self.rb.peek_mut(cluster) else {
             return false;

@@ -7,3 +7,6 @@ returns-in-L2DependsOnRb-clause-keeps g c = c.write_blocks.ensures.keeps (blocks
 
 pub returns-in-L2DependsOnRb-clause-ordered : goal.returns-in-L2DependsOnRb-clause-ordered
 returns-in-L2DependsOnRb-clause-ordered g c = c.write_blocks.ensures.ordered (blocks_free c.args.self.now (inr c.in-L2DependsOnRb.is))
+
+pub returns-in-L2DependsOnRb-clause-header_cluster : goal.returns-in-L2DependsOnRb-clause-header_cluster
+returns-in-L2DependsOnRb-clause-header_cluster g c = c.write_blocks.ensures.header_cluster

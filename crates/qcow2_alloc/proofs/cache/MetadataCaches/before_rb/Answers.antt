@@ -7,3 +7,6 @@ returns-in-RbDependsOnL2-clause-keeps g c = c.write_tables.ensures.keeps (tables
 
 pub returns-in-RbDependsOnL2-clause-ordered : goal.returns-in-RbDependsOnL2-clause-ordered
 returns-in-RbDependsOnL2-clause-ordered g c = c.write_tables.ensures.ordered (tables_free c.args.self.now (inr c.in-RbDependsOnL2.is))
+
+pub returns-in-RbDependsOnL2-clause-header_cluster : goal.returns-in-RbDependsOnL2-clause-header_cluster
+returns-in-RbDependsOnL2-clause-header_cluster g c = c.write_tables.ensures.header_cluster

@@ -11,6 +11,7 @@ use Rattle.qcow2_alloc.specs.MetadataCaches.{l2_tables}
 use Rattle.qcow2_alloc.specs.ImageStorage.{storage_of}
 use Rattle.qcow2_alloc.proofs.KeptTables.Clean.{blocks_as}
 use Rattle.qcow2_alloc.proofs.KeptTables.Quiet.{quiet_then}
+use Rattle.qcow2_alloc.proofs.KeptTables.BehindHeader.{caches_then}
 use Rattle.qcow2_alloc.proofs.cache.MetadataCaches.flush_rb.Goals as goal
 
 pub returns-in_err-write_tables-in-RbDependsOnL2-clause-keeps : goal.returns-in_err-write_tables-in-RbDependsOnL2-clause-keeps
@@ -35,6 +36,7 @@ returns-in-None g c = record {
   ordered = c.write_blocks-in-None.ensures.ordered (blocks_free c.args.self.now c.in-None.is);
   tables = λ _. c.write_blocks-in-None.ensures.tables;
   quiet = λ clean may. c.write_blocks-in-None.ensures.quiet clean;
+  header_cluster = c.write_blocks-in-None.ensures.header_cluster;
 }
 
 pub returns-in_err-write_tables-in-RbDependsOnL2-clause-faults : goal.returns-in_err-write_tables-in-RbDependsOnL2-clause-faults
@@ -63,3 +65,9 @@ returns-in_ok-write_tables-in-RbDependsOnL2-clause-quiet g c = λ clean may hone
     let one = c.write_tables.ensures.quiet (subst (λ (d : Direction). BlocksMayGo d (l2_tables c.args.self.now)) (ap order c.in-RbDependsOnL2.is) may) honest in
     quiet_then (g.S.Storage.view (storage_of c.args.storage.now)) (g.S.Storage.view (storage_of c.write_tables.new.storage)) (g.S.Storage.view (storage_of c.write_blocks.new.storage)) one
     (c.write_blocks.ensures.quiet (blocks_as c.args.self.now c.write_tables.new.self c.write_tables.ensures.refblocks clean) one.honest)
+
+pub returns-in_err-write_tables-in-RbDependsOnL2-clause-header_cluster : goal.returns-in_err-write_tables-in-RbDependsOnL2-clause-header_cluster
+returns-in_err-write_tables-in-RbDependsOnL2-clause-header_cluster g c = c.write_tables.ensures.header_cluster
+
+pub returns-in_ok-write_tables-in-RbDependsOnL2-clause-header_cluster : goal.returns-in_ok-write_tables-in-RbDependsOnL2-clause-header_cluster
+returns-in_ok-write_tables-in-RbDependsOnL2-clause-header_cluster g c = caches_then c.write_tables.ensures.header_cluster c.write_blocks.ensures.header_cluster

@@ -5,6 +5,7 @@ use Rattle.qcow2_alloc.proofs.KeptTables.Turning.{tables_free, keep_none, keep_t
 use Rattle.qcow2_alloc.specs.ImageError.{IsFault}
 use Rattle.qcow2_alloc.proofs.KeptTables.Causes.{given_err}
 use Rattle.qcow2_alloc.proofs.KeptTables.InOrder.{order_none}
+use Rattle.qcow2_alloc.proofs.KeptTables.BehindHeader.{caches_none, turned_behind}
 use Rattle.qcow2_alloc.proofs.cache.MetadataCaches.l2_depends_on_rb.Goals as goal
 use Rattle.qcow2_alloc.proofs.cache.MetadataCaches.l2_depends_on_rb.Goals.{in-L2DependsOnRb, in-None, in-RbDependsOnL2+in_ok-write_tables-in-RbDependsOnL2}
 
@@ -32,4 +33,14 @@ returns-clause-ordered g c = elim c.match-self.branch [
   | in-L2DependsOnRb w ↦ rw w.storage-is (order_none g.S.Storage.view c.args.storage.now c.args.self.now)
   | in-None w ↦ rw w.storage-is (order_none g.S.Storage.view c.args.storage.now c.args.self.now)
   | in-RbDependsOnL2+in_ok-write_tables-in-RbDependsOnL2 w ↦ rw w.storage-is (w.write_tables.ensures.ordered (tables_free c.args.self.now (inr w.in-RbDependsOnL2.is)))
+]
+
+pub returns-in_err-write_tables-in-RbDependsOnL2-clause-header_cluster : goal.returns-in_err-write_tables-in-RbDependsOnL2-clause-header_cluster
+returns-in_err-write_tables-in-RbDependsOnL2-clause-header_cluster g c = c.write_tables.ensures.header_cluster
+
+pub returns-clause-header_cluster : goal.returns-clause-header_cluster
+returns-clause-header_cluster g c = elim c.match-self.branch [
+  | in-L2DependsOnRb w ↦ rw (w.self-is, w.storage-is) caches_none
+  | in-None w ↦ rw (w.self-is, w.storage-is) (turned_behind D.L2DependsOnRb caches_none)
+  | in-RbDependsOnL2+in_ok-write_tables-in-RbDependsOnL2 w ↦ rw (w.self-is, w.storage-is) (turned_behind D.L2DependsOnRb w.write_tables.ensures.header_cluster)
 ]

@@ -11,6 +11,8 @@ use Rattle.qcow2_alloc.specs.AsyncLruCache.{value_at}
 use Rattle.qcow2_alloc.specs.TableChanges.{changed_block}
 use Rattle.qcow2_alloc.proofs.KeptTables.Inserting.{if_some}
 use Rattle.qcow2_alloc.proofs.KeptTables.OneChanged.{one_changed}
+use Rattle.qcow2_alloc.proofs.KeptTables.BehindHeader.{set_behind, noted_behind}
+use Rattle.qcow2_alloc.specs.SparedHeaders.{KeepBehindHeader}
 use Rattle.qcow2_alloc.proofs.cache.MetadataCaches.rb_decrement.Goals as goal
 use Rattle.qcow2_alloc.proofs.cache.MetadataCaches.rb_decrement.Goals.{then-index-counts-via-then-index-counts, then-index-counts-via-else-index-counts+then-not-decrement}
 
@@ -71,3 +73,12 @@ returns-clause-counts g c =
         tables = refl;
       },
     )
+
+pub returns-then-index-counts-clause-header_cluster : goal.returns-then-index-counts-clause-header_cluster
+returns-then-index-counts-clause-header_cluster g c = elim c.then-index-counts.branch [
+  | then-index-counts-via-then-index-counts w ↦ rw w.self-is (set_behind c.args.self.now c.args.cluster c.in-Some.block.now)
+  | then-index-counts-via-else-index-counts+then-not-decrement w ↦ rw w.self-is (set_behind c.args.self.now c.args.cluster w.decrement.new.self)
+]
+
+pub returns-clause-header_cluster : goal.returns-clause-header_cluster
+returns-clause-header_cluster g c = noted_behind c.args.self.now (record c.args.self.now { rb = with_entries c.args.self.now.rb (set_at (eqb c.args.cluster) c.args.self.now.rb.entries c.decrement.new.self) }) (set_behind c.args.self.now c.args.cluster c.decrement.new.self)

@@ -5,6 +5,7 @@ use Rattle.qcow2_alloc.proofs.KeptTables.Turning.{blocks_free, keep_none, keep_t
 use Rattle.qcow2_alloc.specs.ImageError.{IsFault}
 use Rattle.qcow2_alloc.proofs.KeptTables.Causes.{given_err}
 use Rattle.qcow2_alloc.proofs.KeptTables.InOrder.{order_none}
+use Rattle.qcow2_alloc.proofs.KeptTables.BehindHeader.{caches_none, turned_behind}
 use Rattle.qcow2_alloc.proofs.cache.MetadataCaches.rb_depends_on_l2.Goals as goal
 use Rattle.qcow2_alloc.proofs.cache.MetadataCaches.rb_depends_on_l2.Goals.{in-RbDependsOnL2, in-None, in-L2DependsOnRb+in_ok-write_blocks-in-L2DependsOnRb}
 
@@ -32,4 +33,14 @@ returns-clause-ordered g c = elim c.match-self.branch [
   | in-RbDependsOnL2 w ↦ rw w.storage-is (order_none g.S.Storage.view c.args.storage.now c.args.self.now)
   | in-None w ↦ rw w.storage-is (order_none g.S.Storage.view c.args.storage.now c.args.self.now)
   | in-L2DependsOnRb+in_ok-write_blocks-in-L2DependsOnRb w ↦ rw w.storage-is (w.write_blocks.ensures.ordered (blocks_free c.args.self.now (inr w.in-L2DependsOnRb.is)))
+]
+
+pub returns-in_err-write_blocks-in-L2DependsOnRb-clause-header_cluster : goal.returns-in_err-write_blocks-in-L2DependsOnRb-clause-header_cluster
+returns-in_err-write_blocks-in-L2DependsOnRb-clause-header_cluster g c = c.write_blocks.ensures.header_cluster
+
+pub returns-clause-header_cluster : goal.returns-clause-header_cluster
+returns-clause-header_cluster g c = elim c.match-self.branch [
+  | in-RbDependsOnL2 w ↦ rw (w.self-is, w.storage-is) caches_none
+  | in-None w ↦ rw (w.self-is, w.storage-is) (turned_behind D.RbDependsOnL2 caches_none)
+  | in-L2DependsOnRb+in_ok-write_blocks-in-L2DependsOnRb w ↦ rw (w.self-is, w.storage-is) (turned_behind D.RbDependsOnL2 w.write_blocks.ensures.header_cluster)
 ]

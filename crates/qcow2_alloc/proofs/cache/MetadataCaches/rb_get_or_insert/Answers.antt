@@ -13,6 +13,7 @@ use Rattle.qcow2_alloc.proofs.CachedEntries.Staying.{stays_same, stays_then, val
 use Rattle.qcow2_alloc.specs.Faults.{faults_of}
 use Rattle.qcow2_alloc.proofs.Faults.{told_ok, told_on, told_since, cache_told, rb_get_tells}
 use Rattle.qcow2_alloc.proofs.Outcomes.{never}
+use Rattle.qcow2_alloc.proofs.KeptTables.BehindHeader.{block_got_behind, caches_then}
 use Rattle.qcow2_alloc.proofs.cache.MetadataCaches.rb_get_or_insert.Goals as goal
 
 pub returns-in_err-get_or_insert-clause-keeps : goal.returns-in_err-get_or_insert-clause-keeps
@@ -169,3 +170,18 @@ returns-clause-storage_faults g c =
     let one = rb_get_tells g.S.Storage.view c.args.self.now.rb.backend.header.fields c.args.self.now.rb.size false c.args.cluster c.args.storage.now c.get_or_insert.new.store c.args.self.now.rb.entries c.get_or_insert.new.self.entries c.get_or_insert.result c.get_or_insert.ensures.hit c.get_or_insert.ensures.miss in
     let two = rb_get_tells g.S.Storage.view c.before_rb.new.self.rb.backend.header.fields c.before_rb.new.self.rb.size true c.args.cluster c.before_rb.new.storage c.get_or_insert-2.new.store c.before_rb.new.self.rb.entries c.get_or_insert-2.new.self.entries c.get_or_insert-2.result c.get_or_insert-2.ensures.hit c.get_or_insert-2.ensures.miss in
     told_ok (faults_of g.S.Storage.view c.args.storage.now) (faults_of g.S.Storage.view c.get_or_insert-2.new.store) tt (omega (arith, one.no_fewer, c.before_rb.ensures.storage_faults.no_fewer, two.no_fewer))
+
+pub returns-in_err-get_or_insert-clause-header_cluster : goal.returns-in_err-get_or_insert-clause-header_cluster
+returns-in_err-get_or_insert-clause-header_cluster g c = λ above. block_got_behind g.S.Storage.view c.args.storage.now c.get_or_insert.new.store c.args.self.now false c.args.cluster above c.get_or_insert.new.self c.get_or_insert.result c.get_or_insert.ensures.others c.get_or_insert.ensures.stays c.get_or_insert.ensures.hit c.get_or_insert.ensures.miss
+
+pub returns-then-branch-clause-header_cluster : goal.returns-then-branch-clause-header_cluster
+returns-then-branch-clause-header_cluster g c = λ above. block_got_behind g.S.Storage.view c.args.storage.now c.get_or_insert.new.store c.args.self.now false c.args.cluster above c.get_or_insert.new.self c.get_or_insert.result c.get_or_insert.ensures.others c.get_or_insert.ensures.stays c.get_or_insert.ensures.hit c.get_or_insert.ensures.miss
+
+pub returns-in_err-before_rb-clause-header_cluster : goal.returns-in_err-before_rb-clause-header_cluster
+returns-in_err-before_rb-clause-header_cluster g c = λ above. caches_then (block_got_behind g.S.Storage.view c.args.storage.now c.get_or_insert.new.store c.args.self.now false c.args.cluster above c.get_or_insert.new.self c.get_or_insert.result c.get_or_insert.ensures.others c.get_or_insert.ensures.stays c.get_or_insert.ensures.hit c.get_or_insert.ensures.miss) c.before_rb.ensures.header_cluster
+
+pub returns-in_err-get_or_insert-2-clause-header_cluster : goal.returns-in_err-get_or_insert-2-clause-header_cluster
+returns-in_err-get_or_insert-2-clause-header_cluster g c = λ above. caches_then (caches_then (block_got_behind g.S.Storage.view c.args.storage.now c.get_or_insert.new.store c.args.self.now false c.args.cluster above c.get_or_insert.new.self c.get_or_insert.result c.get_or_insert.ensures.others c.get_or_insert.ensures.stays c.get_or_insert.ensures.hit c.get_or_insert.ensures.miss) c.before_rb.ensures.header_cluster) (block_got_behind g.S.Storage.view c.before_rb.new.storage c.get_or_insert-2.new.store c.before_rb.new.self true c.args.cluster above c.get_or_insert-2.new.self c.get_or_insert-2.result c.get_or_insert-2.ensures.others c.get_or_insert-2.ensures.stays c.get_or_insert-2.ensures.hit c.get_or_insert-2.ensures.miss)
+
+pub returns-clause-header_cluster : goal.returns-clause-header_cluster
+returns-clause-header_cluster g c = λ above. caches_then (caches_then (block_got_behind g.S.Storage.view c.args.storage.now c.get_or_insert.new.store c.args.self.now false c.args.cluster above c.get_or_insert.new.self c.get_or_insert.result c.get_or_insert.ensures.others c.get_or_insert.ensures.stays c.get_or_insert.ensures.hit c.get_or_insert.ensures.miss) c.before_rb.ensures.header_cluster) (block_got_behind g.S.Storage.view c.before_rb.new.storage c.get_or_insert-2.new.store c.before_rb.new.self true c.args.cluster above c.get_or_insert-2.new.self c.get_or_insert-2.result c.get_or_insert-2.ensures.others c.get_or_insert-2.ensures.stays c.get_or_insert-2.ensures.hit c.get_or_insert-2.ensures.miss)

@@ -12,6 +12,8 @@ use Rattle.qcow2_alloc.specs.AsyncLruCache.{value_at}
 use Rattle.qcow2_alloc.specs.TableChanges.{changed_block}
 use Rattle.qcow2_alloc.proofs.KeptTables.Inserting.{if_some}
 use Rattle.qcow2_alloc.proofs.KeptTables.OneChanged.{one_changed}
+use Rattle.qcow2_alloc.proofs.KeptTables.BehindHeader.{set_behind, noted_behind}
+use Rattle.qcow2_alloc.specs.SparedHeaders.{KeepBehindHeader}
 use Rattle.qcow2_alloc.proofs.cache.MetadataCaches.rb_increment.Goals as goal
 use Rattle.qcow2_alloc.proofs.cache.MetadataCaches.rb_increment.Goals.{then-index-counts-via-then-index-counts, then-index-counts-via-else-index-counts+then-not-increment}
 
@@ -78,3 +80,12 @@ returns-clause-counts g c =
         tables = refl;
       },
     )
+
+pub returns-then-index-counts-clause-header_cluster : goal.returns-then-index-counts-clause-header_cluster
+returns-then-index-counts-clause-header_cluster g c = elim c.then-index-counts.branch [
+  | then-index-counts-via-then-index-counts w ↦ rw w.self-is (set_behind c.args.self.now c.args.cluster c.in-Some.block.now)
+  | then-index-counts-via-else-index-counts+then-not-increment w ↦ rw w.self-is (set_behind c.args.self.now c.args.cluster w.increment.new.self)
+]
+
+pub returns-clause-header_cluster : goal.returns-clause-header_cluster
+returns-clause-header_cluster g c = noted_behind c.args.self.now (record c.args.self.now { rb = with_entries c.args.self.now.rb (set_at (eqb c.args.cluster) c.args.self.now.rb.entries c.increment.new.self) }) (set_behind c.args.self.now c.args.cluster c.increment.new.self)

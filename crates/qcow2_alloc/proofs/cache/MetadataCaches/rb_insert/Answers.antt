@@ -24,6 +24,7 @@ use Rattle.qcow2_alloc.proofs.CachedEntries.Staying.{stays_same, stays_then, val
 use Rattle.qcow2_alloc.specs.Faults.{faults_of}
 use Rattle.qcow2_alloc.proofs.Faults.{told_ok, told_on, told_since, cache_told, rb_put_tells}
 use Rattle.qcow2_alloc.proofs.Outcomes.{never}
+use Rattle.qcow2_alloc.proofs.KeptTables.BehindHeader.{block_put_behind, caches_then}
 use Rattle.qcow2_alloc.proofs.cache.MetadataCaches.rb_insert.Goals as goal
 
 pub returns-in_err-insert-clause-keeps : goal.returns-in_err-insert-clause-keeps
@@ -244,3 +245,18 @@ returns-clause-storage_faults g c =
     let one = rb_put_tells g.S.Storage.view c.args.self.now.rb.backend.header.fields c.args.self.now.rb.size false c.in-Some.cluster c.args.storage.now c.insert.new.store c.args.self.now.rb.entries c.insert.new.self.entries c.insert.result (Some c.args.block) c.insert.new.value _ c.insert.ensures.nothing c.insert.ensures.there c.insert.ensures.missing in
     let two = rb_put_tells g.S.Storage.view c.before_rb.new.self.rb.backend.header.fields c.before_rb.new.self.rb.size true c.in-Some.cluster c.before_rb.new.storage c.insert-2.new.store c.before_rb.new.self.rb.entries c.insert-2.new.self.entries c.insert-2.result c.insert.new.value c.insert-2.new.value _ c.insert-2.ensures.nothing c.insert-2.ensures.there c.insert-2.ensures.missing in
     told_ok (faults_of g.S.Storage.view c.args.storage.now) (faults_of g.S.Storage.view c.insert-2.new.store) tt (omega (arith, one.no_fewer, c.before_rb.ensures.storage_faults.no_fewer, two.no_fewer))
+
+pub returns-in_err-insert-clause-header_cluster : goal.returns-in_err-insert-clause-header_cluster
+returns-in_err-insert-clause-header_cluster g c = if_some _ c.args.block.cluster c.in-Some.cluster (sym c.get_cluster.ensures.value ∙ c.in-Some.is) (λ above. block_put_behind g.S.Storage.view c.args.storage.now c.insert.new.store c.args.self.now false c.in-Some.cluster above c.insert.new.self c.args.block (Some c.args.block) c.insert.new.value c.insert.result refl c.insert.ensures.others c.insert.ensures.stays c.insert.ensures.there c.insert.ensures.missing)
+
+pub returns-then-branch-clause-header_cluster : goal.returns-then-branch-clause-header_cluster
+returns-then-branch-clause-header_cluster g c = if_some _ c.args.block.cluster c.in-Some.cluster (sym c.get_cluster.ensures.value ∙ c.in-Some.is) (λ above. block_put_behind g.S.Storage.view c.args.storage.now c.insert.new.store c.args.self.now false c.in-Some.cluster above c.insert.new.self c.args.block (Some c.args.block) c.insert.new.value c.insert.result refl c.insert.ensures.others c.insert.ensures.stays c.insert.ensures.there c.insert.ensures.missing)
+
+pub returns-in_err-before_rb-clause-header_cluster : goal.returns-in_err-before_rb-clause-header_cluster
+returns-in_err-before_rb-clause-header_cluster g c = if_some _ c.args.block.cluster c.in-Some.cluster (sym c.get_cluster.ensures.value ∙ c.in-Some.is) (λ above. caches_then (block_put_behind g.S.Storage.view c.args.storage.now c.insert.new.store c.args.self.now false c.in-Some.cluster above c.insert.new.self c.args.block (Some c.args.block) c.insert.new.value c.insert.result refl c.insert.ensures.others c.insert.ensures.stays c.insert.ensures.there c.insert.ensures.missing) c.before_rb.ensures.header_cluster)
+
+pub returns-in_err-insert-2-clause-header_cluster : goal.returns-in_err-insert-2-clause-header_cluster
+returns-in_err-insert-2-clause-header_cluster g c = if_some _ c.args.block.cluster c.in-Some.cluster (sym c.get_cluster.ensures.value ∙ c.in-Some.is) (λ above. caches_then (caches_then (block_put_behind g.S.Storage.view c.args.storage.now c.insert.new.store c.args.self.now false c.in-Some.cluster above c.insert.new.self c.args.block (Some c.args.block) c.insert.new.value c.insert.result refl c.insert.ensures.others c.insert.ensures.stays c.insert.ensures.there c.insert.ensures.missing) c.before_rb.ensures.header_cluster) (block_put_behind g.S.Storage.view c.before_rb.new.storage c.insert-2.new.store c.before_rb.new.self true c.in-Some.cluster above c.insert-2.new.self c.args.block c.insert.new.value c.insert-2.new.value c.insert-2.result ((rb_taken g.S.Storage.view c.args.storage.now c.insert.new.store c.args.self.now false c.in-Some.cluster c.insert.new.self c.insert.ensures.others c.args.block (Some c.args.block) c.insert.new.value refl c.insert.result c.insert.ensures.there c.insert.ensures.missing).kept (c.in_ok-insert.was ∙ ap Ok c.if-branch.false)) c.insert-2.ensures.others c.insert-2.ensures.stays c.insert-2.ensures.there c.insert-2.ensures.missing))
+
+pub returns-clause-header_cluster : goal.returns-clause-header_cluster
+returns-clause-header_cluster g c = if_some _ c.args.block.cluster c.in-Some.cluster (sym c.get_cluster.ensures.value ∙ c.in-Some.is) (λ above. caches_then (caches_then (block_put_behind g.S.Storage.view c.args.storage.now c.insert.new.store c.args.self.now false c.in-Some.cluster above c.insert.new.self c.args.block (Some c.args.block) c.insert.new.value c.insert.result refl c.insert.ensures.others c.insert.ensures.stays c.insert.ensures.there c.insert.ensures.missing) c.before_rb.ensures.header_cluster) (block_put_behind g.S.Storage.view c.before_rb.new.storage c.insert-2.new.store c.before_rb.new.self true c.in-Some.cluster above c.insert-2.new.self c.args.block c.insert.new.value c.insert-2.new.value c.insert-2.result ((rb_taken g.S.Storage.view c.args.storage.now c.insert.new.store c.args.self.now false c.in-Some.cluster c.insert.new.self c.insert.ensures.others c.args.block (Some c.args.block) c.insert.new.value refl c.insert.result c.insert.ensures.there c.insert.ensures.missing).kept (c.in_ok-insert.was ∙ ap Ok c.if-branch.false)) c.insert-2.ensures.others c.insert-2.ensures.stays c.insert-2.ensures.there c.insert-2.ensures.missing))

@@ -1,4 +1,5 @@
 use Rattle.qcow2_alloc.proofs.KeptTables.Off.{removed_others, removed_marks, removed_takes, removed_clean, removed_gone}
+use Rattle.qcow2_alloc.proofs.KeptTables.BehindHeader.{removed_behind}
 use Rattle.qcow2_alloc.proofs.cache.MetadataCaches.rb_remove.Goals as goal
 
 pub returns-clause-others : goal.returns-clause-others
@@ -15,3 +16,6 @@ returns-clause-clean g c = removed_clean c.args.self.now c.args.cluster c.remove
 
 pub returns-clause-gone : goal.returns-clause-gone
 returns-clause-gone g c = removed_gone c.args.self.now c.args.cluster c.remove.result c.remove.new.self c.remove.ensures.value c.remove.ensures.entries
+
+pub returns-clause-header_cluster : goal.returns-clause-header_cluster
+returns-clause-header_cluster g c = removed_behind c.args.self.now c.args.cluster c.remove.result c.remove.new.self c.remove.ensures.entries

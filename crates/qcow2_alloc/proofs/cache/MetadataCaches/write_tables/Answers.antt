@@ -15,6 +15,7 @@ use Rattle.qcow2_alloc.proofs.KeptTables.InOrder.{tables_in_order}
 use Rattle.qcow2_alloc.proofs.KeptTables.Quiet.{tables_quiet}
 use Rattle.qcow2_alloc.specs.Faults.{faults_of}
 use Rattle.qcow2_alloc.proofs.Faults.{told_ok, cache_told, l2_flush_tells}
+use Rattle.qcow2_alloc.proofs.KeptTables.BehindHeader.{tables_flushed_behind}
 use Rattle.qcow2_alloc.proofs.cache.MetadataCaches.write_tables.Goals as goal
 
 pub returns-in_err-flush-clause-keeps : goal.returns-in_err-flush-clause-keeps
@@ -64,3 +65,9 @@ returns-in_err-flush-clause-storage_faults g c =
 
 pub returns-clause-storage_faults : goal.returns-clause-storage_faults
 returns-clause-storage_faults g c = told_ok (faults_of g.S.Storage.view c.args.storage.now) (faults_of g.S.Storage.view c.flush.new.store) tt (l2_flush_tells g.S.Storage.view c.args.self.now.l2.backend.header.fields c.args.storage.now c.flush.new.store c.args.self.now.l2.entries c.flush.new.self.entries c.flush.result c.flush.ensures.flushed).no_fewer
+
+pub returns-in_err-flush-clause-header_cluster : goal.returns-in_err-flush-clause-header_cluster
+returns-in_err-flush-clause-header_cluster g c = tables_flushed_behind g.S.Storage.view c.args.storage.now c.flush.new.store c.args.self.now c.flush.new.self c.flush.result c.flush.ensures.others c.flush.ensures.flushed
+
+pub returns-clause-header_cluster : goal.returns-clause-header_cluster
+returns-clause-header_cluster g c = tables_flushed_behind g.S.Storage.view c.args.storage.now c.flush.new.store c.args.self.now c.flush.new.self c.flush.result c.flush.ensures.others c.flush.ensures.flushed

@@ -1,0 +1,49 @@
+-- What the calls of the caches and of the allocator leave of cluster 0, where the header lies, whatever an image's contents are.
+use Rattle.std.specs.Prelude.{ℕ, ◌≡◌, Some, None}
+use Rattle.image_access.specs.Moments.{StorageView}
+use Rattle.qcow2_metadata.specs.EntryTable.{EntryTableView}
+use Rattle.qcow2_alloc.specs.HeaderClusters.{IsInHeaderCluster, IsBesidePointer, BytesStay, KeepsHeaderCluster}
+use Rattle.qcow2_alloc.specs.ImageFile.{view_in}
+use Rattle.qcow2_alloc.specs.ImageStorage.{storage_of}
+use Rattle.qcow2_alloc.specs.MetadataCaches.{l2_at, rb_at}
+use Rattle.qcow2_alloc.specs.declared.cache.MetadataCaches.{MetadataCaches}
+use Rattle.qcow2_alloc.specs.declared.image_file.ImageFile.{ImageFile}
+use Rattle.qcow2_alloc.specs.declared.image_storage.ImageStorage.{ImageStorage}
+
+module _ {S : Type 0} where
+  -- no cached table stands at cluster 0, and each cluster has so many bits
+  pub record AreBehindHeader (bits : ℕ) (caches : MetadataCaches S) : Type 0 where
+    pub l2_bits : caches.l2.backend.header.fields.cluster_bits ≡ bits
+    pub rb_bits : caches.rb.backend.header.fields.cluster_bits ≡ bits
+    pub tables : l2_at caches 0 ≡ None
+    pub blocks : rb_at caches 0 ≡ None
+
+  -- a call of the caches keeps that
+  abbrev pub KeepBehindHeader : MetadataCaches S → MetadataCaches S → Type 0
+  KeepBehindHeader caches caches' = (bits : ℕ) → AreBehindHeader bits caches → AreBehindHeader bits caches'
+
+  -- neither a cached table of an image nor its reftable stands at cluster 0
+  pub record StandsBehindHeader (bits : ℕ) (reftable : EntryTableView) (file : ImageFile S) : Type 0 where
+    pub header : file.header.fields.cluster_bits ≡ bits
+    pub caches : AreBehindHeader bits file.caches
+    pub reftable_bits : reftable.cluster_bits ≡ bits
+    pub elsewhere : ¬ (reftable.cluster ≡ Some 0)
+
+  module _ (view : S → StorageView) where
+    -- Where no cached table stood at cluster 0, none does, and the bytes of cluster 0 stay.
+    pub record CachesSpareHeader (old : ImageStorage S) (caches : MetadataCaches S) (new : ImageStorage S) (caches' : MetadataCaches S) : Type 0 where
+      pub bytes : (bits : ℕ) → AreBehindHeader bits caches → KeepsHeaderCluster bits (view (storage_of old)) (view (storage_of new))
+      pub behind : KeepBehindHeader caches caches'
+
+    -- Where neither a cached table nor the reftable stood at cluster 0, none does. On an honest storage such bytes stay then, at each moment.
+    pub record SparesBytes (IsKept : ℕ → ℕ → Type 0) (reftable : EntryTableView) (old : ImageFile S) (reftable' : EntryTableView) (new : ImageFile S) : Type 0 where
+      pub bytes : (bits : ℕ) → StandsBehindHeader bits reftable old → (view_in view old).is_honest → BytesStay (IsKept bits) (view_in view old) (view_in view new)
+      pub behind : (bits : ℕ) → StandsBehindHeader bits reftable old → StandsBehindHeader bits reftable' new
+
+    -- so do all bytes of cluster 0
+    abbrev pub SparesHeader : EntryTableView → ImageFile S → EntryTableView → ImageFile S → Type 0
+    SparesHeader = SparesBytes IsInHeaderCluster
+
+    -- so do all but those of the header's pointer to the reftable
+    abbrev pub SparesHeaderButPointer : EntryTableView → ImageFile S → EntryTableView → ImageFile S → Type 0
+    SparesHeaderButPointer = SparesBytes IsBesidePointer
