@@ -1,13 +1,11 @@
 -- Replies that are printed one after the other.
-use Rattle.std.proofs.Common.{◌≡◌, ℕ, List, [], ◌∷◌, ◌++◌, length, false, Option, Some, None, IfSome, refl, append_assoc, ap, sym, ◌∙◌, ◌+◌, ◌<◌, take, slice_index_or}
+use Rattle.std.proofs.Common.{◌≡◌, ℕ, List, [], ◌∷◌, ◌++◌, length, Option, Some, None, IfSome, refl, append_assoc, ap, sym, ◌∙◌, ◌+◌, ◌<◌, take, slice_index_or}
 use Rattle.std.proofs.lemmas.List.{append-nil, take_more}
-use Rattle.std.specs.List.{list_any}
 use Rattle.std.specs.Fmt.{option_append, with_newline}
-use Rattle.std.specs.Io.KnownBytes.{Appends, Keeps}
+use Rattle.std.specs.Io.KnownBytes.{Appends}
 use Rattle.qcow2_session.specs.declared.session.Reply.{Reply}
-use Rattle.qimg.proofs.Known.{appends_known, known_kept}
-use Rattle.qimg.specs.Printing.{line_of, text_of, is_refusal}
-use Rattle.qimg.specs.Program.{ArePrinted}
+use Rattle.qimg.proofs.Known.{appends_known}
+use Rattle.qimg.specs.Printing.{line_of, text_of}
 
 option_append_assoc : (a b c : Option (List ℕ)) → option_append (option_append a b) c ≡ option_append a (option_append b c)
 option_append_assoc None b c = refl
@@ -36,10 +34,3 @@ one_more replies i reply old mid new within is before now =
     let more : take (i + 1) replies ≡ take i replies ++ reply ∷ [] = take_more replies i reply within ∙ ap (λ it. take i replies ++ it ∷ []) is in
     let text : text_of (take (i + 1) replies) ≡ option_append (text_of (take i replies)) (with_newline (line_of reply)) = ap text_of more ∙ text_of-append (take i replies) (reply ∷ []) ∙ ap (option_append (text_of (take i replies))) (text_of-one reply) in
     rw text (appends_known old mid new (text_of (take i replies)) (with_newline (line_of reply)) before (line_is_known (line_of reply) mid new now))
-
--- one reply for each, none refused, all printed
-pub printed_each : (replies : List Reply) (count : ℕ) (old new : Option (List ℕ)) → length replies ≡ count → list_any is_refusal replies ≡ false → IfSome (text_of replies) (Appends old new) → ArePrinted count replies old new
-printed_each replies count old new one_each accepted printed = record { one_each = one_each; accepted = accepted; printed = printed }
-
-pub printed_kept : (count : ℕ) (replies : List Reply) (old mid new : Option (List ℕ)) → ArePrinted count replies old mid → Keeps mid new → ArePrinted count replies old new
-printed_kept count replies old mid new are keeps = record { one_each = are.one_each; accepted = are.accepted; printed = known_kept old mid new (text_of replies) are.printed keeps }

@@ -1,11 +1,14 @@
--- What a run has done, however it ended, and one that ended well.
-use Rattle.std.specs.Prelude.{◌≡◌, ◌⊎◌, ◌↔◌, ℕ, true, false, List, [], length, map, vec_len, Vec, Option, IfSome, Result, Ok, Err}
+-- What a run has done and printed, however it ended, and one that ended well.
+use Rattle.std.specs.Prelude.{◌≡◌, ◌⊎◌, ℕ, Bool, false, List, [], length, map, Vec, Option, Some, IfSome, Result, Ok, Err, is_ok, IfOk, OnOk}
+use Rattle.std.specs.Fmt.{option_append}
 use Rattle.std.specs.Global.{Global}
 use Rattle.std.specs.Io.KnownBytes.{Appends}
 use Rattle.std.specs.List.{list_any}
+use Rattle.std.specs.declared.io.Error.{Error}
 use Rattle.image_access.specs.Backing.{BackingView}
 use Rattle.image_access.specs.Moments.{StorageView}
 use Rattle.qcow2_alloc.specs.declared.error.ImageError.{ImageError}
+use Rattle.qcow2_alloc.specs.declared.error.ImageError.TheVariants.{Memory}
 use Rattle.qcow2_image.specs.declared.image.Qcow2.{Qcow2}
 use Rattle.qcow2_image.specs.Calls.{FlushesImage}
 use Rattle.qcow2_image.specs.Image.{storage_of_image}
@@ -13,6 +16,7 @@ use Rattle.qcow2_session.specs.Opening.{Headline, TellsOfOpened}
 use Rattle.qcow2_session.specs.declared.session.Command.{Command}
 use Rattle.qcow2_session.specs.declared.session.Reply.{Reply}
 use Rattle.qimg.specs.Lines.{order_of_command}
+use Rattle.qimg.specs.Printed.{end_text, is_accepted, refusal_text, run_text, status_of}
 use Rattle.qimg.specs.Printing.{is_refusal, text_of}
 use Rattle.qimg.specs.Reading.{Asks, IsScriptOf, is_cut}
 use Rattle.qimg.specs.declared.reading.ScriptEnd.{ScriptEnd}
@@ -22,10 +26,6 @@ pub record ArePrinted (count : ℕ) (replies : List Reply) (old new : Option (Li
   pub one_each : length replies ≡ count
   pub accepted : list_any is_refusal replies ≡ false
   pub printed : IfSome (text_of replies) (Appends old new)
-
--- an image was flushed, whatever the flush answered
-abbrev pub IsFlushed : {S F : Type 0} → (S → StorageView) → (F → BackingView) → Qcow2 S F → Qcow2 S F → Type 0
-IsFlushed view backing old new = (answer : Result (Unit {0}) ImageError) × FlushesImage view backing old new answer
 
 module _ {S F : Type 0} (view : S → StorageView) (backing : F → BackingView) (start end : S) where
   -- Commands were run on an image that was opened from a storage, as the headline says, and it was flushed and closed. What was printed are the replies of that run.
@@ -43,26 +43,34 @@ module _ {S F : Type 0} (view : S → StorageView) (backing : F → BackingView)
     pub asks : IfSome text (λ text. Asks text (map order_of_command commands) [])
     pub ran : HasRun commands old new
 
-  -- An image that opened was flushed and closed. Where none opened, its storage was handed back.
-  abbrev pub IsClosed : Result (Qcow2 S F × Vec Reply Global) (S × ImageError) → Type 0
-  IsClosed (Ok run) = (flushed : Qcow2 S F) × IsFlushed view backing run.0 flushed × (end ≡ storage_of_image flushed)
-  IsClosed (Err refused) = end ≡ refused.0
+  -- An image that opened was flushed, which was answered so, and closed. Where none opened, its storage was handed back.
+  abbrev pub IsClosed : Result (Qcow2 S F × Vec Reply Global) (S × ImageError) → Result (Unit {0}) ImageError → Type 0
+  IsClosed (Ok run) flush = (flushed : Qcow2 S F) × FlushesImage view backing run.0 flushed flush × (end ≡ storage_of_image flushed)
+  IsClosed (Err refused) flush = end ≡ refused.0
 
   -- However it ended, these commands were run: on an image that was opened from a storage, or on none, where opening it was refused.
   pub record EndsRun (commands : List Command) : Type 0 where
     pub run : Result (Qcow2 S F × Vec Reply Global) (S × ImageError)
     pub headline : Headline view backing (view start) commands run
     pub told : TellsOfOpened view backing (view start) 1 commands run
-    pub closed : IsClosed run
+    pub flush : Result (Unit {0}) ImageError
+    pub closed : IsClosed run flush
 
-  -- However it ended, the commands of a text's lines were run, all of them or those before one that couldn't be read. The status is 2 for such a line, and only then.
-  pub record EndsScript (text : Option (List ℕ)) (status : ℕ) : Type 0 where
+  -- So it was, and the answer tells whether nothing was refused. As far as the output's writes were answered, the lines of that run were printed.
+  pub record PrintsRun (commands : List Command) (answer : Result Bool Error) (old new : Option (List ℕ)) : Type 0 where
+    pub ran : EndsRun commands
+    pub accepted : IfOk answer (λ accepted. accepted ≡ is_accepted (length commands) ran.run ran.flush)
+    pub text : OnOk answer (IfSome (run_text (length commands) ran.run ran.flush) (Appends old new))
+
+  -- However it ended, the commands of a text's lines were run, all of them or those before one that couldn't be read. Where each write to the output and its flush were answered, what was printed are the lines of that run, and one for the line that couldn't be read. The status is of that run.
+  pub record EndsScript (text : Option (List ℕ)) (status : ℕ) (written : Result (Unit {0}) Error) (old new : Option (List ℕ)) : Type 0 where
     pub commands : List Command
     pub stop : ScriptEnd
     pub asks : IfSome text (λ text. IsScriptOf text (map order_of_command commands) stop)
     pub ran : EndsRun commands
-    pub unreadable : (status ≡ 2) ↔ (is_cut stop ≡ true)
+    pub printed : OnOk written (IfSome (option_append (run_text (length commands) ran.run ran.flush) (Some (end_text (is_cut stop) (length commands)))) (Appends old new))
+    pub status_is : status ≡ status_of (is_cut stop) (is_accepted (length commands) ran.run ran.flush) (is_ok written)
 
-  -- Or there was no room for the commands, and the storage was left alone.
-  abbrev pub EndsOrLeaves : Option (List ℕ) → ℕ → Type 0
-  EndsOrLeaves text status = ((status ≡ 1) × (end ≡ start)) ⊎ EndsScript text status
+  -- Or there was no room for the commands: the storage was left alone, and that was printed.
+  abbrev pub EndsOrLeaves : Option (List ℕ) → ℕ → Result (Unit {0}) Error → Option (List ℕ) → Option (List ℕ) → Type 0
+  EndsOrLeaves text status written old new = ((status ≡ 1) × (end ≡ start) × OnOk written (Appends old new (refusal_text Memory))) ⊎ EndsScript text status written old new

@@ -76,7 +76,7 @@ fn run_file(rt: &HostRuntime, file: &str, output: &mut impl Write) -> u8 {
     let Ok(mut input) = BufReader::new(rt.alloc(), rt.reader()) else {
         return refuse(output, &ImageError::Memory);
     };
-    let (status, storage) = script::<_, Box<dyn BackingDisk>, _, _, _>(
+    let (status, _, storage) = script::<_, Box<dyn BackingDisk>, _, _, _>(
         rt.alloc(),
         storage,
         &mut input,

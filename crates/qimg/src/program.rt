@@ -1,10 +1,10 @@
-ghost use Rattle.std.specs.Prelude.{◌≡◌, ◌≤◌, ◌∷◌, ◌++◌, [], true, false, codes, length, IsOk, Ok};
+ghost use Rattle.std.specs.Prelude.{◌≡◌, ◌≤◌, ◌∷◌, ◌++◌, ◌&&◌, [], Bool, true, false, codes, length, is_ok, IfErr, IfOk, IfSome, IsOk, OnOk, Ok, Err};
 ghost use Rattle.std.specs.Io.KnownBytes.{Appends, Keeps};
 ghost use Rattle.image_access.specs.Moments.{ContentsStay};
 ghost use Rattle.qcow2_image.specs.Opened.{NeedsAnother};
-ghost use Rattle.qcow2_image.specs.Calls.{FlushesImage};
 ghost use Rattle.qimg.specs.Creating.{CreatesOrLeaves, HasCreated};
-ghost use Rattle.qimg.specs.Program.{ArePrinted, EndsOrLeaves, EndsRun, HasRun, HasRunText, IsFlushed};
+ghost use Rattle.qimg.specs.Printed.{are_accepted, end_text, flush_text, refusal_text, replies_text, status_of};
+ghost use Rattle.qimg.specs.Program.{EndsOrLeaves, HasRunText, PrintsRun};
 ghost use Rattle.qimg.specs.Reading.{is_cut};
 
 use crate::messages::{report_bad_line, report_refused};
@@ -63,32 +63,37 @@ pub fn create<S: Storage, W: Write>(
     (status, storage)
 }
 
-/// Reads commands from the input, runs them on the image in the storage, prints their answers, and answers the exit status, with the
-/// storage. Messages name the lines that were refused or couldn't be read. An image that needs another file is refused 12 (dependency),
-/// and stays as it is; else it is refused as `open_and_run` is. `F` is the kind of a disk below; none is given.
+/// Reads commands from the input, runs them on the image in the storage, prints their answers, and answers the exit status, whether the
+/// output could be written, and the storage. Messages name the lines that were refused or couldn't be read. An image that needs another
+/// file is refused 12 (dependency), and stays as it is; else it is refused as `open_and_run` is. `F` is the kind of a disk below; none is
+/// given.
 pub fn script<S: Storage, F: WrappedFormat<S>, R: BufRead, W: Write, M: Write>(
     alloc: Global,
     storage: S,
     input: &mut R,
     output: &mut W,
     messages: &mut M,
-) -> (u8, S)
+) -> (u8, io::Result<()>, S)
     ensures bound { result.0 ≤ 2 }
-    ensures done { result.0 ≡ 0 → HasRunText S.view F.backing storage result.1 (R.remaining input.old) (W.contents output.old) (W.contents output.new) }
-    ensures ends { EndsOrLeaves S.view F.backing storage result.1 (R.remaining input.old) result.0 }
-    ensures another { (S.view storage).is_honest → NeedsAnother (S.view storage).contents → ContentsStay (S.view storage) (S.view result.1) }
+    ensures done { result.0 ≡ 0 → HasRunText S.view F.backing storage result.2 (R.remaining input.old) (W.contents output.old) (W.contents output.new) }
+    ensures ends { EndsOrLeaves S.view F.backing storage result.2 (R.remaining input.old) result.0 result.1 (W.contents output.old) (W.contents output.new) }
+    ensures another { (S.view storage).is_honest → NeedsAnother (S.view storage).contents → ContentsStay (S.view storage) (S.view result.2) }
 {
     let Ok(script) = read_script(alloc, input) else {
-        return (refuse(output, &ImageError::Memory), storage);
+        let printed = print_refusal(output, &ImageError::Memory);
+        return (REFUSED, flush_output(output, printed), storage);
     };
-    let (printed, storage) = run_script::<S, F, W, M>(alloc, storage, &script, output, messages);
-    let flushed = output.flush();
-    let status = match (script.is_cut(), printed, flushed) {
-        (true, _, _) => UNREADABLE,
-        (false, Ok(true), Ok(())) => DONE,
-        (false, _, _) => REFUSED,
-    };
-    (status, storage)
+    let (printed, storage) = run_commands::<S, F, W, M>(
+        alloc,
+        storage,
+        &script.commands,
+        output,
+        messages,
+    );
+    let printed = print_end(output, messages, &script, printed);
+    let printed = flush_output(output, printed);
+    let (status, written) = status_of(script.is_cut(), printed);
+    (status, written, storage)
 }
 
 /// Prints the usage line, and answers the exit status.
@@ -115,44 +120,39 @@ pub fn end<W: Write>(printed: io::Result<()>, output: &mut W) -> u8
     ensures printed { result ≡ 0 → IsOk printed }
     ensures same { Keeps (W.contents output.old) (W.contents output.new) }
 {
-    let flushed = output.flush();
-    if printed.is_ok() && flushed.is_ok() {
-        DONE
-    } else {
-        REFUSED
+    match flush_output(output, printed) {
+        Ok(()) => DONE,
+        Err(_) => REFUSED,
     }
 }
 
-// Prints what comes of a script, and hands the storage back. Whether nothing was refused; an error where a line couldn't be
-// written.
-fn run_script<S: Storage, F: WrappedFormat<S>, W: Write, M: Write>(
-    alloc: Global,
-    storage: S,
-    script: &Script,
-    output: &mut W,
-    messages: &mut M,
-) -> (io::Result<bool>, S)
-    ensures done { result.0 ≡ Ok true → (is_cut script.now.end ≡ false) × HasRun S.view F.backing storage result.1 script.now.commands.items (W.contents output.old) (W.contents output.new) }
-    ensures ends { EndsRun S.view F.backing storage result.1 script.now.commands.items }
-    ensures another { (S.view storage).is_honest → NeedsAnother (S.view storage).contents → ContentsStay (S.view storage) (S.view result.1) }
+// Flushes the output, whatever could be printed.
+fn flush_output<W: Write, T: Drop>(output: &mut W, printed: io::Result<T>) -> io::Result<T>
+    ensures printed { IfOk result (λ value. printed ≡ Ok value) }
+    ensures same { Keeps (W.contents output.old) (W.contents output.new) }
 {
-    let (printed, storage) = run_commands::<S, F, W, M>(
-        alloc,
-        storage,
-        &script.commands,
-        output,
-        messages,
-    );
-    if !script.is_cut() {
-        return (printed, storage);
-    }
-    let number = script.commands.len() + 1;
-    report_bad_line(messages, number);
-    let ended = printed.and_then(|_| writeln!(output, "bad line {number}"));
-    (ended.map(|_| false), storage)
+    let flushed = output.flush();
+    let value = printed?;
+    flushed?;
+    Ok(value)
 }
 
-// The same of commands alone.
+// The exit status, where a run was told whether nothing was refused, and whether its lines could be written.
+fn status_of(cut: bool, printed: io::Result<bool>) -> (u8, io::Result<()>)
+    ensures status { IfOk printed (λ accepted. (result.1 ≡ Ok tt) × (result.0 ≡ status_of cut accepted true)) }
+    ensures unwritten { IfErr printed (λ e. (result.1 ≡ Err e) × ((accepted : Bool) → result.0 ≡ status_of cut accepted false)) }
+{
+    match (cut, printed) {
+        (true, Ok(_)) => (UNREADABLE, Ok(())),
+        (true, Err(e)) => (UNREADABLE, Err(e)),
+        (false, Ok(true)) => (DONE, Ok(())),
+        (false, Ok(false)) => (REFUSED, Ok(())),
+        (false, Err(e)) => (REFUSED, Err(e)),
+    }
+}
+
+// Runs commands, prints what comes of them, and hands the storage back. Whether nothing was refused; an error where a line couldn't be
+// written.
 fn run_commands<S: Storage, F: WrappedFormat<S>, W: Write, M: Write>(
     alloc: Global,
     storage: S,
@@ -160,55 +160,75 @@ fn run_commands<S: Storage, F: WrappedFormat<S>, W: Write, M: Write>(
     output: &mut W,
     messages: &mut M,
 ) -> (io::Result<bool>, S)
-    ensures done { result.0 ≡ Ok true → HasRun S.view F.backing storage result.1 commands.now (W.contents output.old) (W.contents output.new) }
-    ensures ends { EndsRun S.view F.backing storage result.1 commands.now }
+    ensures ends { PrintsRun S.view F.backing storage result.1 commands.now result.0 (W.contents output.old) (W.contents output.new) }
     ensures another { (S.view storage).is_honest → NeedsAnother (S.view storage).contents → ContentsStay (S.view storage) (S.view result.1) }
 {
     match open_and_run::<S, F>(alloc, storage, 1, commands) {
         Ok((mut image, replies)) => {
             report_refused(messages, &replies);
-            let printed = print_and_flush(&mut image, commands, &replies, output);
+            let answered = print_answers(output, commands.len(), &replies);
+            let flushed = image.flush();
+            let printed = print_flush(output, answered, &flushed);
             (printed, image.into_storage())
         }
-        Err((storage, e)) => (print_refusal(output, &e).map(|_| false), storage),
+        Err((storage, e)) => (print_refused(output, &e), storage),
     }
 }
 
-// Prints the answers of an image, which is flushed whatever could be printed.
-#[tactic(auto, using(crate::proofs::Runs::is_flushed))]
-fn print_and_flush<S: Storage, F: WrappedFormat<S>, W: Write>(
-    image: &mut Qcow2<S, F>,
-    commands: &[Command],
-    replies: &[Reply],
-    output: &mut W,
-) -> io::Result<bool>
-    ensures printed { result ≡ Ok true → ArePrinted (length commands.now) replies.now (W.contents output.old) (W.contents output.new) }
-    ensures flushed { result ≡ Ok true → FlushesImage S.view F.backing image.old image.new (Ok tt) }
-    ensures flushes { IsFlushed S.view F.backing image.old image.new }
+// Prints the answers to so many commands. There is one reply to each, or none at all where there was no room for them.
+fn print_answers<W: Write>(output: &mut W, count: usize, replies: &[Reply]) -> io::Result<bool>
+    ensures accepted { IfOk result (λ accepted. accepted ≡ are_accepted count replies.now) }
+    ensures text { OnOk result (IfSome (replies_text count replies.now) (Appends (W.contents output.old) (W.contents output.new))) }
 {
-    let printed = print_answers(output, commands, replies);
-    let flushed = image.flush();
-    let is_accepted = printed?;
-    if let Err(e) = flushed {
-        print_refusal(output, &e)?;
-        return Ok(false);
-    }
-    Ok(is_accepted)
-}
-
-// There is one reply to each command, or none at all where there was no room for them.
-#[tactic(auto, using(crate::proofs::Replies::printed_each))]
-fn print_answers<W: Write>(
-    output: &mut W,
-    commands: &[Command],
-    replies: &[Reply],
-) -> io::Result<bool>
-    ensures { result ≡ Ok true → ArePrinted (length commands.now) replies.now (W.contents output.old) (W.contents output.new) }
-{
-    if replies.len() != commands.len() {
-        print_refusal(output, &ImageError::Memory)?;
-        return Ok(false);
+    if replies.len() != count {
+        return print_refused(output, &ImageError::Memory);
     }
     print_replies(output, replies)?;
     Ok(!any_refused(replies))
+}
+
+// Prints what a flush was answered, behind the answers of an image. Nothing was refused where that is so of both.
+fn print_flush<W: Write>(
+    output: &mut W,
+    answered: io::Result<bool>,
+    flushed: &Result<(), ImageError>,
+) -> io::Result<bool>
+    ensures answered { OnOk result (IsOk answered) }
+    ensures accepted { IfOk result (λ accepted. IfOk answered (λ before. accepted ≡ (is_ok flushed.now && before))) }
+    ensures text { OnOk result (Appends (W.contents output.old) (W.contents output.new) (flush_text flushed.now)) }
+{
+    let accepted = answered?;
+    match flushed {
+        Ok(()) => Ok(accepted),
+        Err(e) => print_refused(output, e),
+    }
+}
+
+// Prints the line of a refusal, and that something was refused.
+fn print_refused<W: Write>(output: &mut W, e: &ImageError) -> io::Result<bool>
+    ensures accepted { IfOk result (λ accepted. accepted ≡ false) }
+    ensures text { OnOk result (Appends (W.contents output.old) (W.contents output.new) (refusal_text e.now)) }
+{
+    print_refusal(output, e)?;
+    Ok(false)
+}
+
+// Tells of the line that couldn't be read, if there is one.
+fn print_end<W: Write, M: Write>(
+    output: &mut W,
+    messages: &mut M,
+    script: &Script,
+    printed: io::Result<bool>,
+) -> io::Result<bool>
+    ensures printed { IfOk result (λ accepted. printed ≡ Ok accepted) }
+    ensures text { OnOk result (Appends (W.contents output.old) (W.contents output.new) (end_text (is_cut script.now.end) (length script.now.commands.items))) }
+{
+    if !script.is_cut() {
+        return printed;
+    }
+    let number = script.commands.len() + 1;
+    report_bad_line(messages, number);
+    let accepted = printed?;
+    writeln!(output, "bad line {number}")?;
+    Ok(accepted)
 }

@@ -1,45 +1,31 @@
-use Rattle.std.proofs.Common.{◌≡◌, ◌↔◌, ℕ, length, map, true, false, Ok, inr, sym, subst, ◌∙◌, ap, arith}
+use Rattle.std.proofs.Common.{ap, subst, ◌∙◌, inr, length, is_ok}
+use Rattle.qimg.specs.Printed.{end_text, is_accepted, run_text, status_of}
+use Rattle.qimg.specs.Program.{PrintsRun}
 use Rattle.qimg.specs.Reading.{is_cut}
-use Rattle.qimg.specs.Lines.{order_of_command}
-use Rattle.qimg.proofs.Replies.{printed_kept}
-use Rattle.qimg.proofs.Scripts.{asked_all}
+use Rattle.qimg.proofs.Runs.{ended_well, printed_to_the_end, status_told, written_told}
 use Rattle.qimg.proofs.program.script.Goals as goal
-use Rattle.qimg.proofs.program.script.Goals.{in-true-default-default, in-false-Ok-true-Ok, in-false-default-default, in-false-default-default-2, in-false-default-default-3}
-
-pub returns-clause-done : goal.returns-clause-done
-returns-clause-done g c = λ is. elim c.if-is_cut.branch [
-  | in-true-default-default w ↦ absurd (omega (arith, is, w.status-is))
-  | in-false-Ok-true-Ok w ↦
-      let done : c.run_script-printed.result.0 ≡ Ok true = cc in
-      let ran = c.run_script-printed.ensures.done done in
-      record {
-        commands = c.in-Ok.script.commands.items;
-        asks = asked_all (g.R.Read.remaining c.args.input.now) (map order_of_command c.in-Ok.script.commands.items) c.in-Ok.script.end c.in-Ok.ensures ran.0;
-        ran = record {
-          run = ran.1.run;
-          headline = ran.1.headline;
-          answers = printed_kept (length c.in-Ok.script.commands.items) ran.1.run.1.items (g.W.Write.contents c.args.output.now) (g.W.Write.contents c.run_script-printed.new.output) (g.W.Write.contents c.flush-flushed.new.self) ran.1.answers c.flush-flushed.ensures.bytes;
-          flushed = ran.1.flushed;
-          flush = ran.1.flush;
-          storage = ran.1.storage;
-        };
-      }
-  | in-false-default-default w ↦ absurd (omega (arith, is, w.status-is))
-  | in-false-default-default-2 w ↦ absurd (omega (arith, is, w.status-is))
-  | in-false-default-default-3 w ↦ absurd (omega (arith, is, w.status-is))
-]
 
 pub returns-clause-ends : goal.returns-clause-ends
-returns-clause-ends g c = inr (record {
-  commands = c.in-Ok.script.commands.items;
-  stop = c.in-Ok.script.end;
-  asks = c.in-Ok.ensures;
-  ran = c.run_script-printed.ensures.ends;
-  unreadable = elim c.if-is_cut.branch [
-    | in-true-default-default w ↦ (λ is. let cut : is_cut c.in-Ok.script.end ≡ true = cc in cut, λ cut. w.status-is)
-    | in-false-Ok-true-Ok w ↦ (λ is. absurd (omega (arith, is, w.status-is)), λ cut. let never : true ≡ false = cc in cc)
-    | in-false-default-default w ↦ (λ is. absurd (omega (arith, is, w.status-is)), λ cut. let never : true ≡ false = cc in cc)
-    | in-false-default-default-2 w ↦ (λ is. absurd (omega (arith, is, w.status-is)), λ cut. let never : true ≡ false = cc in cc)
-    | in-false-default-default-3 w ↦ (λ is. absurd (omega (arith, is, w.status-is)), λ cut. let never : true ≡ false = cc in cc)
-  ];
-})
+returns-clause-ends g c =
+    let contents = g.W.Write.contents in
+    let commands = c.in-Ok.script.commands.items in
+    let count = length commands in
+    let stop = c.in-Ok.script.end in
+    let answer = c.run_commands-printed.result.0 in
+    let ended = c.print_end-printed in
+    let last = c.flush_output-printed in
+    let told = c.status_of-status in
+    let ends = subst (λ commands. PrintsRun g.S.Storage.view g.F.BackingDisk.backing c.args.storage c.run_commands-printed.result.1 commands answer (contents c.args.output.now) (contents c.run_commands-printed.new.output)) c.deref.ensures.value c.run_commands-printed.ensures.ends in
+    let accepted = is_accepted count ends.ran.run ends.ran.flush in
+    let status = status_told c.is_cut.result accepted told.result.0 answer ended.result last.result told.result.1 ends.accepted ended.ensures.printed last.ensures.printed told.ensures.status told.ensures.unwritten in
+    inr (record {
+      commands = commands;
+      stop = stop;
+      asks = c.in-Ok.ensures;
+      ran = ends.ran;
+      printed = printed_to_the_end (run_text count ends.ran.run ends.ran.flush) (end_text (is_cut stop) count) answer ended.result last.result told.result.1 (contents c.args.output.now) (contents c.run_commands-printed.new.output) (contents ended.new.output) (contents last.new.output) ends.text ended.ensures.printed ended.ensures.text last.ensures.printed last.ensures.same (written_told c.is_cut.result told.result.0 last.result told.result.1 told.ensures.unwritten);
+      status_is = status ∙ ap (λ cut. status_of cut accepted (is_ok told.result.1)) c.is_cut.ensures;
+    })
+
+pub returns-clause-done : goal.returns-clause-done
+returns-clause-done g c = λ is. ended_well g.S.Storage.view g.F.BackingDisk.backing c.args.storage c.run_commands-printed.result.1 (g.R.Read.remaining c.args.input.now) c.status_of-status.result.0 c.status_of-status.result.1 (g.W.Write.contents c.args.output.now) (g.W.Write.contents c.flush_output-printed.new.output) (returns-clause-ends g c) is
