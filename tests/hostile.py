@@ -59,6 +59,27 @@ def one_full_refblock_many_times(count):
         raise AssertionError(f"status {status} and {shown(text)}")
 
 
+def an_l1_table_that_ends_past_64_bits():
+    """Its last cluster is the last one that 64 bits hold, with entries for 2 MiB of the disk. Behind the file's end all entries are zero."""
+    create("disk", 4 << 20, 512)
+    put("disk", 40, (2 ** 64 - 512).to_bytes(8, "big"))
+    before = contents("disk")
+    far = 2 << 20
+    answers("disk", [
+        ("size", "size 4194304"),
+        ("map 0 65536", "zero 32768 implicit"),
+        (f"read {far - 2} 4", "data 00000000"),
+        (f"fill {far} 512 11", "refused 20 overflow"),
+        (f"prepare 0 {far} 512 overwrite", "refused 20 overflow"),
+        (f"zero {far} 512", "refused 20 overflow"),
+        (f"dzero {far} 512", "refused 20 overflow"),
+        (f"dback {far} 512", "refused 20 overflow"),
+        ("flush", "ok"),
+    ], status=1)
+    equal(contents("disk"), before, "the contents")
+    answers("disk", [("shrink 3145728", "shrunk 3145728"), ("grow 8388608 none", "ok"), (f"fill {far} 512 11", "ok"), (f"read {far - 2} 4", "data 00001111"), ("flush", "ok")])
+
+
 def needs_a_data_file(file):
     put(file, 72, (4).to_bytes(8, "big"))
 
@@ -87,7 +108,7 @@ def an_image_with_a_bitmap(needs, answer, bits, status):
 
 def main():
     checks = Checks()
-    for check in (a_header_that_is_not_counted, nothing_is_counted, a_reftable_without_clusters):
+    for check in (a_header_that_is_not_counted, nothing_is_counted, a_reftable_without_clusters, an_l1_table_that_ends_past_64_bits):
         checks.run(check.__name__, check)
     for cluster, width in ((512, 16), (512, 64), (65536, 16), (2 << 20, 1)):
         checks.run(f"a first range without a refblock, {cluster} {width}", a_first_range_without_a_refblock, cluster, width)

@@ -1,6 +1,7 @@
--- How many entries the L1 table has, and whether it names an L2 table of its own for an offset.
-use Rattle.std.specs.Prelude.{ℕ, ◌+◌, ◌-◌, ◌≡◌, ◌⊎◌, ◌<◌, max}
+-- How many entries the L1 table has, whether it names an L2 table of its own for an offset, and whether 64 bits hold where the entry lies.
+use Rattle.std.specs.Prelude.{ℕ, ◌+◌, ◌-◌, ◌*◌, ◌≡◌, ◌⊎◌, ◌<◌, max}
 use Rattle.qcow2_metadata.specs.declared.header.HeaderFields.{HeaderFields}
+use Rattle.qcow2_metadata.specs.EntryTable.{entry_count, HasRoomIfPlaced}
 use Rattle.qcow2_metadata.specs.TableBytes.{entry_at}
 use Rattle.qcow2_image.specs.declared.image.Qcow2.{Qcow2}
 use Rattle.qcow2_image.specs.Found.{l1_index_of}
@@ -19,6 +20,15 @@ module _ {S F : Type 0} where
   -- the L1 table in memory names an L2 table for an offset that is marked copied
   abbrev pub HasOwnTable : Qcow2 S F → ℕ → Type 0
   HasOwnTable image offset = NamesOwn (entry_at image.l1_table.bytes (l1_index_of image.file.header.fields offset))
+
+  -- the L1 table has an entry for an offset, and 64 bits don't hold where that lies
+  pub record HasFarEntry (image : Qcow2 S F) (offset : ℕ) : Type 0 where
+    pub within : l1_index_of image.file.header.fields offset < entry_count image.l1_table
+    pub far : ¬ HasRoomIfPlaced image.l1_table.cluster_bits (8 * l1_index_of image.file.header.fields offset) image.l1_table.cluster
+
+  -- an entry so far would have to be written for an offset
+  abbrev pub NeedsFarEntry : Qcow2 S F → ℕ → Type 0
+  NeedsFarEntry image offset = HasFarEntry image offset × ¬ HasOwnTable image offset
 
   -- where that wasn't so, all clusters that were to be freed are
   abbrev pub HadOwnTableOrFrees : Qcow2 S F → Qcow2 S F → ℕ → Type 0

@@ -108,7 +108,8 @@ impl<S: Storage, F: WrappedFormat<S>> Qcow2<S, F> {
     /// whole where the range ends at the disk's size.
     /// Refused in this order: 16 (failed), 12 (dependency), 1 (read-only), 2 (beyond size), 20 (overflow) where rounding up passes 64
     /// bits. Then comes 9 (table prepared), where a mapping that isn't existing is prepared in its L2 table. Where the work meets them:
-    /// 4 (unaligned table), 8 (everything is in use), 13 (limit), 14 (memory), 15 (storage).
+    /// 4 (unaligned table), 8 (everything is in use), 13 (limit), 14 (memory), 15 (storage), and 20 where an L1 entry past 64 bits would
+    /// have to be written.
     pub fn discard_to_backing_unsafe(
         &mut self,
         offset: u64,
@@ -137,7 +138,8 @@ impl<S: Storage, F: WrappedFormat<S>> Qcow2<S, F> {
     /// the range ends at the disk's size.
     /// Refused in this order: 16 (failed), 12 (dependency), 1 (read-only), 2 (beyond size), 3 (version) below version 3, 20 (overflow)
     /// where rounding up passes 64 bits. Then comes 9 (table prepared), where a mapping that isn't existing is prepared in its L2 table.
-    /// Where the work meets them: 4 (unaligned table), 8 (everything is in use), 13 (limit), 14 (memory), 15 (storage).
+    /// Where the work meets them: 4 (unaligned table), 8 (everything is in use), 13 (limit), 14 (memory), 15 (storage), and 20 where an L1
+    /// entry past 64 bits would have to be written.
     pub fn discard_to_zero_unsafe(
         &mut self,
         offset: u64,
@@ -166,7 +168,8 @@ impl<S: Storage, F: WrappedFormat<S>> Qcow2<S, F> {
     /// cluster is whole where the range ends at the disk's size.
     /// Refused in this order: 16 (failed), 12 (dependency), 1 (read-only), 2 (beyond size), 3 (version) below version 3, 20 (overflow)
     /// where rounding up passes 64 bits. Then comes 9 (table prepared), where a mapping that isn't existing is prepared in its L2 table.
-    /// Where the work meets them: 4 (unaligned table), 8 (everything is in use), 13 (limit), 14 (memory), 15 (storage).
+    /// Where the work meets them: 4 (unaligned table), 8 (everything is in use), 13 (limit), 14 (memory), 15 (storage), and 20 where an L1
+    /// entry past 64 bits would have to be written.
     pub fn discard_to_any_unsafe(
         &mut self,
         offset: u64,
@@ -195,7 +198,8 @@ impl<S: Storage, F: WrappedFormat<S>> Qcow2<S, F> {
     /// The disk's last cluster is whole where the range ends at the disk's size.
     /// Refused in this order: 16 (failed), 12 (dependency), 1 (read-only), 2 (beyond size), 3 (version) below version 3, 20 (overflow)
     /// where rounding up passes 64 bits. Then comes 9 (table prepared), where a mapping that isn't existing is prepared in its L2 table.
-    /// Where the work meets them: 4 (unaligned table), 8 (everything is in use), 13 (limit), 14 (memory), 15 (storage).
+    /// Where the work meets them: 4 (unaligned table), 8 (everything is in use), 13 (limit), 14 (memory), 15 (storage), and 20 where an L1
+    /// entry past 64 bits would have to be written.
     pub fn ensure_zero_mapping(
         &mut self,
         offset: u64,

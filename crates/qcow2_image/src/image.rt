@@ -105,9 +105,8 @@ impl<S: Storage, F: WrappedFormat<S>> Qcow2<S, F> {
 
     /// Opens an image. Other files that its header names or requires aren't asked for. A refusal hands the storage back. Images that are
     /// open together have different numbers.
-    /// Refused for the header 19 (metadata), 13 (limit), 4 (unaligned table), in this order. Then for the L1 table 13 (limit) where it
-    /// would end past 64 bits, and 19 (metadata); to write, the same for the reftable. Where the work meets them: 14 (memory),
-    /// 15 (storage).
+    /// Refused for the header 19 (metadata), 13 (limit), 4 (unaligned table), in this order. Then for the L1 table 19 (metadata); to write,
+    /// for the reftable 13 (limit) where it would end past 64 bits, and 19. Where the work meets them: 14 (memory), 15 (storage).
     pub fn open_image(
         alloc: Global,
         metadata: S,
@@ -130,7 +129,7 @@ impl<S: Storage, F: WrappedFormat<S>> Qcow2<S, F> {
     /// Opens an image that needs no other file. One whose data stand in another, or whose header names one, is refused 12 (dependency)
     /// and its bytes stay.
     /// Else it is refused as `open_image` is: for the header 19 (metadata), 13 (limit), 4 (unaligned table), before 12. Behind that come
-    /// 13 and 19 for its tables. Where the work meets them: 14 (memory), 15 (storage).
+    /// 19 for its tables, and 13 for the reftable. Where the work meets them: 14 (memory), 15 (storage).
     pub fn open_alone(
         alloc: Global,
         metadata: S,

@@ -1,7 +1,7 @@
 //! The L2 table of a range: found, made, or put in the place of one that others may name too.
-ghost use Rattle.std.specs.Prelude.{ℕ, List, Option, is_some, ◌≡◌, ◌≢◌, ◌-◌, ◌/◌, Some, ◌^◌, ◌<◌, IfOk, IfErr, OnOk, IsSome, IsTrue, Ok, Err, length};
+ghost use Rattle.std.specs.Prelude.{ℕ, List, Option, is_some, ◌≡◌, ◌≢◌, ◌-◌, ◌*◌, ◌/◌, Some, ◌^◌, ◌<◌, ◌↔◌, IfOk, IfErr, OnOk, IsSome, IsTrue, Ok, Err, length};
 ghost use Rattle.qcow2_metadata.specs.L2Mapping.{IsHostCluster};
-ghost use Rattle.qcow2_metadata.specs.EntryTable.{entry_count};
+ghost use Rattle.qcow2_metadata.specs.EntryTable.{entry_count, HasRoomIfPlaced};
 ghost use Rattle.qcow2_alloc.specs.ImageError.{IsFault};
 ghost use Rattle.qcow2_image.specs.Backings.{HasPrepared};
 ghost use Rattle.qcow2_image.specs.Image.{ImageStays, KeepsRest, KeepsRestOn, is_writable};
@@ -16,7 +16,7 @@ ghost use Rattle.qcow2_image.specs.UnseenSteps.{Ensures, UnseenStep};
 ghost use Rattle.qcow2_image.specs.ImageInvariant.{ImageInvariant, pending_in};
 ghost use Rattle.qcow2_metadata.specs.Cover.{cover};
 ghost use Rattle.qcow2_image.specs.declared.mapping.Place.TheVariants.{Image};
-ghost use Rattle.qcow2_image.specs.L1Entries.{HadOwnTableOrFrees, HasOwnTable, ReachesOffset};
+ghost use Rattle.qcow2_image.specs.L1Entries.{HadOwnTableOrFrees, HasFarEntry, HasOwnTable, NeedsFarEntry, ReachesOffset};
 ghost use Rattle.qcow2_image.specs.NewTables.{IsFaultOrKeepsL1Table, IsFaultOrLacksTable, SaysKnown, IsStored, StandsReady, MayName, NamesShared, PlacesNewTable, Stores, NamesNew, WritesNew, EntersTable, OwnsTable};
 ghost use Rattle.qcow2_alloc.specs.TableCaches.{IsTableOf};
 ghost use Rattle.qcow2_laws.specs.Changes.{one_at, with_new_tables};
@@ -32,6 +32,7 @@ use qcow2_metadata::{ClusterCount, GuestOffset, HostCluster, L2Table};
 #[tactic(auto, using(crate::proofs::Call::MetErrors::tables_met, crate::proofs::Call::MetErrors::storage_met, crate::proofs::Call::MetErrors::metadata_met))]
 impl<S: Storage, F: WrappedFormat<S>> Qcow2<S, F> {
     // The L2 table that covers an offset, held in its cache and marked copied. Where one is made, the clusters that are to be freed are freed then.
+    // An L1 entry that would lie past 64 bits isn't written.
     pub(crate) fn table_for(&mut self, offset: u64) -> Result<HostCluster, ImageError>
         requires writable { IsTrue (is_writable self.old) }
         ensures stays { ImageStays self.old self.new }
@@ -41,10 +42,14 @@ impl<S: Storage, F: WrappedFormat<S>> Qcow2<S, F> {
         ensures finds { (out : List (Option Prepared)) → ImageInvariant S.view F.backing (pending_in S.view F.backing self.old out) self.old out → FindsTable S.view F.backing self.old self.new out offset result }
         ensures reaches { (out : List (Option Prepared)) → ImageInvariant S.view F.backing (pending_in S.view F.backing self.old out) self.old out → OnOk result (ReachesOffset offset self.old.file.header.fields self.new.file.header.fields) }
         ensures freed { (out : List (Option Prepared)) → ImageInvariant S.view F.backing (pending_in S.view F.backing self.old out) self.old out → OnOk result (HadOwnTableOrFrees self.old self.new offset) }
+        ensures far { NeedsFarEntry self.old offset → (result ≡ Err ImageError.Overflow) × (self.new ≡ self.old) }
         ensures faults { CountsImageFaults S.view F.backing self.old self.new result }
     {
         if self.has_own_l2(offset) {
             return self.ensure_l2(offset);
+        }
+        if self.has_far_entry(offset) {
+            return Err(ImageError::Overflow);
         }
         self.reach_entry(offset)?;
         self.own_l2(offset)?;
@@ -54,13 +59,21 @@ impl<S: Storage, F: WrappedFormat<S>> Qcow2<S, F> {
 
     // Whether there is an L2 table for an offset that is marked copied.
     fn has_own_l2(&self, offset: u64) -> bool
-        ensures { IsTrue result → HasOwnTable self.now offset }
+        ensures { IsTrue result ↔ HasOwnTable self.now offset }
     {
         let index = GuestOffset::new(offset).l1_index(self.file.header.cluster_bits());
         match self.l1_table.get(index) {
             Some(entry) => entry.copied,
             None => false,
         }
+    }
+
+    // Whether there is an L1 entry for an offset, and 64 bits don't hold where it lies.
+    fn has_far_entry(&self, offset: u64) -> bool
+        ensures { IsTrue result ↔ HasFarEntry self.now offset }
+    {
+        let index = GuestOffset::new(offset).l1_index(self.file.header.cluster_bits());
+        self.l1_table.in_bounds(index) && !self.l1_table.has_entry_room(index)
     }
 
     // The L2 table that covers an offset, held in its cache and marked copied. Where there is none, or it isn't, one is made.
@@ -251,6 +264,7 @@ impl<S: Storage, F: WrappedFormat<S>> Qcow2<S, F> {
     fn name_l2(&mut self, index: usize, cluster: HostCluster) -> Result<(), ImageError>
         requires within { index < entry_count self.old.l1_table }
         requires placed { IsSome self.old.l1_table.cluster }
+        requires room { HasRoomIfPlaced self.old.l1_table.cluster_bits (8 * index) self.old.l1_table.cluster }
         requires nameable { IsHostCluster self.old.l1_table.cluster_bits cluster }
         ensures stays { ImageStays self.old self.new }
         ensures keeps_rest { KeepsRest self.old self.new }
@@ -271,10 +285,12 @@ impl<S: Storage, F: WrappedFormat<S>> Qcow2<S, F> {
     fn can_enter(&self, index: usize, cluster: HostCluster) -> bool
         ensures within { IsTrue result → index < entry_count self.now.l1_table }
         ensures placed { IsTrue result → IsSome self.now.l1_table.cluster }
+        ensures room { IsTrue result → HasRoomIfPlaced self.now.l1_table.cluster_bits (8 * index) self.now.l1_table.cluster }
         ensures nameable { IsTrue result → IsHostCluster self.now.l1_table.cluster_bits cluster }
     {
         self.l1_table.in_bounds(index)
             && self.l1_table.get_cluster().is_some()
+            && self.l1_table.has_entry_room(index)
             && cluster.is_nameable(self.l1_table.cluster_bits())
     }
 }

@@ -340,7 +340,8 @@ impl<S: Storage, F: WrappedFormat<S>> Qcow2<S, F> {
     /// than the range, and has to be committed or discarded. One that isn't existing has the rest of its first cluster at least.
     /// Refused in this order: 16 (failed), 12 (dependency), 2 (beyond size), 1 (read-only). A length of 0 is answered before 1. Then
     /// comes 9 (table prepared), where another mapping that isn't existing is prepared in its L2 table. Where the work meets them:
-    /// 4 (unaligned table), 7 (compressed), 8 (everything is in use), 13 (limit), 14 (memory), 15 (storage).
+    /// 4 (unaligned table), 7 (compressed), 8 (everything is in use), 13 (limit), 14 (memory), 15 (storage), and 20 (overflow) where an L1
+    /// entry past 64 bits would have to be written.
     pub fn prepare_data_mapping(
         &mut self,
         offset: u64,

@@ -22,8 +22,8 @@ use Rattle.qcow2_image.specs.Readable.{HeaderSuits, IsReadable, IsReasonAgainstT
 use Rattle.qcow2_image.proofs.Open.SameHeaders.{not_both, not_needed}
 
 -- an L1 table without entries
-pub none_reads : (h : HeaderFields) (b : Bytes) → h.l1_offset < 2 ^ 64 → h.l1_entries ≡ 0 → L1TableReads h b
-none_reads h b below none = record { fits = omega (arith, below, none); each = λ i lt. absurd (omega (arith, lt, none)) }
+pub none_reads : (h : HeaderFields) (b : Bytes) → h.l1_entries ≡ 0 → L1TableReads h b
+none_reads h b none = λ i lt. absurd (omega (arith, lt, none))
 
 -- a header that isn't loaded
 pub header_refused : (contents : List ℕ) (writable alone : Bool) (e : MetadataError) → IsReasonToRefuse (header (byte_at contents)) (byte_at contents) writable e → IsRefusedRightly contents writable alone (of_metadata e)

@@ -1,4 +1,4 @@
-use Rattle.std.proofs.Common.{◌≡◌, ℕ, ◌*◌, ◌^◌, Result, refl, sym, ap, ◌∙◌, subst, arith}
+use Rattle.std.proofs.Common.{◌≡◌, ℕ, ◌*◌, ◌<◌, ◌^◌, Result, refl, sym, ap, ◌∙◌, subst, arith}
 use Rattle.std.specs.Prelude.{MatchResult}
 use Rattle.image_access.specs.Contents.{bytes_at}
 use Rattle.qcow2_metadata.specs.Bytes.{byte_at}
@@ -10,9 +10,9 @@ use Rattle.qcow2_metadata.proofs.EntryTables.{l1_entries-loaded}
 use Rattle.qcow2_alloc.specs.declared.error.ImageError.{ImageError}
 use Rattle.qcow2_alloc.specs.ImageError.{of_metadata}
 use Rattle.qcow2_alloc.specs.ImageFile.{contents_in, view_in}
-use Rattle.qcow2_alloc.specs.LoadedTables.{IsReasonAgainst, IsReasonAgainstL1Table, L1TableReads, TableReads}
+use Rattle.qcow2_alloc.specs.LoadedTables.{HasUnreadEntry, IsReasonAgainst, IsReasonAgainstL1Table, L1TableReads}
 use Rattle.qcow2_alloc.proofs.AllocationSteps.{handed_on}
-use Rattle.qcow2_alloc.proofs.LoadedTables.{not_loaded, table_reads}
+use Rattle.qcow2_alloc.proofs.LoadedTables.{entries_read, not_loaded}
 use Rattle.qcow2_image.proofs.Open.Reading.{none_reads}
 use Rattle.qcow2_image.proofs.Open.Opening.{l1_cleared, l1_loaded}
 use Rattle.qcow2_image.proofs.image.Qcow2.load_l1_table.Goals as goal
@@ -35,9 +35,7 @@ returns-clause-why g c = λ honest.
     let entries : n ≡ h.l1_entries = c.l1_table_entries-entries.ensures.value in
     let at : c.in-Some.cluster * 2 ^ h.cluster_bits ≡ h.l1_offset = ap (λ n. c.in-Some.cluster * 2 ^ n) (sym c.cluster_bits-bits.ensures.value) ∙ c.in-Some.ensures.cluster ∙ c.l1_table_offset.ensures in
     let t = c.in_ok-table.table in
-    subst (λ m. TableReads h.l1_offset m (λ i. L1EntryReads (l1_entry h b i))) entries
-    (table_reads 4194304 h.cluster_bits c.in-Some.cluster h.l1_offset n at c.l1_table_entries-entries.ensures.limit t t.bytes (l1_entry h b) L1EntryReads c.in_ok-table.ensures.limit c.in_ok-table.ensures.is_table.reads
-    (c.in_ok-table.ensures.of_image honest (sym at, sym entries)))
+    entries_read h.l1_entries t.bytes (l1_entry h b) L1EntryReads c.in_ok-table.ensures.is_table.reads (c.in_ok-table.ensures.of_image honest (sym at, sym entries))
 
 pub returns-in_err-table-clause-why : goal.returns-in_err-table-clause-why
 returns-in_err-table-clause-why g c = λ honest.
@@ -50,10 +48,11 @@ returns-in_err-table-clause-why g c = λ honest.
     let e = c.in_err-table.field-0.0 in
     let is = subst (λ m. (i : ℕ) → entry_at (bytes_at contents h.l1_offset (8 * m)) i ≡ l1_entry h b i) (sym entries) (l1_entries-loaded h contents _ refl) in
     let There : Type 0 = (view_in g.S.Storage.view c.args.file.now).is_honest → SomeUnread L1EntryReads (bytes_at contents (c.in-Some.cluster * cluster_size h) (8 * n)) in
-    let why = not_loaded 4194304 h.cluster_bits c.in-Some.cluster h.l1_offset n at c.l1_table_entries-entries.ensures.limit h contents (l1_entry h b) L1EntryReads is There
-    (λ some. subst (λ p. SomeUnread L1EntryReads (bytes_at contents p (8 * n))) at (some honest)) e c.in_err-table.ensures.limit c.in_err-table.ensures.err in
+    let near : h.l1_offset < 2 ^ 64 = omega (arith, c.l1_table_offset.ensures) in
+    let why = not_loaded 4194304 h.cluster_bits 0 c.in-Some.cluster h.l1_offset n at c.l1_table_entries-entries.ensures.limit h contents (l1_entry h b) L1EntryReads is There
+    (λ some. subst (λ p. SomeUnread L1EntryReads (bytes_at contents p (8 * n))) at (some honest)) ⊥ (HasUnreadEntry n (λ i. L1EntryReads (l1_entry h b i))) (λ past. omega (arith, past, near)) (λ fits unread. unread) e c.in_err-table.ensures.limit c.in_err-table.ensures.err in
     handed_on (λ (r : Result _ ImageError). MatchResult r (λ t. L1TableReads h b) (IsReasonAgainstL1Table h b)) c.from_residual-in_err-table.result (of_metadata e) c.from_residual-in_err-table.ensures
-    (subst (λ m. IsReasonAgainst h h.l1_offset m (λ i. L1EntryReads (l1_entry h b i)) (of_metadata e)) entries why)
+    (subst (λ m. IsReasonAgainst h h.l1_offset ⊥ (HasUnreadEntry m (λ i. L1EntryReads (l1_entry h b i))) (of_metadata e)) entries why)
 
 pub returns-then-entries-eq0-clause-why : goal.returns-then-entries-eq0-clause-why
-returns-then-entries-eq0-clause-why g c = λ honest. none_reads c.args.file.now.header.fields (contents_in g.S.Storage.view c.args.file.now) (omega (arith, c.l1_table_offset.ensures)) (sym c.l1_table_entries-entries.ensures.value ∙ c.if-entries-eq0.true)
+returns-then-entries-eq0-clause-why g c = λ honest. none_reads c.args.file.now.header.fields (contents_in g.S.Storage.view c.args.file.now) (sym c.l1_table_entries-entries.ensures.value ∙ c.if-entries-eq0.true)

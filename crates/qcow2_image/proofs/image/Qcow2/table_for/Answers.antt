@@ -1,6 +1,7 @@
-use Rattle.std.proofs.Common.{Err, ◌∙◌, ap, sym, subst, inl, inr}
+use Rattle.std.proofs.Common.{Err, ◌∙◌, refl, ap, sym, subst, inl, inr}
 use Rattle.qcow2_metadata.specs.Header.{HeaderView}
 use Rattle.qcow2_laws.specs.CrashInvariant.{Pending}
+use Rattle.qcow2_alloc.specs.declared.error.ImageError.TheVariants as I
 use Rattle.qcow2_alloc.proofs.AllocationSteps.{handed_on}
 use Rattle.qcow2_image.specs.CallParts.{FindsTable}
 use Rattle.qcow2_image.specs.ImageInvariant.{ImageInvariant, pending_in}
@@ -9,7 +10,8 @@ use Rattle.qcow2_image.proofs.Flush.Freeing.{all_listed, beside, freed_refused, 
 use Rattle.std.specs.Prelude.{IfErr, IsTrue}
 use Rattle.qcow2_alloc.proofs.KeptTables.Turning.{always_ok}
 use Rattle.qcow2_image.specs.Found.{l1_index_of}
-use Rattle.qcow2_image.specs.UnseenSteps.{pending_with_listed}
+use Rattle.qcow2_image.specs.UnseenSteps.{NamesOwn, pending_with_listed}
+use Rattle.qcow2_image.proofs.Prepare.Owning.{left_alone}
 use Rattle.qcow2_image.proofs.Grow.Lengths.{kept_length, own_after, own_reached, reaches_told, same_length}
 use Rattle.qcow2_image.specs.NewTables.{IsFaultOrLacksTable}
 use Rattle.qcow2_image.proofs.image.Qcow2.table_for.Goals as goal
@@ -19,6 +21,13 @@ returns-then-has_own_l2-clause-finds g c = λ out sound.
     let view = g.S.Storage.view in
     let below = g.F.BackingDisk.backing in
     finds view below out c.args.self.now c.ensure_l2.new.self sound c.ensure_l2.ensures.keeps_rest c.args.offset c.ensure_l2.result (c.ensure_l2.ensures.ready (pending_in view below c.args.self.now out) out sound)
+
+pub returns-then-has_far_entry-clause-finds : goal.returns-then-has_far_entry-clause-finds
+returns-then-has_far_entry-clause-finds g c = λ out sound.
+    let view = g.S.Storage.view in
+    let below = g.F.BackingDisk.backing in
+    let old = c.args.self.now in
+    left_refused view below out old old I.Overflow sound (record { header = refl; backing = refl }) (left_alone view below out (pending_in view below old out) old sound 0 I.Overflow)
 
 pub returns-in_err-reach_entry-clause-finds : goal.returns-in_err-reach_entry-clause-finds
 returns-in_err-reach_entry-clause-finds g c = λ out sound.
@@ -76,6 +85,11 @@ returns-clause-finds g c = λ out sound.
 pub returns-then-has_own_l2-clause-lacks : goal.returns-then-has_own_l2-clause-lacks
 returns-then-has_own_l2-clause-lacks g c = λ out sound none. c.ensure_l2.ensures.lacks (pending_in g.S.Storage.view g.F.BackingDisk.backing c.args.self.now out) out sound none
 
+pub returns-then-has_far_entry-clause-lacks : goal.returns-then-has_far_entry-clause-lacks
+returns-then-has_far_entry-clause-lacks g c = λ out sound none.
+    let old = c.args.self.now in
+    inr (λ own. absurd (let has = c.has_own_l2.ensures.1 (subst NamesOwn (sym (sound.l1_table.entries (l1_index_of old.file.header.fields c.args.offset))) own) in let is = sym c.if-has_own_l2.false ∙ has in cc))
+
 pub returns-in_err-reach_entry-clause-lacks : goal.returns-in_err-reach_entry-clause-lacks
 returns-in_err-reach_entry-clause-lacks g c = λ out sound none.
     handed_on (λ r. IfErr r (IsFaultOrLacksTable g.S.Storage.view c.reach_entry.new.self c.args.offset)) c.from_residual.result c.in_err-reach_entry.field-0.0 c.from_residual.ensures (c.in_err-reach_entry.ensures.lacks out sound)
@@ -120,7 +134,7 @@ returns-then-has_own_l2-clause-reaches g c = λ out sound.
     let old = c.args.self.now in
     let new = c.ensure_l2.new.self in
     always_ok c.ensure_l2.result
-    (own_reached view below out (pending_in view below old out) old sound c.args.offset new.file.header.fields (c.has_own_l2.ensures c.if-has_own_l2.true) (kept_length old.file.header new.file.header c.ensure_l2.ensures.keeps_rest.header))
+    (own_reached view below out (pending_in view below old out) old sound c.args.offset new.file.header.fields (c.has_own_l2.ensures.0 c.if-has_own_l2.true) (kept_length old.file.header new.file.header c.ensure_l2.ensures.keeps_rest.header))
 
 pub returns-clause-reaches : goal.returns-clause-reaches
 returns-clause-reaches g c = λ out sound.
@@ -136,7 +150,7 @@ returns-clause-reaches g c = λ out sound.
     (kept_length freed.file.header c.ensure_l2-2.new.self.file.header c.ensure_l2-2.ensures.keeps_rest.header ∙ same_length mid.file.header freed.file.header c.free_listed.ensures.keeps_rest.header ∙ kept_length long.file.header mid.file.header c.own_l2.ensures.keeps_rest.header ∙ told)
 
 pub returns-then-has_own_l2-clause-freed : goal.returns-then-has_own_l2-clause-freed
-returns-then-has_own_l2-clause-freed g c = λ out sound. always_ok c.ensure_l2.result (inl (c.has_own_l2.ensures c.if-has_own_l2.true))
+returns-then-has_own_l2-clause-freed g c = λ out sound. always_ok c.ensure_l2.result (inl (c.has_own_l2.ensures.0 c.if-has_own_l2.true))
 
 pub returns-clause-freed : goal.returns-clause-freed
 returns-clause-freed g c = λ out sound.

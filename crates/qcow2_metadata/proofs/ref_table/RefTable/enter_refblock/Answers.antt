@@ -10,5 +10,5 @@ invariant_of-self c =
       omega (arith, c.set.ensures.entry.as_long, c.self.invariant.0),
       EachReads-set ReftableEntryReads _ _ _ _ c.set.ensures.entry (omega (arith, aligned, c.offset.ensures, c.value-offset.ensures)) c.self.invariant.1,
       room_as c.set.new.self c.self.inside.table.cluster c.self.inside.table.cluster_bits (length c.self.inside.table.bytes) (ap (λ (t : EntryTableView). t.cluster) c.set.ensures.rest) (ap (λ (t : EntryTableView). t.cluster_bits) c.set.ensures.rest)
-      c.set.ensures.entry.as_long c.self.invariant.2,
+          c.set.ensures.entry.as_long c.self.invariant.2,
     )
