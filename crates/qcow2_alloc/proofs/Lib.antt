@@ -35,3 +35,4 @@ pub mod FormerReftables
 pub mod Limits
 pub mod LoadedTables
 pub mod HeaderClusters
+pub mod SparedHeaders

@@ -7,6 +7,7 @@ ghost use Rattle.qcow2_alloc.specs.Allocation.{MayTake, IsUnaligned, TakesCluste
 ghost use Rattle.qcow2_alloc.specs.FreeList.{pending_then, ListsTables, ListsReftables};
 ghost use Rattle.qcow2_alloc.specs.CachePins.{KeepsPinsAndNotes};
 ghost use Rattle.qcow2_alloc.specs.Faults.{CountsFaults};
+ghost use Rattle.qcow2_alloc.specs.SparedHeaders.{AreBehindHeader, StandsBehindHeader, SparesHeaderButPointer};
 ghost use Rattle.qcow2_alloc.specs.Limits.{IsFaultOr, HasNoPlace, CantCount, CantCountRun, nameable_clusters};
 ghost use Rattle.qcow2_alloc.specs.SoundAllocators.{SoundAllocator};
 ghost use Rattle.qcow2_alloc.specs.LowestRuns.{NoFreeBelowHint, IsLowestRun, IsUsed, KeepsNoFreeBelowHint, KeepsUsed};
@@ -46,6 +47,7 @@ impl Allocator {
         ensures reftable { (view_in S.view file.old).is_honest → IfOk result (λ allocator. HasReftable S.view file.new allocator.reftable) }
         ensures first { IfOk result (λ allocator. allocator.first_free_cluster ≡ 0) }
         ensures leaks { IfOk result (λ allocator. allocator.leaked_clusters ≡ 0) }
+        ensures header_cluster { 0 < file.old.header.fields.reftable_offset → AreBehindHeader file.old.header.fields.cluster_bits file.old.caches → IfOk result (λ allocator. StandsBehindHeader file.old.header.fields.cluster_bits allocator.reftable file.new) }
     {
         let bits = file.header.cluster_bits();
         let Some(cluster) = file.header.reftable_offset().checked_cluster(bits) else {
@@ -104,6 +106,7 @@ impl Allocator {
         ensures limit { (p : Pending) → SoundAllocator S.view self.old p file.old → 0 < count → IfErr result (IsFaultOr (HasNoPlace S.view file.new self.new count)) }
         ensures lowest { (p : Pending) → SoundAllocator S.view self.old p file.old → IfOk result (λ run. IsLowestRun S.view file.new run.first_cluster count) }
         ensures hint { (p : Pending) → SoundAllocator S.view self.old p file.old → KeepsNoFreeBelowHint S.view self.new file.new result }
+        ensures header_cluster { SparesHeaderButPointer S.view self.old.reftable file.old self.new.reftable file.new }
     {
         self.allocate(file, count, ClusterKind::Metadata)
     }
@@ -130,6 +133,7 @@ impl Allocator {
         ensures limit { (p : Pending) → SoundAllocator S.view self.old p file.old → 0 < count → IfErr result (IsFaultOr (HasNoPlace S.view file.new self.new count)) }
         ensures lowest { (p : Pending) → SoundAllocator S.view self.old p file.old → IfOk result (λ run. IsLowestRun S.view file.new run.first_cluster count) }
         ensures hint { (p : Pending) → SoundAllocator S.view self.old p file.old → KeepsNoFreeBelowHint S.view self.new file.new result }
+        ensures header_cluster { SparesHeaderButPointer S.view self.old.reftable file.old self.new.reftable file.new }
     {
         file.caches.l2_depends_on_rb(&mut file.storage)?;
         self.allocate(file, count, ClusterKind::Data)
@@ -159,6 +163,7 @@ impl Allocator {
         ensures limit { (p : Pending) → SoundAllocator S.view self.old p file.old → IfErr result (IsFaultOr (CantCount S.view file.new (λ k. 0) self.new cluster)) }
         ensures none { (p : Pending) → AllocatorInvariant S.view self.old p file.old → IfOk result (λ run. IsNone run → (IsHostCluster file.old.header.fields.cluster_bits cluster → ⊥) ⊎ IsUsed S.view file.new cluster) }
         ensures hint { (p : Pending) → SoundAllocator S.view self.old p file.old → KeepsNoFreeBelowHint S.view self.new file.new result }
+        ensures header_cluster { SparesHeaderButPointer S.view self.old.reftable file.old self.new.reftable file.new }
     {
         file.caches.l2_depends_on_rb(&mut file.storage)?;
         let at = cluster.value();
@@ -207,6 +212,7 @@ impl Allocator {
         ensures limit { (p : Pending) → AllocatorInvariant S.view self.old p file.old → MayTake (is_data kind) file.old → NoFreeBelowHint S.view self.old file.old → 0 < count → IfErr result (IsFaultOr (HasNoPlace S.view file.new self.new count)) }
         ensures lowest { (p : Pending) → AllocatorInvariant S.view self.old p file.old → MayTake (is_data kind) file.old → NoFreeBelowHint S.view self.old file.old → IfOk result (λ run. IsLowestRun S.view file.new run.first_cluster count) }
         ensures hint { (p : Pending) → AllocatorInvariant S.view self.old p file.old → MayTake (is_data kind) file.old → NoFreeBelowHint S.view self.old file.old → KeepsNoFreeBelowHint S.view self.new file.new result }
+        ensures header_cluster { SparesHeaderButPointer S.view self.old.reftable file.old self.new.reftable file.new }
     {
         let entry = ClustersToFreeEntry {
             first_cluster: HostCluster::new(0),
@@ -242,6 +248,7 @@ impl Allocator {
         ensures limit { (p : Pending) (is_data : Bool) → AllocatorInvariant S.view self.old p file.old → MayTake is_data file.old → NoFreeBelowHint S.view self.old file.old → 0 < n → IfErr result (IsFaultOr (HasNoPlace S.view file.new self.new n)) }
         ensures lowest { (p : Pending) (is_data : Bool) → AllocatorInvariant S.view self.old p file.old → MayTake is_data file.old → NoFreeBelowHint S.view self.old file.old → IfOk result (λ first. IsLowestRun S.view file.new first n) }
         ensures hint { (p : Pending) (is_data : Bool) → AllocatorInvariant S.view self.old p file.old → MayTake is_data file.old → NoFreeBelowHint S.view self.old file.old → KeepsNoFreeBelowHint S.view self.new file.new result }
+        ensures header_cluster { SparesHeaderButPointer S.view self.old.reftable file.old self.new.reftable file.new }
     {
         let limit = (MAX_HOST_OFFSET >> file.header.cluster_bits()) + 1;
         self.first_free_cluster = self.first_free_cluster.max(1);
@@ -279,6 +286,7 @@ impl Allocator {
         ensures used { (p : Pending) (is_data : Bool) → AllocatorInvariant S.view self.old p file.old → MayTake is_data file.old → IfOk result (λ taken. taken ≢ n → IsUsed S.view file.new (first + taken)) }
         ensures hint { (p : Pending) (is_data : Bool) → AllocatorInvariant S.view self.old p file.old → MayTake is_data file.old → NoFreeBelowHint S.view self.old file.old → KeepsNoFreeBelowHint S.view self.new file.new result }
         ensures uses { (p : Pending) (is_data : Bool) → AllocatorInvariant S.view self.old p file.old → MayTake is_data file.old → KeepsUsed S.view file.old file.new result }
+        ensures header_cluster { SparesHeaderButPointer S.view self.old.reftable file.old self.new.reftable file.new }
     {
         'taking: for taken in 0..n {
             match self.take(file, first + taken) {
@@ -321,6 +329,7 @@ impl Allocator {
         ensures hint { (p : Pending) (is_data : Bool) → AllocatorInvariant S.view self.old p file.old → MayTake is_data file.old → NoFreeBelowHint S.view self.old file.old → KeepsNoFreeBelowHint S.view self.new file.new result }
         ensures uses { (p : Pending) (is_data : Bool) → AllocatorInvariant S.view self.old p file.old → MayTake is_data file.old → KeepsUsed S.view file.old file.new result }
         ensures free { (p : Pending) → AllocatorInvariant S.view self.old p file.old → IfOk result (λ taken. IsTrue taken → ¬ IsUsed S.view file.old cluster) }
+        ensures header_cluster { SparesHeaderButPointer S.view self.old.reftable file.old self.new.reftable file.new }
     {
         self.reach_block(file, cluster)?;
         let taken = self.raise(file, cluster)?;

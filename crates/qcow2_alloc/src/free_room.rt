@@ -5,6 +5,7 @@ ghost use Rattle.qcow2_laws.specs.CrashInvariant.{Pending};
 ghost use Rattle.qcow2_alloc.specs.Allocation.{run_at, UnseenAllocatorStep, GivesBack, SameLeaks};
 ghost use Rattle.qcow2_alloc.specs.CachePins.{KeepsPinsAndNotes};
 ghost use Rattle.qcow2_alloc.specs.Faults.{CountsFaults};
+ghost use Rattle.qcow2_alloc.specs.SparedHeaders.{SparesHeader};
 ghost use Rattle.qcow2_alloc.specs.GrownTables.{counted_run, with_run};
 ghost use Rattle.qcow2_alloc.specs.ImageError.{IsOfTables};
 ghost use Rattle.qcow2_alloc.specs.ImageFile.{AllocatorInvariant};
@@ -61,6 +62,7 @@ impl Allocator {
         ensures storage_faults { CountsFaults S.view file.old.storage file.new.storage result }
         ensures leaks { (p : Pending) → AllocatorInvariant S.view self.old p file.old → SameLeaks self.old self.new }
         ensures room { (p : Pending) → AllocatorInvariant S.view self.old p file.old → NoFreeBelowHint S.view self.old file.old → IfErr result (IsFaultOr (HasNoRoomBelow S.view file.new (λ k. 0) self.old.reftable clusters end)) }
+        ensures header_cluster { SparesHeader S.view self.old.reftable file.old self.new.reftable file.new }
     {
         let mut first = self.first_free_cluster.max(1);
         'search: while first < end {
@@ -103,6 +105,7 @@ impl Allocator {
         ensures storage_faults { CountsFaults S.view file.old.storage file.new.storage result }
         ensures short { IfOk result (λ reach. reach.taken ≢ reach.blocks + clusters → (n : ℕ) → n ≤ reach.taken → n < opened self.old.reftable (counts_per_block file.old.header.fields) first n + clusters) }
         ensures stopped { (p : Pending) → AllocatorInvariant S.view self.old p file.old → IfOk result (λ reach. reach.taken ≢ reach.blocks + clusters → first + reach.taken < end → IsUsed S.view file.new (first + reach.taken)) }
+        ensures header_cluster { SparesHeader S.view self.old.reftable file.old self.new.reftable file.new }
     {
         let bits = file.header.rb_bits();
         let mut taken = 0;
@@ -137,6 +140,7 @@ impl Allocator {
         ensures cause { IfErr result IsOfTables }
         ensures storage_faults { CountsFaults S.view file.old.storage file.new.storage result }
         ensures used { (p : Pending) → AllocatorInvariant S.view self.old p file.old → IfOk result (λ taken. taken ≡ false → IsUsed S.view file.new cluster) }
+        ensures header_cluster { SparesHeader S.view self.old.reftable file.old self.new.reftable file.new }
     {
         if self.lacks_block(cluster >> bits) {
             return Ok(true);
@@ -174,6 +178,7 @@ impl Allocator {
         ensures leaks { (p : Pending) (start : ImageFile S) → start.header ≡ file.old.header → UnseenAllocatorStep S.view p start self.old file.old (with_run p start.header.fields self.old.reftable first n) → SameLeaks self.old self.new }
         ensures kept { (p : Pending) (start : ImageFile S) → start.header ≡ file.old.header → UnseenAllocatorStep S.view p start self.old file.old (with_run p start.header.fields self.old.reftable first n)
             → OnOk result ((k : ℕ) → run_at first n k ≡ 0 → IsUsed S.view file.old k → IsUsed S.view file.new k) }
+        ensures header_cluster { SparesHeader S.view self.old.reftable file.old self.new.reftable file.new }
     {
         let bits = file.header.rb_bits();
         'leaving: for cluster in first..first + n {

@@ -10,6 +10,7 @@ ghost use Rattle.qcow2_laws.specs.CrashInvariant.{Pending};
 ghost use Rattle.qcow2_alloc.specs.Allocation.{run_at, NamesBehindHeader, SameLeaks};
 ghost use Rattle.qcow2_alloc.specs.CachePins.{KeepsPinsAndNotes};
 ghost use Rattle.qcow2_alloc.specs.Faults.{CountsFaults};
+ghost use Rattle.qcow2_alloc.specs.SparedHeaders.{KeepBehindHeader, SparesHeaderButPointer};
 ghost use Rattle.qcow2_alloc.specs.GrownTables.{with_run, NamesReftable};
 ghost use Rattle.qcow2_alloc.specs.ImageError.{IsOfTables};
 ghost use Rattle.qcow2_alloc.specs.HeaderClusters.{KeepsHeaderCluster};
@@ -78,6 +79,7 @@ fn write_new_block<S: Storage>(
     ensures list { file.new.free_list ≡ file.old.free_list }
     ensures cause { IfErr result IsOfTables }
     ensures storage_faults { CountsFaults S.view file.old.storage file.new.storage result }
+    ensures behind_header { KeepBehindHeader file.old.caches file.new.caches }
 {
     file.caches.rb_remove(cluster);
     file.storage.will_write(WriteKind::Other);
@@ -141,6 +143,7 @@ impl Allocator {
         ensures list { file.new.free_list ≡ file.old.free_list }
         ensures cause { IfErr result IsOfTables }
         ensures storage_faults { CountsFaults S.view file.old.storage file.new.storage result }
+        ensures behind_header { KeepBehindHeader file.old.caches file.new.caches }
     {
         let bits = file.header.rb_bits();
         let end = room.first + room.blocks + room.clusters;
@@ -196,6 +199,7 @@ impl Allocator {
         ensures kept { OnErr result (self.new.reftable ≡ self.old.reftable) }
         ensures storage_faults { CountsFaults S.view file.old.storage file.new.storage result }
         ensures leaks { SameLeaks self.old self.new }
+        ensures header_cluster { SparesHeaderButPointer S.view self.old.reftable file.old self.new.reftable file.new }
     {
         let mut table = table;
         file.caches.flush_rb(&mut file.storage)?;

@@ -5,6 +5,7 @@ ghost use Rattle.qcow2_alloc.specs.Allocation.{placing, first_counts, HasPlaceFo
 ghost use Rattle.qcow2_alloc.specs.FreeList.{pending_then, ListsTables, SamePlace, ListsReftables};
 ghost use Rattle.qcow2_alloc.specs.CachePins.{KeepsPinsAndNotes, LeavesPinned};
 ghost use Rattle.qcow2_alloc.specs.Faults.{CountsFaults};
+ghost use Rattle.qcow2_alloc.specs.SparedHeaders.{SparesHeader, SparesHeaderButPointer};
 ghost use Rattle.qcow2_alloc.specs.Limits.{IsFaultOr, CantCount};
 ghost use Rattle.qcow2_alloc.specs.LowestRuns.{NoFreeBelowHint, IsUsed, KeepsNoFreeBelowHint, KeepsUsed};
 ghost use Rattle.qcow2_alloc.specs.ImageError.{IsOfTables, IsFault};
@@ -13,7 +14,7 @@ ghost use Rattle.qcow2_laws.specs.Caches.{AreClean, BlocksMayGo};
 ghost use Rattle.qcow2_alloc.specs.MetadataCaches.{order_of, l2_tables, refblocks, TakesOff};
 ghost use Rattle.qcow2_metadata.specs.L2Mapping.{IsHostCluster};
 ghost use Rattle.qcow2_metadata.specs.Header.{counts_per_block};
-ghost use Rattle.qcow2_metadata.specs.EntryTable.{entry_count};
+ghost use Rattle.qcow2_metadata.specs.EntryTable.{EntryTableView, entry_count};
 ghost use Rattle.qcow2_metadata.specs.RefBlock.{count_at, IsRefBlock};
 ghost use Rattle.qcow2_metadata.specs.TableBytes.{HasPlace};
 ghost use Rattle.qcow2_alloc.specs.TableCaches.{IsBlockOf};
@@ -63,6 +64,7 @@ fn write_block<S: Storage>(file: &mut ImageFile<S>, mut block: RefBlock) -> Resu
     ensures list { file.new.free_list ≡ file.old.free_list }
     ensures cause { IfErr result IsOfTables }
     ensures storage_faults { CountsFaults S.view file.old.storage file.new.storage result }
+    ensures header_cluster { (reftable : EntryTableView) → block.cluster_bits ≡ file.old.header.fields.cluster_bits → SparesHeader S.view reftable file.old reftable file.new }
 {
     file.caches.flush_rb(&mut file.storage)?;
     file.storage.will_write(WriteKind::Other);
@@ -107,6 +109,7 @@ impl Allocator {
         ensures unaligned { IsUnaligned file.old.header.fields self.now.reftable range → IsErrOf result ImageError.UnalignedTable }
         ensures names { IfOk result (NamesBlock file.old.header.fields self.now.reftable range) }
         ensures storage_faults { CountsFaults S.view file.old.storage file.new.storage result }
+        ensures header_cluster { SparesHeader S.view self.now.reftable file.old self.now.reftable file.new }
     {
         let Some(offset) = self.reftable.get(range as usize) else {
             return Ok(None);
@@ -136,6 +139,7 @@ impl Allocator {
         ensures fault { (p : Pending) → AllocatorInvariant S.view self.old p file.old → IfErr result IsFault }
         ensures used { (p : Pending) → AllocatorInvariant S.view self.old p file.old → (HasNone self.old.reftable (cluster / counts_per_block file.old.header.fields) → ⊥) → IfOk result (λ taken. taken ≡ false → IsUsed S.view file.new cluster) }
         ensures free { (p : Pending) → AllocatorInvariant S.view self.old p file.old → IfOk result (λ taken. IsTrue taken → ¬ IsUsed S.view file.old cluster) }
+        ensures header_cluster { SparesHeader S.view self.old.reftable file.old self.new.reftable file.new }
     {
         let bits = file.header.rb_bits();
         let Some(block) = self.load_block(file, cluster >> bits)? else {
@@ -166,6 +170,7 @@ impl Allocator {
         ensures has { (p : Pending) → AllocatorInvariant S.view self.old p file.old → OnOk result (HasNone self.new.reftable (cluster / counts_per_block file.old.header.fields) → ⊥) }
         ensures hint { (p : Pending) → AllocatorInvariant S.view self.old p file.old → NoFreeBelowHint S.view self.old file.old → KeepsNoFreeBelowHint S.view self.new file.new result }
         ensures uses { (p : Pending) → AllocatorInvariant S.view self.old p file.old → KeepsUsed S.view file.old file.new result }
+        ensures header_cluster { SparesHeaderButPointer S.view self.old.reftable file.old self.new.reftable file.new }
     {
         let range = (cluster >> file.header.rb_bits()) as usize;
         if self.reftable.in_bounds(range) {
@@ -195,6 +200,7 @@ impl Allocator {
         ensures fault { (p : Pending) → AllocatorInvariant S.view self.old p file.old → cluster / counts_per_block file.old.header.fields < entry_count self.old.reftable → IsHostCluster file.old.header.fields.cluster_bits cluster → IfErr result IsFault }
         ensures has { (p : Pending) → AllocatorInvariant S.view self.old p file.old → OnOk result (HasNone self.new.reftable (cluster / counts_per_block file.old.header.fields) → ⊥) }
         ensures hint { (p : Pending) → AllocatorInvariant S.view self.old p file.old → NoFreeBelowHint S.view self.old file.old → KeepsNoFreeBelowHint S.view self.new file.new result }
+        ensures header_cluster { SparesHeader S.view self.old.reftable file.old self.new.reftable file.new }
     {
         let bits = file.header.rb_bits();
         let range = cluster >> bits;
@@ -236,6 +242,7 @@ impl Allocator {
         ensures storage_faults { CountsFaults S.view file.old.storage file.new.storage result }
         ensures leaks { SameLeaks self.old self.new }
         ensures hint { (p : Pending) → AllocatorInvariant S.view self.old p file.old → NoFreeBelowHint S.view self.old file.old → KeepsNoFreeBelowHint S.view self.new file.new result }
+        ensures header_cluster { SparesHeader S.view self.old.reftable file.old self.new.reftable file.new }
     {
         let bits = file.header.rb_bits();
         self.first_free_cluster = self.first_free_cluster.max(1);
@@ -271,6 +278,7 @@ impl Allocator {
         ensures fault { (p : Pending) → AllocatorInvariant S.view self.old p file.old → range < entry_count self.old.reftable → IsHostCluster file.old.header.fields.cluster_bits (range * counts_per_block file.old.header.fields) → IfErr result IsFault }
         ensures first { self.new.first_free_cluster ≡ self.old.first_free_cluster }
         ensures has { (p : Pending) → AllocatorInvariant S.view self.old p file.old → OnOk result (HasNone self.new.reftable range → ⊥) }
+        ensures header_cluster { SparesHeader S.view self.old.reftable file.old self.new.reftable file.new }
     {
         if self.load_block(file, range)?.is_some() {
             return Ok(());
@@ -309,6 +317,7 @@ impl Allocator {
         ensures storage_faults { CountsFaults S.view file.old.storage file.new.storage result }
         ensures leaks { SameLeaks self.old self.new }
         ensures first { self.new.first_free_cluster ≡ self.old.first_free_cluster }
+        ensures header_cluster { SparesHeader S.view self.old.reftable file.old self.new.reftable file.new }
     {
         let cluster = HostCluster::new(at);
         let block = new_block(file.alloc, &file.header, cluster, counts_itself)?;

@@ -7,6 +7,7 @@ ghost use Rattle.qcow2_metadata.specs.TableBytes.{entry_at};
 ghost use Rattle.qcow2_alloc.specs.Allocation.{GrowsTable, NamesBehindHeader, SameLeaks};
 ghost use Rattle.qcow2_alloc.specs.CachePins.{KeepsPinsAndNotes};
 ghost use Rattle.qcow2_alloc.specs.Faults.{CountsFaults};
+ghost use Rattle.qcow2_alloc.specs.SparedHeaders.{SparesHeaderButPointer};
 ghost use Rattle.qcow2_alloc.specs.ClustersToFree.{metadata_entry};
 ghost use Rattle.qcow2_alloc.specs.declared.clusters_to_free.ClusterKind.TheVariants.{Metadata};
 ghost use Rattle.qcow2_alloc.specs.FreeList.{pending_then, ListsTables, IsRunOfTable, ListsReftables};
@@ -52,6 +53,7 @@ impl Allocator {
         ensures limit { (p : Pending) → SoundAllocator S.view self.old p file.old → IfErr result (IsFaultOr ((self.new.reftable ≡ self.old.reftable) × CantGrow S.view file.new (λ k. 0) self.old.reftable index)) }
         ensures first { self.new.first_free_cluster ≡ self.old.first_free_cluster }
         ensures uses { (p : Pending) → AllocatorInvariant S.view self.old p file.old → KeepsUsed S.view file.old file.new result }
+        ensures header_cluster { SparesHeaderButPointer S.view self.old.reftable file.old self.new.reftable file.new }
     {
         let table = self.longer_reftable(file.alloc, &file.header, index)?;
         let former = self.former_reftable(file.alloc)?;
@@ -138,6 +140,7 @@ impl Allocator {
         ensures leaks { (p : Pending) → AllocatorInvariant S.view self.old p file.old → SameLeaks self.old self.new }
         ensures limit { (p : Pending) → AllocatorInvariant S.view self.old p file.old → NoFreeBelowHint S.view self.old file.old → IsCloneOf self.old.reftable table → entry_count table % entries_per_cluster file.old.header.fields ≡ 0
             → IfErr result (IsFaultOr ((self.new.reftable ≡ self.old.reftable) × HasNoRoomFor S.view file.new (λ k. 0) self.old.reftable (entry_count table))) }
+        ensures header_cluster { SparesHeaderButPointer S.view self.old.reftable file.old self.new.reftable file.new }
     {
         let bits = file.header.cluster_bits();
         if table.cluster_bits() != bits {

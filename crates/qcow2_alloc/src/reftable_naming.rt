@@ -1,9 +1,10 @@
 //! The header's pointer to a longer reftable.
-ghost use Rattle.std.specs.Prelude.{◌≡◌, ℕ, ◌+◌, OnOk, OnErr, IfErr, IsTrue};
+ghost use Rattle.std.specs.Prelude.{◌≡◌, ℕ, ◌+◌, ◌<◌, OnOk, OnErr, IfErr, IfSome, IsTrue};
 ghost use Rattle.qcow2_laws.specs.CrashInvariant.{Pending};
 ghost use Rattle.qcow2_alloc.specs.Allocation.{SameLeaks};
 ghost use Rattle.qcow2_alloc.specs.CachePins.{KeepsPinsAndNotes};
 ghost use Rattle.qcow2_alloc.specs.Faults.{CountsFaults};
+ghost use Rattle.qcow2_alloc.specs.SparedHeaders.{SparesHeaderButPointer};
 ghost use Rattle.qcow2_alloc.specs.GrownTables.{with_run, StandsGrown, NamesReftable};
 ghost use Rattle.qcow2_alloc.specs.ImageError.{IsOfTables};
 ghost use Rattle.qcow2_alloc.specs.ImageFile.{AllocatorInvariant, KeepsHeader};
@@ -37,6 +38,7 @@ impl Allocator {
         ensures kept { OnErr result (self.new.reftable ≡ self.old.reftable) }
         ensures storage_faults { CountsFaults S.view file.old.storage file.new.storage result }
         ensures leaks { SameLeaks self.old self.new }
+        ensures header_cluster { IfSome table.cluster (λ cluster. 0 < cluster) → table.cluster_bits ≡ file.old.header.fields.cluster_bits → SparesHeaderButPointer S.view self.old.reftable file.old self.new.reftable file.new }
     {
         let Some(cluster) = table.get_cluster() else {
             return Err(ImageError::Limit);

@@ -36,3 +36,9 @@ returns-in_err-place_refblock-clause-header_cluster g c = subst (λ s. KeepsHead
 
 pub returns-clause-header_cluster : goal.returns-clause-header_cluster
 returns-clause-header_cluster g c = subst (λ s. KeepsHeaderCluster c.args.block.now.cluster_bits (g.S.Storage.view s) (g.S.Storage.view (storage_of c.place_refblock.new.self))) c.will_write.ensures.storage c.place_refblock.ensures.header_cluster
+
+pub returns-in_err-place_refblock-clause-behind_header : goal.returns-in_err-place_refblock-clause-behind_header
+returns-in_err-place_refblock-clause-behind_header g c = c.rb_remove.ensures.header_cluster
+
+pub returns-clause-behind_header : goal.returns-clause-behind_header
+returns-clause-behind_header g c = c.rb_remove.ensures.header_cluster

@@ -1,4 +1,4 @@
-use Rattle.std.proofs.Common.{◌≡◌, inl, ℕ, Bool, Option, Some, Result, Ok, Err, IfErr, length, refl, sym, ap, ◌∙◌, ◌+◌, ◌*◌, ◌^◌, subst}
+use Rattle.std.proofs.Common.{◌≡◌, inl, ℕ, Bool, Option, Some, Result, Ok, Err, IfErr, length, refl, sym, ap, ◌∙◌, ◌+◌, ◌*◌, ◌^◌, subst, ◌<◌}
 use Rattle.std.specs.Prelude.{OnOk, IfSome}
 use Rattle.image_access.specs.Contents.{overwritten}
 use Rattle.image_access.specs.Moments.{StorageView, Changes, Calls}
@@ -25,6 +25,9 @@ use Rattle.qcow2_alloc.specs.MetadataCaches.{order_of, l2_tables, rb_at, KeepSou
 use Rattle.qcow2_alloc.specs.TableCaches.{IsBlockOf, cleared_rb}
 use Rattle.qcow2_alloc.proofs.AllocationSteps.{handed_on, fault_of_storage, allocator_step_then, allocator_step_cached, is_sound_now}
 use Rattle.qcow2_alloc.proofs.PlacedBlocks.{IsFree, is_free, file_step_rewritten, reftable_rewritten, write_as, holds_known, still_stands}
+use Rattle.qcow2_alloc.proofs.SparedHeaders.{spares_cached, spares_then, spares_written, at_place}
+use Rattle.qcow2_alloc.specs.SparedHeaders.{CachesSpareHeader}
+use Rattle.qcow2_alloc.specs.HeaderClusters.{KeepsHeaderCluster}
 use Rattle.qcow2_alloc.proofs.refblocks.write_block.Goals as goal
 
 -- all counts are written, and then the block's bytes, or they are not
@@ -121,3 +124,16 @@ returns-clause-sound g c = λ p d t range at sound place fits is.
     (subst (λ (o : Option ℕ). OnOk c.rb_insert.result (IfSome o (λ k. rb_at c.rb_insert.new.self k ≡ Some (cleared_rb c.args.block)))) is
     (subst (λ (b : RefBlockView). OnOk c.rb_insert.result (IfSome b.cluster (λ k. rb_at c.rb_insert.new.self k ≡ Some b))) c.clear_modified.ensures c.rb_insert.ensures.cached))
     (λ first. still_stands g.S.Storage.view d p range at f2 t.reftable two.file_step.sound two.reftable c.in_ok-flush_rb.ensures.first room c.args.block fits long stands c.rb_insert.new.storage c.rb_insert.new.self stays c.rb_insert.ensures.marks first)
+
+pub returns-in_err-flush_rb-clause-header_cluster : goal.returns-in_err-flush_rb-clause-header_cluster
+returns-in_err-flush_rb-clause-header_cluster g c = λ r bits. spares_cached r c.args.file.now c.flush_rb.new.storage c.flush_rb.new.self c.flush_rb.ensures.header_cluster
+
+pub returns-in_err-place_refblock-clause-header_cluster : goal.returns-in_err-place_refblock-clause-header_cluster
+returns-in_err-place_refblock-clause-header_cluster g c = λ r bits. spares_then (spares_cached r c.args.file.now c.flush_rb.new.storage c.flush_rb.new.self c.flush_rb.ensures.header_cluster) (spares_written r (record c.args.file.now { storage = c.flush_rb.new.storage; caches = c.flush_rb.new.self }) c.args.block.cluster_bits c.place_refblock.new.self bits (subst (λ s. KeepsHeaderCluster c.args.block.cluster_bits (g.S.Storage.view s) (g.S.Storage.view (storage_of c.place_refblock.new.self))) c.will_write.ensures.storage c.place_refblock.ensures.header_cluster))
+
+pub returns-clause-header_cluster : goal.returns-clause-header_cluster
+returns-clause-header_cluster g c = λ r bits.
+    let f2 : ImageFile g.row.S.Denot = record c.args.file.now { storage = c.place_refblock.new.self; caches = c.flush_rb.new.self } in
+    let put_in = at_place c.args.block.cluster c.requires.placed c.requires.elsewhere
+    (subst (λ (b : RefBlockView). IfSome b.cluster (λ k. 0 < k → CachesSpareHeader g.S.Storage.view c.place_refblock.new.self c.flush_rb.new.self c.rb_insert.new.storage c.rb_insert.new.self)) c.clear_modified.ensures c.rb_insert.ensures.header_cluster) in
+    spares_then (spares_then (spares_cached r c.args.file.now c.flush_rb.new.storage c.flush_rb.new.self c.flush_rb.ensures.header_cluster) (spares_written r (record c.args.file.now { storage = c.flush_rb.new.storage; caches = c.flush_rb.new.self }) c.args.block.cluster_bits c.place_refblock.new.self bits (subst (λ s. KeepsHeaderCluster c.args.block.cluster_bits (g.S.Storage.view s) (g.S.Storage.view (storage_of c.place_refblock.new.self))) c.will_write.ensures.storage c.place_refblock.ensures.header_cluster))) (spares_cached r f2 c.rb_insert.new.storage c.rb_insert.new.self put_in)

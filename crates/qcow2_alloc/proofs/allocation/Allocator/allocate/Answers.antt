@@ -11,6 +11,7 @@ use Rattle.qcow2_alloc.proofs.ListedAfter.{header_same, lists_none}
 use Rattle.qcow2_alloc.proofs.Faults.{told_ok}
 use Rattle.qcow2_alloc.proofs.Outcomes.{told_memory, told_err}
 use Rattle.std.proofs.Math.Nat.{le_refl}
+use Rattle.qcow2_alloc.proofs.SparedHeaders.{spares_none}
 use Rattle.qcow2_alloc.proofs.allocation.Allocator.allocate.Goals as goal
 
 pub returns-in-Ok-lowest_run-clause-sound : goal.returns-in-Ok-lowest_run-clause-sound
@@ -107,3 +108,12 @@ returns-in-Ok-lowest_run-clause-leaks g c = λ p sound. c.lowest_run.ensures.lea
 
 pub returns-in-Err-clause-leaks : goal.returns-in-Err-clause-leaks
 returns-in-Err-clause-leaks g c = λ p sound. c.lowest_run.ensures.leaks p sound
+
+pub returns-in-Ok-lowest_run-clause-header_cluster : goal.returns-in-Ok-lowest_run-clause-header_cluster
+returns-in-Ok-lowest_run-clause-header_cluster g c = c.lowest_run.ensures.header_cluster
+
+pub returns-in-Err-clause-header_cluster : goal.returns-in-Err-clause-header_cluster
+returns-in-Err-clause-header_cluster g c = c.lowest_run.ensures.header_cluster
+
+pub returns-in_default-clause-header_cluster : goal.returns-in_default-clause-header_cluster
+returns-in_default-clause-header_cluster g c = spares_none

@@ -19,6 +19,7 @@ use Rattle.qcow2_alloc.proofs.CachePins.{marks_then}
 use Rattle.qcow2_alloc.proofs.Faults.{told_on, told_ok, told_since}
 use Rattle.qcow2_alloc.proofs.Outcomes.{told_memory, told_err, on_no_ok, if_no_ok, handed_cause}
 use Rattle.std.proofs.Math.Nat.{le_trans}
+use Rattle.qcow2_alloc.proofs.SparedHeaders.{spares_then, spares_less, spares_cached}
 use Rattle.qcow2_alloc.proofs.allocation.Allocator.allocate_data_at.Goals as goal
 
 pub returns-in_err-l2_depends_on_rb-clause-sound : goal.returns-in_err-l2_depends_on_rb-clause-sound
@@ -321,3 +322,24 @@ returns-in-Err-clause-leaks g c = λ p sound.
     let one = allocator_step_cached g.S.Storage.view p c.args.file.now c.args.self.now c.l2_depends_on_rb.new.storage c.l2_depends_on_rb.new.self sound (c.l2_depends_on_rb.ensures.keeps c.args.file.now.header.fields p sound.sound.honest sound.sound.caches) c.l2_depends_on_rb.ensures.marks in
     let file : ImageFile g.row.S.Denot = record c.args.file.now { storage = c.l2_depends_on_rb.new.storage; caches = c.l2_depends_on_rb.new.self } in
     c.take.ensures.leaks p (is_sound_now g.S.Storage.view p p c.args.file.now file c.args.self.now one)
+
+pub returns-in_err-l2_depends_on_rb-clause-header_cluster : goal.returns-in_err-l2_depends_on_rb-clause-header_cluster
+returns-in_err-l2_depends_on_rb-clause-header_cluster g c = spares_less (spares_cached c.args.self.now.reftable c.args.file.now c.l2_depends_on_rb.new.storage c.l2_depends_on_rb.new.self c.l2_depends_on_rb.ensures.header_cluster)
+
+pub returns-then-at-eq0-clause-header_cluster : goal.returns-then-at-eq0-clause-header_cluster
+returns-then-at-eq0-clause-header_cluster g c = spares_less (spares_cached c.args.self.now.reftable c.args.file.now c.l2_depends_on_rb.new.storage c.l2_depends_on_rb.new.self c.l2_depends_on_rb.ensures.header_cluster)
+
+pub returns-then-not-is_nameable-clause-header_cluster : goal.returns-then-not-is_nameable-clause-header_cluster
+returns-then-not-is_nameable-clause-header_cluster g c = spares_less (spares_cached c.args.self.now.reftable c.args.file.now c.l2_depends_on_rb.new.storage c.l2_depends_on_rb.new.self c.l2_depends_on_rb.ensures.header_cluster)
+
+pub returns-in_default-clause-header_cluster : goal.returns-in_default-clause-header_cluster
+returns-in_default-clause-header_cluster g c = spares_less (spares_cached c.args.self.now.reftable c.args.file.now c.l2_depends_on_rb.new.storage c.l2_depends_on_rb.new.self c.l2_depends_on_rb.ensures.header_cluster)
+
+pub returns-in-Ok-true-clause-header_cluster : goal.returns-in-Ok-true-clause-header_cluster
+returns-in-Ok-true-clause-header_cluster g c = spares_then (spares_less (spares_cached c.args.self.now.reftable c.args.file.now c.l2_depends_on_rb.new.storage c.l2_depends_on_rb.new.self c.l2_depends_on_rb.ensures.header_cluster)) (c.take.ensures.header_cluster)
+
+pub returns-in-Ok-false-clause-header_cluster : goal.returns-in-Ok-false-clause-header_cluster
+returns-in-Ok-false-clause-header_cluster g c = spares_then (spares_less (spares_cached c.args.self.now.reftable c.args.file.now c.l2_depends_on_rb.new.storage c.l2_depends_on_rb.new.self c.l2_depends_on_rb.ensures.header_cluster)) (c.take.ensures.header_cluster)
+
+pub returns-in-Err-clause-header_cluster : goal.returns-in-Err-clause-header_cluster
+returns-in-Err-clause-header_cluster g c = spares_then (spares_less (spares_cached c.args.self.now.reftable c.args.file.now c.l2_depends_on_rb.new.storage c.l2_depends_on_rb.new.self c.l2_depends_on_rb.ensures.header_cluster)) (c.take.ensures.header_cluster)

@@ -11,3 +11,6 @@ returns-clause-hint g c = λ p kept. c.allocate.ensures.hint p kept.sound tt kep
 
 pub returns-clause-limit : goal.returns-clause-limit
 returns-clause-limit g c = λ p kept some. c.allocate.ensures.limit p kept.sound tt kept.hint some
+
+pub returns-clause-header_cluster : goal.returns-clause-header_cluster
+returns-clause-header_cluster g c = c.allocate.ensures.header_cluster

@@ -37,3 +37,12 @@ returns-clause-sound g c = λ p sound.
           let at = counted_at g.S.Storage.view c.load_block.new.file c.args.file.now.header.fields (ap (λ x. x.fields) c.load_block.ensures.header) k _ c.in-Some.block (k % 2 ^ bits) bits l.1 c.rb_bits-bits.ensures.counts place.0 refl in
           c.rb_used_from-used.ensures c.load_block.new.file.header.fields p (contents_in g.S.Storage.view c.load_block.new.file) k (k % 2 ^ bits) l.0.file_step.sound.caches at (omega (arith, index, moved)) (omega (arith, low, high, index, least, moved)),
     )
+
+pub returns-in_err-block-clause-header_cluster : goal.returns-in_err-block-clause-header_cluster
+returns-in_err-block-clause-header_cluster g c = c.load_block.ensures.header_cluster
+
+pub returns-in_default-clause-header_cluster : goal.returns-in_default-clause-header_cluster
+returns-in_default-clause-header_cluster g c = c.load_block.ensures.header_cluster
+
+pub returns-clause-header_cluster : goal.returns-clause-header_cluster
+returns-clause-header_cluster g c = c.load_block.ensures.header_cluster

@@ -12,6 +12,7 @@ use Rattle.qcow2_alloc.proofs.CachePins.{marks_then}
 use Rattle.qcow2_alloc.proofs.Faults.{told_on, told_ok, told_since}
 use Rattle.qcow2_alloc.proofs.Outcomes.{told_limit, on_no_ok, handed_cause, entries_none}
 use Rattle.qcow2_metadata.specs.L2Mapping.{IsHostCluster}
+use Rattle.qcow2_alloc.proofs.SparedHeaders.{spares_then}
 use Rattle.qcow2_alloc.proofs.allocation.Allocator.cover_range.Goals as goal
 
 pub returns-in_err-load_block-clause-sound : goal.returns-in_err-load_block-clause-sound
@@ -189,3 +190,15 @@ place_block-requires-clause-elsewhere g c = subst (λ n. 0 < n) c.new.ensures (c
 
 pub place_block-requires-clause-nameable : goal.place_block-requires-clause-nameable
 place_block-requires-clause-nameable g c = subst (IsHostCluster c.args.self.now.reftable.cluster_bits) c.new.ensures (c.can_name.ensures.nameable c.if-not-can_name.false)
+
+pub returns-in_err-load_block-clause-header_cluster : goal.returns-in_err-load_block-clause-header_cluster
+returns-in_err-load_block-clause-header_cluster g c = c.load_block.ensures.header_cluster
+
+pub returns-then-is_some-clause-header_cluster : goal.returns-then-is_some-clause-header_cluster
+returns-then-is_some-clause-header_cluster g c = c.load_block.ensures.header_cluster
+
+pub returns-then-not-can_name-clause-header_cluster : goal.returns-then-not-can_name-clause-header_cluster
+returns-then-not-can_name-clause-header_cluster g c = c.load_block.ensures.header_cluster
+
+pub returns-clause-header_cluster : goal.returns-clause-header_cluster
+returns-clause-header_cluster g c = spares_then c.load_block.ensures.header_cluster c.place_block.ensures.header_cluster

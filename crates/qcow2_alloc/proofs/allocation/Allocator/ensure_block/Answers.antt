@@ -21,6 +21,7 @@ use Rattle.qcow2_metadata.specs.EntryTable.{EntryTableView}
 use Rattle.qcow2_metadata.specs.declared.header.HeaderFields.{HeaderFields}
 use Rattle.qcow2_alloc.specs.declared.error.ImageError.TheVariants as I
 use Rattle.qcow2_metadata.specs.L2Mapping.{IsHostCluster}
+use Rattle.qcow2_alloc.proofs.SparedHeaders.{spares_then}
 use Rattle.qcow2_alloc.proofs.allocation.Allocator.ensure_block.Goals as goal
 
 is_unaligned : (h : HeaderFields) (t : EntryTableView) (cluster counts n : ℕ) → n ≡ counts → IsUnaligned h t (cluster / n) → IsUnaligned h t (cluster / counts)
@@ -424,3 +425,24 @@ place_block-requires-clause-nameable g c = subst (λ b. IsHostCluster b c.in-Ok-
 
 pub place_block-requires-clause-nameable_here : goal.place_block-requires-clause-nameable_here
 place_block-requires-clause-nameable_here g c = subst (λ b. IsHostCluster b c.in-Ok-Some.at) (c.cluster_bits.ensures.value ∙ sym (ap (λ h. h.fields.cluster_bits) c.take_lowest_below.ensures.header)) (host_below c.cluster_bits.result c.in-Ok-Some.at c.new-first.result (let is = (rw c.in-Ok-Some.field-0-is at c.in-Ok-Some.ensures.below) in below_first c.in-Ok-Some.at _ c.new-first.result is.1 c.new-first.ensures) (c.can_name.ensures.nameable_here c.if-not-can_name.false))
+
+pub returns-in_err-load_block-clause-header_cluster : goal.returns-in_err-load_block-clause-header_cluster
+returns-in_err-load_block-clause-header_cluster g c = c.load_block.ensures.header_cluster
+
+pub returns-then-is_some-clause-header_cluster : goal.returns-then-is_some-clause-header_cluster
+returns-then-is_some-clause-header_cluster g c = c.load_block.ensures.header_cluster
+
+pub returns-then-not-can_name-clause-header_cluster : goal.returns-then-not-can_name-clause-header_cluster
+returns-then-not-can_name-clause-header_cluster g c = c.load_block.ensures.header_cluster
+
+pub returns-in-Ok-Some-clause-header_cluster : goal.returns-in-Ok-Some-clause-header_cluster
+returns-in-Ok-Some-clause-header_cluster g c = spares_then (spares_then c.load_block.ensures.header_cluster c.take_lowest_below.ensures.header_cluster) (c.place_block.ensures.header_cluster)
+
+pub returns-in-Ok-None-clause-header_cluster : goal.returns-in-Ok-None-clause-header_cluster
+returns-in-Ok-None-clause-header_cluster g c = spares_then (spares_then c.load_block.ensures.header_cluster c.take_lowest_below.ensures.header_cluster) (c.cover_range.ensures.header_cluster)
+
+pub returns-then-is_fault-clause-header_cluster : goal.returns-then-is_fault-clause-header_cluster
+returns-then-is_fault-clause-header_cluster g c = spares_then c.load_block.ensures.header_cluster c.take_lowest_below.ensures.header_cluster
+
+pub returns-else-is_fault-clause-header_cluster : goal.returns-else-is_fault-clause-header_cluster
+returns-else-is_fault-clause-header_cluster g c = spares_then (spares_then c.load_block.ensures.header_cluster c.take_lowest_below.ensures.header_cluster) (c.cover_range-in-Err.ensures.header_cluster)

@@ -25,6 +25,7 @@ use Rattle.qcow2_alloc.proofs.ListedAfter.{header_same, header_then, header_coun
 use Rattle.qcow2_alloc.proofs.CachePins.{marks_then}
 use Rattle.qcow2_alloc.proofs.Faults.{told_on, told_since}
 use Rattle.qcow2_alloc.proofs.Outcomes.{on_no_ok, handed_cause, on_err, on_ok}
+use Rattle.qcow2_alloc.proofs.SparedHeaders.{spares_none, spares_then, spares_less, spares_tables, noted_keeps}
 use Rattle.qcow2_alloc.proofs.allocation.Allocator.enter_reftable.Goals as goal
 
 -- the clusters that a reftable has entries for, as 64 bits hold them
@@ -240,3 +241,9 @@ returns-in_err-room-clause-leaks g c = λ p sound. c.take_room.ensures.leaks p s
 
 pub returns-clause-leaks : goal.returns-clause-leaks
 returns-clause-leaks g c = λ p sound. c.write_reftable.ensures.leaks ∙ c.take_room.ensures.leaks p sound
+
+pub returns-in_err-room-clause-header_cluster : goal.returns-in_err-room-clause-header_cluster
+returns-in_err-room-clause-header_cluster g c = spares_less (c.take_room.ensures.header_cluster)
+
+pub returns-clause-header_cluster : goal.returns-clause-header_cluster
+returns-clause-header_cluster g c = spares_then (spares_less (spares_then c.take_room.ensures.header_cluster (spares_tables c.take_room.new.self.reftable c.take_room.new.file c.note_change.new.self (noted_keeps c.take_room.new.file.caches c.note_change.new.self c.note_change.ensures.same)))) c.write_reftable.ensures.header_cluster

@@ -12,6 +12,7 @@ use Rattle.qcow2_alloc.proofs.CachePins.{marks_then}
 use Rattle.qcow2_alloc.proofs.Faults.{told_on, told_ok, told_since}
 use Rattle.qcow2_alloc.proofs.Outcomes.{told_after, on_no_ok, handed_cause}
 use Rattle.std.proofs.Math.Nat.{le_trans}
+use Rattle.qcow2_alloc.proofs.SparedHeaders.{spares_then, spares_cached}
 use Rattle.qcow2_alloc.proofs.allocation.Allocator.free.Goals as goal
 
 pub returns-in_err-free_kind-clause-sound : goal.returns-in_err-free_kind-clause-sound
@@ -184,3 +185,15 @@ returns-clause-grows g c = le_trans c.free_kind.ensures.grows c.free_kind-2.ensu
 
 pub returns-clause-storage_faults : goal.returns-clause-storage_faults
 returns-clause-storage_faults g c = told_since _ _ _ (le_trans c.free_kind.ensures.storage_faults.no_fewer c.rb_depends_on_l2.ensures.storage_faults.no_fewer) c.free_kind-2.ensures.storage_faults
+
+pub returns-in_err-free_kind-clause-header_cluster : goal.returns-in_err-free_kind-clause-header_cluster
+returns-in_err-free_kind-clause-header_cluster g c = c.free_kind.ensures.header_cluster
+
+pub returns-then-is_empty-clause-header_cluster : goal.returns-then-is_empty-clause-header_cluster
+returns-then-is_empty-clause-header_cluster g c = c.free_kind.ensures.header_cluster
+
+pub returns-in_err-rb_depends_on_l2-clause-header_cluster : goal.returns-in_err-rb_depends_on_l2-clause-header_cluster
+returns-in_err-rb_depends_on_l2-clause-header_cluster g c = spares_then (c.free_kind.ensures.header_cluster) (spares_cached c.free_kind.new.self.reftable c.free_kind.new.file c.rb_depends_on_l2.new.storage c.rb_depends_on_l2.new.self c.rb_depends_on_l2.ensures.header_cluster)
+
+pub returns-clause-header_cluster : goal.returns-clause-header_cluster
+returns-clause-header_cluster g c = spares_then (spares_then (c.free_kind.ensures.header_cluster) (spares_cached c.free_kind.new.self.reftable c.free_kind.new.file c.rb_depends_on_l2.new.storage c.rb_depends_on_l2.new.self c.rb_depends_on_l2.ensures.header_cluster)) (c.free_kind-2.ensures.header_cluster)

@@ -5,6 +5,7 @@ use Rattle.qcow2_alloc.specs.FreeList.{run_of, with_listed, but}
 use Rattle.qcow2_alloc.specs.ImageFile.{AllocatorInvariant}
 use Rattle.qcow2_alloc.proofs.Freeing.{listed_none, with_one, but_same, frees_as}
 use Rattle.qcow2_alloc.proofs.Faults.{told_ok}
+use Rattle.qcow2_alloc.proofs.SparedHeaders.{spares_listed}
 use Rattle.qcow2_alloc.proofs.allocation.Allocator.free_entry.Goals as goal
 
 pub returns-in-Ok-clause-sound : goal.returns-in-Ok-clause-sound
@@ -88,3 +89,9 @@ returns-in-Err-clause-storage_faults g c = c.in-Err.ensures.storage_faults
 
 pub returns-in-Err-clause-left : goal.returns-in-Err-clause-left
 returns-in-Err-clause-left g c = tt
+
+pub returns-in-Ok-clause-header_cluster : goal.returns-in-Ok-clause-header_cluster
+returns-in-Ok-clause-header_cluster g c = c.free_run.ensures.header_cluster
+
+pub returns-in-Err-clause-header_cluster : goal.returns-in-Err-clause-header_cluster
+returns-in-Err-clause-header_cluster g c = spares_listed c.hand_back.new.list c.free_run.ensures.header_cluster

@@ -6,6 +6,7 @@ use Rattle.qcow2_alloc.specs.FreeList.{with_listed}
 use Rattle.qcow2_alloc.specs.ImageFile.{AllocatorInvariant}
 use Rattle.qcow2_alloc.proofs.AllocationSteps.{may_lower_still}
 use Rattle.qcow2_alloc.proofs.Freeing.{with_relisted, frees_as}
+use Rattle.qcow2_alloc.proofs.SparedHeaders.{spares_none, spares_then, spares_listed}
 use Rattle.qcow2_alloc.proofs.allocation.Allocator.free_kind.Goals as goal
 
 pub returns-clause-sound : goal.returns-clause-sound
@@ -33,3 +34,6 @@ returns-clause-leaks g c = λ p sound may.
     let before : with_listed p (c.take-taken.new.self ++ c.take-taken.result) ≡ with_listed p c.args.file.now.free_list = ap (with_listed p) all in
     c.free_taken-done.ensures.leaks p (subst (λ (r : Pending). AllocatorInvariant g.S.Storage.view c.args.self.now r file) (sym before) (with_relisted g.S.Storage.view (with_listed p c.args.file.now.free_list) c.args.file.now c.args.self.now c.take-taken.new.self sound))
     (may_lower_still (Listed c.args.kind) c.args.file.now file refl may)
+
+pub returns-clause-header_cluster : goal.returns-clause-header_cluster
+returns-clause-header_cluster g c = spares_listed c.hand_back.new.list (spares_then (spares_listed c.take-taken.new.self spares_none) c.free_taken-done.ensures.header_cluster)

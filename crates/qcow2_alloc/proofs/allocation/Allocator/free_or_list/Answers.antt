@@ -6,6 +6,7 @@ use Rattle.qcow2_alloc.proofs.Freeing.{but_same}
 use Rattle.qcow2_alloc.proofs.CachePins.{marks_none}
 use Rattle.qcow2_alloc.proofs.Faults.{told_ok}
 use Rattle.std.proofs.Math.Nat.{le_refl}
+use Rattle.qcow2_alloc.proofs.SparedHeaders.{spares_none, spares_listed}
 use Rattle.qcow2_alloc.proofs.allocation.Allocator.free_or_list.Goals as goal
 
 pub returns-then-eq-clause-sound : goal.returns-then-eq-clause-sound
@@ -66,3 +67,9 @@ returns-clause-cause g c = tt
 
 pub returns-clause-storage_faults : goal.returns-clause-storage_faults
 returns-clause-storage_faults g c = told_ok _ _ tt (le_refl _)
+
+pub returns-then-eq-clause-header_cluster : goal.returns-then-eq-clause-header_cluster
+returns-then-eq-clause-header_cluster g c = c.free_entry.ensures.header_cluster
+
+pub returns-clause-header_cluster : goal.returns-clause-header_cluster
+returns-clause-header_cluster g c = spares_listed c.hand_back.new.list spares_none

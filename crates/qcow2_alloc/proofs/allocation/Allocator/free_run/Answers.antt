@@ -9,6 +9,7 @@ use Rattle.qcow2_alloc.proofs.Freeing.{listed_new_data, behind_first, first_owed
 use Rattle.qcow2_alloc.proofs.Faults.{told_ok}
 use Rattle.qcow2_alloc.proofs.Outcomes.{told_after, on_no_ok, handed_cause}
 use Rattle.std.proofs.Math.Nat.{le_trans}
+use Rattle.qcow2_alloc.proofs.SparedHeaders.{spares_then}
 use Rattle.qcow2_alloc.proofs.allocation.Allocator.free_run.Goals as goal
 
 pub returns-in_err-lower-clause-sound : goal.returns-in_err-lower-clause-sound
@@ -32,6 +33,7 @@ freeing-preserved g c = record {
   marks = marks_then c.args.file.now.caches c.freeing.file.caches c.lower.new.file.caches c.freeing.invariant.marks c.lower.ensures.marks;
   faults = le_trans c.freeing.invariant.faults c.lower.ensures.storage_faults.no_fewer;
   order = c.lower.ensures.order ∙ c.freeing.invariant.order;
+  spared = spares_then c.freeing.invariant.spared c.lower.ensures.header_cluster;
   kind = c.drop_first.ensures.kind ∙ c.freeing.invariant.kind;
   sound = λ p sound may.
       let kind = c.args.run.now.kind in
@@ -148,3 +150,9 @@ returns-clause-cause g c = tt
 
 pub returns-clause-storage_faults : goal.returns-clause-storage_faults
 returns-clause-storage_faults g c = told_ok _ _ tt c.freeing.invariant.faults
+
+pub returns-in_err-lower-clause-header_cluster : goal.returns-in_err-lower-clause-header_cluster
+returns-in_err-lower-clause-header_cluster g c = spares_then c.freeing.invariant.spared c.lower.ensures.header_cluster
+
+pub returns-clause-header_cluster : goal.returns-clause-header_cluster
+returns-clause-header_cluster g c = c.freeing.invariant.spared

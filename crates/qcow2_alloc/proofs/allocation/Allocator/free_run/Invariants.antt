@@ -7,6 +7,7 @@ use Rattle.qcow2_alloc.specs.FreeList.{run_of}
 use Rattle.qcow2_alloc.specs.ImageFile.{AllocatorInvariant}
 use Rattle.qcow2_alloc.specs.LowestRuns.{NoFreeBelowHint}
 use Rattle.qcow2_alloc.specs.MetadataCaches.{order_of}
+use Rattle.qcow2_alloc.specs.SparedHeaders.{SparesHeader}
 use Rattle.qcow2_alloc.proofs.allocation.Allocator.free_run.Given as goal
 
 -- what the run says is still pending
@@ -17,6 +18,7 @@ invariant-freeing g l = record {
   marks : KeepsPinsAndNotes l.fn.file.caches l.file.caches;
   faults : faults_of g.S.Storage.view l.fn.file.storage ≤ faults_of g.S.Storage.view l.file.storage;
   order : order_of l.file.caches ≡ order_of l.fn.file.caches;
+  spared : SparesHeader g.S.Storage.view l.fn.self.reftable l.fn.file l.self.reftable l.file;
   kind : l.run.kind ≡ l.fn.run.kind;
   sound : (p : Pending) → AllocatorInvariant g.S.Storage.view l.fn.self (listed_as l.fn.run.kind p (run_of l.fn.run)) l.fn.file → MayFree l.fn.run.kind l.fn.file
       → UnseenAllocatorStep g.S.Storage.view (listed_as l.fn.run.kind p (run_of l.fn.run)) l.fn.file l.self l.file (listed_as l.fn.run.kind p (run_of l.run));

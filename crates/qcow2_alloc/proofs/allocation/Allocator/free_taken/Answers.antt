@@ -9,6 +9,7 @@ use Rattle.qcow2_alloc.proofs.Freeing.{but_first, but_step, entry_sound, entry_e
 use Rattle.qcow2_alloc.proofs.Faults.{told_ok}
 use Rattle.qcow2_alloc.proofs.Outcomes.{told_after, on_no_ok, handed_cause}
 use Rattle.std.proofs.Math.Nat.{le_trans}
+use Rattle.qcow2_alloc.proofs.SparedHeaders.{spares_then}
 use Rattle.qcow2_alloc.proofs.allocation.Allocator.free_taken.Goals as goal
 
 pub freeing-preserved : goal.freeing-preserved
@@ -17,6 +18,7 @@ freeing-preserved g c = record {
   marks = marks_then c.args.file.now.caches c.freeing.file.caches c.free_or_list.new.file.caches c.freeing.invariant.marks c.free_or_list.ensures.marks;
   faults = le_trans c.freeing.invariant.faults c.free_or_list.ensures.storage_faults.no_fewer;
   order = c.free_or_list.ensures.order ∙ c.freeing.invariant.order;
+  spared = spares_then c.freeing.invariant.spared c.free_or_list.ensures.header_cluster;
   others = but_step c.args.kind c.free_or_list.new.file.free_list c.freeing.file.free_list c.freeing.taken c.next_pending.new.self c.in-Some.pending c.in-Some.ensures.some c.free_or_list.ensures.others ∙ c.freeing.invariant.others;
   left =
       ap (λ l. l ++ but c.args.kind c.next_pending.new.self) c.in_ok-free_or_list.ensures.left
@@ -133,3 +135,9 @@ returns-clause-cause g c = tt
 
 pub returns-clause-storage_faults : goal.returns-clause-storage_faults
 returns-clause-storage_faults g c = told_ok _ _ tt c.freeing.invariant.faults
+
+pub returns-in_err-free_or_list-clause-header_cluster : goal.returns-in_err-free_or_list-clause-header_cluster
+returns-in_err-free_or_list-clause-header_cluster g c = spares_then c.freeing.invariant.spared c.free_or_list.ensures.header_cluster
+
+pub returns-clause-header_cluster : goal.returns-clause-header_cluster
+returns-clause-header_cluster g c = c.freeing.invariant.spared

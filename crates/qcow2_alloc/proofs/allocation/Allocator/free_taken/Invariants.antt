@@ -7,6 +7,7 @@ use Rattle.qcow2_alloc.specs.FreeList.{with_listed, but}
 use Rattle.qcow2_alloc.specs.ImageFile.{AllocatorInvariant}
 use Rattle.qcow2_alloc.specs.LowestRuns.{NoFreeBelowHint}
 use Rattle.qcow2_alloc.specs.MetadataCaches.{order_of}
+use Rattle.qcow2_alloc.specs.SparedHeaders.{SparesHeader}
 use Rattle.qcow2_alloc.proofs.allocation.Allocator.free_taken.Given as goal
 
 -- what is listed, and what is taken and not looked at yet, is pending
@@ -16,6 +17,7 @@ invariant-freeing g l = record {
   marks : KeepsPinsAndNotes l.fn.file.caches l.file.caches;
   faults : faults_of g.S.Storage.view l.fn.file.storage ≤ faults_of g.S.Storage.view l.file.storage;
   order : order_of l.file.caches ≡ order_of l.fn.file.caches;
+  spared : SparesHeader g.S.Storage.view l.fn.self.reftable l.fn.file l.self.reftable l.file;
   others : but l.fn.kind (l.file.free_list ++ l.taken) ≡ but l.fn.kind (l.fn.file.free_list ++ l.fn.taken);
   left : l.file.free_list ++ but l.fn.kind l.taken ≡ l.fn.file.free_list ++ but l.fn.kind l.fn.taken;
   sound : (p : Pending) → AllocatorInvariant g.S.Storage.view l.fn.self (with_listed p (l.fn.file.free_list ++ l.fn.taken)) l.fn.file → MayFree l.fn.kind l.fn.file

@@ -12,6 +12,7 @@ use Rattle.qcow2_alloc.proofs.Runs.{taken_first, taken_none, new_data_more}
 use Rattle.qcow2_alloc.proofs.Faults.{told_ok}
 use Rattle.qcow2_alloc.proofs.Outcomes.{told_after, handed_cause}
 use Rattle.std.proofs.Math.Nat.{le_trans, le_refl}
+use Rattle.qcow2_alloc.proofs.SparedHeaders.{spares_none, spares_then}
 use Rattle.qcow2_alloc.proofs.allocation.Allocator.give_back.Goals as goal
 
 pub returns-then-n-eq0-clause-sound : goal.returns-then-n-eq0-clause-sound
@@ -24,6 +25,7 @@ lowering-init g c = record {
   marks = marks_none c.args.file.now.caches;
   faults = omega arith;
   order = refl;
+  spared = spares_none;
   reftable = refl;
   sound = λ p p' d start new_data b.
       let whole : c.args.n ≡ c.args.first + c.args.n - c.args.first = omega arith in
@@ -56,6 +58,7 @@ lowering-preserved g c = record {
   marks = marks_then c.args.file.now.caches c.lowering.file.caches c.lower.new.file.caches c.lowering.invariant.marks c.lower.ensures.marks;
   faults = le_trans c.lowering.invariant.faults c.lower.ensures.storage_faults.no_fewer;
   order = c.lower.ensures.order ∙ c.lowering.invariant.order;
+  spared = spares_then c.lowering.invariant.spared c.lower.ensures.header_cluster;
   reftable = c.lower.ensures.reftable ∙ c.lowering.invariant.reftable;
   sound = λ p p' d start new_data b.
       let one = c.lowering.invariant.sound p p' d start new_data b in
@@ -194,3 +197,12 @@ returns-clause-leaks g c = λ p d sound. c.lowering.invariant.leaks p d sound
 
 pub returns-then-n-eq0-clause-leaks : goal.returns-then-n-eq0-clause-leaks
 returns-then-n-eq0-clause-leaks g c = λ p d sound. refl
+
+pub returns-then-n-eq0-clause-header_cluster : goal.returns-then-n-eq0-clause-header_cluster
+returns-then-n-eq0-clause-header_cluster g c = spares_none
+
+pub returns-in_err-lower-clause-header_cluster : goal.returns-in_err-lower-clause-header_cluster
+returns-in_err-lower-clause-header_cluster g c = spares_then c.lowering.invariant.spared c.lower.ensures.header_cluster
+
+pub returns-clause-header_cluster : goal.returns-clause-header_cluster
+returns-clause-header_cluster g c = c.lowering.invariant.spared

@@ -15,6 +15,7 @@ use Rattle.qcow2_alloc.proofs.Limits.{cause_as}
 use Rattle.qcow2_alloc.proofs.ListedAfter.{listed_after_same}
 use Rattle.qcow2_alloc.proofs.GrownReftables.{grown}
 use Rattle.qcow2_alloc.proofs.FormerReftables.{former_none, former_one, former_still}
+use Rattle.qcow2_alloc.proofs.SparedHeaders.{spares_none, spares_listed}
 use Rattle.qcow2_alloc.proofs.allocation.Allocator.grow_reftable.Goals as goal
 
 pub returns-in-Ok-clause-sound : goal.returns-in-Ok-clause-sound
@@ -93,3 +94,15 @@ returns-in-Ok-clause-former g c =
 
 pub returns-in-Err-clause-former : goal.returns-in-Err-clause-former
 returns-in-Err-clause-former g c = former_still c.args.self.now.reftable c.args.self.now.reftable c.enter_reftable.new.self.reftable c.args.file.now.free_list c.args.file.now.free_list c.enter_reftable.new.file.free_list (former_none c.args.self.now.reftable c.args.file.now.free_list) c.in-Err.ensures.kept c.enter_reftable.ensures.list
+
+pub returns-in_err-table-clause-header_cluster : goal.returns-in_err-table-clause-header_cluster
+returns-in_err-table-clause-header_cluster g c = spares_none
+
+pub returns-in_err-former-clause-header_cluster : goal.returns-in_err-former-clause-header_cluster
+returns-in_err-former-clause-header_cluster g c = spares_none
+
+pub returns-in-Ok-clause-header_cluster : goal.returns-in-Ok-clause-header_cluster
+returns-in-Ok-clause-header_cluster g c = spares_listed c.hand_back.new.list c.enter_reftable.ensures.header_cluster
+
+pub returns-in-Err-clause-header_cluster : goal.returns-in-Err-clause-header_cluster
+returns-in-Err-clause-header_cluster g c = c.enter_reftable.ensures.header_cluster

@@ -17,6 +17,8 @@ use Rattle.qcow2_alloc.specs.Faults.{faults_of}
 use Rattle.qcow2_alloc.proofs.Faults.{told_ok}
 use Rattle.qcow2_alloc.proofs.Outcomes.{told_after, handed_cause}
 use Rattle.std.proofs.Math.Nat.{le_trans}
+use Rattle.qcow2_alloc.proofs.SparedHeaders.{spares_none, spares_then}
+use Rattle.qcow2_alloc.specs.SparedHeaders.{SparesHeader}
 use Rattle.qcow2_alloc.proofs.allocation.Allocator.leave_run.Goals as goal
 
 pub leaving-init : goal.leaving-init
@@ -26,6 +28,7 @@ leaving-init g c = record {
   marks = marks_none c.args.file.now.caches;
   faults = omega arith;
   order = refl;
+  spared = spares_none;
   reftable = refl;
   first = refl;
   counts = c.rb_bits-bits.ensures.counts;
@@ -64,6 +67,7 @@ leaving-preserved g c =
         marks = subst (λ f. KeepsPinsAndNotes c.args.file.now.caches f.caches) (sym w.file-is) (marks_then c.args.file.now.caches c.leaving.file.caches w.lower.new.file.caches c.leaving.invariant.marks w.lower.ensures.marks);
         faults = subst (λ f. faults_of g.S.Storage.view c.args.file.now.storage ≤ faults_of g.S.Storage.view f.storage) (sym w.file-is) (le_trans c.leaving.invariant.faults w.lower.ensures.storage_faults.no_fewer);
         order = ap (λ f. order_of f.caches) w.file-is ∙ w.lower.ensures.order ∙ c.leaving.invariant.order;
+        spared = of_equal (λ a f. SparesHeader g.S.Storage.view c.args.self.now.reftable c.args.file.now a.reftable f) c.if-not-lacks_block.self w.lower.new.self c.if-not-lacks_block.file w.lower.new.file w.self-is w.file-is (spares_then c.leaving.invariant.spared w.lower.ensures.header_cluster);
         reftable = ap (λ a. a.reftable) w.self-is ∙ w.lower.ensures.reftable ∙ c.leaving.invariant.reftable;
         first = ap (λ a. a.first_free_cluster) w.self-is
             ∙ w.lower.ensures.first (let low = c.requires.free in let is = c.leaving.invariant.first in let le = c.leaving.auto.cluster in omega (arith, low, is, le)) ∙ c.leaving.invariant.first;
@@ -102,6 +106,7 @@ leaving-preserved g c =
         marks = subst (λ f. KeepsPinsAndNotes c.args.file.now.caches f.caches) (sym w.file-is) c.leaving.invariant.marks;
         faults = subst (λ f. faults_of g.S.Storage.view c.args.file.now.storage ≤ faults_of g.S.Storage.view f.storage) (sym w.file-is) c.leaving.invariant.faults;
         order = ap (λ f. order_of f.caches) w.file-is ∙ c.leaving.invariant.order;
+        spared = of_equal (λ a f. SparesHeader g.S.Storage.view c.args.self.now.reftable c.args.file.now a.reftable f) c.if-not-lacks_block.self c.leaving.self c.if-not-lacks_block.file c.leaving.file w.self-is w.file-is (c.leaving.invariant.spared);
         reftable = ap (λ a. a.reftable) w.self-is ∙ c.leaving.invariant.reftable;
         first = ap (λ a. a.first_free_cluster) w.self-is ∙ c.leaving.invariant.first;
         counts = c.leaving.invariant.counts;
@@ -185,3 +190,9 @@ returns-in_err-lower-clause-leaks g c = λ p start same b.
 
 pub returns-clause-leaks : goal.returns-clause-leaks
 returns-clause-leaks g c = λ p start same b. c.leaving.invariant.leaks p start same b
+
+pub returns-in_err-lower-clause-header_cluster : goal.returns-in_err-lower-clause-header_cluster
+returns-in_err-lower-clause-header_cluster g c = spares_then c.leaving.invariant.spared c.lower.ensures.header_cluster
+
+pub returns-clause-header_cluster : goal.returns-clause-header_cluster
+returns-clause-header_cluster g c = c.leaving.invariant.spared

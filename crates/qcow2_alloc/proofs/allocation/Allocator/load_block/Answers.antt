@@ -1,7 +1,8 @@
-use Rattle.std.proofs.Common.{inl}
+use Rattle.std.proofs.Common.{inl, ◌^◌}
 use Rattle.qcow2_alloc.specs.Allocation.{LoadsBlock}
 use Rattle.qcow2_alloc.proofs.FileSteps.{file_step_cached, reftable_cached}
 use Rattle.qcow2_alloc.proofs.AllocationSteps.{handed_on, place_fits, stands}
+use Rattle.qcow2_alloc.proofs.SparedHeaders.{spares_cached, not_first}
 use Rattle.qcow2_alloc.proofs.allocation.Allocator.load_block.Goals as goal
 
 pub returns-in_err-rb_get_or_insert-clause-sound : goal.returns-in_err-rb_get_or_insert-clause-sound
@@ -22,3 +23,9 @@ returns-clause-sound g c = λ p sound.
       stands g.S.Storage.view p (record c.args.file.now { storage = c.rb_get_or_insert.new.storage; caches = c.rb_get_or_insert.new.self }) c.args.self.now.reftable file_step.sound reftable c.args.range c.in-Some.offset c.in-Some-checked_cluster.cluster c.cluster_bits.result
           c.in-Some.ensures.offset c.in-Some.ensures.some c.in-Some-checked_cluster.ensures.cluster c.cluster_bits.ensures.value c.in_ok-rb_get_or_insert.ensures.cached,
     )
+
+pub returns-in_err-rb_get_or_insert-clause-header_cluster : goal.returns-in_err-rb_get_or_insert-clause-header_cluster
+returns-in_err-rb_get_or_insert-clause-header_cluster g c = spares_cached c.args.self.now.reftable c.args.file.now c.rb_get_or_insert.new.storage c.rb_get_or_insert.new.self (c.rb_get_or_insert.ensures.header_cluster (not_first c.in-Some-checked_cluster.cluster (2 ^ c.cluster_bits.result) c.in-Some.offset c.in-Some.ensures.some c.in-Some-checked_cluster.ensures.cluster))
+
+pub returns-clause-header_cluster : goal.returns-clause-header_cluster
+returns-clause-header_cluster g c = spares_cached c.args.self.now.reftable c.args.file.now c.rb_get_or_insert.new.storage c.rb_get_or_insert.new.self (c.rb_get_or_insert.ensures.header_cluster (not_first c.in-Some-checked_cluster.cluster (2 ^ c.cluster_bits.result) c.in-Some.offset c.in-Some.ensures.some c.in-Some-checked_cluster.ensures.cluster))

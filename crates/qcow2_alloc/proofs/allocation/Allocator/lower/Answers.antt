@@ -28,3 +28,9 @@ returns-clause-leaks g c = λ p owed sound may. elim c.match-try_lower.branch [
   | in-Err+else-is_fault+in-StillInUse-1 w ↦ not_both w.is_fault.result (w.is_fault.ensures.1 (w.in-Err.ensures.sound p owed sound may).0) w.if-is_fault.false
   | in-Err+else-is_fault+in-ReadOnly-1 w ↦ not_both w.is_fault.result (w.is_fault.ensures.1 (w.in-Err.ensures.sound p owed sound may).0) w.if-is_fault.false
 ]
+
+pub returns-in-Ok-true-clause-header_cluster : goal.returns-in-Ok-true-clause-header_cluster
+returns-in-Ok-true-clause-header_cluster g c = c.try_lower.ensures.header_cluster
+
+pub returns-clause-header_cluster : goal.returns-clause-header_cluster
+returns-clause-header_cluster g c = c.try_lower.ensures.header_cluster

@@ -18,6 +18,7 @@ use Rattle.qcow2_alloc.proofs.allocation.Allocator.lowest_run.Goals.{then-search
 use Rattle.qcow2_alloc.proofs.FormerReftables.{former_none, former_still, former_then}
 use Rattle.qcow2_alloc.proofs.Faults.{told_ok}
 use Rattle.qcow2_alloc.proofs.Outcomes.{told_limit, told_after, on_no_ok, if_no_ok, handed_cause}
+use Rattle.qcow2_alloc.proofs.SparedHeaders.{spares_none, spares_then, spares_less}
 use Rattle.qcow2_alloc.proofs.allocation.Allocator.lowest_run.Goals as goal
 
 pub returns-in_err-taken-clause-sound : goal.returns-in_err-taken-clause-sound
@@ -46,6 +47,7 @@ search-init g c = record {
   marks = marks_none c.args.file.now.caches;
   faults = omega arith;
   order = refl;
+  spared = spares_none;
   sound = λ p sound.
       subst (λ (r : Pending). UnseenAllocatorGrowth g.S.Storage.view p c.args.file.now (record c.args.self.now { first_free_cluster = c.max-self.result }) c.args.file.now r) (sym (listed_after_same p c.args.file.now.free_list c.args.file.now.free_list refl))
       (on_none g.S.Storage.view p c.args.file.now (record c.args.self.now { first_free_cluster = c.max-self.result }) (record { sound = sound.sound; reftable = sound.reftable }));
@@ -69,6 +71,7 @@ search-preserved g c = record {
   marks = marks_then c.args.file.now.caches c.take_run.new.file.caches c.pass_used.new.file.caches (marks_then c.args.file.now.caches c.search.file.caches c.take_run.new.file.caches c.search.invariant.marks c.take_run.ensures.marks) c.pass_used.ensures.marks;
   faults = le_trans (le_trans c.search.invariant.faults c.take_run.ensures.storage_faults.no_fewer) c.pass_used.ensures.storage_faults.no_fewer;
   order = c.pass_used.ensures.order ∙ c.take_run.ensures.order ∙ c.search.invariant.order;
+  spared = spares_then (spares_then c.search.invariant.spared c.take_run.ensures.header_cluster) (spares_less (c.pass_used.ensures.header_cluster));
   sound = λ p sound.
       let before = c.search.invariant.sound p sound in
       let q : Pending = pending_then p c.args.file.now.free_list c.search.file.free_list in
@@ -343,3 +346,15 @@ returns-in_err-first-clause-leaks g c = λ p sound.
 
 pub returns-clause-leaks : goal.returns-clause-leaks
 returns-clause-leaks g c = λ p sound. c.search.invariant.leaks p sound
+
+pub returns-in_err-taken-clause-header_cluster : goal.returns-in_err-taken-clause-header_cluster
+returns-in_err-taken-clause-header_cluster g c = spares_then c.search.invariant.spared c.take_run.ensures.header_cluster
+
+pub returns-then-taken-n-clause-header_cluster : goal.returns-then-taken-n-clause-header_cluster
+returns-then-taken-n-clause-header_cluster g c = spares_then c.search.invariant.spared c.take_run.ensures.header_cluster
+
+pub returns-in_err-first-clause-header_cluster : goal.returns-in_err-first-clause-header_cluster
+returns-in_err-first-clause-header_cluster g c = spares_then (spares_then c.search.invariant.spared c.take_run.ensures.header_cluster) (spares_less (c.pass_used.ensures.header_cluster))
+
+pub returns-clause-header_cluster : goal.returns-clause-header_cluster
+returns-clause-header_cluster g c = c.search.invariant.spared

@@ -1,4 +1,4 @@
-use Rattle.std.proofs.Common.{◌+◌, ◌*◌, ◌^◌, sym, ap, ◌∙◌, refl}
+use Rattle.std.proofs.Common.{◌+◌, ◌*◌, ◌^◌, sym, ap, ◌∙◌, refl, subst}
 use Rattle.qcow2_alloc.specs.GrownTables.{with_run, NamesReftable}
 use Rattle.qcow2_alloc.specs.ImageError.{of_storage, of_metadata}
 use Rattle.qcow2_alloc.specs.ImageStorage.{storage_of}
@@ -9,6 +9,9 @@ use Rattle.qcow2_alloc.proofs.ListedAfter.{header_same}
 use Rattle.qcow2_alloc.proofs.Outcomes.{told_limit, on_no_ok, handed_cause, on_err}
 use Rattle.std.proofs.Math.Nat.{le_refl}
 use Rattle.qcow2_alloc.proofs.TableErrors.{storage_of_tables, metadata_of_tables}
+use Rattle.qcow2_alloc.proofs.SparedHeaders.{spares_none, spares_pointer, noted_keeps, placed_above}
+use Rattle.qcow2_alloc.specs.SparedHeaders.{SparesHeaderButPointer}
+use Rattle.qcow2_metadata.specs.Header.{HeaderView}
 use Rattle.qcow2_alloc.proofs.allocation.Allocator.name_reftable.Goals as goal
 
 pub returns-in_err-set_reftable-clause-names : goal.returns-in_err-set_reftable-clause-names
@@ -139,3 +142,15 @@ returns-clause-cause g c = tt
 
 pub returns-clause-kept : goal.returns-clause-kept
 returns-clause-kept g c = tt
+
+pub returns-in_default-clause-header_cluster : goal.returns-in_default-clause-header_cluster
+returns-in_default-clause-header_cluster g c = λ above bits. spares_none
+
+pub returns-in_err-set_reftable-clause-header_cluster : goal.returns-in_err-set_reftable-clause-header_cluster
+returns-in_err-set_reftable-clause-header_cluster g c = λ above bits. subst (λ (x : HeaderView). SparesHeaderButPointer g.S.Storage.view c.args.self.now.reftable c.args.file.now c.args.self.now.reftable (record c.args.file.now { header = x })) (sym c.in_err-set_reftable.ensures.same) spares_none
+
+pub returns-in_err-write_reftable_pointer-clause-header_cluster : goal.returns-in_err-write_reftable_pointer-clause-header_cluster
+returns-in_err-write_reftable_pointer-clause-header_cluster g c = λ above bits. spares_pointer g.S.Storage.view c.args.self.now.reftable c.args.file.now c.set_reftable.new.self c.note_change.new.self (storage_of c.will_write.new.self) c.write_reftable_pointer.new.self _ _ c.write_reftable_pointer.result c.in_ok-set_reftable.ensures.ok (noted_keeps c.args.file.now.caches c.note_change.new.self c.note_change.ensures.same) c.will_write.ensures.storage c.write_reftable_pointer.ensures.written c.write_reftable_pointer.ensures.calls c.args.self.now.reftable (λ n stands. (stands.reftable_bits, stands.elsewhere))
+
+pub returns-clause-header_cluster : goal.returns-clause-header_cluster
+returns-clause-header_cluster g c = λ above bits. spares_pointer g.S.Storage.view c.args.self.now.reftable c.args.file.now c.set_reftable.new.self c.note_change.new.self (storage_of c.will_write.new.self) c.write_reftable_pointer.new.self _ _ c.write_reftable_pointer.result c.in_ok-set_reftable.ensures.ok (noted_keeps c.args.file.now.caches c.note_change.new.self c.note_change.ensures.same) c.will_write.ensures.storage c.write_reftable_pointer.ensures.written c.write_reftable_pointer.ensures.calls c.args.table (λ n stands. (bits ∙ stands.header, placed_above c.args.table.cluster above))

@@ -1,9 +1,9 @@
 use Rattle.qcow2_alloc.proofs.AllocationSteps.{table_loaded, handed_on}
-use Rattle.std.proofs.Common.{◌≡◌, ℕ, ◌+◌, ◌*◌, ◌<◌, ◌≤◌, ◌^◌, Ok, Result, sym, ap, ◌∙◌, subst, refl}
+use Rattle.std.proofs.Common.{◌≡◌, ℕ, ◌+◌, ◌*◌, ◌<◌, ◌≤◌, ◌^◌, Ok, Result, Some, sym, ap, ◌∙◌, subst, refl}
 use Rattle.std.specs.Prelude.{MatchResult}
 use Rattle.image_access.specs.Contents.{bytes_at}
 use Rattle.qcow2_metadata.specs.Bytes.{byte_at}
-use Rattle.qcow2_metadata.specs.EntryTable.{SomeUnread}
+use Rattle.qcow2_metadata.specs.EntryTable.{SomeUnread, EntryTableView}
 use Rattle.qcow2_metadata.specs.TableBytes.{entry_at}
 use Rattle.qcow2_metadata.specs.Entries.{reftable_entry, ReftableEntryReads}
 use Rattle.qcow2_metadata.specs.Header.{reftable_entries, cluster_size}
@@ -14,6 +14,7 @@ use Rattle.qcow2_alloc.specs.ImageError.{of_metadata}
 use Rattle.qcow2_alloc.specs.ImageFile.{contents_in, view_in}
 use Rattle.qcow2_alloc.specs.LoadedTables.{HasUnreadEntry, IsReasonAgainst, IsReasonAgainstReftable, ReftableReads}
 use Rattle.qcow2_alloc.proofs.LoadedTables.{entries_read, fits_so, not_loaded}
+use Rattle.qcow2_alloc.proofs.SparedHeaders.{not_first, placed_above}
 use Rattle.qcow2_alloc.proofs.allocation.Allocator.new.Goals as goal
 
 pub returns-clause-reftable : goal.returns-clause-reftable
@@ -52,3 +53,15 @@ returns-in_err-reftable-clause-why g c = λ honest.
     (λ some. subst (λ p. SomeUnread ReftableEntryReads (bytes_at contents p (8 * n))) at (some honest)) (2 ^ 64 ≤ h.reftable_offset + 8 * n) ((h.reftable_offset + 8 * n < 2 ^ 64) × HasUnreadEntry n (λ k. ReftableEntryReads (reftable_entry h b k))) (λ past. past) (λ fits unread. (fits, unread)) e c.in_err-reftable.ensures.limit c.in_err-reftable.ensures.err in
     handed_on (λ (r : Result Allocator ImageError). MatchResult r (λ a. ReftableReads h b) (IsReasonAgainstReftable h b)) c.from_residual.result (of_metadata e) c.from_residual.ensures
     (subst (λ m. IsReasonAgainst h h.reftable_offset (2 ^ 64 ≤ h.reftable_offset + 8 * m) ((h.reftable_offset + 8 * m < 2 ^ 64) × HasUnreadEntry m (λ k. ReftableEntryReads (reftable_entry h b k))) (of_metadata e)) entries why)
+
+pub returns-clause-header_cluster : goal.returns-clause-header_cluster
+returns-clause-header_cluster g c = λ some are.
+    let t = c.in_ok-reftable.reftable in
+    let at : c.in-Some.cluster * 2 ^ c.cluster_bits-bits.result ≡ c.args.file.now.header.fields.reftable_offset = c.in-Some.ensures.cluster ∙ c.reftable_offset.ensures in
+    let above = not_first c.in-Some.cluster (2 ^ c.cluster_bits-bits.result) c.args.file.now.header.fields.reftable_offset some at in
+    record {
+      header = refl;
+      caches = are;
+      reftable_bits = ap (λ (x : EntryTableView). x.cluster_bits) c.in_ok-reftable.ensures.table;
+      elsewhere = λ is. placed_above (Some c.in-Some.cluster) above (sym (ap (λ (x : EntryTableView). x.cluster) c.in_ok-reftable.ensures.table) ∙ is);
+    }

@@ -5,6 +5,7 @@ use Rattle.qcow2_alloc.specs.declared.allocation.Allocator.{Allocator}
 use Rattle.qcow2_alloc.proofs.AllocationSteps.{handed_on, allocator_step_as}
 use Rattle.qcow2_alloc.proofs.Hints.{hint_passed, hint_stays, hint_refused}
 use Rattle.qcow2_alloc.proofs.allocation.Allocator.pass_used.Goals.{then-cluster-self, else-cluster-self}
+use Rattle.qcow2_alloc.proofs.SparedHeaders.{spares_as}
 use Rattle.qcow2_alloc.proofs.allocation.Allocator.pass_used.Goals as goal
 
 pub returns-in_err-next-clause-sound : goal.returns-in_err-next-clause-sound
@@ -34,3 +35,14 @@ returns-clause-hint g c = λ p sound hint.
       | else-cluster-self w ↦ hint_stays g.S.Storage.view p c.args.file.now c.behind_used.new.file c.args.self.now c.if-cluster-self.self (allocator_step_as g.S.Storage.view p p c.args.file.now c.behind_used.new.file c.args.self.now c.if-cluster-self.self (ap (λ (t : Allocator). t.reftable) w.self-is) passed.0)
           (ap (λ (t : Allocator). t.first_free_cluster) w.self-is) hint
     ]
+
+pub returns-in_err-next-clause-header_cluster : goal.returns-in_err-next-clause-header_cluster
+returns-in_err-next-clause-header_cluster g c = c.behind_used.ensures.header_cluster
+
+pub returns-clause-header_cluster : goal.returns-clause-header_cluster
+returns-clause-header_cluster g c =
+    let same : c.if-cluster-self.self.reftable ≡ c.args.self.now.reftable = elim c.if-cluster-self.branch [
+      | then-cluster-self w ↦ ap (λ (t : Allocator). t.reftable) w.self-is
+      | else-cluster-self w ↦ ap (λ (t : Allocator). t.reftable) w.self-is
+    ] in
+    spares_as same c.behind_used.ensures.header_cluster

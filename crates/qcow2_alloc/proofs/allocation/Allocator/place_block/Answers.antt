@@ -1,4 +1,4 @@
-use Rattle.std.proofs.Common.{◌≡◌, inr, ℕ, ◌+◌, ◌*◌, ◌/◌, ◌^◌, ◌<◌, Bool, true, IsTrue, Some, Result, Ok, Err, refl, sym, ap, ◌∙◌, subst, arith}
+use Rattle.std.proofs.Common.{◌≡◌, inr, ℕ, ◌+◌, ◌*◌, ◌/◌, ◌^◌, ◌<◌, Bool, true, IsTrue, Some, Result, Ok, Err, refl, sym, ap, ◌∙◌, subst, arith, IsSome}
 use Rattle.std.proofs.lemmas.Nat.{div-add-mod'}
 use Rattle.std.specs.Option.{IfSome}
 use Rattle.std.specs.Int.{w64, to_be_bytes}
@@ -32,6 +32,7 @@ use Rattle.qcow2_alloc.proofs.CachePins.{marks_then}
 use Rattle.qcow2_alloc.proofs.Faults.{told_on}
 use Rattle.qcow2_alloc.proofs.Outcomes.{on_no_ok, handed_cause, entries_none}
 use Rattle.qcow2_alloc.proofs.TableErrors.{storage_of_tables}
+use Rattle.qcow2_alloc.proofs.SparedHeaders.{spares_none, spares_then, spares_entry, noted_keeps}
 use Rattle.qcow2_alloc.proofs.allocation.Allocator.place_block.Goals as goal
 
 pub returns-in_err-write_block-clause-sound : goal.returns-in_err-write_block-clause-sound
@@ -206,3 +207,12 @@ returns-in_err-write_reftable_entry-clause-entries g c = entries_entered c.args.
 
 pub returns-clause-entries : goal.returns-clause-entries
 returns-clause-entries g c = entries_entered c.args.self.now.reftable c.enter_refblock.new.self c.args.range c.new-cluster.result (subst (λ n. 0 < n) (sym c.new-cluster.ensures) c.requires.elsewhere) c.enter_refblock.ensures.rest c.enter_refblock.ensures.entry c.enter_refblock.ensures.offset
+
+pub returns-in_err-write_block-clause-header_cluster : goal.returns-in_err-write_block-clause-header_cluster
+returns-in_err-write_block-clause-header_cluster g c = c.write_block.ensures.header_cluster c.args.self.now.reftable c.in_ok-block.ensures.format.bits
+
+pub returns-in_err-write_reftable_entry-clause-header_cluster : goal.returns-in_err-write_reftable_entry-clause-header_cluster
+returns-in_err-write_reftable_entry-clause-header_cluster g c = spares_then (c.write_block.ensures.header_cluster c.args.self.now.reftable c.in_ok-block.ensures.format.bits) (spares_entry g.S.Storage.view c.args.self.now.reftable c.enter_refblock.new.self c.write_block.new.file c.note_change.new.self (storage_of c.will_write.new.self) c.write_reftable_entry.new.self _ _ c.write_reftable_entry.result (noted_keeps c.write_block.new.file.caches c.note_change.new.self c.note_change.ensures.same) (ap (λ (t : EntryTableView). t.cluster_bits) c.enter_refblock.ensures.rest) (ap (λ (t : EntryTableView). t.cluster) c.enter_refblock.ensures.rest) c.will_write.ensures.storage c.write_reftable_entry.ensures.written c.write_reftable_entry.ensures.calls (subst (λ (t : EntryTableView). IsSome t.cluster) (sym c.enter_refblock.ensures.rest) c.requires.placed))
+
+pub returns-clause-header_cluster : goal.returns-clause-header_cluster
+returns-clause-header_cluster g c = spares_then (c.write_block.ensures.header_cluster c.args.self.now.reftable c.in_ok-block.ensures.format.bits) (spares_entry g.S.Storage.view c.args.self.now.reftable c.enter_refblock.new.self c.write_block.new.file c.note_change.new.self (storage_of c.will_write.new.self) c.write_reftable_entry.new.self _ _ c.write_reftable_entry.result (noted_keeps c.write_block.new.file.caches c.note_change.new.self c.note_change.ensures.same) (ap (λ (t : EntryTableView). t.cluster_bits) c.enter_refblock.ensures.rest) (ap (λ (t : EntryTableView). t.cluster) c.enter_refblock.ensures.rest) c.will_write.ensures.storage c.write_reftable_entry.ensures.written c.write_reftable_entry.ensures.calls (subst (λ (t : EntryTableView). IsSome t.cluster) (sym c.enter_refblock.ensures.rest) c.requires.placed))

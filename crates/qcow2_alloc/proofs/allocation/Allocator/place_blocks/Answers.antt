@@ -28,6 +28,7 @@ use Rattle.qcow2_alloc.proofs.PlacedBlocks.{file_sizes}
 use Rattle.qcow2_alloc.proofs.allocation.Allocator.place_blocks.Goals.{then-opens_range+in_ok-block+in_ok-write_new_block, else-opens_range}
 use Rattle.qcow2_alloc.specs.Faults.{faults_of}
 use Rattle.qcow2_alloc.proofs.HeaderClusters.{header_cluster_none, header_cluster_then}
+use Rattle.qcow2_alloc.specs.SparedHeaders.{KeepBehindHeader}
 use Rattle.qcow2_alloc.proofs.allocation.Allocator.place_blocks.Goals as goal
 
 pub placing-init : goal.placing-init
@@ -44,6 +45,7 @@ placing-init g c =
       faults = omega arith;
       header_cluster = header_cluster_none c.args.file.now.header.fields.cluster_bits (view_in g.S.Storage.view c.args.file.now);
       order = refl;
+      spared = λ n are. are;
       tables = refl;
       clean = λ all. all;
       rest = refl;
@@ -111,6 +113,7 @@ placing-preserved g c =
         header_cluster = subst (λ f. KeepsHeaderCluster h.cluster_bits (view_in view old) (view_in view f)) (sym w.file-is) (header_cluster_then h.cluster_bits (view_in view old) (view_in view c.placing.file) (view_in view w.write_new_block.new.file) inv.header_cluster
             (subst (λ n. KeepsHeaderCluster n (view_in view c.placing.file) (view_in view w.write_new_block.new.file)) (w.in_ok-block.ensures.format.bits ∙ ap (λ x. x.fields.cluster_bits) inv.header) w.write_new_block.ensures.header_cluster));
         order = ap (λ f. order_of f.caches) w.file-is ∙ w.write_new_block.ensures.order ∙ inv.order;
+        spared = subst (λ f. KeepBehindHeader old.caches f.caches) (sym w.file-is) (λ n are. w.write_new_block.ensures.behind_header n (inv.spared n are));
         tables = ap (λ f. l2_tables f.caches) w.file-is ∙ w.write_new_block.ensures.tables ∙ inv.tables;
         clean = λ all. subst (λ f. AreClean (refblocks f.caches)) (sym w.file-is) (w.write_new_block.ensures.clean (inv.clean all));
         rest = rest_then c.args.table.now c.placing.table w.enter_refblock.new.self c.if-opens_range.table w.table-is w.enter_refblock.ensures.rest inv.rest;
@@ -170,6 +173,7 @@ placing-preserved g c =
         faults = subst (λ f. faults_of g.S.Storage.view old.storage ≤ faults_of g.S.Storage.view f.storage) (sym w.file-is) inv.faults;
         header_cluster = subst (λ f. KeepsHeaderCluster h.cluster_bits (view_in view old) (view_in view f)) (sym w.file-is) inv.header_cluster;
         order = ap (λ f. order_of f.caches) w.file-is ∙ inv.order;
+        spared = subst (λ f. KeepBehindHeader old.caches f.caches) (sym w.file-is) inv.spared;
         tables = ap (λ f. l2_tables f.caches) w.file-is ∙ inv.tables;
         clean = λ all. subst (λ f. AreClean (refblocks f.caches)) (sym w.file-is) (inv.clean all);
         rest = subst (λ (x : EntryTableView). x ≡ record c.args.table.now { bytes = x.bytes }) (sym w.table-is) inv.rest;
@@ -232,3 +236,12 @@ returns-in_err-write_new_block-clause-header_cluster g c =
 
 pub returns-clause-header_cluster : goal.returns-clause-header_cluster
 returns-clause-header_cluster g c = c.placing.invariant.header_cluster
+
+pub returns-in_err-block-clause-behind_header : goal.returns-in_err-block-clause-behind_header
+returns-in_err-block-clause-behind_header g c = c.placing.invariant.spared
+
+pub returns-in_err-write_new_block-clause-behind_header : goal.returns-in_err-write_new_block-clause-behind_header
+returns-in_err-write_new_block-clause-behind_header g c = λ n are. c.write_new_block.ensures.behind_header n (c.placing.invariant.spared n are)
+
+pub returns-clause-behind_header : goal.returns-clause-behind_header
+returns-clause-behind_header g c = c.placing.invariant.spared

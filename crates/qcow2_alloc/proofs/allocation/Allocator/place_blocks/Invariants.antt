@@ -11,6 +11,7 @@ use Rattle.qcow2_alloc.specs.ImageFile.{view_in, contents_in, AllocatorInvariant
 use Rattle.qcow2_alloc.specs.MetadataCaches.{order_of, l2_tables, refblocks, rb_at}
 use Rattle.qcow2_alloc.specs.Rooms.{opened, room_length, IsLonger}
 use Rattle.qcow2_alloc.proofs.PlacedRooms.{EntersSo, Counting}
+use Rattle.qcow2_alloc.specs.SparedHeaders.{KeepBehindHeader}
 use Rattle.qcow2_alloc.proofs.allocation.Allocator.place_blocks.Given as goal
 
 -- the refblocks of the ranges that the clusters before this one enter are placed
@@ -21,6 +22,7 @@ invariant-placing g l = record {
   marks : KeepsPinsAndNotes l.fn.file.caches l.file.caches;
   faults : faults_of g.S.Storage.view l.fn.file.storage ≤ faults_of g.S.Storage.view l.file.storage;
   order : order_of l.file.caches ≡ order_of l.fn.file.caches;
+  spared : KeepBehindHeader l.fn.file.caches l.file.caches;
   tables : l2_tables l.file.caches ≡ l2_tables l.fn.file.caches;
   clean : AreClean (refblocks l.fn.file.caches) → AreClean (refblocks l.file.caches);
   rest : l.table ≡ record l.fn.table { bytes = l.table.bytes };

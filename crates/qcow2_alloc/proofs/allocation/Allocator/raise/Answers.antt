@@ -10,6 +10,9 @@ use Rattle.qcow2_alloc.proofs.AllocationSteps.{handed_on, of_equal, counted_at, 
 use Rattle.qcow2_alloc.proofs.Hints.{is_zero, used_stays}
 use Rattle.qcow2_alloc.specs.LowestRuns.{IsUsed}
 use Rattle.qcow2_alloc.proofs.allocation.Allocator.raise.Goals.{then-rb_is_zero, else-rb_is_zero}
+use Rattle.qcow2_alloc.proofs.SparedHeaders.{spares_then, spares_tables}
+use Rattle.qcow2_alloc.specs.SparedHeaders.{SparesHeader}
+use Rattle.qcow2_alloc.specs.declared.image_file.ImageFile.{ImageFile}
 use Rattle.qcow2_alloc.proofs.allocation.Allocator.raise.Goals as goal
 
 zero_of : (n : _) → (n == 0) ≡ true → n ≡ 0
@@ -76,3 +79,17 @@ returns-clause-free g c = λ p sound taken used.
 
 pub returns-in_err-block-clause-fault : goal.returns-in_err-block-clause-fault
 returns-in_err-block-clause-fault g c = λ p sound. handed_on (λ (r : Result Bool ImageError). IfErr r IsFault) c.from_residual.result c.in_err-block.field-0.0 c.from_residual.ensures (c.in_err-block.ensures.sound p sound).0
+
+pub returns-in_err-block-clause-header_cluster : goal.returns-in_err-block-clause-header_cluster
+returns-in_err-block-clause-header_cluster g c = c.load_block.ensures.header_cluster
+
+pub returns-in_default-clause-header_cluster : goal.returns-in_default-clause-header_cluster
+returns-in_default-clause-header_cluster g c = c.load_block.ensures.header_cluster
+
+pub returns-clause-header_cluster : goal.returns-clause-header_cluster
+returns-clause-header_cluster g c = elim c.if-rb_is_zero.branch [
+  | then-rb_is_zero w ↦
+      subst (λ (f : ImageFile g.row.S.Denot). SparesHeader g.S.Storage.view c.args.self.now.reftable c.args.file.now c.args.self.now.reftable f) (sym w.file-is)
+      (spares_then c.load_block.ensures.header_cluster (spares_tables c.args.self.now.reftable c.load_block.new.file w.rb_increment.new.self w.rb_increment.ensures.header_cluster))
+  | else-rb_is_zero w ↦ subst (λ (f : ImageFile g.row.S.Denot). SparesHeader g.S.Storage.view c.args.self.now.reftable c.args.file.now c.args.self.now.reftable f) (sym w.file-is) c.load_block.ensures.header_cluster
+]

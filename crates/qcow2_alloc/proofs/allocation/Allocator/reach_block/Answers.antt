@@ -17,6 +17,7 @@ use Rattle.qcow2_alloc.proofs.FormerReftables.{former_same, former_then}
 use Rattle.qcow2_alloc.proofs.CachePins.{marks_then}
 use Rattle.qcow2_alloc.proofs.Faults.{told_on, told_since}
 use Rattle.qcow2_alloc.proofs.Outcomes.{on_no_ok, handed_cause}
+use Rattle.qcow2_alloc.proofs.SparedHeaders.{spares_then, spares_less}
 use Rattle.qcow2_alloc.proofs.allocation.Allocator.reach_block.Goals as goal
 
 pub returns-then-in_bounds-clause-sound : goal.returns-then-in_bounds-clause-sound
@@ -175,3 +176,12 @@ returns-in_err-grow_reftable-clause-leaks g c = λ p sound. c.grow_reftable.ensu
 
 pub returns-clause-leaks : goal.returns-clause-leaks
 returns-clause-leaks g c = λ p sound. c.ensure_block-2.ensures.leaks ∙ c.grow_reftable.ensures.leaks p sound
+
+pub returns-then-in_bounds-clause-header_cluster : goal.returns-then-in_bounds-clause-header_cluster
+returns-then-in_bounds-clause-header_cluster g c = spares_less (c.ensure_block.ensures.header_cluster)
+
+pub returns-in_err-grow_reftable-clause-header_cluster : goal.returns-in_err-grow_reftable-clause-header_cluster
+returns-in_err-grow_reftable-clause-header_cluster g c = c.grow_reftable.ensures.header_cluster
+
+pub returns-clause-header_cluster : goal.returns-clause-header_cluster
+returns-clause-header_cluster g c = spares_then (c.grow_reftable.ensures.header_cluster) (spares_less (c.ensure_block-2.ensures.header_cluster))

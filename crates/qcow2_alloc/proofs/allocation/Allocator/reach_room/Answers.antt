@@ -11,6 +11,7 @@ use Rattle.qcow2_alloc.proofs.allocation.Allocator.reach_room.Goals.{then-reachi
 use Rattle.qcow2_alloc.proofs.Faults.{told_ok}
 use Rattle.qcow2_alloc.proofs.Outcomes.{told_after, if_no_ok, handed_cause}
 use Rattle.std.proofs.Math.Nat.{le_trans}
+use Rattle.qcow2_alloc.proofs.SparedHeaders.{spares_none, spares_then}
 use Rattle.qcow2_alloc.proofs.allocation.Allocator.reach_room.Goals as goal
 
 pub reaching-init : goal.reaching-init
@@ -20,6 +21,7 @@ reaching-init g c = record {
   marks = marks_none c.args.file.now.caches;
   faults = omega arith;
   order = refl;
+  spared = spares_none;
   same = refl;
   counts = c.rb_bits-bits.ensures.counts;
   bits = let high = c.rb_bits-bits.ensures.high in omega (arith, high);
@@ -67,6 +69,7 @@ reaching-preserved g c =
       marks = marks_then c.args.file.now.caches c.reaching.file.caches c.take_if_free.new.file.caches c.reaching.invariant.marks c.take_if_free.ensures.marks;
       faults = le_trans c.reaching.invariant.faults c.take_if_free.ensures.storage_faults.no_fewer;
       order = c.take_if_free.ensures.order ∙ c.reaching.invariant.order;
+      spared = spares_then c.reaching.invariant.spared c.take_if_free.ensures.header_cluster;
       same = c.take_if_free.ensures.same ∙ c.reaching.invariant.same;
       counts = c.reaching.invariant.counts;
       bits = c.reaching.invariant.bits;
@@ -209,3 +212,12 @@ returns-clause-cause g c = tt
 
 pub returns-clause-storage_faults : goal.returns-clause-storage_faults
 returns-clause-storage_faults g c = told_ok _ _ _ c.reaching.invariant.faults
+
+pub returns-in_err-take_if_free-clause-header_cluster : goal.returns-in_err-take_if_free-clause-header_cluster
+returns-in_err-take_if_free-clause-header_cluster g c = spares_then c.reaching.invariant.spared c.take_if_free.ensures.header_cluster
+
+pub returns-then-not-branch-clause-header_cluster : goal.returns-then-not-branch-clause-header_cluster
+returns-then-not-branch-clause-header_cluster g c = spares_then c.reaching.invariant.spared c.take_if_free.ensures.header_cluster
+
+pub returns-clause-header_cluster : goal.returns-clause-header_cluster
+returns-clause-header_cluster g c = c.reaching.invariant.spared

@@ -18,6 +18,7 @@ use Rattle.qcow2_alloc.proofs.Faults.{told_on, told_ok}
 use Rattle.qcow2_alloc.proofs.Outcomes.{ok_no_err, told_after, if_no_ok, handed_cause, handed_unaligned}
 use Rattle.std.proofs.Math.Nat.{le_trans}
 use Rattle.qcow2_alloc.specs.declared.error.ImageError.TheVariants as I
+use Rattle.qcow2_alloc.proofs.SparedHeaders.{spares_then, spares_less, spares_as}
 use Rattle.qcow2_alloc.proofs.allocation.Allocator.take.Goals as goal
 
 pub returns-in_err-reach_block-clause-sound : goal.returns-in_err-reach_block-clause-sound
@@ -228,3 +229,17 @@ returns-clause-leaks g c = λ p sound. elim c.if-cluster-self.branch [
   | then-cluster-self w ↦ ap (λ (t : Allocator). t.leaked_clusters) w.self-is ∙ ap (λ (t : Allocator). t.leaked_clusters) c.raise.ensures.same ∙ c.reach_block.ensures.leaks p sound
   | else-cluster-self w ↦ ap (λ (t : Allocator). t.leaked_clusters) w.self-is ∙ ap (λ (t : Allocator). t.leaked_clusters) c.raise.ensures.same ∙ c.reach_block.ensures.leaks p sound
 ]
+
+pub returns-in_err-reach_block-clause-header_cluster : goal.returns-in_err-reach_block-clause-header_cluster
+returns-in_err-reach_block-clause-header_cluster g c = c.reach_block.ensures.header_cluster
+
+pub returns-in_err-taken-clause-header_cluster : goal.returns-in_err-taken-clause-header_cluster
+returns-in_err-taken-clause-header_cluster g c = spares_then (c.reach_block.ensures.header_cluster) (spares_less (c.raise.ensures.header_cluster))
+
+pub returns-clause-header_cluster : goal.returns-clause-header_cluster
+returns-clause-header_cluster g c =
+    let same : c.if-cluster-self.self.reftable ≡ c.raise.new.self.reftable = elim c.if-cluster-self.branch [
+      | then-cluster-self w ↦ ap (λ (t : Allocator). t.reftable) w.self-is
+      | else-cluster-self w ↦ ap (λ (t : Allocator). t.reftable) w.self-is
+    ] in
+    spares_as same (spares_then (c.reach_block.ensures.header_cluster) (spares_less (c.raise.ensures.header_cluster)))

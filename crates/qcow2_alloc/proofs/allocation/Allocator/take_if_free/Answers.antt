@@ -12,6 +12,7 @@ use Rattle.qcow2_alloc.proofs.CachePins.{marks_none}
 use Rattle.qcow2_alloc.proofs.Faults.{told_ok}
 use Rattle.std.proofs.Math.Nat.{le_refl}
 use Rattle.qcow2_alloc.proofs.Outcomes.{not_both}
+use Rattle.qcow2_alloc.proofs.SparedHeaders.{spares_none}
 use Rattle.qcow2_alloc.proofs.allocation.Allocator.take_if_free.Goals as goal
 
 pub returns-then-lacks_block-clause-sound : goal.returns-then-lacks_block-clause-sound
@@ -119,3 +120,15 @@ returns-then-is_fault-clause-storage_faults g c = c.in-Err.ensures.storage_fault
 
 pub returns-then-is_fault-clause-cause : goal.returns-then-is_fault-clause-cause
 returns-then-is_fault-clause-cause g c = c.in-Err.ensures.cause
+
+pub returns-in-Ok-clause-header_cluster : goal.returns-in-Ok-clause-header_cluster
+returns-in-Ok-clause-header_cluster g c = c.raise.ensures.header_cluster
+
+pub returns-then-is_fault-clause-header_cluster : goal.returns-then-is_fault-clause-header_cluster
+returns-then-is_fault-clause-header_cluster g c = c.raise.ensures.header_cluster
+
+pub returns-else-is_fault-clause-header_cluster : goal.returns-else-is_fault-clause-header_cluster
+returns-else-is_fault-clause-header_cluster g c = c.raise.ensures.header_cluster
+
+pub returns-then-lacks_block-clause-header_cluster : goal.returns-then-lacks_block-clause-header_cluster
+returns-then-lacks_block-clause-header_cluster g c = spares_none

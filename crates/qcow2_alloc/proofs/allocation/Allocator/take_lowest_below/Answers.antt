@@ -13,6 +13,7 @@ use Rattle.qcow2_alloc.proofs.Outcomes.{told_after, if_no_ok, handed_cause}
 use Rattle.std.proofs.Math.Nat.{le_trans}
 use Rattle.std.specs.Prelude.{◌≢◌}
 use Rattle.qcow2_metadata.specs.EntryTable.{EntryTableView}
+use Rattle.qcow2_alloc.proofs.SparedHeaders.{spares_none, spares_then}
 use Rattle.qcow2_alloc.proofs.allocation.Allocator.take_lowest_below.Goals as goal
 
 -- the entries from an end on stay while the range of a cluster below it gets its refblock
@@ -48,6 +49,7 @@ search-init g c = record {
   marks = marks_none c.args.file.now.caches;
   faults = omega arith;
   order = refl;
+  spared = spares_none;
   above = let first = c.max-self.ensures in omega (arith, first);
   entries = record { cluster = refl; bits = refl; count = refl; others = λ k past. refl; behind = behind_none c.args.self.now.reftable };
   leaks = refl;
@@ -64,6 +66,7 @@ search-preserved g c = record {
       (marks_then c.args.file.now.caches c.cover_range.new.file.caches c.raise.new.file.caches (marks_then c.args.file.now.caches c.search.file.caches c.cover_range.new.file.caches c.search.invariant.marks c.cover_range.ensures.marks) c.raise.ensures.marks) c.behind_used.ensures.marks;
   faults = le_trans (le_trans (le_trans c.search.invariant.faults c.cover_range.ensures.storage_faults.no_fewer) c.raise.ensures.storage_faults.no_fewer) c.behind_used.ensures.storage_faults.no_fewer;
   order = c.behind_used.ensures.order ∙ c.raise.ensures.order ∙ c.cover_range.ensures.order ∙ c.search.invariant.order;
+  spared = spares_then (spares_then (spares_then c.search.invariant.spared c.cover_range.ensures.header_cluster) (c.raise.ensures.header_cluster)) (c.behind_used.ensures.header_cluster);
   entries =
       subst (λ (t : Allocator). KeepsEntries (λ k. c.args.end ≤ k * counts_per_block c.args.file.now.header.fields) c.args.self.now.reftable t.reftable) (sym c.raise.ensures.same)
       (covered_entries c.args.self.now.reftable c.search.self.reftable c.cover_range.new.self.reftable c.search.self.first_free_cluster c.args.end (2 ^ c.rb_bits-bits.result) (counts_per_block c.args.file.now.header.fields) c.search-test.true c.rb_bits-bits.ensures.counts
@@ -308,3 +311,18 @@ returns-in_err-self-clause-leaks g c = ap (λ (t : Allocator). t.leaked_clusters
 
 pub returns-clause-leaks : goal.returns-clause-leaks
 returns-clause-leaks g c = c.search.invariant.leaks
+
+pub returns-in_err-cover_range-clause-header_cluster : goal.returns-in_err-cover_range-clause-header_cluster
+returns-in_err-cover_range-clause-header_cluster g c = spares_then c.search.invariant.spared c.cover_range.ensures.header_cluster
+
+pub returns-in_err-taken-clause-header_cluster : goal.returns-in_err-taken-clause-header_cluster
+returns-in_err-taken-clause-header_cluster g c = spares_then (spares_then c.search.invariant.spared c.cover_range.ensures.header_cluster) (c.raise.ensures.header_cluster)
+
+pub returns-then-taken-clause-header_cluster : goal.returns-then-taken-clause-header_cluster
+returns-then-taken-clause-header_cluster g c = spares_then (spares_then c.search.invariant.spared c.cover_range.ensures.header_cluster) (c.raise.ensures.header_cluster)
+
+pub returns-in_err-self-clause-header_cluster : goal.returns-in_err-self-clause-header_cluster
+returns-in_err-self-clause-header_cluster g c = spares_then (spares_then (spares_then c.search.invariant.spared c.cover_range.ensures.header_cluster) (c.raise.ensures.header_cluster)) (c.behind_used.ensures.header_cluster)
+
+pub returns-clause-header_cluster : goal.returns-clause-header_cluster
+returns-clause-header_cluster g c = c.search.invariant.spared

@@ -7,6 +7,7 @@ use Rattle.qcow2_alloc.specs.Faults.{faults_of}
 use Rattle.qcow2_alloc.specs.ImageFile.{AllocatorInvariant}
 use Rattle.qcow2_alloc.specs.LowestRuns.{NoFreeBelowHint}
 use Rattle.qcow2_alloc.specs.MetadataCaches.{order_of}
+use Rattle.qcow2_alloc.specs.SparedHeaders.{SparesHeader}
 use Rattle.qcow2_alloc.proofs.allocation.Allocator.take_lowest_below.Given as goal
 
 -- nothing is taken yet, and no refblock was placed for the ranges from the end on
@@ -17,6 +18,7 @@ invariant-search g l = record {
   marks : KeepsPinsAndNotes l.fn.file.caches l.file.caches;
   faults : faults_of g.S.Storage.view l.fn.file.storage ≤ faults_of g.S.Storage.view l.file.storage;
   order : order_of l.file.caches ≡ order_of l.fn.file.caches;
+  spared : SparesHeader g.S.Storage.view l.fn.self.reftable l.fn.file l.self.reftable l.file;
   entries : KeepsEntries (λ k. l.fn.end ≤ k * counts_per_block l.fn.file.header.fields) l.fn.self.reftable l.self.reftable;
   above : 0 < l.self.first_free_cluster;
   leaks : SameLeaks l.fn.self l.self;

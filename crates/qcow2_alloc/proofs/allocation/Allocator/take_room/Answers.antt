@@ -20,6 +20,7 @@ use Rattle.qcow2_alloc.proofs.Faults.{told_ok}
 use Rattle.qcow2_alloc.proofs.Outcomes.{told_limit, told_after, if_no_ok, handed_cause}
 use Rattle.std.proofs.Math.Nat.{le_trans}
 use Rattle.qcow2_alloc.specs.declared.allocation.Allocator.{Allocator}
+use Rattle.qcow2_alloc.proofs.SparedHeaders.{spares_none, spares_then}
 use Rattle.qcow2_alloc.proofs.allocation.Allocator.take_room.Goals as goal
 
 pub search-init : goal.search-init
@@ -29,6 +30,7 @@ search-init g c = record {
   marks = marks_none c.args.file.now.caches;
   faults = omega arith;
   order = refl;
+  spared = spares_none;
   reftable = refl;
   first_free = refl;
   low = let first = c.max-first.ensures in omega (arith, first);
@@ -81,6 +83,7 @@ search-preserved g c = record {
       (marks_then c.args.file.now.caches c.reach_room.new.file.caches c.leave_run.new.file.caches (marks_then c.args.file.now.caches c.search.file.caches c.reach_room.new.file.caches c.search.invariant.marks c.reach_room.ensures.marks) c.leave_run.ensures.marks) c.behind_used.ensures.marks;
   faults = le_trans (le_trans (le_trans c.search.invariant.faults c.reach_room.ensures.storage_faults.no_fewer) c.leave_run.ensures.storage_faults.no_fewer) c.behind_used.ensures.storage_faults.no_fewer;
   order = c.behind_used.ensures.order ∙ c.leave_run.ensures.order ∙ c.reach_room.ensures.order ∙ c.search.invariant.order;
+  spared = spares_then (spares_then (spares_then c.search.invariant.spared c.reach_room.ensures.header_cluster) (c.leave_run.ensures.header_cluster)) (c.behind_used.ensures.header_cluster);
   reftable = c.leave_run.ensures.reftable ∙ ap (λ a. a.reftable) c.reach_room.ensures.same ∙ c.search.invariant.reftable;
   first_free = c.leave_run.ensures.first ∙ ap (λ a. a.first_free_cluster) c.reach_room.ensures.same ∙ c.search.invariant.first_free;
   low = let low = c.search.invariant.low in let behind = c.in_ok-first.ensures.behind in omega (arith, low, behind);
@@ -404,3 +407,18 @@ returns-then-reach-clusters-clause-leaks g c = λ p sound. ap (λ (a : Allocator
 
 pub returns-clause-leaks : goal.returns-clause-leaks
 returns-clause-leaks g c = λ p sound. c.search.invariant.leaks p sound
+
+pub returns-in_err-reach-clause-header_cluster : goal.returns-in_err-reach-clause-header_cluster
+returns-in_err-reach-clause-header_cluster g c = spares_then c.search.invariant.spared c.reach_room.ensures.header_cluster
+
+pub returns-then-reach-clusters-clause-header_cluster : goal.returns-then-reach-clusters-clause-header_cluster
+returns-then-reach-clusters-clause-header_cluster g c = spares_then c.search.invariant.spared c.reach_room.ensures.header_cluster
+
+pub returns-in_err-leave_run-clause-header_cluster : goal.returns-in_err-leave_run-clause-header_cluster
+returns-in_err-leave_run-clause-header_cluster g c = spares_then (spares_then c.search.invariant.spared c.reach_room.ensures.header_cluster) (c.leave_run.ensures.header_cluster)
+
+pub returns-in_err-first-clause-header_cluster : goal.returns-in_err-first-clause-header_cluster
+returns-in_err-first-clause-header_cluster g c = spares_then (spares_then (spares_then c.search.invariant.spared c.reach_room.ensures.header_cluster) (c.leave_run.ensures.header_cluster)) (c.behind_used.ensures.header_cluster)
+
+pub returns-clause-header_cluster : goal.returns-clause-header_cluster
+returns-clause-header_cluster g c = c.search.invariant.spared

@@ -26,6 +26,8 @@ use Rattle.std.proofs.Math.Nat.{le_trans}
 use Rattle.qcow2_alloc.specs.CachePins.{KeepsPinsAndNotes}
 use Rattle.qcow2_alloc.specs.MetadataCaches.{order_of}
 use Rattle.qcow2_alloc.specs.Faults.{FaultsTold, faults_of}
+use Rattle.qcow2_alloc.proofs.SparedHeaders.{spares_none, spares_then, spares_less}
+use Rattle.qcow2_alloc.specs.SparedHeaders.{SparesHeaderButPointer}
 use Rattle.qcow2_alloc.proofs.allocation.Allocator.take_run.Goals as goal
 
 -- none, where there aren't some
@@ -52,6 +54,7 @@ taking-init g c = record {
   marks = marks_none c.args.file.now.caches;
   faults = omega arith;
   order = refl;
+  spared = spares_none;
   noted = λ some. absurd (omega (arith, some));
   leaks = λ p sound. refl;
   hint = λ p d sound may hint. hint;
@@ -132,6 +135,7 @@ taking-preserved g c = record {
   marks = marks_then c.args.file.now.caches c.taking.file.caches c.take.new.file.caches c.taking.invariant.marks c.take.ensures.marks;
   faults = le_trans c.taking.invariant.faults c.take.ensures.storage_faults.no_fewer;
   order = c.take.ensures.order ∙ c.taking.invariant.order;
+  spared = spares_then c.taking.invariant.spared c.take.ensures.header_cluster;
   noted = λ _. rw c.in-Ok-true.field-0-test at c.in-Ok-true.ensures.noted refl;
   sound = λ p d sound may.
       let before = c.taking.invariant.sound p d sound may in
@@ -540,3 +544,21 @@ returns-in-Err-clause-leaks g c = λ p sound.
 
 pub returns-clause-leaks : goal.returns-clause-leaks
 returns-clause-leaks g c = λ p sound. c.taking.invariant.leaks p sound
+
+pub returns-in_err-give_back-in-Ok-false-clause-header_cluster : goal.returns-in_err-give_back-in-Ok-false-clause-header_cluster
+returns-in_err-give_back-in-Ok-false-clause-header_cluster g c = spares_then (spares_then c.taking.invariant.spared c.take.ensures.header_cluster) (spares_less (c.give_back.ensures.header_cluster))
+
+pub returns-in-Ok-false-clause-header_cluster : goal.returns-in-Ok-false-clause-header_cluster
+returns-in-Ok-false-clause-header_cluster g c = spares_then (spares_then c.taking.invariant.spared c.take.ensures.header_cluster) (spares_less (c.give_back.ensures.header_cluster))
+
+pub returns-in_err-give_back-in-Err-clause-header_cluster : goal.returns-in_err-give_back-in-Err-clause-header_cluster
+returns-in_err-give_back-in-Err-clause-header_cluster g c = spares_then (spares_then c.taking.invariant.spared c.take.ensures.header_cluster) (spares_less (c.give_back-then-not-is_fault.ensures.header_cluster))
+
+pub returns-clause-header_cluster : goal.returns-clause-header_cluster
+returns-clause-header_cluster g c = c.taking.invariant.spared
+
+pub returns-in-Err-clause-header_cluster : goal.returns-in-Err-clause-header_cluster
+returns-in-Err-clause-header_cluster g c = elim c.if-not-is_fault.branch [
+  | then-not-is_fault+in_ok-give_back-in-Err w ↦ of_equal (λ a f. SparesHeaderButPointer g.S.Storage.view c.args.self.now.reftable c.args.file.now a.reftable f) c.if-not-is_fault.self w.give_back-then-not-is_fault.new.self c.if-not-is_fault.file w.give_back-then-not-is_fault.new.file w.self-is w.file-is (spares_then (spares_then c.taking.invariant.spared c.take.ensures.header_cluster) (spares_less (w.give_back-then-not-is_fault.ensures.header_cluster)))
+  | else-not-is_fault w ↦ of_equal (λ a f. SparesHeaderButPointer g.S.Storage.view c.args.self.now.reftable c.args.file.now a.reftable f) c.if-not-is_fault.self c.take.new.self c.if-not-is_fault.file c.take.new.file w.self-is w.file-is (spares_then c.taking.invariant.spared c.take.ensures.header_cluster)
+]

@@ -7,6 +7,7 @@ use Rattle.qcow2_alloc.specs.ImageFile.{AllocatorInvariant, KeepsHeader}
 use Rattle.qcow2_alloc.specs.FreeList.{pending_then, ListsTables, ListsReftables}
 use Rattle.qcow2_alloc.specs.LowestRuns.{NoFreeBelowHint, IsUsed}
 use Rattle.qcow2_alloc.specs.MetadataCaches.{order_of}
+use Rattle.qcow2_alloc.specs.SparedHeaders.{SparesHeaderButPointer}
 use Rattle.qcow2_alloc.proofs.allocation.Allocator.take_run.Given as goal
 
 -- so many clusters are taken
@@ -18,6 +19,7 @@ invariant-taking g l = record {
   marks : KeepsPinsAndNotes l.fn.file.caches l.file.caches;
   faults : faults_of g.S.Storage.view l.fn.file.storage ≤ faults_of g.S.Storage.view l.file.storage;
   order : order_of l.file.caches ≡ order_of l.fn.file.caches;
+  spared : SparesHeaderButPointer g.S.Storage.view l.fn.self.reftable l.fn.file l.self.reftable l.file;
   noted : 0 < l.taken → IsTrue l.file.caches.is_changed;
   sound : (p : Pending) (d : Bool) → AllocatorInvariant g.S.Storage.view l.fn.self p l.fn.file → MayTake d l.fn.file → UnseenAllocatorGrowth g.S.Storage.view p l.fn.file l.self l.file (taken_as d (pending_then p l.fn.file.free_list l.file.free_list) (run_at l.fn.first l.taken));
   leaks : (p : Pending) → AllocatorInvariant g.S.Storage.view l.fn.self p l.fn.file → SameLeaks l.fn.self l.self;

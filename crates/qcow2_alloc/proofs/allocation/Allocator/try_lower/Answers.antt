@@ -9,6 +9,7 @@ use Rattle.qcow2_alloc.proofs.AllocationSteps.{handed_on, of_equal, allocator_st
 use Rattle.std.proofs.Common.{sym}
 use Rattle.qcow2_metadata.specs.Header.{counts_per_block}
 use Rattle.qcow2_alloc.proofs.Leaks.{tried}
+use Rattle.qcow2_alloc.proofs.SparedHeaders.{spares_then, spares_tables, spares_as}
 use Rattle.qcow2_alloc.proofs.allocation.Allocator.try_lower.Goals as goal
 
 pub returns-in_err-block-clause-sound : goal.returns-in_err-block-clause-sound
@@ -60,3 +61,12 @@ returns-clause-tries g c =
     let index = c.rb_index-index.ensures.value ∙ ap (λ n. n % 2 ^ c.rb_bits-bits.result) c.new.ensures ∙ sym (ap (λ n. c.args.cluster % n) counts) in
     tried c.load_block.new.file.caches (record c.load_block.new.file { caches = c.rb_decrement-lowered.new.self }) c.in-Some.block c.rb_index-index.result c.args.cluster index c.rb_decrement-lowered.result
     c.rb_decrement-lowered.ensures.counts c.rb_decrement-lowered.ensures.missing
+
+pub returns-in_err-block-clause-header_cluster : goal.returns-in_err-block-clause-header_cluster
+returns-in_err-block-clause-header_cluster g c = c.load_block.ensures.header_cluster
+
+pub returns-in_default-clause-header_cluster : goal.returns-in_default-clause-header_cluster
+returns-in_default-clause-header_cluster g c = c.load_block.ensures.header_cluster
+
+pub returns-clause-header_cluster : goal.returns-clause-header_cluster
+returns-clause-header_cluster g c = spares_as c.note_lowered.ensures.reftable (spares_then c.load_block.ensures.header_cluster (spares_tables c.args.self.now.reftable c.load_block.new.file c.rb_decrement-lowered.new.self c.rb_decrement-lowered.ensures.header_cluster))

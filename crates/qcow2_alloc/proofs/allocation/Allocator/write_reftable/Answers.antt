@@ -1,12 +1,12 @@
 use Rattle.std.proofs.Common.{◌≡◌, ℕ, ◌+◌, ◌*◌, ◌<◌, ◌≤◌, IsTrue, sym, ap, ◌∙◌, subst, arith, Some, refl, inr}
 use Rattle.qcow2_metadata.specs.declared.header.HeaderFields.{HeaderFields}
 use Rattle.qcow2_metadata.specs.EntryTable.{EntryTableView}
-use Rattle.qcow2_metadata.specs.Header.{cluster_size}
+use Rattle.qcow2_metadata.specs.Header.{cluster_size, HeaderView}
 use Rattle.qcow2_laws.specs.Caches.{AreClean}
 use Rattle.qcow2_alloc.specs.declared.cache.MetadataCaches.{MetadataCaches}
 use Rattle.qcow2_alloc.specs.Allocation.{run_at, NamesBehindHeader, StandAt}
 use Rattle.qcow2_alloc.specs.GrownTables.{with_run, NamesReftable, StandsGrown}
-use Rattle.qcow2_alloc.specs.ImageFile.{contents_in, AllocatorInvariant}
+use Rattle.qcow2_alloc.specs.ImageFile.{contents_in, AllocatorInvariant, view_in}
 use Rattle.qcow2_alloc.specs.LowestRuns.{KeepsUsed}
 use Rattle.qcow2_alloc.specs.MetadataCaches.{order_of, l2_tables, refblocks, rb_at}
 use Rattle.qcow2_alloc.specs.Rooms.{room_length, placed_at}
@@ -23,6 +23,10 @@ use Rattle.qcow2_alloc.proofs.Faults.{told_on, told_since}
 use Rattle.qcow2_alloc.proofs.Outcomes.{told_after, on_no_ok, handed_cause, on_err}
 use Rattle.std.proofs.Math.Nat.{le_trans}
 use Rattle.qcow2_alloc.specs.CachePins.{KeepsPinsAndNotes}
+use Rattle.qcow2_alloc.proofs.SparedHeaders.{spares_cached, spares_then, spares_parts, spares_less}
+use Rattle.qcow2_alloc.specs.SparedHeaders.{AreBehindHeader}
+use Rattle.qcow2_alloc.specs.HeaderClusters.{KeepsHeaderCluster}
+use Rattle.std.specs.Prelude.{IfSome}
 use Rattle.qcow2_alloc.proofs.allocation.Allocator.write_reftable.Goals as goal
 
 pub returns-in_err-flush_rb-clause-sound : goal.returns-in_err-flush_rb-clause-sound
@@ -357,3 +361,15 @@ returns-in_err-place_blocks-clause-behind g c = on_no_ok _ c.from_residual-in_er
 
 pub returns-in_err-place_table-clause-behind : goal.returns-in_err-place_table-clause-behind
 returns-in_err-place_table-clause-behind g c = on_no_ok _ c.from_residual-in_err-place_table.result c.in_err-place_table.field-0.0 c.from_residual-in_err-place_table.ensures
+
+pub returns-in_err-flush_rb-clause-header_cluster : goal.returns-in_err-flush_rb-clause-header_cluster
+returns-in_err-flush_rb-clause-header_cluster g c = spares_less (spares_cached c.args.self.now.reftable c.args.file.now c.flush_rb.new.storage c.flush_rb.new.self c.flush_rb.ensures.header_cluster)
+
+pub returns-in_err-place_blocks-clause-header_cluster : goal.returns-in_err-place_blocks-clause-header_cluster
+returns-in_err-place_blocks-clause-header_cluster g c = spares_less (spares_then (spares_cached c.args.self.now.reftable c.args.file.now c.flush_rb.new.storage c.flush_rb.new.self c.flush_rb.ensures.header_cluster) (spares_parts c.args.self.now.reftable c.args.self.now.reftable (record c.args.file.now { storage = c.flush_rb.new.storage; caches = c.flush_rb.new.self }) c.place_blocks.new.file (ap (λ (x : HeaderView). x.fields.cluster_bits) c.place_blocks.ensures.header) refl refl c.place_blocks.ensures.behind_header (λ n stands. subst (λ m. KeepsHeaderCluster m (view_in g.S.Storage.view (record c.args.file.now { storage = c.flush_rb.new.storage; caches = c.flush_rb.new.self })) (view_in g.S.Storage.view c.place_blocks.new.file)) stands.header c.place_blocks.ensures.header_cluster)))
+
+pub returns-in_err-place_table-clause-header_cluster : goal.returns-in_err-place_table-clause-header_cluster
+returns-in_err-place_table-clause-header_cluster g c = spares_less (spares_then (spares_then (spares_cached c.args.self.now.reftable c.args.file.now c.flush_rb.new.storage c.flush_rb.new.self c.flush_rb.ensures.header_cluster) (spares_parts c.args.self.now.reftable c.args.self.now.reftable (record c.args.file.now { storage = c.flush_rb.new.storage; caches = c.flush_rb.new.self }) c.place_blocks.new.file (ap (λ (x : HeaderView). x.fields.cluster_bits) c.place_blocks.ensures.header) refl refl c.place_blocks.ensures.behind_header (λ n stands. subst (λ m. KeepsHeaderCluster m (view_in g.S.Storage.view (record c.args.file.now { storage = c.flush_rb.new.storage; caches = c.flush_rb.new.self })) (view_in g.S.Storage.view c.place_blocks.new.file)) stands.header c.place_blocks.ensures.header_cluster))) (spares_parts c.args.self.now.reftable c.args.self.now.reftable c.place_blocks.new.file c.place_table.new.file (ap (λ (x : HeaderView). x.fields.cluster_bits) c.place_table.ensures.header) refl refl (λ n are. subst (AreBehindHeader n) (sym c.place_table.ensures.caches) are) (λ n stands. subst (λ m. KeepsHeaderCluster m (view_in g.S.Storage.view c.place_blocks.new.file) (view_in g.S.Storage.view c.place_table.new.file)) ((ap (λ (x : EntryTableView). x.cluster_bits) c.place_blocks.ensures.rest ∙ c.requires.bits ∙ sym (ap (λ (x : HeaderView). x.fields.cluster_bits) c.place_blocks.ensures.header)) ∙ stands.header) c.place_table.ensures.header_cluster)))
+
+pub returns-clause-header_cluster : goal.returns-clause-header_cluster
+returns-clause-header_cluster g c = spares_then (spares_less (spares_then (spares_then (spares_cached c.args.self.now.reftable c.args.file.now c.flush_rb.new.storage c.flush_rb.new.self c.flush_rb.ensures.header_cluster) (spares_parts c.args.self.now.reftable c.args.self.now.reftable (record c.args.file.now { storage = c.flush_rb.new.storage; caches = c.flush_rb.new.self }) c.place_blocks.new.file (ap (λ (x : HeaderView). x.fields.cluster_bits) c.place_blocks.ensures.header) refl refl c.place_blocks.ensures.behind_header (λ n stands. subst (λ m. KeepsHeaderCluster m (view_in g.S.Storage.view (record c.args.file.now { storage = c.flush_rb.new.storage; caches = c.flush_rb.new.self })) (view_in g.S.Storage.view c.place_blocks.new.file)) stands.header c.place_blocks.ensures.header_cluster))) (spares_parts c.args.self.now.reftable c.args.self.now.reftable c.place_blocks.new.file c.place_table.new.file (ap (λ (x : HeaderView). x.fields.cluster_bits) c.place_table.ensures.header) refl refl (λ n are. subst (AreBehindHeader n) (sym c.place_table.ensures.caches) are) (λ n stands. subst (λ m. KeepsHeaderCluster m (view_in g.S.Storage.view c.place_blocks.new.file) (view_in g.S.Storage.view c.place_table.new.file)) ((ap (λ (x : EntryTableView). x.cluster_bits) c.place_blocks.ensures.rest ∙ c.requires.bits ∙ sym (ap (λ (x : HeaderView). x.fields.cluster_bits) c.place_blocks.ensures.header)) ∙ stands.header) c.place_table.ensures.header_cluster)))) (c.name_reftable.ensures.header_cluster (subst (λ (t : EntryTableView). IfSome t.cluster (λ k. 0 < k)) (sym c.place_table.ensures.table) (let above = c.requires.above in let at = c.new.ensures in omega (arith, above, at))) (ap (λ (x : EntryTableView). x.cluster_bits) c.place_table.ensures.table ∙ (ap (λ (x : EntryTableView). x.cluster_bits) c.place_blocks.ensures.rest ∙ c.requires.bits ∙ sym (ap (λ (x : HeaderView). x.fields.cluster_bits) c.place_blocks.ensures.header)) ∙ sym (ap (λ (x : HeaderView). x.fields.cluster_bits) c.place_table.ensures.header)))
