@@ -1,5 +1,6 @@
 pub mod AsyncLruCache
 pub mod ImageError
+pub mod RefusalNames
 pub mod ImageStorage
 pub mod ClusterChain
 pub mod ClustersToFree

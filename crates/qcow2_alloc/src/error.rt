@@ -4,79 +4,60 @@ use crate::async_lru_cache::CacheError;
 use image_access::StorageError;
 use qcow2_metadata::{HostCluster, MetadataError};
 use std::alloc::{AllocError, AllocFailed};
+use std::error::Error;
+use std::fmt;
 use std::io::ErrorKind;
-use thiserror::Error;
 
 /// Why a call of the driver is refused. Each case has a number and a name of its own.
-#[derive(Debug, PartialEq, Eq, Drop, Error)]
+#[derive(Debug, PartialEq, Eq, Drop)]
 pub enum ImageError {
     /// 1 (read-only): the image was opened without writing.
-    #[error("read-only")]
     ReadOnly,
     /// 2 (beyond size): the range isn't empty and passes the disk's size.
-    #[error("beyond size")]
     BeyondSize,
     /// 3 (version): the image's version is below 3 where 3 is needed.
-    #[error("version")]
     Version,
     /// 4 (unaligned table): the offset of a table or of a data cluster isn't on a cluster.
-    #[error("unaligned table")]
     UnalignedTable,
     /// 5 (invalid option): a builder's value isn't allowed, or the two disks of a conversion differ in size.
-    #[error("invalid option")]
     InvalidOption,
     /// 6 (preallocation): an allocating mode with a disk below.
-    #[error("preallocation")]
     Preallocation,
     /// 7 (compressed): data of a compressed cluster is needed.
-    #[error("compressed")]
     Compressed,
     /// 8 (everything is in use): no cache entry is without a pin.
-    #[error("everything is in use")]
     InUse,
     /// 9 (table prepared): the L2 table is under a prepared mapping.
-    #[error("table prepared")]
     TablePrepared,
     /// 10 (outdated mapping): the range is no longer mapped so.
-    #[error("outdated mapping")]
     OutdatedMapping,
     /// 11 (foreign state): it belongs to another image.
-    #[error("foreign state")]
     ForeignState,
     /// 12 (dependency): a named or required file is missing.
-    #[error("dependency")]
     Dependency,
     /// 13 (limit): a limit of the format or of this driver is passed, or clusters that are needed have no place.
-    #[error("limit")]
     Limit,
     /// 14 (memory): a growth of memory was refused.
-    #[error("memory")]
     Memory,
     /// 15 (storage): a storage or the disk below failed in this call.
-    #[error("storage")]
     Storage,
     /// 16 (failed): an earlier call marked the image as failed.
-    #[error("failed")]
     Failed,
     /// 17 (mapping prepared): not while a mapping is prepared.
-    #[error("mapping prepared")]
     MappingPrepared,
     /// 18 (not compressed): the range isn't compressed, from this guest offset in bytes on.
-    #[error("not compressed")]
     NotCompressed { offset: u64 },
     /// 19 (metadata): a header or an entry doesn't read.
-    #[error("metadata")]
     Metadata,
     /// 20 (overflow): a sum passes 64 bits.
-    #[error("overflow")]
     Overflow,
     /// 21 (still in use): invalidating kept the tables of these clusters, which are pinned.
-    #[error("still in use")]
     StillInUse { tables: Vec<HostCluster> },
 }
 
 impl ImageError {
     ghost use Rattle.qcow2_alloc.specs.ImageError.{IsFault, error_number_of, error_kind_of};
+    ghost use Rattle.qcow2_alloc.specs.RefusalNames.{error_name_of};
 
     /// The refusal's number, from 1 to 21.
     pub fn number(&self) -> u8
@@ -107,6 +88,35 @@ impl ImageError {
         }
     }
 
+    /// The refusal's name, which is all that it shows.
+    pub fn name(&self) -> &'static str
+        ensures { result.now ≡ error_name_of self.now }
+    {
+        match self {
+            ImageError::ReadOnly => "read-only",
+            ImageError::BeyondSize => "beyond size",
+            ImageError::Version => "version",
+            ImageError::UnalignedTable => "unaligned table",
+            ImageError::InvalidOption => "invalid option",
+            ImageError::Preallocation => "preallocation",
+            ImageError::Compressed => "compressed",
+            ImageError::InUse => "everything is in use",
+            ImageError::TablePrepared => "table prepared",
+            ImageError::OutdatedMapping => "outdated mapping",
+            ImageError::ForeignState => "foreign state",
+            ImageError::Dependency => "dependency",
+            ImageError::Limit => "limit",
+            ImageError::Memory => "memory",
+            ImageError::Storage => "storage",
+            ImageError::Failed => "failed",
+            ImageError::MappingPrepared => "mapping prepared",
+            ImageError::NotCompressed { offset: _ } => "not compressed",
+            ImageError::Metadata => "metadata",
+            ImageError::Overflow => "overflow",
+            ImageError::StillInUse { tables: _ } => "still in use",
+        }
+    }
+
     /// Whether it is 15 (storage) or 14 (memory): a storage failed, or memory was refused.
     pub fn is_fault(&self) -> bool
         ensures { IsTrue result ↔ IsFault self.now }
@@ -130,6 +140,19 @@ impl ImageError {
         }
     }
 }
+
+impl fmt::Display for ImageError {
+    ghost use Rattle.std.specs.Prelude.{Some};
+    ghost use Rattle.qcow2_alloc.specs.RefusalNames.{error_name_of};
+
+    ghost output = { λ e. Some (error_name_of e) };
+
+    fn fmt<W: fmt::Write>(&self, f: &mut fmt::Formatter<W>) -> fmt::Result {
+        f.write_str(self.name())
+    }
+}
+
+impl Error for ImageError {}
 
 impl From<StorageError> for ImageError {
     ghost use Rattle.qcow2_alloc.specs.ImageError.{of_storage};

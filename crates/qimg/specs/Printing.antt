@@ -3,8 +3,8 @@ use Rattle.std.specs.Prelude.{ℕ, Bool, true, false, codes, List, [], ◌∷◌
 use Rattle.std.specs.Fmt.{decimal, option_append, with_newline}
 use Rattle.hex.specs.Hex.{encode_lower}
 use Rattle.qcow2_alloc.specs.ImageError.{error_number_of}
+use Rattle.qcow2_alloc.specs.RefusalNames.{error_name_of}
 use Rattle.qcow2_alloc.specs.declared.error.ImageError.{ImageError}
-use Rattle.qcow2_alloc.specs.declared.error.ImageError.TheVariants as I
 use Rattle.qcow2_image.specs.declared.mapping.MappingKind.{MappingKind}
 use Rattle.qcow2_image.specs.declared.mapping.MappingKind.TheVariants as K
 use Rattle.qcow2_image.specs.declared.mapping.Place.{Place}
@@ -36,35 +36,12 @@ bytes_line bytes = codes "data" ␣ (if length bytes == 0 then codes "-" else en
 abbrev pub prepared_line : Bool → ℕ → ℕ → List ℕ
 prepared_line existing offset length = (if existing then codes "existing" else codes "prepared") ␣ decimal offset ␣ decimal length
 
-abbrev pub refusal_name : ImageError → List ℕ
-refusal_name I.ReadOnly = codes "read-only"
-refusal_name I.BeyondSize = codes "beyond size"
-refusal_name I.Version = codes "version"
-refusal_name I.UnalignedTable = codes "unaligned table"
-refusal_name I.InvalidOption = codes "invalid option"
-refusal_name I.Preallocation = codes "preallocation"
-refusal_name I.Compressed = codes "compressed"
-refusal_name I.InUse = codes "everything is in use"
-refusal_name I.TablePrepared = codes "table prepared"
-refusal_name I.OutdatedMapping = codes "outdated mapping"
-refusal_name I.ForeignState = codes "foreign state"
-refusal_name I.Dependency = codes "dependency"
-refusal_name I.Limit = codes "limit"
-refusal_name I.Memory = codes "memory"
-refusal_name I.Storage = codes "storage"
-refusal_name I.Failed = codes "failed"
-refusal_name I.MappingPrepared = codes "mapping prepared"
-refusal_name (I.NotCompressed _) = codes "not compressed"
-refusal_name I.Metadata = codes "metadata"
-refusal_name I.Overflow = codes "overflow"
-refusal_name (I.StillInUse _) = codes "still in use"
-
 abbrev pub refusal_line : ImageError → List ℕ
-refusal_line e = codes "refused" ␣ decimal (error_number_of e) ␣ refusal_name e
+refusal_line e = codes "refused" ␣ decimal (error_number_of e) ␣ error_name_of e
 
 -- a write that was refused behind so many bytes
 abbrev pub write_refusal_line : ImageError → ℕ → List ℕ
-write_refusal_line e written = if written == 0 then refusal_line e else codes "refused" ␣ decimal (error_number_of e) ␣ refusal_name e ␣ codes "after" ␣ decimal written
+write_refusal_line e written = if written == 0 then refusal_line e else codes "refused" ␣ decimal (error_number_of e) ␣ error_name_of e ␣ codes "after" ␣ decimal written
 
 abbrev pub line_of : Reply → Option (List ℕ)
 line_of R.Done = Some (codes "ok")

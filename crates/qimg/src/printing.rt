@@ -2,7 +2,7 @@ ghost use Rattle.std.specs.Prelude.{◌≡◌, ◌≤◌, ◌∷◌, ◌++◌, [
 ghost use Rattle.std.specs.List.{list_any};
 ghost use Rattle.std.specs.Io.KnownBytes.{Appends};
 ghost use Rattle.hex.specs.Hex.{encode_lower};
-ghost use Rattle.qimg.specs.Printing.{bytes_line, line_of, mapping_line, text_of, is_refusal, refusal_line, refusal_name};
+ghost use Rattle.qimg.specs.Printing.{bytes_line, line_of, mapping_line, text_of, is_refusal, refusal_line};
 
 use qcow2_image::{ImageError, Mapping, MappingKind, Place};
 use qcow2_session::Reply;
@@ -31,7 +31,7 @@ pub fn print_reply<W: Write>(output: &mut W, reply: &Reply) -> io::Result<()>
         Reply::Size(size) => writeln!(output, "size {size}"),
         Reply::Refused(e) | Reply::WriteRefused(e, 0) => print_refusal(output, e),
         Reply::WriteRefused(e, written) => {
-            let (number, name) = (e.number(), name(e));
+            let (number, name) = (e.number(), e.name());
             writeln!(output, "refused {number} {name} after {written}")
         }
         Reply::Misuse => writeln!(output, "misuse"),
@@ -69,37 +69,8 @@ pub fn print_replies<W: Write>(output: &mut W, replies: &[Reply]) -> io::Result<
 pub fn print_refusal<W: Write>(output: &mut W, e: &ImageError) -> io::Result<()>
     ensures { OnOk result (Appends (W.contents output.old) (W.contents output.new) (refusal_line e.now ++ 10 ∷ [])) }
 {
-    let (number, name) = (e.number(), name(e));
+    let (number, name) = (e.number(), e.name());
     writeln!(output, "refused {number} {name}")
-}
-
-// The name of a refusal, which is what it shows.
-fn name(e: &ImageError) -> &'static str
-    ensures { result.now ≡ refusal_name e.now }
-{
-    match e {
-        ImageError::ReadOnly => "read-only",
-        ImageError::BeyondSize => "beyond size",
-        ImageError::Version => "version",
-        ImageError::UnalignedTable => "unaligned table",
-        ImageError::InvalidOption => "invalid option",
-        ImageError::Preallocation => "preallocation",
-        ImageError::Compressed => "compressed",
-        ImageError::InUse => "everything is in use",
-        ImageError::TablePrepared => "table prepared",
-        ImageError::OutdatedMapping => "outdated mapping",
-        ImageError::ForeignState => "foreign state",
-        ImageError::Dependency => "dependency",
-        ImageError::Limit => "limit",
-        ImageError::Memory => "memory",
-        ImageError::Storage => "storage",
-        ImageError::Failed => "failed",
-        ImageError::MappingPrepared => "mapping prepared",
-        ImageError::NotCompressed { .. } => "not compressed",
-        ImageError::Metadata => "metadata",
-        ImageError::Overflow => "overflow",
-        ImageError::StillInUse { .. } => "still in use",
-    }
 }
 
 fn print_mapping<W: Write>(output: &mut W, mapping: &Mapping) -> io::Result<()>
