@@ -251,7 +251,7 @@ fn read_some<S: Storage, F: WrappedFormat<S>>(
 /// Refused in this order: 16 (failed), 12 (dependency), 2 (beyond size) for a range of one byte or more that passes the size,
 /// 1 (read-only) for one byte or more. Then comes 9 (table prepared), where a mapping that isn't existing is prepared in an L2 table of
 /// the range. Where the work meets them: 4 (unaligned table), 7 (compressed), 8 (everything is in use), 13 (limit), 14 (memory),
-/// 15 (storage).
+/// 15 (storage), and 20 (overflow) where an L1 entry past 64 bits would have to be written.
 pub fn write<S: Storage, F: WrappedFormat<S>>(
     image: &mut Qcow2<S, F>,
     offset: u64,
