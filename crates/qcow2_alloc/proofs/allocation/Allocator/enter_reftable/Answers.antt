@@ -25,7 +25,7 @@ use Rattle.qcow2_alloc.proofs.ListedAfter.{header_same, header_then, header_coun
 use Rattle.qcow2_alloc.proofs.CachePins.{marks_then}
 use Rattle.qcow2_alloc.proofs.Faults.{told_on, told_since}
 use Rattle.qcow2_alloc.proofs.Outcomes.{on_no_ok, handed_cause, on_err, on_ok}
-use Rattle.qcow2_alloc.proofs.SparedHeaders.{spares_none, spares_then, spares_less, spares_tables, noted_keeps}
+use Rattle.qcow2_alloc.proofs.SparedHeaders.{spares_then, spares_less, spares_tables, noted_keeps}
 use Rattle.qcow2_alloc.proofs.allocation.Allocator.enter_reftable.Goals as goal
 
 -- the clusters that a reftable has entries for, as 64 bits hold them

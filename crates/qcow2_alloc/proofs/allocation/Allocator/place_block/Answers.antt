@@ -32,7 +32,7 @@ use Rattle.qcow2_alloc.proofs.CachePins.{marks_then}
 use Rattle.qcow2_alloc.proofs.Faults.{told_on}
 use Rattle.qcow2_alloc.proofs.Outcomes.{on_no_ok, handed_cause, entries_none}
 use Rattle.qcow2_alloc.proofs.TableErrors.{storage_of_tables}
-use Rattle.qcow2_alloc.proofs.SparedHeaders.{spares_none, spares_then, spares_entry, noted_keeps}
+use Rattle.qcow2_alloc.proofs.SparedHeaders.{spares_then, spares_entry, noted_keeps}
 use Rattle.qcow2_alloc.proofs.allocation.Allocator.place_block.Goals as goal
 
 pub returns-in_err-write_block-clause-sound : goal.returns-in_err-write_block-clause-sound

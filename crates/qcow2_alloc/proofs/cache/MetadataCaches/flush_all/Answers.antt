@@ -10,6 +10,7 @@ use Rattle.qcow2_alloc.proofs.KeptTables.Clean.{tables_as, blocks_as}
 use Rattle.qcow2_alloc.proofs.KeptTables.Quiet.{quiet_then}
 use Rattle.qcow2_alloc.specs.Faults.{faults_of}
 use Rattle.qcow2_alloc.proofs.Faults.{told_on, told_since}
+use Rattle.qcow2_alloc.proofs.KeptTables.BehindHeader.{caches_then}
 use Rattle.qcow2_alloc.proofs.cache.MetadataCaches.flush_all.Goals as goal
 
 pub returns-in_err-write_blocks-in-L2DependsOnRb-clause-keeps : goal.returns-in_err-write_blocks-in-L2DependsOnRb-clause-keeps
@@ -26,6 +27,7 @@ returns-in_err-write_tables-in-None g c = record {
   keeps = c.write_tables.ensures.keeps (tables_free c.args.self.now c.in-None.is);
   ordered = c.write_tables.ensures.ordered (tables_free c.args.self.now c.in-None.is);
   quiet = λ written. c.write_tables.ensures.quiet written.0;
+  header_cluster = c.write_tables.ensures.header_cluster;
 }
 
 pub returns-in_ok-write_blocks-in-L2DependsOnRb-clause-keeps : goal.returns-in_ok-write_blocks-in-L2DependsOnRb-clause-keeps
@@ -56,6 +58,7 @@ returns-in_ok-write_tables-in-None g c = record {
       let one = c.write_tables.ensures.quiet written.0 honest in
       quiet_then (g.S.Storage.view (storage_of c.args.storage.now)) (g.S.Storage.view (storage_of c.write_tables.new.storage)) (g.S.Storage.view (storage_of c.write_blocks.new.storage)) one
       (c.write_blocks.ensures.quiet (blocks_as c.args.self.now c.write_tables.new.self c.write_tables.ensures.refblocks written.1) one.honest);
+  header_cluster = caches_then c.write_tables.ensures.header_cluster c.write_blocks.ensures.header_cluster;
 }
 
 pub returns-in_err-write_blocks-in-L2DependsOnRb-clause-faults : goal.returns-in_err-write_blocks-in-L2DependsOnRb-clause-faults
@@ -80,3 +83,9 @@ returns-in_ok-write_blocks-in-L2DependsOnRb-clause-quiet g c = λ written honest
     let one = c.write_blocks-in-L2DependsOnRb.ensures.quiet written.1 honest in
     quiet_then (g.S.Storage.view (storage_of c.args.storage.now)) (g.S.Storage.view (storage_of c.write_blocks-in-L2DependsOnRb.new.storage)) (g.S.Storage.view (storage_of c.write_tables-in-L2DependsOnRb.new.storage)) one
     (c.write_tables-in-L2DependsOnRb.ensures.quiet (tables_as c.args.self.now c.write_blocks-in-L2DependsOnRb.new.self c.write_blocks-in-L2DependsOnRb.ensures.tables written.0) one.honest)
+
+pub returns-in_err-write_blocks-in-L2DependsOnRb-clause-header_cluster : goal.returns-in_err-write_blocks-in-L2DependsOnRb-clause-header_cluster
+returns-in_err-write_blocks-in-L2DependsOnRb-clause-header_cluster g c = c.write_blocks-in-L2DependsOnRb.ensures.header_cluster
+
+pub returns-in_ok-write_blocks-in-L2DependsOnRb-clause-header_cluster : goal.returns-in_ok-write_blocks-in-L2DependsOnRb-clause-header_cluster
+returns-in_ok-write_blocks-in-L2DependsOnRb-clause-header_cluster g c = caches_then c.write_blocks-in-L2DependsOnRb.ensures.header_cluster c.write_tables-in-L2DependsOnRb.ensures.header_cluster

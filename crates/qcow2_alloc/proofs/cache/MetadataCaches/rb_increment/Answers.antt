@@ -13,7 +13,6 @@ use Rattle.qcow2_alloc.specs.TableChanges.{changed_block}
 use Rattle.qcow2_alloc.proofs.KeptTables.Inserting.{if_some}
 use Rattle.qcow2_alloc.proofs.KeptTables.OneChanged.{one_changed}
 use Rattle.qcow2_alloc.proofs.KeptTables.BehindHeader.{set_behind, noted_behind}
-use Rattle.qcow2_alloc.specs.SparedHeaders.{KeepBehindHeader}
 use Rattle.qcow2_alloc.proofs.cache.MetadataCaches.rb_increment.Goals as goal
 use Rattle.qcow2_alloc.proofs.cache.MetadataCaches.rb_increment.Goals.{then-index-counts-via-then-index-counts, then-index-counts-via-else-index-counts+then-not-increment}
 
