@@ -32,7 +32,7 @@ FIELD = re.compile(r"\s*pub (\w+) :")
 DEFINES = re.compile(r"\s*(?:(?:abbrev|unfoldable) )?pub (?:(record|data) )?(?!(?:use|mod) )(\S+)")
 CONSTRUCTOR = re.compile(r"\s*(\w+) : ")
 # the files whose words build moments: those of storages, runs and calls, of steps, of an image's file and its caches, of creating, and of images that are only read
-WORDS_OF_MOMENTS = re.compile(r"""crates/(image_access/proofs/EachMomentSince|qcow2_disk/proofs/(Compose|RunSteps)|qcow2_laws/proofs/SafeSteps|qcow2_alloc/proofs/(FileSteps|KeptTables/\w+)
+WORDS_OF_MOMENTS = re.compile(r"""crates/(image_access/proofs/EachMomentSince|qcow2_disk/proofs/(Compose|RunSteps)|qcow2_laws/proofs/SafeSteps|qcow2_alloc/proofs/(FileSteps|HeaderClusters|KeptTables/\w+)
     |qcow2_image/proofs/(Create/\w+|Map/Unmodified|Sizing/Noted))\.antt$""", re.VERBOSE)
 # a record with its moments, one of `EachMomentSince`, and a record that is taken over with other contents
 MOMENT = re.compile(r"\b(moments|later) = |\brecord [^{}]*[\w)] \{[^{}]*\b(contents) = ")
