@@ -19,3 +19,4 @@ pub mod Extending
 pub mod Behind
 pub mod Onward
 pub mod KeptShares
+pub mod Listing

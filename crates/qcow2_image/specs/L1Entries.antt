@@ -1,11 +1,10 @@
 -- How many entries the L1 table has, whether it names an L2 table of its own for an offset, and whether 64 bits hold where the entry lies.
-use Rattle.std.specs.Prelude.{ℕ, ◌+◌, ◌-◌, ◌*◌, ◌≡◌, ◌⊎◌, ◌<◌, max}
+use Rattle.std.specs.Prelude.{ℕ, ◌+◌, ◌-◌, ◌*◌, ◌≡◌, ◌<◌, max}
 use Rattle.qcow2_metadata.specs.declared.header.HeaderFields.{HeaderFields}
 use Rattle.qcow2_metadata.specs.EntryTable.{entry_count, HasRoomIfPlaced}
 use Rattle.qcow2_metadata.specs.TableBytes.{entry_at}
 use Rattle.qcow2_image.specs.declared.image.Qcow2.{Qcow2}
 use Rattle.qcow2_image.specs.Found.{l1_index_of}
-use Rattle.qcow2_image.specs.Image.{HasNothingToFree}
 use Rattle.qcow2_image.specs.UnseenSteps.{NamesOwn}
 
 -- The L1 table has the entries that it had, and those up to that of an offset, and not one more.
@@ -29,7 +28,3 @@ module _ {S F : Type 0} where
   -- an entry so far would have to be written for an offset
   abbrev pub NeedsFarEntry : Qcow2 S F → ℕ → Type 0
   NeedsFarEntry image offset = HasFarEntry image offset × ¬ HasOwnTable image offset
-
-  -- where that wasn't so, all clusters that were to be freed are
-  abbrev pub HadOwnTableOrFrees : Qcow2 S F → Qcow2 S F → ℕ → Type 0
-  HadOwnTableOrFrees old new offset = HasOwnTable old offset ⊎ HasNothingToFree new

@@ -25,3 +25,4 @@ pub mod Resizing
 pub mod Preallocation
 pub mod Unwritten
 pub mod L1Entries
+pub mod ListedClusters

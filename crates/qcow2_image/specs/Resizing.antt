@@ -24,7 +24,7 @@ use Rattle.qcow2_image.specs.declared.discarding.Clearance.TheVariants.{Uncovere
 use Rattle.qcow2_image.specs.declared.image.Qcow2.{Qcow2}
 use Rattle.qcow2_image.specs.declared.prepared.Prepared.{Prepared}
 use Rattle.qcow2_image.specs.Growing.{ReachesSize, SameFormat}
-use Rattle.qcow2_image.specs.Image.{is_external, is_failed, is_writable, number_of, size_of}
+use Rattle.qcow2_image.specs.Image.{HasNothingToFree, is_external, is_failed, is_writable, number_of, size_of}
 use Rattle.qcow2_image.specs.ImageInvariant.{ImageInvariant, abstract_of, disk_of, pending_in}
 use Rattle.qcow2_image.specs.L1Entries.{ReachesOffset}
 use Rattle.qcow2_image.specs.MovedTables.{CoversStay}
@@ -114,23 +114,30 @@ module _ {S F : Type 0} (view : S → StorageView) (backing : F → BackingView)
   GrowsTo old new size mode (Err e) = (out : List (Option Prepared)) → let v = abstract_of view backing old out in let w = abstract_of view backing new out in
       RefusedEffect v w (all_given_by_grow old size mode) (size ∷ []) (refusal_of e) ((d : Disk) × MayGrow v.setting (guest_of v).disk size mode d × (guest_of w ≡ with_disk (guest_of v) d))
 
-  -- What a larger disk leaves of the tables: a header of the same format, an L1 table with an entry for each byte and no more than that and the old one need, and for each guest cluster what the mode asks for.
+  -- no byte of the disk changes by a refused call
+  abbrev pub RefusesUnchanged : Qcow2 S F → Qcow2 S F → List (Option Prepared) → ImageError → Type 0
+  RefusesUnchanged old new out e = RefusedEffect (abstract_of view backing old out) (abstract_of view backing new out) [] [] (refusal_of e) (IsSame (abstract_of view backing old out) (abstract_of view backing new out))
+
+  -- What a larger disk leaves of the tables: a header of the same format, an L1 table with an entry for each byte and no more than that and the old one need, and for each guest cluster what the mode asks for. No cluster is left to be freed.
+  -- With `Zero` entries can say that a cluster is zeros.
   pub record LeavesTables (mode : PreallocateMode) (size : ℕ) (old new : Qcow2 S F) : Type 0 where
     pub format : SameFormat old.file.header.fields new.file.header.fields
     pub autoclear : new.file.header.fields.autoclear ≡ old.file.header.fields.autoclear
     pub reaches : ReachesSize new.file.header.fields
     pub length : ReachesOffset (size - 1) old.file.header.fields new.file.header.fields
     pub covers : GrownCovers mode (size_of old) size old.file.header.fields (known_in view old.file) new.file.header.fields (known_in view new.file)
+    pub emptied : HasNothingToFree new
+    pub zeros : mode ≡ Mode.Zero → ¬ LacksZeros old
 
-  -- An answer leaves that. A prepared L2 table refuses it only where one of the range behind the old end is.
+  -- A prepared L2 table refuses it only where one of the range behind the old end is. With `Zero`, where no entry can say that a cluster is zeros, no byte changes.
+  pub record RefusesTables (mode : PreallocateMode) (size : ℕ) (old new : Qcow2 S F) (out : List (Option Prepared)) (e : ImageError) : Type 0 where
+    pub taken : e ≡ I.TablePrepared → IsUnderMappingIn old.file.header.fields (size_of old) (boundary_in old size) out
+    pub zeros : mode ≡ Mode.Zero → LacksZeros old → RefusesUnchanged old new out e
+
+  -- one or the other
   abbrev pub GrowsTables : Qcow2 S F → Qcow2 S F → ℕ → PreallocateMode → List (Option Prepared) → Result (Unit {0}) ImageError → Type 0
   GrowsTables old new size mode out (Ok _) = LeavesTables mode size old new
-  GrowsTables old new size mode out (Err e) = e ≡ I.TablePrepared → IsUnderMappingIn old.file.header.fields (size_of old) (boundary_in old size) out
-
-  -- it is refused, and no byte of the disk changes
-  abbrev pub RefusesUnchanged : Qcow2 S F → Qcow2 S F → List (Option Prepared) → Result (Unit {0}) ImageError → Type 0
-  RefusesUnchanged old new out (Ok _) = ⊥
-  RefusesUnchanged old new out (Err e) = RefusedEffect (abstract_of view backing old out) (abstract_of view backing new out) [] [] (refusal_of e) (IsSame (abstract_of view backing old out) (abstract_of view backing new out))
+  GrowsTables old new size mode out (Err e) = RefusesTables mode size old new out e
 
   -- ---- parts of the work
 

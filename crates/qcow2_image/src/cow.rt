@@ -38,6 +38,7 @@ impl<S: Storage, F: WrappedFormat<S>> Qcow2<S, F> {
         ensures stays { ImageStays self.old self.new }
         ensures cause { IfErr result IsMet }
         ensures image_step { (p : Pending) (out : List (Option Prepared)) → ImageInvariant S.view F.backing p self.old out → HoldsAll S.view F.backing p out → 0 < p.new_data cluster → over_all new_data_by out cluster ≡ 0 → UnseenFillingStep S.view F.backing p p self.old self.new out }
+        ensures allocator { self.new.allocator ≡ self.old.allocator }
         ensures list { self.new.file.free_list ≡ self.old.file.free_list }
         ensures fills { (p : Pending) (out : List (Option Prepared)) → ImageInvariant S.view F.backing p self.old out → HoldsAll S.view F.backing p out → 0 < p.new_data cluster → over_all new_data_by out cluster ≡ 0
             → cover self.old.file.header.fields (known_in S.view self.old.file) (offset / cluster_size self.old.file.header.fields) ≡ old.now → IfOk result (λ done. IsFilled S.view F.backing self.old self.new cluster offset length overwrite) }
@@ -105,6 +106,7 @@ impl<S: Storage, F: WrappedFormat<S>> Qcow2<S, F> {
         ensures stays { ImageStays self.old self.new }
         ensures cause { IfErr result IsMet }
         ensures image_step { (p : Pending) (out : List (Option Prepared)) (cluster : ℕ) → ImageInvariant S.view F.backing p self.old out → HoldsAll S.view F.backing p out → IsInHeldCluster S.view F.backing p self.old out cluster at length → UnseenFillingStep S.view F.backing p p self.old self.new out }
+        ensures allocator { self.new.allocator ≡ self.old.allocator }
         ensures list { self.new.file.free_list ≡ self.old.file.free_list }
         ensures copies { (p : Pending) (out : List (Option Prepared)) → ImageInvariant S.view F.backing p self.old out → IsMappedAs S.view self.old guest kind.now length → IfOk result (λ done. IsCopied S.view F.backing self.old self.new at guest length) }
         ensures faults { CountsImageFaults S.view F.backing self.old self.new result }

@@ -11,6 +11,7 @@ ghost use Rattle.qcow2_alloc.specs.ImageFile.{known_in, KeepsHeader};
 ghost use Rattle.qcow2_alloc.specs.declared.error.ImageError.TheVariants.{TablePrepared};
 ghost use Rattle.qcow2_image.specs.Faults.{CountsImageFaults};
 ghost use Rattle.qcow2_image.specs.Image.{ImageStays, is_writable, number_of};
+ghost use Rattle.qcow2_image.specs.ListedClusters.{KeepsList, ListsFormer};
 ghost use Rattle.qcow2_image.specs.Prepared.{image_of, length_of, offset_of};
 ghost use Rattle.qcow2_image.specs.Refusals.{IsMet, IsMetPreparing};
 ghost use Rattle.qcow2_image.specs.declared.prepared.Prepared.{Prepared};
@@ -60,6 +61,7 @@ impl<S: Storage, F: WrappedFormat<S>> Qcow2<S, F> {
         ensures room { IfOk result (HasRoomForRange self.old.file.header.fields length) }
         ensures kept { (out : List (Option Prepared)) → ImageInvariant S.view F.backing (pending_in S.view F.backing self.old out) self.old out
             → HoldsTable S.view F.backing self.old offset table → IfOk result (BeginsInKept self.old.file.header.fields offset (cover self.old.file.header.fields (known_in S.view self.old.file) (offset / cluster_size self.old.file.header.fields))) }
+        ensures former { OnOk result (ListsFormer self.old self.new) }
         ensures faults { CountsImageFaults S.view F.backing self.old self.new result }
     {
         if self.file.caches.l2_is_pinned(table) {
@@ -99,6 +101,7 @@ impl<S: Storage, F: WrappedFormat<S>> Qcow2<S, F> {
             → HoldsTable S.view F.backing self.old offset table → l2_pins self.old.file.caches table ≡ 0 → cover self.old.file.header.fields (known_in S.view self.old.file) (offset / cluster_size self.old.file.header.fields) ≡ old.now
             → Readies S.view F.backing self.old self.new out offset length overwrite result }
         ensures header { KeepsHeader self.old.file.header self.new.file.header }
+        ensures former { OnOk result (ListsFormer self.old self.new) }
         ensures faults { CountsImageFaults S.view F.backing self.old self.new result }
     {
         match kept_place(old) {
@@ -131,6 +134,7 @@ impl<S: Storage, F: WrappedFormat<S>> Qcow2<S, F> {
             → cover self.old.file.header.fields (known_in S.view self.old.file) (offset / cluster_size self.old.file.header.fields) ≡ L2Mapping.Zero (Some (host, true))
             → Readies S.view F.backing self.old self.new out offset length overwrite result }
         ensures header { self.new.file.header ≡ self.old.file.header }
+        ensures list { KeepsList self.old self.new }
         ensures faults { CountsImageFaults S.view F.backing self.old self.new result }
     {
         self.fill_kept(host, offset, length, overwrite)?;
@@ -161,6 +165,7 @@ impl<S: Storage, F: WrappedFormat<S>> Qcow2<S, F> {
             → HoldsTable S.view F.backing self.old offset table → l2_pins self.old.file.caches table ≡ 0 → cover self.old.file.header.fields (known_in S.view self.old.file) (offset / cluster_size self.old.file.header.fields) ≡ old.now
             → Readies S.view F.backing self.old self.new out offset length overwrite result }
         ensures header { KeepsHeader self.old.file.header self.new.file.header }
+        ensures former { OnOk result (ListsFormer self.old self.new) }
         ensures faults { CountsImageFaults S.view F.backing self.old self.new result }
     {
         let old_data = self.named_by(old)?;
@@ -186,6 +191,7 @@ impl<S: Storage, F: WrappedFormat<S>> Qcow2<S, F> {
         ensures header { self.new.file.header ≡ self.old.file.header }
         ensures stays { ImageStays self.old self.new }
         ensures cause { IfErr result IsMet }
+        ensures allocator { self.new.allocator ≡ self.old.allocator }
         ensures list { self.new.file.free_list ≡ self.old.file.free_list }
         ensures keeps { (p : Pending) (out : List (Option Prepared)) → ImageInvariant S.view F.backing p self.old out → UnseenStep S.view F.backing p p self.old self.new out }
         ensures contents { (p : Pending) (out : List (Option Prepared)) → ImageInvariant S.view F.backing p self.old out → SameHeld S.view F.backing p self.old self.new }
@@ -253,6 +259,7 @@ impl<S: Storage, F: WrappedFormat<S>> Qcow2<S, F> {
         ensures stays { ImageStays self.old self.new }
         ensures cause { IfErr result IsMet }
         ensures gains { (p : Pending) (out : List (Option Prepared)) → ImageInvariant S.view F.backing p self.old out → HoldsAll S.view F.backing p out → Gains S.view F.backing p self.old self.new out offset length overwrite old.now result }
+        ensures former { OnOk result (ListsFormer self.old self.new) }
         ensures faults { CountsImageFaults S.view F.backing self.old self.new result }
     {
         let pending = self.take_data()?;
@@ -274,6 +281,7 @@ impl<S: Storage, F: WrappedFormat<S>> Qcow2<S, F> {
         ensures stays { ImageStays self.old self.new }
         ensures cause { IfErr result IsMet }
         ensures takes { (p : Pending) (out : List (Option Prepared)) → ImageInvariant S.view F.backing p self.old out → HoldsAll S.view F.backing p out → TakesData S.view F.backing p self.old self.new out result }
+        ensures former { ListsFormer self.old self.new }
         ensures faults { CountsImageFaults S.view F.backing self.old self.new result }
     {
         let Some(allocator) = &mut self.allocator else {

@@ -463,6 +463,7 @@ impl<S: Storage, F: WrappedFormat<S>> Qcow2<S, F> {
         ensures storage { storage_of self.new.file.storage ≡ storage_of self.old.file.storage }
         ensures keeps { (p : Pending) (out : List (Option Prepared)) → ImageInvariant S.view F.backing p self.old out → UnseenStep S.view F.backing p p self.old self.new out }
         ensures known { (p : Pending) (out : List (Option Prepared)) → ImageInvariant S.view F.backing p self.old out → known_in S.view self.new.file ≡ known_in S.view self.old.file }
+        ensures rest { self.new ≡ record self.old { file = record self.old.file { storage = self.new.file.storage; caches = self.new.file.caches } } }
     {
         self.file.storage.begin();
         self.file.caches.begin();

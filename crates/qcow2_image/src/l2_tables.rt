@@ -16,7 +16,8 @@ ghost use Rattle.qcow2_image.specs.UnseenSteps.{Ensures, UnseenStep};
 ghost use Rattle.qcow2_image.specs.ImageInvariant.{ImageInvariant, pending_in};
 ghost use Rattle.qcow2_metadata.specs.Cover.{cover};
 ghost use Rattle.qcow2_image.specs.declared.mapping.Place.TheVariants.{Image};
-ghost use Rattle.qcow2_image.specs.L1Entries.{HadOwnTableOrFrees, HasFarEntry, HasOwnTable, NeedsFarEntry, ReachesOffset};
+ghost use Rattle.qcow2_image.specs.L1Entries.{HasFarEntry, HasOwnTable, NeedsFarEntry, ReachesOffset};
+ghost use Rattle.qcow2_image.specs.ListedClusters.{KeepsList, KeepsListOrFrees};
 ghost use Rattle.qcow2_image.specs.NewTables.{IsFaultOrKeepsL1Table, IsFaultOrLacksTable, SaysKnown, IsStored, StandsReady, MayName, NamesShared, PlacesNewTable, Stores, NamesNew, WritesNew, EntersTable, OwnsTable};
 ghost use Rattle.qcow2_alloc.specs.TableCaches.{IsTableOf};
 ghost use Rattle.qcow2_laws.specs.Changes.{one_at, with_new_tables};
@@ -41,7 +42,7 @@ impl<S: Storage, F: WrappedFormat<S>> Qcow2<S, F> {
         ensures cached { IfOk result (λ table. IsSome (l2_at self.new.file.caches table)) }
         ensures finds { (out : List (Option Prepared)) → ImageInvariant S.view F.backing (pending_in S.view F.backing self.old out) self.old out → FindsTable S.view F.backing self.old self.new out offset result }
         ensures reaches { (out : List (Option Prepared)) → ImageInvariant S.view F.backing (pending_in S.view F.backing self.old out) self.old out → OnOk result (ReachesOffset offset self.old.file.header.fields self.new.file.header.fields) }
-        ensures freed { (out : List (Option Prepared)) → ImageInvariant S.view F.backing (pending_in S.view F.backing self.old out) self.old out → OnOk result (HadOwnTableOrFrees self.old self.new offset) }
+        ensures freed { (out : List (Option Prepared)) → ImageInvariant S.view F.backing (pending_in S.view F.backing self.old out) self.old out → OnOk result (KeepsListOrFrees offset self.old self.new) }
         ensures far { NeedsFarEntry self.old offset → (result ≡ Err ImageError.Overflow) × (self.new ≡ self.old) }
         ensures faults { CountsImageFaults S.view F.backing self.old self.new result }
     {
@@ -85,7 +86,7 @@ impl<S: Storage, F: WrappedFormat<S>> Qcow2<S, F> {
         ensures lacks { (p : Pending) (out : List (Option Prepared)) → ImageInvariant S.view F.backing p self.old out → (HasPrepared out → ⊥) → IfErr result (IsFaultOrLacksTable S.view self.new offset) }
         ensures cached { IfOk result (λ table. IsSome (l2_at self.new.file.caches table)) }
         ensures ready { (p : Pending) (out : List (Option Prepared)) → ImageInvariant S.view F.backing p self.old out → Ensures S.view F.backing p self.old self.new out offset result }
-        ensures quiet { HasOwnTable self.old offset → self.new.file.free_list ≡ self.old.file.free_list }
+        ensures quiet { HasOwnTable self.old offset → KeepsList self.old self.new }
         ensures faults { CountsImageFaults S.view F.backing self.old self.new result }
     {
         let cluster = self.own_l2(offset)?;

@@ -10,7 +10,7 @@ ghost use Rattle.qcow2_image.specs.Unwritten.{OnlyReadsImage};
 ghost use Rattle.qcow2_laws.specs.CrashInvariant.{Pending};
 ghost use Rattle.qcow2_alloc.specs.MetadataCaches.{IsEntryAt, l2_at};
 ghost use Rattle.qcow2_alloc.specs.ImageFile.{known_in, FileInvariant, KeepsHeader};
-ghost use Rattle.qcow2_image.specs.L1Entries.{ReachesOffset};
+ghost use Rattle.qcow2_image.specs.ListedClusters.{ListsFormer, PreparesList, PreparesTable};
 ghost use Rattle.qcow2_alloc.specs.ImageStorage.{storage_of};
 ghost use Rattle.qcow2_image.specs.declared.prepared.Prepared.{Prepared};
 ghost use Rattle.qcow2_image.specs.Calls.{AnswersCall, Commits, Discards, Prepares, reason_of};
@@ -359,10 +359,9 @@ impl<S: Storage, F: WrappedFormat<S>> Qcow2<S, F> {
         ensures some { IfOk result (λ p. 0 < length → 0 < length_of p) }
         ensures end { IfOk result (λ p. offset + length < 2 ^ 64) }
         ensures sees { Prepares S.view F.backing self.old self.new offset length overwrite result }
-        ensures emptied { refuses_to_prepare self.old offset length ≡ None → (out : List (Option Prepared)) → (abstract_of S.view F.backing self.old out).is_sound → IfErr result (FreesRefused self.new) }
+        ensures listed { refuses_to_prepare self.old offset length ≡ None → 0 < length → (out : List (Option Prepared)) → (abstract_of S.view F.backing self.old out).is_sound → PreparesList offset self.old self.new result }
         ensures maps { 0 < length → (out : List (Option Prepared)) → (abstract_of S.view F.backing self.old out).is_sound
             → IfOk result (λ p. IsAnswered self.old.file.header.fields (known_in S.view self.old.file) offset length self.new.file.header.fields (known_in S.view self.new.file) p (meaning S.view F.backing self.new p)) }
-        ensures reaches { 0 < length → (out : List (Option Prepared)) → (abstract_of S.view F.backing self.old out).is_sound → OnOk result (ReachesOffset offset self.old.file.header.fields self.new.file.header.fields) }
         ensures faults { CountsImageFaults S.view F.backing self.old self.new result }
     {
         self.check_prepare(offset, length)?;
@@ -426,8 +425,7 @@ impl<S: Storage, F: WrappedFormat<S>> Qcow2<S, F> {
             → PreparesRange S.view F.backing self.old self.new out offset length overwrite result }
         ensures answers { 0 < length → (out : List (Option Prepared)) → ImageInvariant S.view F.backing (pending_in S.view F.backing self.old out) self.old out
             → IfOk result (λ q. IsAnswered self.old.file.header.fields (known_in S.view self.old.file) offset length self.new.file.header.fields (known_in S.view self.new.file) q (meaning S.view F.backing self.new q)) }
-        ensures emptied { 0 < length → (out : List (Option Prepared)) → ImageInvariant S.view F.backing (pending_in S.view F.backing self.old out) self.old out → IfErr result (FreesRefused self.new) }
-        ensures reaches { (out : List (Option Prepared)) → ImageInvariant S.view F.backing (pending_in S.view F.backing self.old out) self.old out → OnOk result (ReachesOffset offset self.old.file.header.fields self.new.file.header.fields) }
+        ensures listed { 0 < length → (out : List (Option Prepared)) → ImageInvariant S.view F.backing (pending_in S.view F.backing self.old out) self.old out → PreparesList offset self.old self.new result }
         ensures faults { CountsImageFaults S.view F.backing self.old self.new result }
     {
         match self.prepare_range(offset, length, overwrite) {
@@ -454,7 +452,7 @@ impl<S: Storage, F: WrappedFormat<S>> Qcow2<S, F> {
             → PreparesRange S.view F.backing self.old self.new out offset length overwrite result }
         ensures answers { 0 < length → (out : List (Option Prepared)) → ImageInvariant S.view F.backing (pending_in S.view F.backing self.old out) self.old out
             → IfOk result (λ q. IsAnswered self.old.file.header.fields (known_in S.view self.old.file) offset length self.new.file.header.fields (known_in S.view self.new.file) q (meaning S.view F.backing self.new q)) }
-        ensures reaches { (out : List (Option Prepared)) → ImageInvariant S.view F.backing (pending_in S.view F.backing self.old out) self.old out → OnOk result (ReachesOffset offset self.old.file.header.fields self.new.file.header.fields) }
+        ensures tables { (out : List (Option Prepared)) → ImageInvariant S.view F.backing (pending_in S.view F.backing self.old out) self.old out → OnOk result (PreparesTable offset self.old self.new) }
         ensures faults { CountsImageFaults S.view F.backing self.old self.new result }
     {
         let table = self.table_for(offset)?;
@@ -524,6 +522,7 @@ impl<S: Storage, F: WrappedFormat<S>> Qcow2<S, F> {
         ensures reaches { (out : List (Option Prepared)) (k : ℕ) → slice_get out k ≡ Some None → ImageInvariant S.view F.backing (pending_in S.view F.backing self.old out) self.old out
             → HoldsTable S.view F.backing self.old offset table → IfOk result (Reaches S.view self.new offset length) }
         ensures header { KeepsHeader self.old.file.header self.new.file.header }
+        ensures former { OnOk result (ListsFormer self.old self.new) }
         ensures faults { CountsImageFaults S.view F.backing self.old self.new result }
     {
         let mut prepared = self.prepare_first(table, offset, length, overwrite)?;

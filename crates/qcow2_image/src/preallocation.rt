@@ -1,5 +1,5 @@
 //! Preallocation: zeros behind the end of a disk, before its size grows.
-ghost use Rattle.std.specs.Prelude.{ℕ, List, Option, ◌≡◌, ◌%◌, ◌^◌, ◌<◌, ◌≤◌, Err, IfOk, IfErr, IsTrue, max, replicate, slice_get, slice_set, None, Some};
+ghost use Rattle.std.specs.Prelude.{ℕ, List, Option, ◌≡◌, ◌%◌, ◌^◌, ◌<◌, ◌≤◌, Err, IfOk, IfErr, IsTrue, OnOk, max, replicate, slice_get, slice_set, None, Some};
 ghost use Rattle.image_access.specs.declared.storage.PreallocateMode.TheVariants.{None as PreallocateNone, Zero};
 ghost use Rattle.qcow2_metadata.specs.Header.{cluster_size, rounded_up as rounded_up_to};
 ghost use Rattle.image_access.specs.Contents.{zeroed};
@@ -9,7 +9,7 @@ ghost use Rattle.qcow2_alloc.specs.WriteKinds.{IsToldData};
 ghost use Rattle.qcow2_alloc.specs.declared.error.ImageError.TheVariants.{Version};
 ghost use Rattle.qcow2_image.specs.declared.prepared.Prepared.{Prepared};
 ghost use Rattle.qcow2_image.specs.CallParts.{WritesBytes};
-ghost use Rattle.qcow2_image.specs.Image.{ImageStays, is_writable, size_of};
+ghost use Rattle.qcow2_image.specs.Image.{HasNothingToFree, ImageStays, is_writable, size_of};
 ghost use Rattle.qcow2_image.specs.ImageInvariant.{ImageInvariant, pending_in};
 ghost use Rattle.qcow2_image.specs.Preallocation.{AreZeros, CommitsWhole, FillsFirst, FillsGrownOrRefuses, FillsOrRefuses, IsWholeRange, most_of};
 ghost use Rattle.qcow2_image.specs.Refusals.{IsMet, IsMetPreparing};
@@ -93,6 +93,7 @@ impl<S: Storage, F: WrappedFormat<S>> Qcow2<S, F> {
         requires larger { old < size }
         ensures stays { ImageStays self.old self.new }
         ensures cause { IfErr result IsMetPreparing }
+        ensures emptied { HasNothingToFree self.old → OnOk result (HasNothingToFree self.new) }
         ensures unfilled { mode ≡ PreallocateNone → self.new ≡ self.old }
         ensures version { mode ≡ Zero → self.old.file.header.fields.version < 3 → (result ≡ Err Version) × (self.new ≡ self.old) }
         ensures fills { (out : List (Option Prepared)) → ImageInvariant S.view F.backing (pending_in S.view F.backing self.old out) self.old out
@@ -118,6 +119,7 @@ impl<S: Storage, F: WrappedFormat<S>> Qcow2<S, F> {
         requires zeros { AreZeros writes.now }
         ensures stays { ImageStays self.old self.new }
         ensures cause { IfErr result IsMetPreparing }
+        ensures emptied { HasNothingToFree self.old → OnOk result (HasNothingToFree self.new) }
         ensures fills { (out : List (Option Prepared)) → ImageInvariant S.view F.backing (pending_in S.view F.backing self.old out) self.old out
             → old ≤ size → FillsOrRefuses S.view F.backing (rounded_up_to (cluster_size self.old.file.header.fields) size) old (rounded_up_to (cluster_size self.old.file.header.fields) size) self.old self.new out result }
         ensures faults { CountsImageFaults S.view F.backing self.old self.new result }
@@ -133,6 +135,7 @@ impl<S: Storage, F: WrappedFormat<S>> Qcow2<S, F> {
         requires writable { IsTrue (is_writable self.old) }
         ensures stays { ImageStays self.old self.new }
         ensures cause { IfErr result IsMetPreparing }
+        ensures emptied { HasNothingToFree self.old → OnOk result (HasNothingToFree self.new) }
         ensures version { self.old.file.header.fields.version < 3 → (result ≡ Err Version) × (self.new ≡ self.old) }
         ensures fills { (out : List (Option Prepared)) → ImageInvariant S.view F.backing (pending_in S.view F.backing self.old out) self.old out
             → old ≤ size → FillsOrRefuses S.view F.backing (rounded_up_to (cluster_size self.old.file.header.fields) old) old (rounded_up_to (cluster_size self.old.file.header.fields) size) self.old self.new out result }
@@ -156,6 +159,7 @@ impl<S: Storage, F: WrappedFormat<S>> Qcow2<S, F> {
         requires writable { IsTrue (is_writable self.old) }
         ensures stays { ImageStays self.old self.new }
         ensures cause { IfErr result IsMetPreparing }
+        ensures emptied { HasNothingToFree self.old → OnOk result (HasNothingToFree self.new) }
         ensures fills { (out : List (Option Prepared)) → ImageInvariant S.view F.backing (pending_in S.view F.backing self.old out) self.old out → old ≤ from → from ≤ end → IsWholeRange self.old.file.header.fields from end
             → 3 ≤ self.old.file.header.fields.version → FillsOrRefuses S.view F.backing from old end self.old self.new out result }
         ensures faults { CountsImageFaults S.view F.backing self.old self.new result }
@@ -170,6 +174,7 @@ impl<S: Storage, F: WrappedFormat<S>> Qcow2<S, F> {
         requires writable { IsTrue (is_writable self.old) }
         ensures stays { ImageStays self.old self.new }
         ensures cause { IfErr result IsMetPreparing }
+        ensures emptied { HasNothingToFree self.old → OnOk result (HasNothingToFree self.new) }
         ensures fills { (out : List (Option Prepared)) → ImageInvariant S.view F.backing (pending_in S.view F.backing self.old out) self.old out → from ≤ to → IsWholeRange self.old.file.header.fields from to
             → 3 ≤ self.old.file.header.fields.version → FillsOrRefuses S.view F.backing 0 from to self.old self.new out result }
         ensures faults { CountsImageFaults S.view F.backing self.old self.new result }
@@ -186,6 +191,7 @@ impl<S: Storage, F: WrappedFormat<S>> Qcow2<S, F> {
         requires writable { IsTrue (is_writable self.old) }
         ensures stays { ImageStays self.old self.new }
         ensures cause { IfErr result IsMetPreparing }
+        ensures emptied { HasNothingToFree self.old → OnOk result (HasNothingToFree self.new) }
         ensures next { IfOk result (λ next. (from ≤ next) × (from < to → from < next) × (next ≤ max from to)) }
         ensures whole { (out : List (Option Prepared)) → ImageInvariant S.view F.backing (pending_in S.view F.backing self.old out) self.old out → IsWholeRange self.old.file.header.fields from to → IfOk result (λ next. next % cluster_size self.old.file.header.fields ≡ 0) }
         ensures fills { (out : List (Option Prepared)) → ImageInvariant S.view F.backing (pending_in S.view F.backing self.old out) self.old out → from ≤ to → IsWholeRange self.old.file.header.fields from to
@@ -208,6 +214,7 @@ impl<S: Storage, F: WrappedFormat<S>> Qcow2<S, F> {
         requires zeros { AreZeros writes.now }
         ensures stays { ImageStays self.old self.new }
         ensures cause { IfErr result IsMetPreparing }
+        ensures emptied { HasNothingToFree self.old → OnOk result (HasNothingToFree self.new) }
         ensures fills { (out : List (Option Prepared)) → ImageInvariant S.view F.backing (pending_in S.view F.backing self.old out) self.old out
             → from ≤ to → to % cluster_size self.old.file.header.fields ≡ 0 → FillsOrRefuses S.view F.backing to from to self.old self.new out result }
         ensures faults { CountsImageFaults S.view F.backing self.old self.new result }
@@ -227,6 +234,7 @@ impl<S: Storage, F: WrappedFormat<S>> Qcow2<S, F> {
         requires some { from < to }
         ensures stays { ImageStays self.old self.new }
         ensures cause { IfErr result IsMetPreparing }
+        ensures emptied { HasNothingToFree self.old → OnOk result (HasNothingToFree self.new) }
         ensures next { IfOk result (λ next. (from < next) × (next ≤ to)) }
         ensures fills { (out : List (Option Prepared)) → ImageInvariant S.view F.backing (pending_in S.view F.backing self.old out) self.old out
             → to % cluster_size self.old.file.header.fields ≡ 0 → FillsFirst S.view F.backing to from to self.old self.new out result }

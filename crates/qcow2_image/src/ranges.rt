@@ -1,11 +1,12 @@
 //! The clusters of a prepared range behind its first one.
-ghost use Rattle.std.specs.Prelude.{ℕ, List, Option, ◌≡◌, ◌≢◌, ◌+◌, ◌*◌, ◌%◌, ◌<◌, min, true, Some, None, Ok, slice_get, vec_len, vec_capacity, IfOk, IfErr, IsTrue, IsSome};
+ghost use Rattle.std.specs.Prelude.{ℕ, List, Option, ◌≡◌, ◌≢◌, ◌+◌, ◌*◌, ◌%◌, ◌<◌, min, true, Some, None, Ok, slice_get, vec_len, vec_capacity, IfOk, IfErr, OnOk, IsTrue, IsSome};
 ghost use Rattle.qcow2_metadata.specs.L2Mapping.{IsHostCluster, IsInReach};
 ghost use Rattle.qcow2_metadata.specs.Header.{cluster_size};
 ghost use Rattle.qcow2_disk.specs.Found.{rest_of_table};
 ghost use Rattle.qcow2_laws.specs.CrashInvariant.{Pending};
 ghost use Rattle.qcow2_alloc.specs.ImageFile.{KeepsHeader};
 ghost use Rattle.qcow2_image.specs.Image.{ImageStays, is_writable};
+ghost use Rattle.qcow2_image.specs.ListedClusters.{ListsFormer};
 ghost use Rattle.qcow2_image.specs.Refusals.{IsMet};
 ghost use Rattle.qcow2_image.specs.declared.prepared.Prepared.{Prepared};
 ghost use Rattle.qcow2_image.specs.declared.image.Qcow2.{Qcow2};
@@ -53,6 +54,7 @@ impl<S: Storage, F: WrappedFormat<S>> Qcow2<S, F> {
         ensures longer { IsLongerMapping self.old.file.header.fields length prepared.old prepared.new }
         ensures image_step { (start : Qcow2 S F) (out : List (Option Prepared)) (k : ℕ) → slice_get out k ≡ Some None → prepared.old.table ≡ Some table
             → IsReadied S.view F.backing start self.old out k prepared.old.guest length overwrite prepared.old → GoesOn S.view F.backing start self.new out k length overwrite prepared.new result }
+        ensures former { OnOk result (ListsFormer self.old self.new) }
         ensures faults { CountsImageFaults S.view F.backing self.old self.new result }
     {
         let end = length.min(self.rest_of_table(prepared.guest));
@@ -82,6 +84,7 @@ impl<S: Storage, F: WrappedFormat<S>> Qcow2<S, F> {
         ensures next { result ≡ Ok true → IsNext self.old.file.header.fields length prepared.old prepared.new }
         ensures image_step { (out : List (Option Prepared)) (k : ℕ) → slice_get out k ≡ Some (Some prepared.old) → MayGoOn self.old.file.header.fields length table prepared.old
             → ImageInvariant S.view F.backing (pending_in S.view F.backing self.old out) self.old out → GoesNext S.view F.backing self.old self.new out k length overwrite prepared.old prepared.new result }
+        ensures former { OnOk result (ListsFormer self.old self.new) }
         ensures faults { CountsImageFaults S.view F.backing self.old self.new result }
     {
         let Some(share) = self.share_behind(prepared, table, length, overwrite)? else {
@@ -107,6 +110,7 @@ impl<S: Storage, F: WrappedFormat<S>> Qcow2<S, F> {
         ensures cause { IfErr result IsMet }
         ensures finds { (out : List (Option Prepared)) (k : ℕ) → slice_get out k ≡ Some (Some prepared.now) → MayGoOn self.old.file.header.fields length table prepared.now
             → ImageInvariant S.view F.backing (pending_in S.view F.backing self.old out) self.old out → FindsBehind S.view F.backing self.old self.new out length overwrite prepared.now result }
+        ensures former { OnOk result (ListsFormer self.old self.new) }
         ensures faults { CountsImageFaults S.view F.backing self.old self.new result }
     {
         let Some(next) = prepared.guest.checked_add(prepared.length) else {
@@ -145,6 +149,7 @@ impl<S: Storage, F: WrappedFormat<S>> Qcow2<S, F> {
         ensures cause { IfErr result IsMet }
         ensures shares { (p : Pending) (out : List (Option Prepared)) → ImageInvariant S.view F.backing p self.old out → HoldsAll S.view F.backing p out
             → SharesAt S.view F.backing p self.old self.new out offset length overwrite old.now host result }
+        ensures former { OnOk result (ListsFormer self.old self.new) }
         ensures faults { CountsImageFaults S.view F.backing self.old self.new result }
     {
         let bits = self.file.header.cluster_bits();
@@ -177,6 +182,7 @@ impl<S: Storage, F: WrappedFormat<S>> Qcow2<S, F> {
         ensures nameable { IfOk result (λ run. IsSome run → IsHostCluster self.old.file.header.fields.cluster_bits cluster) }
         ensures gains { (p : Pending) (out : List (Option Prepared)) → ImageInvariant S.view F.backing p self.old out → HoldsAll S.view F.backing p out
             → GainsAt S.view F.backing p self.old self.new out offset length overwrite old.now cluster result }
+        ensures former { OnOk result (ListsFormer self.old self.new) }
         ensures faults { CountsImageFaults S.view F.backing self.old self.new result }
     {
         let Some(pending) = self.take_data_at(cluster)? else {
@@ -201,6 +207,7 @@ impl<S: Storage, F: WrappedFormat<S>> Qcow2<S, F> {
         ensures list { ListGrows self.old self.new }
         ensures takes { (p : Pending) (out : List (Option Prepared)) → ImageInvariant S.view F.backing p self.old out → HoldsAll S.view F.backing p out
             → TakesDataAt S.view F.backing p self.old self.new out cluster result }
+        ensures former { ListsFormer self.old self.new }
         ensures faults { CountsImageFaults S.view F.backing self.old self.new result }
     {
         let Some(allocator) = &mut self.allocator else {

@@ -1,7 +1,6 @@
 //! A disk of another size: what lies behind a smaller one is dropped first, and the size is written last.
 ghost use Rattle.std.specs.Prelude.{ℕ, List, Option, ◌≡◌, ◌⊎◌, ◌+◌, ◌-◌, ◌<◌, ◌≤◌, max, nat_lt, [], Some, None, Ok, Err, IfOk, IfErr, IfSome, OnOk, OnErr, IsTrue, MatchOption, false};
 ghost use Rattle.image_access.specs.Moments.{EachMomentSince};
-ghost use Rattle.image_access.specs.declared.storage.PreallocateMode.TheVariants.{Zero};
 ghost use Rattle.qcow2_metadata.specs.EntryTable.{entry_count};
 ghost use Rattle.qcow2_image.specs.Found.{l1_index_of};
 ghost use Rattle.qcow2_metadata.specs.Header.{cluster_size, rounded_up as rounded_up_to, with_fields, with_size};
@@ -13,11 +12,11 @@ ghost use Rattle.qcow2_alloc.specs.ImageStorage.{is_changed_of};
 ghost use Rattle.qcow2_image.specs.Backings.{HasPrepared};
 ghost use Rattle.qcow2_image.specs.declared.prepared.Prepared.{Prepared};
 ghost use Rattle.qcow2_image.specs.Growing.{Resizes};
-ghost use Rattle.qcow2_image.specs.Image.{IsSameImage, ImageStays, has_noted_change, is_failed, is_writable, size_of, with_marks};
+ghost use Rattle.qcow2_image.specs.Image.{HasNothingToFree, IsSameImage, ImageStays, has_noted_change, is_failed, is_writable, size_of, with_marks};
 ghost use Rattle.qcow2_image.specs.ImageInvariant.{ImageInvariant, abstract_of, pending_in};
 ghost use Rattle.qcow2_image.specs.LongerTables.{MakesEntry};
 ghost use Rattle.qcow2_image.specs.Refusals.{IsMet, IsMetPreparing, MarksFailed, MarksRefused};
-ghost use Rattle.qcow2_image.specs.Resizing.{CantUncover, GrowsTables, GrowsTo, IsFaultOrCantUncover, IsMetShrinking, IsResized, LacksZeros, RefusesUnchanged, Shrinks, UncoversNext, UncoversTail, WritesSize, WritesSizeLast, refuses_to_resize, size_after, takes_over};
+ghost use Rattle.qcow2_image.specs.Resizing.{CantUncover, GrowsTables, GrowsTo, IsFaultOrCantUncover, IsMetShrinking, IsResized, Shrinks, UncoversNext, UncoversTail, WritesSize, WritesSizeLast, refuses_to_resize, size_after, takes_over};
 ghost use Rattle.qcow2_image.specs.Faults.{CountsImageFaults, NoFewerFaults, TellsFault};
 
 use crate::Qcow2;
@@ -151,6 +150,7 @@ impl<S: Storage, F: WrappedFormat<S>> Qcow2<S, F> {
     }
 
     /// Makes the disk larger. The mode says what its new bytes are, and what place they take. A size that isn't larger changes nothing.
+    /// Else no cluster is left to be freed, unless it is refused.
     /// Refused in this order: 16 (failed), 12 (dependency), 1 (read-only). Of a larger size also 6 (preallocation), for a mode that takes
     /// clusters where there is a disk below. Then 13 (limit) where the L1 table would be too long, and 3 (version) for `Zero` below
     /// version 3. Where the work meets them: 4 (unaligned table), 13 (limit), 14 (memory), 15 (storage). All modes but `None` may meet
@@ -164,8 +164,6 @@ impl<S: Storage, F: WrappedFormat<S>> Qcow2<S, F> {
         ensures image { size_of self.old < size → IsResized (size_after result (size_of self.old) size) self.old self.new }
         ensures sees { GrowsTo S.view F.backing self.old self.new size mode result }
         ensures last { (out : List (Option Prepared)) → (abstract_of S.view F.backing self.old out).is_sound → WritesSizeLast S.view F.backing self.old self.new }
-        ensures version { refuses_to_resize self.old ≡ None → size_of self.old < size → mode ≡ Zero → LacksZeros self.old → (out : List (Option Prepared)) → (abstract_of S.view F.backing self.old out).is_sound
-            → RefusesUnchanged S.view F.backing self.old self.new out result }
         ensures tables { refuses_to_resize self.old ≡ None → size_of self.old < size → (out : List (Option Prepared)) → (abstract_of S.view F.backing self.old out).is_sound → GrowsTables S.view F.backing self.old self.new size mode out result }
         ensures faults { CountsImageFaults S.view F.backing self.old self.new result }
     {
@@ -201,7 +199,6 @@ impl<S: Storage, F: WrappedFormat<S>> Qcow2<S, F> {
         ensures image { IsResized (size_after result (size_of self.old) size) self.old self.new }
         ensures sees { GrowsTo S.view F.backing self.old self.new size mode result }
         ensures last { (out : List (Option Prepared)) → (abstract_of S.view F.backing self.old out).is_sound → WritesSizeLast S.view F.backing self.old self.new }
-        ensures version { mode ≡ Zero → LacksZeros self.old → (out : List (Option Prepared)) → (abstract_of S.view F.backing self.old out).is_sound → RefusesUnchanged S.view F.backing self.old self.new out result }
         ensures tables { (out : List (Option Prepared)) → (abstract_of S.view F.backing self.old out).is_sound → GrowsTables S.view F.backing self.old self.new size mode out result }
         ensures faults { CountsImageFaults S.view F.backing self.old self.new result }
     {
@@ -237,6 +234,7 @@ impl<S: Storage, F: WrappedFormat<S>> Qcow2<S, F> {
         ensures stays { ImageStays self.old self.new }
         ensures cause { IfErr result IsMet }
         ensures length { OnOk result (entry_count self.new.l1_table ≡ max (entry_count self.old.l1_table) (l1_index_of self.old.file.header.fields offset + 1)) }
+        ensures emptied { OnOk result (HasNothingToFree self.new) }
         ensures makes { (out : List (Option Prepared)) → ImageInvariant S.view F.backing (pending_in S.view F.backing self.old out) self.old out → MakesEntry S.view F.backing self.old self.new out result }
         ensures faults { CountsImageFaults S.view F.backing self.old self.new result }
     {

@@ -1,5 +1,5 @@
 -- Preparing as a call: it is answered, or refused and perhaps marked as failed.
-use Rattle.std.proofs.Common.{◌≡◌, ℕ, Bool, false, List, [], Option, Some, refl, sym, subst}
+use Rattle.std.proofs.Common.{◌≡◌, ◌∙◌, ℕ, Bool, false, List, [], Option, Some, inl, inr, refl, sym, ap, subst}
 use Rattle.std.specs.Prelude.{Result, Ok, Err, IfErr, IsTrue, slice_set}
 use Rattle.image_access.specs.Backing.{BackingView}
 use Rattle.image_access.specs.Moments.{StorageView}
@@ -12,6 +12,8 @@ use Rattle.qcow2_image.specs.declared.image.Qcow2.{Qcow2}
 use Rattle.qcow2_image.specs.declared.prepared.Prepared.{Prepared}
 use Rattle.qcow2_image.specs.Calls.{Prepares}
 use Rattle.qcow2_image.specs.Image.{number_of, is_failed}
+use Rattle.qcow2_image.specs.L1Entries.{HasOwnTable, ReachesOffset}
+use Rattle.qcow2_image.specs.ListedClusters.{PreparesList}
 use Rattle.qcow2_image.specs.CallParts.{IsExisting, IsReadied, PreparesRange}
 use Rattle.qcow2_image.proofs.Call.Marked.{MayMarkBy}
 use Rattle.qcow2_image.specs.ImageInvariant.{pending_in, abstract_of, meaning, ImageInvariant}
@@ -38,3 +40,19 @@ module _ {S F : Type 0} (view : S → StorageView) (backing : F → BackingView)
         AnsweredEffect v w [] [] (IsPrepared v.setting.cluster_size (guest_of v).disk offset n overwrite (meaning view backing (record new { is_failed = f }) p) × (guest_of w ≡ with_slot (guest_of v) k (Some (meaning view backing (record new { is_failed = f }) p))))) (sym marks)
         (outcome_answered view backing old new out (slice_set out k (Some p)) [] (λ sound. (ready sound).works) (λ sound. (ready sound).sound) number usable (λ sound. ((ready sound).prepared, (ready sound).is)))
     prepares_with_outcome offset n overwrite (Err e) marks memory readies = λ out. refuses_left view backing out old usable new marked number e marks memory (readies out)
+
+-- ---- the list of clusters to be freed
+module _ {S F : Type 0} where
+  -- a call notes anew whether anything changes, prepares a range, and perhaps marks the image as failed
+  pub lists_begun : (old begun new : Qcow2 S F) (failed : Bool) (offset : ℕ) (r : Result Prepared ImageError) → begun ≡ record old { file = record old.file { storage = begun.file.storage; caches = begun.file.caches } }
+      → PreparesList offset begun new r → PreparesList offset old (record new { is_failed = failed }) r
+  lists_begun old begun new failed offset (Ok p) rest lists = record {
+    reaches = subst (λ (i : Qcow2 S F). ReachesOffset offset i.file.header.fields new.file.header.fields) rest lists.reaches;
+    held = lists.held;
+    freed = elim lists.freed [
+      | inl own ↦ inl (subst (λ (i : Qcow2 S F). HasOwnTable i offset) rest own.0, record { allocator = own.1.allocator ∙ ap (λ (i : Qcow2 S F). i.allocator) rest; list = own.1.list ∙ ap (λ (i : Qcow2 S F). i.file.free_list) rest })
+      | inr none ↦ inr none
+    ];
+    since = record { before = lists.since.before; after = lists.since.after; was = lists.since.was; is = lists.since.is; behind = lists.since.behind };
+  }
+  lists_begun old begun new failed offset (Err e) rest lists = lists

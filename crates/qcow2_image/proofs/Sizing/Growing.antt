@@ -66,7 +66,7 @@ module _ {S F : Type 0} (view : S → StorageView) (backing : F → BackingView)
   -- ---- the L1 table was refused
   module _ (begun mid : Qcow2 S F) (e : ImageError) (marked : Bool) (first : (out : List (Option Prepared)) → ImageInvariant view backing (pending_in view backing old out) old out → UnseenCall view backing old begun out)
       (left : (out : List (Option Prepared)) → ImageInvariant view backing (pending_in view backing begun out) begun out → RefusedCall view backing begun mid out e) where
-    pub unchanged_not : number_of mid ≡ number_of old → MayMark e (is_failed mid) marked → (e ≡ I.Memory → IsTrue mid.file.caches.is_changed → IsTrue marked) → (out : List (Option Prepared)) → RefusesUnchanged view backing old (record mid { is_failed = marked }) out (Err e)
+    pub unchanged_not : number_of mid ≡ number_of old → MayMark e (is_failed mid) marked → (e ≡ I.Memory → IsTrue mid.file.caches.is_changed → IsTrue marked) → (out : List (Option Prepared)) → RefusesUnchanged view backing old (record mid { is_failed = marked }) out e
     unchanged_not number marks memory out =
         refuses_left view backing out old usable mid marked number e marks memory (λ sound. let call = first out sound in refused_then view backing out old begun mid call e (left out call.sound))
 

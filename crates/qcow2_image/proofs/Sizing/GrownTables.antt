@@ -29,13 +29,13 @@ use Rattle.qcow2_image.specs.CallParts.{UnseenCall}
 use Rattle.qcow2_image.specs.declared.image.Qcow2.{Qcow2}
 use Rattle.qcow2_image.specs.declared.prepared.Prepared.{Prepared}
 use Rattle.qcow2_image.specs.Growing.{ReachesSize, SameFormat}
-use Rattle.qcow2_image.specs.Image.{is_failed, number_of, size_of}
+use Rattle.qcow2_image.specs.Image.{HasNothingToFree, is_failed, number_of, size_of}
 use Rattle.qcow2_image.specs.ImageInvariant.{ImageInvariant, disk_of, pending_in}
 use Rattle.qcow2_image.specs.L1Entries.{ReachesOffset}
 use Rattle.qcow2_image.specs.MovedTables.{CoversStay, MovesTables}
-use Rattle.qcow2_image.specs.Preallocation.{FillsGrown, RefusedGrown}
+use Rattle.qcow2_image.specs.Preallocation.{FillsGrown, IsUnderMappingIn, RefusedGrown}
 use Rattle.qcow2_image.proofs.Call.Marked.{MayMark}
-use Rattle.qcow2_image.specs.Resizing.{GrowsTables, RefusesUnchanged, WritesSize, boundary_in}
+use Rattle.qcow2_image.specs.Resizing.{GrowsTables, LacksZeros, RefusesUnchanged, WritesSize, boundary_in}
 use Rattle.qcow2_image.proofs.Call.Refused.{refuses_left}
 use Rattle.qcow2_image.proofs.Preallocate.Covers.{covers_stay, stay_covers}
 use Rattle.qcow2_image.proofs.Preallocate.Filled.{taken_wider}
@@ -137,8 +137,8 @@ module _ {S F : Type 0} (view : S → StorageView) (backing : F → BackingView)
   leaves_sized old long filled new size mode (Err e) call fills refused = tt
 
   -- a table that is prepared is one of the range, by the header of the call's begin
-  pub taken_behind : (old long filled new : Qcow2 S F) (size : ℕ) (mode : PreallocateMode) (e : ImageError) → UnseenCall view backing old long out → RefusedGrown view backing size mode long filled out e → GrowsTables view backing old new size mode out (Err e)
-  taken_behind old long filled new size mode e call refused is =
+  pub taken_behind : (old long filled : Qcow2 S F) (size : ℕ) (mode : PreallocateMode) (e : ImageError) → UnseenCall view backing old long out → RefusedGrown view backing size mode long filled out e → e ≡ I.TablePrepared → IsUnderMappingIn old.file.header.fields (size_of old) (boundary_in old size) out
+  taken_behind old long filled size mode e call refused is =
       let d = disk_of view backing long in
       let end = rounded_up (cluster_size long.file.header.fields) size in
       let shown = disk_size view backing long out call.sound in
@@ -148,12 +148,15 @@ module _ {S F : Type 0} (view : S → StorageView) (backing : F → BackingView)
 
   -- the size is written last
   pub tables_sized : (old filled new : Qcow2 S F) (marked : Bool) (size : ℕ) (mode : PreallocateMode) (r : Result (Unit {0}) ImageError) → MovesTables old.file.header.fields filled.file.header.fields → IfErr r IsFaultOfTables → OnOk r (new.file.header ≡ with_fields filled.file.header (with_size filled.file.header.fields size))
-      → ReachesSize (with_size filled.file.header.fields size) → ReachesOffset (size - 1) old.file.header.fields filled.file.header.fields → OnOk r (Leaves old new size mode) → GrowsTables view backing old (record new { is_failed = marked }) size mode out r
-  tables_sized old filled new marked size mode (Ok x) file_step cause header reached length covers = record { autoclear = autoclear_sized old.file.header.fields filled.file.header.fields new.file.header.fields size file_step (ap (λ (v : HeaderView). v.fields) header); format = format_sized old.file.header.fields filled.file.header.fields new.file.header.fields size file_step (ap (λ (v : HeaderView). v.fields) header); reaches = subst (λ (v : HeaderView). ReachesSize v.fields) (sym header) reached; length = ap (λ (v : HeaderView). v.fields.l1_entries) header ∙ length; covers = covers }
-  tables_sized old filled new marked size mode (Err e) file_step cause header reached length covers = λ is. absurd (elim cause [ inl fault ↦ (let no : I.TablePrepared ≡ I.Storage = sym is ∙ fault in cc) | inr fault ↦ (let no : I.TablePrepared ≡ I.Memory = sym is ∙ fault in cc) ])
+      → ReachesSize (with_size filled.file.header.fields size) → ReachesOffset (size - 1) old.file.header.fields filled.file.header.fields → OnOk r (Leaves old new size mode) → HasNothingToFree new → (mode ≡ Mode.Zero → LacksZeros old → ⊥) → GrowsTables view backing old (record new { is_failed = marked }) size mode out r
+  tables_sized old filled new marked size mode (Ok x) file_step cause header reached length covers emptied zeros = record { emptied = emptied; zeros = zeros; autoclear = autoclear_sized old.file.header.fields filled.file.header.fields new.file.header.fields size file_step (ap (λ (v : HeaderView). v.fields) header); format = format_sized old.file.header.fields filled.file.header.fields new.file.header.fields size file_step (ap (λ (v : HeaderView). v.fields) header); reaches = subst (λ (v : HeaderView). ReachesSize v.fields) (sym header) reached; length = ap (λ (v : HeaderView). v.fields.l1_entries) header ∙ length; covers = covers }
+  tables_sized old filled new marked size mode (Err e) file_step cause header reached length covers emptied zeros = record {
+    taken = λ is. absurd (elim cause [ inl fault ↦ (let no : I.TablePrepared ≡ I.Storage = sym is ∙ fault in cc) | inr fault ↦ (let no : I.TablePrepared ≡ I.Memory = sym is ∙ fault in cc) ]);
+    zeros = λ zero lacks. absurd (zeros zero lacks);
+  }
 
   -- ---- the entries can't tell zeros
   pub refuses_version : (old long filled : Qcow2 S F) (e : ImageError) (marked : Bool) → is_failed old ≡ false → UnseenCall view backing old long out → filled ≡ long → e ≡ I.Version → number_of filled ≡ number_of old → MayMark e (is_failed filled) marked
-      → RefusesUnchanged view backing old (record filled { is_failed = marked }) out (Err e)
+      → RefusesUnchanged view backing old (record filled { is_failed = marked }) out e
   refuses_version old long filled e marked usable call same is number marks =
       refuses_left view backing out old usable filled marked number e marks (λ want. absurd (let no : I.Version ≡ I.Memory = sym is ∙ want in cc)) (λ sound. inl (subst (λ (image : Qcow2 S F). UnseenCall view backing old image out) (sym same) call))

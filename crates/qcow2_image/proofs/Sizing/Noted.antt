@@ -73,18 +73,17 @@ module _ {S F : Type 0} (view : S → StorageView) (backing : F → BackingView)
     shrinks_noted (Ok at) shrinks = λ out. does_noted _ image noted out _ _ (shrinks out)
     shrinks_noted (Err e) shrinks = λ out. refuses_noted _ image noted out _ _ _ (shrinks out)
 
+    pub unchanged_noted : (out : List (Option Prepared)) (e : ImageError) → RefusesUnchanged view backing old image out e → RefusesUnchanged view backing old (with_marks image noted (is_failed image)) out e
+    unchanged_noted out e refuses = refuses_noted _ image noted out _ _ _ refuses
+
     module _ (mode : PreallocateMode) where
       pub grows_noted : (r : Result (Unit {0}) ImageError) → GrowsTo view backing old image size mode r → GrowsTo view backing old (with_marks image noted (is_failed image)) size mode r
       grows_noted (Ok done) grows = λ out. does_noted _ image noted out _ _ (grows out)
       grows_noted (Err e) grows = λ out. refuses_noted _ image noted out _ _ _ (grows out)
 
       pub tables_noted : (out : List (Option Prepared)) (r : Result (Unit {0}) ImageError) → GrowsTables view backing old image size mode out r → GrowsTables view backing old (with_marks image noted (is_failed image)) size mode out r
-      tables_noted out (Ok done) tables = record { autoclear = tables.autoclear; format = tables.format; reaches = tables.reaches; length = tables.length; covers = tables.covers }
-      tables_noted out (Err e) tables = tables
-
-    pub unchanged_noted : (out : List (Option Prepared)) (r : Result (Unit {0}) ImageError) → RefusesUnchanged view backing old image out r → RefusesUnchanged view backing old (with_marks image noted (is_failed image)) out r
-    unchanged_noted out (Ok done) refuses = refuses
-    unchanged_noted out (Err e) refuses = refuses_noted _ image noted out _ _ _ refuses
+      tables_noted out (Ok done) tables = record { autoclear = tables.autoclear; format = tables.format; reaches = tables.reaches; length = tables.length; covers = tables.covers; emptied = tables.emptied; zeros = tables.zeros }
+      tables_noted out (Err e) tables = record { taken = tables.taken; zeros = λ zero lacks. unchanged_noted out e (tables.zeros zero lacks) }
 
   -- ---- the number of faults stays
   pub fewer_noted : (last new : Qcow2 S F) (noted failed : Bool) → new ≡ with_marks last noted failed → NoFewerFaults view backing last new

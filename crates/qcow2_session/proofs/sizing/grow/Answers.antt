@@ -55,4 +55,4 @@ returns-in-Err-clause-causes g c = λ before found.
     (λ none takes. let t = takes_larger (size_of old) c.args.size (takes_over old c.args.mode) takes in let h = c.in-Err.ensures.preallocation none t.0 t.1 in (same_error h.0, h.1)))
     (λ none. grow_meets e (size_of old) c.args.size (takes_over old c.args.mode) (first none).1 (λ le. let no = (c.in-Err.ensures.no_larger (first none).0 le).0 in absurd cc) (c.in-Err.ensures.late (first none).0))
     (λ none le. let no = (c.in-Err.ensures.no_larger (first none).0 le).0 in absurd cc)
-    (λ none sound larger is. c.in-Err.ensures.tables (first none).0 larger before sound (some_error is))
+    (λ none sound larger is. (c.in-Err.ensures.tables (first none).0 larger before sound).taken (some_error is))

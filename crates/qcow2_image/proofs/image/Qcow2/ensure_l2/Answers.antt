@@ -57,10 +57,10 @@ returns-in_err-l2_get_or_insert-clause-lacks g c = λ p out sound none.
     (c.in_err-l2_get_or_insert.ensures.refusals mid.file.header.fields (named_place mid.file.header.fields (contents_in view mid.file) (l1_index_of old.file.header.fields c.args.offset) c.in_ok-cluster.cluster owned.1.place) q file.honest file.caches file.named_blocks)))
 
 pub returns-in_err-cluster-clause-quiet : goal.returns-in_err-cluster-clause-quiet
-returns-in_err-cluster-clause-quiet g c = λ own. ap (λ (i : Qcow2 _ _). i.file.free_list) (c.own_l2.ensures.quiet own)
+returns-in_err-cluster-clause-quiet g c = λ own. let same = c.own_l2.ensures.quiet own in record { allocator = ap (λ (i : Qcow2 _ _). i.allocator) same; list = ap (λ (i : Qcow2 _ _). i.file.free_list) same }
 
 pub returns-in_err-l2_get_or_insert-clause-quiet : goal.returns-in_err-l2_get_or_insert-clause-quiet
-returns-in_err-l2_get_or_insert-clause-quiet g c = λ own. ap (λ (i : Qcow2 _ _). i.file.free_list) (c.own_l2.ensures.quiet own)
+returns-in_err-l2_get_or_insert-clause-quiet g c = λ own. let same = c.own_l2.ensures.quiet own in record { allocator = ap (λ (i : Qcow2 _ _). i.allocator) same; list = ap (λ (i : Qcow2 _ _). i.file.free_list) same }
 
 pub returns-clause-quiet : goal.returns-clause-quiet
-returns-clause-quiet g c = λ own. ap (λ (i : Qcow2 _ _). i.file.free_list) (c.own_l2.ensures.quiet own)
+returns-clause-quiet g c = λ own. let same = c.own_l2.ensures.quiet own in record { allocator = ap (λ (i : Qcow2 _ _). i.allocator) same; list = ap (λ (i : Qcow2 _ _). i.file.free_list) same }

@@ -1,4 +1,4 @@
-use Rattle.std.specs.Prelude.{Err}
+use Rattle.std.specs.Prelude.{Err, IsTrue}
 use Rattle.std.proofs.Common.{◌≡◌, ◌∙◌, ◌+◌, ◌^◌, ◌≤◌, ◌<◌, ◌∷◌, [], None, inl, min, refl, sym, ap, subst, arith, rules}
 use Rattle.qcow2_laws.specs.CrashInvariant.{Pending}
 use Rattle.qcow2_alloc.proofs.AllocationSteps.{handed_on}
@@ -82,7 +82,7 @@ returns-in_err-free_listed-clause-fills g c = λ out sound whole.
     let ready = c.in_ok-prepared.ensures.readies some (None ∷ out) ((free_places view below).free old [] out sound) 0 refl in
     let answered = c.in_ok-prepared.ensures.answers some out sound in
     let within = all_within view below out old mid p from to c.most.result n c.min-count.result sound ready answered lt whole few asked counted in
-    let part = all_filled view below out old mid p from to c.most.result n c.min-count.result sound ready answered lt whole few asked counted (c.in_ok-prepared.ensures.some some) c.put_zeros.new.self done c.in_default.ensures.written c.commit_filled.ensures.commits c.commit_filled.ensures.header (c.in_ok-prepared.ensures.reaches out sound) in
+    let part = all_filled view below out old mid p from to c.most.result n c.min-count.result sound ready answered lt whole few asked counted (c.in_ok-prepared.ensures.some some) c.put_zeros.new.self done c.in_default.ensures.written c.commit_filled.ensures.commits c.commit_filled.ensures.header (c.in_ok-prepared.ensures.listed some out sound).reaches in
     let listed = subst (λ (x : Pending). ImageInvariant view below x done out) (all_listed view below done out) part.sound in
     handed_on (λ r. FillsFirst view below to from to old new out r) c.from_residual-in_err-free_listed.result e c.from_residual-in_err-free_listed.ensures
     (fills_refused view below out old done new to from (from + p.length) part to e within (tables_met e c.in_err-free_listed.ensures.cause)
@@ -110,7 +110,7 @@ returns-clause-fills g c = λ out sound whole.
     let answered = c.in_ok-prepared.ensures.answers some out sound in
     let next : c.min-next.result ≡ c.args.from + c.in_ok-prepared.prepared.length =
     all_next view below out old mid p from to c.most.result n c.min-count.result sound ready answered lt whole few asked counted c.min-next.result (c.min-next.ensures ∙ ap (min to) c.saturating_add.ensures) high in
-    let part = all_filled view below out old mid p from to c.most.result n c.min-count.result sound ready answered lt whole few asked counted (c.in_ok-prepared.ensures.some some) c.put_zeros.new.self done c.in_default.ensures.written c.commit_filled.ensures.commits c.commit_filled.ensures.header (c.in_ok-prepared.ensures.reaches out sound) in
+    let part = all_filled view below out old mid p from to c.most.result n c.min-count.result sound ready answered lt whole few asked counted (c.in_ok-prepared.ensures.some some) c.put_zeros.new.self done c.in_default.ensures.written c.commit_filled.ensures.commits c.commit_filled.ensures.header (c.in_ok-prepared.ensures.listed some out sound).reaches in
     let listed = subst (λ (x : Pending). ImageInvariant view below x done out) (all_listed view below done out) part.sound in
     subst (λ k. FillsPart view below to from k old new out) (sym next)
     (fills_stays view below out old done new to from (from + p.length) part (tidy_stays view below done out new part.sound (c.in_ok-free_listed.ensures.frees (beside view below done out) out listed)) c.free_listed.ensures.keeps_rest.header)
@@ -123,3 +123,7 @@ returns-in-Err-clause-faults g c =
     let e = c.in-Err.refusal in
     let told : CountsImageFaults view below {T = Unit {0}} old c.put_zeros.new.self (Err c.in-Err.refusal) = counted_as view below old c.prepare.new.self c.put_zeros.new.self c.put_zeros.result e c.prepare.ensures.faults.no_fewer c.put_zeros.ensures.faults c.in-Err.is in
     counted_of view below old c.free_after.new.self c.free_after.result (c.free_after.ensures.faults old (counted_still view below old c.put_zeros.new.self c.release_prepared.new.self (Err e) told c.release_prepared.ensures.faults))
+
+pub returns-clause-emptied : goal.returns-clause-emptied
+returns-clause-emptied g c = λ none.
+    c.in_ok-free_listed.ensures.emptied (subst IsTrue (sym (c.commit_filled.ensures.stays.image.writable ∙ c.put_zeros.ensures.stays.image.writable ∙ c.prepare.ensures.stays.image.writable)) c.requires.writable)

@@ -9,6 +9,7 @@ pub loop-at-init : goal.loop-at-init
 loop-at-init g c = record {
   turns = filled_first g.S.Storage.view g.F.BackingDisk.backing c.args.from c.args.to c.args.self.now;
   faults = untouched g.S.Storage.view g.F.BackingDisk.backing c.args.self.now c.args.self.now refl refl;
+  emptied = λ none. none;
 }
 
 pub returns-in_err-at-clause-fills : goal.returns-in_err-at-clause-fills
@@ -25,6 +26,7 @@ loop-at-preserved g c =
     record {
       turns = filled_next g.S.Storage.view g.F.BackingDisk.backing c.args.from c.args.to c.loop-at.at c.args.self.now c.loop-at.self c.fill_first.new.self c.loop-at-test.true c.loop-at.invariant.turns c.in_ok-at.at c.fill_first.ensures.stays next.0 next.1 c.in_ok-at.ensures.fills;
       faults = fewer_then g.S.Storage.view g.F.BackingDisk.backing c.args.self.now c.loop-at.self c.fill_first.new.self c.loop-at.invariant.faults c.fill_first.ensures.faults.no_fewer;
+      emptied = λ none. c.in_ok-at.ensures.emptied (c.loop-at.invariant.emptied none);
     }
 
 pub returns-clause-fills : goal.returns-clause-fills
@@ -42,3 +44,6 @@ returns-in_err-at-clause-faults g c =
 
 pub returns-clause-faults : goal.returns-clause-faults
 returns-clause-faults g c = counted_ok g.S.Storage.view g.F.BackingDisk.backing c.args.self.now c.loop-at.self tt c.loop-at.invariant.faults
+
+pub returns-clause-emptied : goal.returns-clause-emptied
+returns-clause-emptied g c = λ none. c.loop-at.invariant.emptied none

@@ -1,13 +1,15 @@
 use Rattle.std.proofs.Common.{◌-◌}
 use Rattle.qcow2_image.specs.Faults.{NoFewerFaults}
+use Rattle.qcow2_image.specs.Image.{HasNothingToFree}
 use Rattle.qcow2_image.proofs.Preallocate.Turns.{FilledTo}
 use Rattle.qcow2_image.proofs.image.Qcow2.fill_range.Given as goal
 
--- zeros stand as far as the turns came
+-- zeros stand as far as the turns came, and nothing is to be freed where nothing was
 abbrev pub invariant-loop-at : goal.invariant-loop-at
 invariant-loop-at g l = record {
   turns : FilledTo g.S.Storage.view g.F.BackingDisk.backing l.from l.to l.at l.fn.self l.self;
   faults : NoFewerFaults g.S.Storage.view g.F.BackingDisk.backing l.fn.self l.self;
+  emptied : HasNothingToFree l.fn.self → HasNothingToFree l.self;
 }
 
 abbrev pub decreases-loop-at : goal.decreases-loop-at

@@ -10,14 +10,15 @@ use Rattle.qcow2_image.specs.CallParts.{UnseenCall}
 use Rattle.qcow2_image.specs.declared.image.Qcow2.{Qcow2}
 use Rattle.qcow2_image.specs.Found.{l1_index_of}
 use Rattle.qcow2_image.specs.Growing.{ReachesSize}
-use Rattle.qcow2_image.specs.Image.{is_failed, with_marks}
+use Rattle.qcow2_image.specs.Image.{HasNothingToFree, is_failed, with_marks}
 use Rattle.qcow2_image.specs.ImageInvariant.{ImageInvariant, pending_in}
 use Rattle.qcow2_image.specs.LongerTables.{MakesEntry}
 use Rattle.qcow2_image.specs.L1Entries.{ReachesOffset}
 use Rattle.qcow2_image.specs.Preallocation.{FillsGrown, FillsGrownOrRefuses}
 use Rattle.qcow2_image.specs.Refusals.{IsMet}
 use Rattle.qcow2_image.proofs.Call.Marked.{MayMarkBy, marks_memory, may_mark}
-use Rattle.qcow2_image.specs.Resizing.{GrowsTables, GrowsTo, RefusesUnchanged, WritesSizeLast}
+use Rattle.qcow2_image.specs.Resizing.{GrowsTables, GrowsTo, LacksZeros, RefusesUnchanged, WritesSizeLast}
+use Rattle.image_access.specs.declared.storage.PreallocateMode.TheVariants.{Zero}
 use Rattle.qcow2_image.proofs.Call.Refused.{stays_then}
 use Rattle.qcow2_image.proofs.Clear.ClearCalls.{err_is}
 use Rattle.qcow2_image.proofs.Grow.Lengths.{reaches_begun, reaches_on, reaches_told}
@@ -175,8 +176,8 @@ returns-clause-last g c = λ out sound.
     (ap (λ (i : Qcow2 _ _). i.number) c.write_size-written.ensures.rest ∙ c.mark_fault.ensures.image.number ∙ c.fill_grown-filled.ensures.stays.image.number ∙ numbered)
     (is_failed c.mark_fault-2.new.self) c.write_size-written.ensures.time out sound)
 
-pub returns-in_err-mark_failure-clause-version : goal.returns-in_err-mark_failure-clause-version
-returns-in_err-mark_failure-clause-version g c = λ zero lacks out sound.
+pub returns-in_err-mark_failure-clause-tables : goal.returns-in_err-mark_failure-clause-tables
+returns-in_err-mark_failure-clause-tables g c = λ out sound.
     let view = g.S.Storage.view in
     let below = g.F.BackingDisk.backing in
     let old = c.args.self.now in
@@ -186,47 +187,16 @@ returns-in_err-mark_failure-clause-version g c = λ zero lacks out sound.
     let e = c.in_err-mark_failure.field-0.0 in
     let marked = is_failed c.mark_failure.new.self in
     let done : c.renew_l1_table-longer.result ≡ Err c.in_err-mark_failure.field-0.0 = sym c.mark_failure.ensures.answer ∙ c.in_err-mark_failure.was in
-    subst (λ (r : Result _ _). RefusesUnchanged view below old c.mark_failure.new.self out r) (sym (err_is c.from_residual.result c.from_residual.ensures))
-    (subst (λ (image : Qcow2 _ _). RefusesUnchanged view below old image out (Err e)) (sym c.mark_failure.ensures.rest)
-    (unchanged_not view below old c.args.size c.args.mode c.requires.usable c.requires.larger begun mid e marked first
-    (λ list still. subst (MakesEntry view below begun mid list) done (c.renew_l1_table-longer.ensures.makes list still))
-    (c.renew_l1_table-longer.ensures.stays.image.number ∙ c.begin.ensures.stays.image.number)
-    (subst (λ (r : Result _ _). MayMarkBy r (is_failed mid) marked) done (may_mark c.renew_l1_table-longer.new.self c.mark_failure.new.self c.renew_l1_table-longer.result c.mark_failure.ensures.marks))
-    (subst (λ (r : Result _ _). IfErr r (λ x. x ≡ Memory → IsTrue mid.file.caches.is_changed → IsTrue marked)) done (marks_memory c.renew_l1_table-longer.new.self c.mark_failure.new.self c.renew_l1_table-longer.new.self c.renew_l1_table-longer.result c.mark_failure.ensures.marks (ap (λ (i : Qcow2 _ _). i.file) c.mark_failure.ensures.rest))) out))
-
-pub returns-in_err-mark_failure-clause-tables : goal.returns-in_err-mark_failure-clause-tables
-returns-in_err-mark_failure-clause-tables g c = λ out sound.
-    let e = c.in_err-mark_failure.field-0.0 in
-    let done : c.renew_l1_table-longer.result ≡ Err c.in_err-mark_failure.field-0.0 = sym c.mark_failure.ensures.answer ∙ c.in_err-mark_failure.was in
-    subst (λ (r : Result _ _). GrowsTables g.S.Storage.view g.F.BackingDisk.backing c.args.self.now c.mark_failure.new.self c.args.size c.args.mode out r) (sym (err_is c.from_residual.result c.from_residual.ensures))
-    (λ is. met_taken e (subst (λ (r : Result _ _). IfErr r IsMet) done c.renew_l1_table-longer.ensures.cause) is)
-
-pub returns-in_err-mark_fault-clause-version : goal.returns-in_err-mark_fault-clause-version
-returns-in_err-mark_fault-clause-version g c = λ zero lacks out sound.
-    let view = g.S.Storage.view in
-    let below = g.F.BackingDisk.backing in
-    let old = c.args.self.now in
-    let begun = c.begin.new.self in
-    let mid = c.renew_l1_table-longer.new.self in
-    let first = begun_call view below old begun (λ out sound. record { keeps = c.begin.ensures.keeps (pending_in view below old out) out sound; list = c.begin.ensures.list }) in
-    let long = c.mark_failure.new.self in
-    let made : c.renew_l1_table-longer.result ≡ Ok c.in_ok-mark_failure.field-0 = sym c.mark_failure.ensures.answer ∙ c.in_ok-mark_failure.was in
-    let kept = subst (λ (r : Result _ _). MayMarkBy r (is_failed mid) (is_failed long)) made (may_mark c.renew_l1_table-longer.new.self c.mark_failure.new.self c.renew_l1_table-longer.result c.mark_failure.ensures.marks) in
-    let same : c.mark_failure.new.self ≡ c.renew_l1_table-longer.new.self = c.mark_failure.ensures.rest ∙ ap (λ f. record mid { is_failed = f }) kept in
-    let begins = first out sound in
-    let lengthens = subst (MakesEntry view below begun mid out) made (c.renew_l1_table-longer.ensures.makes out begins.sound) in
-    let call : UnseenCall view below old c.mark_failure.new.self out = subst (λ (image : Qcow2 _ _). UnseenCall view below old image out) (sym same) (stays_then view below out old begun mid begins lengthens) in
-    let filled = c.fill_grown-filled.new.self in
-    let e = c.in_err-mark_fault.field-0.0 in
-    let marked = is_failed c.mark_fault.new.self in
-    let done : c.fill_grown-filled.result ≡ Err c.in_err-mark_fault.field-0.0 = sym c.mark_fault.ensures.answer ∙ c.in_err-mark_fault.was in
-    let refused = c.fill_grown-filled.ensures.version zero (subst (λ n. n < 3) (sym (same_version old.file.header.fields long.file.header.fields call.header)) lacks) in
-    let fault : Err e ≡ Err Version = sym done ∙ refused.0 in
-    subst (λ (r : Result _ _). RefusesUnchanged view below old c.mark_fault.new.self out r) (sym (err_is c.from_residual-in_err-mark_fault.result c.from_residual-in_err-mark_fault.ensures))
-    (subst (λ (image : Qcow2 _ _). RefusesUnchanged view below old image out (Err e)) (sym c.mark_fault.ensures.rest)
-    (unchanged_noted view below old (record filled { is_failed = marked }) (is_changed_of c.mark_fault.new.self.file.storage) c.args.size out (Err e) (refuses_version view below out old long filled e marked c.requires.usable call refused.1 (let is : e ≡ Version = cc in is)
-    (c.fill_grown-filled.ensures.stays.image.number ∙ c.mark_failure.ensures.image.number ∙ c.renew_l1_table-longer.ensures.stays.image.number ∙ c.begin.ensures.stays.image.number)
-    (subst (λ (r : Result _ _). MayMarkBy r (is_failed filled) marked) done (may_mark c.fill_grown-filled.new.self c.mark_fault.new.self c.fill_grown-filled.result c.mark_fault.ensures.marks)))))
+    subst (λ (r : Result _ _). GrowsTables view below old c.mark_failure.new.self c.args.size c.args.mode out r) (sym (err_is c.from_residual.result c.from_residual.ensures))
+    (record {
+      taken = λ is. met_taken e (subst (λ (r : Result _ _). IfErr r IsMet) done c.renew_l1_table-longer.ensures.cause) is;
+      zeros = λ zero lacks. subst (λ (image : Qcow2 _ _). RefusesUnchanged view below old image out e) (sym c.mark_failure.ensures.rest)
+          (unchanged_not view below old c.args.size c.args.mode c.requires.usable c.requires.larger begun mid e marked first
+          (λ list still. subst (MakesEntry view below begun mid list) done (c.renew_l1_table-longer.ensures.makes list still))
+          (c.renew_l1_table-longer.ensures.stays.image.number ∙ c.begin.ensures.stays.image.number)
+          (subst (λ (r : Result _ _). MayMarkBy r (is_failed mid) marked) done (may_mark c.renew_l1_table-longer.new.self c.mark_failure.new.self c.renew_l1_table-longer.result c.mark_failure.ensures.marks))
+          (subst (λ (r : Result _ _). IfErr r (λ x. x ≡ Memory → IsTrue mid.file.caches.is_changed → IsTrue marked)) done (marks_memory c.renew_l1_table-longer.new.self c.mark_failure.new.self c.renew_l1_table-longer.new.self c.renew_l1_table-longer.result c.mark_failure.ensures.marks (ap (λ (i : Qcow2 _ _). i.file) c.mark_failure.ensures.rest))) out);
+    })
 
 pub returns-in_err-mark_fault-clause-tables : goal.returns-in_err-mark_fault-clause-tables
 returns-in_err-mark_fault-clause-tables g c = λ out sound.
@@ -245,29 +215,20 @@ returns-in_err-mark_fault-clause-tables g c = λ out sound.
     let call : UnseenCall view below old c.mark_failure.new.self out = subst (λ (image : Qcow2 _ _). UnseenCall view below old image out) (sym same) (stays_then view below out old begun mid begins lengthens) in
     let filled = c.fill_grown-filled.new.self in
     let e = c.in_err-mark_fault.field-0.0 in
+    let marked = is_failed c.mark_fault.new.self in
     let done : c.fill_grown-filled.result ≡ Err c.in_err-mark_fault.field-0.0 = sym c.mark_fault.ensures.answer ∙ c.in_err-mark_fault.was in
     subst (λ (r : Result _ _). GrowsTables view below old c.mark_fault.new.self c.args.size c.args.mode out r) (sym (err_is c.from_residual-in_err-mark_fault.result c.from_residual-in_err-mark_fault.ensures))
-    (taken_behind view below out old long filled c.mark_fault.new.self c.args.size c.args.mode e call
-    (subst (FillsGrownOrRefuses view below c.args.size c.args.mode long filled out) done (c.fill_grown-filled.ensures.fills out call.sound)))
-
-pub returns-clause-version : goal.returns-clause-version
-returns-clause-version g c = λ zero lacks out sound.
-    let view = g.S.Storage.view in
-    let below = g.F.BackingDisk.backing in
-    let old = c.args.self.now in
-    let begun = c.begin.new.self in
-    let mid = c.renew_l1_table-longer.new.self in
-    let first = begun_call view below old begun (λ out sound. record { keeps = c.begin.ensures.keeps (pending_in view below old out) out sound; list = c.begin.ensures.list }) in
-    let long = c.mark_failure.new.self in
-    let made : c.renew_l1_table-longer.result ≡ Ok c.in_ok-mark_failure.field-0 = sym c.mark_failure.ensures.answer ∙ c.in_ok-mark_failure.was in
-    let kept = subst (λ (r : Result _ _). MayMarkBy r (is_failed mid) (is_failed long)) made (may_mark c.renew_l1_table-longer.new.self c.mark_failure.new.self c.renew_l1_table-longer.result c.mark_failure.ensures.marks) in
-    let same : c.mark_failure.new.self ≡ c.renew_l1_table-longer.new.self = c.mark_failure.ensures.rest ∙ ap (λ f. record mid { is_failed = f }) kept in
-    let begins = first out sound in
-    let lengthens = subst (MakesEntry view below begun mid out) made (c.renew_l1_table-longer.ensures.makes out begins.sound) in
-    let call : UnseenCall view below old c.mark_failure.new.self out = subst (λ (image : Qcow2 _ _). UnseenCall view below old image out) (sym same) (stays_then view below out old begun mid begins lengthens) in
-    let put : c.fill_grown-filled.result ≡ Ok c.in_ok-mark_fault.field-0 = sym c.mark_fault.ensures.answer ∙ c.in_ok-mark_fault.was in
-    let refused = c.fill_grown-filled.ensures.version zero (subst (λ n. n < 3) (sym (same_version old.file.header.fields long.file.header.fields call.header)) lacks) in
-    absurd (let no : Ok c.in_ok-mark_fault.field-0 ≡ Err Version = sym put ∙ refused.0 in cc)
+    (record {
+      taken = taken_behind view below out old long filled c.args.size c.args.mode e call
+          (subst (FillsGrownOrRefuses view below c.args.size c.args.mode long filled out) done (c.fill_grown-filled.ensures.fills out call.sound));
+      zeros = λ zero lacks.
+          let refused = c.fill_grown-filled.ensures.version zero (subst (λ n. n < 3) (sym (same_version old.file.header.fields long.file.header.fields call.header)) lacks) in
+          let fault : Err e ≡ Err Version = sym done ∙ refused.0 in
+          subst (λ (image : Qcow2 _ _). RefusesUnchanged view below old image out e) (sym c.mark_fault.ensures.rest)
+          (unchanged_noted view below old (record filled { is_failed = marked }) (is_changed_of c.mark_fault.new.self.file.storage) c.args.size out e (refuses_version view below out old long filled e marked c.requires.usable call refused.1 (let is : e ≡ Version = cc in is)
+          (c.fill_grown-filled.ensures.stays.image.number ∙ c.mark_failure.ensures.image.number ∙ c.renew_l1_table-longer.ensures.stays.image.number ∙ c.begin.ensures.stays.image.number)
+          (subst (λ (r : Result _ _). MayMarkBy r (is_failed filled) marked) done (may_mark c.fill_grown-filled.new.self c.mark_fault.new.self c.fill_grown-filled.result c.mark_fault.ensures.marks))));
+    })
 
 pub returns-clause-tables : goal.returns-clause-tables
 returns-clause-tables g c = λ out sound.
@@ -298,12 +259,18 @@ returns-clause-tables g c = λ out sound.
     (reaches_told view below out (pending_in view below begun out) (pending_in view below mid out) begun mid (c.args.size - 1) begins.sound lengthens.sound length) in
     let longer = subst (λ (image : Qcow2 _ _). ReachesOffset (c.args.size - 1) old.file.header.fields image.file.header.fields) (sym same) told in
     let as_long = reaches_on old.file.header.fields long.file.header.fields c.mark_fault.new.self.file.header.fields c.args.size (let l = c.requires.larger in omega (arith, l)) call.header longer grown.length in
+    let never : c.args.mode ≡ Zero → LacksZeros old → ⊥ = λ zero lacks.
+    let refused = c.fill_grown-filled.ensures.version zero (subst (λ n. n < 3) (sym (same_version old.file.header.fields long.file.header.fields call.header)) lacks) in
+    absurd (let no : Ok c.in_ok-mark_fault.field-0 ≡ Err Version = sym put ∙ refused.0 in cc) in
     let new = c.write_size-written.new.self in
+    let none : HasNothingToFree mid = subst (λ (r : Result _ _). OnOk r (HasNothingToFree mid)) made c.renew_l1_table-longer.ensures.emptied in
+    let still : HasNothingToFree filled = subst (λ (r : Result _ _). OnOk r (HasNothingToFree filled)) put (c.fill_grown-filled.ensures.emptied (subst (λ (image : Qcow2 _ _). HasNothingToFree image) (sym same) none)) in
+    let emptied : HasNothingToFree new = ap (λ (i : Qcow2 _ _). i.file.free_list) c.write_size-written.ensures.rest ∙ subst (λ (image : Qcow2 _ _). HasNothingToFree image) (sym whole) still in
     subst (λ (image : Qcow2 _ _). GrowsTables view below old image c.args.size c.args.mode out c.mark_fault-2.result) (sym c.mark_fault-2.ensures.rest)
     (subst (λ (r : Result _ _). GrowsTables view below old (with_marks new (is_changed_of c.mark_fault-2.new.self.file.storage) (is_failed c.mark_fault-2.new.self)) c.args.size c.args.mode out r) (sym c.mark_fault-2.ensures.answer)
     (tables_noted view below old (record new { is_failed = is_failed c.mark_fault-2.new.self }) (is_changed_of c.mark_fault-2.new.self.file.storage) c.args.size c.args.mode out c.write_size-written.result (tables_sized view below out old c.mark_fault.new.self new (is_failed c.mark_fault-2.new.self) c.args.size c.args.mode c.write_size-written.result (file_step_then old.file.header.fields long.file.header.fields c.mark_fault.new.self.file.header.fields call.header grown.header) c.write_size-written.ensures.cause c.write_size-written.ensures.header
     (subst (λ (image : Qcow2 _ _). ReachesSize (with_size image.file.header.fields c.args.size)) (sym whole) reached) as_long
-    (leaves_sized view below out old long c.mark_fault.new.self new c.args.size c.args.mode c.write_size-written.result call grown (c.write_size-written.ensures.writes out grown.sound)))))
+    (leaves_sized view below out old long c.mark_fault.new.self new c.args.size c.args.mode c.write_size-written.result call grown (c.write_size-written.ensures.writes out grown.sound)) emptied never)))
 
 pub returns-in_err-mark_failure-clause-faults : goal.returns-in_err-mark_failure-clause-faults
 returns-in_err-mark_failure-clause-faults g c =

@@ -10,6 +10,7 @@ use Rattle.qcow2_image.specs.UnseenSteps.{UnseenFillingStep, RefusedFillingStep,
 use Rattle.qcow2_image.specs.ImageInvariant.{run_of, new_data_by, over_all}
 use Rattle.qcow2_image.proofs.Prepare.Gaining.{listed_after_on, image_step_left, taken_new_data, taken_unused, still_holds, filled_as}
 use Rattle.qcow2_image.proofs.Prepare.Filling.{image_step_then}
+use Rattle.qcow2_image.proofs.Prepare.Listing.{lists_still}
 use Rattle.qcow2_image.proofs.image.Qcow2.new_cluster.Goals as goal
 
 pub returns-in-Ok-clause-gains : goal.returns-in-Ok-clause-gains
@@ -56,3 +57,6 @@ returns-in-Err-clause-gains g c = λ p out sound holds.
     let gone = subst (λ q. UnseenFillingStep view below p (with_new_data q (run_of n)) old new out) (listed_after_on view below out p old mid new c.fill_cluster.ensures.list) filled in
     subst (λ (image : Qcow2 _ _). RefusedFillingStep view below p old image out c.in-Err.refusal) (sym c.hand_back.ensures)
     (inl (image_step_left view below out old new p n took.0 took.1 gone))
+
+pub returns-in-Ok-clause-former : goal.returns-in-Ok-clause-former
+returns-in-Ok-clause-former g c = lists_still c.args.self.now c.take_data.new.self c.fill_cluster.new.self c.take_data.ensures.former (record { allocator = c.fill_cluster.ensures.allocator; list = c.fill_cluster.ensures.list })

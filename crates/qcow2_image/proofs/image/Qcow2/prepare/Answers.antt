@@ -12,8 +12,8 @@ pub returns-in-Err-clause-readies : goal.returns-in-Err-clause-readies
 returns-in-Err-clause-readies g c = λ some out sound.
     back_then_freed g.S.Storage.view g.F.BackingDisk.backing out c.args.self.now c.prepare_range.new.self c.free_after.new.self c.in-Err.refusal c.free_after.result (c.in-Err.ensures.readies some out sound) c.free_after.ensures.fault (c.free_after.ensures.frees out)
 
-pub returns-in-Err-clause-emptied : goal.returns-in-Err-clause-emptied
-returns-in-Err-clause-emptied g c = λ some out sound. ⊎_elim
+pub returns-in-Err-clause-listed : goal.returns-in-Err-clause-listed
+returns-in-Err-clause-listed g c = λ some out sound. ⊎_elim
     (λ unseen. c.free_after.ensures.emptied (subst IsTrue (sym c.prepare_range.ensures.stays.image.writable) c.requires.writable) out unseen.sound)
     (λ interruption. inl (subst IsFault (sym (c.free_after.ensures.fault interruption.fault).0) interruption.fault))
     (c.in-Err.ensures.readies some out sound)
@@ -29,5 +29,5 @@ returns-in-Err-clause-faults g c =
     counted_of view below old c.free_after.new.self c.free_after.result
     (c.free_after.ensures.faults old (counted_as view below old old c.prepare_range.new.self c.prepare_range.result c.in-Err.refusal (untouched view below old old refl refl) c.prepare_range.ensures.faults c.in-Err.is))
 
-pub returns-in-Ok-clause-reaches : goal.returns-in-Ok-clause-reaches
-returns-in-Ok-clause-reaches g c = λ out sound. c.in-Ok.ensures.reaches out sound
+pub returns-in-Ok-clause-listed : goal.returns-in-Ok-clause-listed
+returns-in-Ok-clause-listed g c = λ some out sound. c.in-Ok.ensures.tables out sound

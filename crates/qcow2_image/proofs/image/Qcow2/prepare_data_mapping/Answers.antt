@@ -1,22 +1,20 @@
 use Rattle.std.proofs.Common.{◌≡◌, ◌<◌, sym, ◌∙◌, subst, arith, ap}
-use Rattle.std.specs.Prelude.{IfErr, IfOk, OnOk, Result}
+use Rattle.std.specs.Prelude.{IfErr, IfOk, Result}
 use Rattle.qcow2_alloc.specs.declared.error.ImageError.TheVariants.{TablePrepared}
 use Rattle.qcow2_alloc.specs.ImageFile.{known_in}
 use Rattle.qcow2_image.specs.Preparing.{IsAnswered, IsTaken}
-use Rattle.qcow2_image.proofs.Grow.Lengths.{on_ok, reaches_begun}
 use Rattle.qcow2_image.proofs.Map.Loading.{if_ok}
 use Rattle.qcow2_image.proofs.Prepare.PreparedAs.{answered_before, taken_before}
 use Rattle.qcow2_image.proofs.Prepare.Taken.{if_err}
 use Rattle.qcow2_image.specs.declared.image.Qcow2.{Qcow2}
 use Rattle.qcow2_image.specs.Calls.{Prepares}
 use Rattle.qcow2_image.specs.Image.{is_failed}
-use Rattle.qcow2_image.specs.L1Entries.{ReachesOffset}
-use Rattle.qcow2_image.specs.Refusals.{FreesRefused}
+use Rattle.qcow2_image.specs.ListedClusters.{PreparesList}
 use Rattle.qcow2_image.specs.CallParts.{IsExisting}
 use Rattle.qcow2_image.specs.ImageInvariant.{meaning, pending_in}
 use Rattle.qcow2_image.proofs.Call.Called.{listed}
 use Rattle.qcow2_image.proofs.Call.Answers.{prepare_usable}
-use Rattle.qcow2_image.proofs.Prepare.PrepareCalls.{prepares_nothing, prepares_with_outcome}
+use Rattle.qcow2_image.proofs.Prepare.PrepareCalls.{lists_begun, prepares_nothing, prepares_with_outcome}
 use Rattle.qcow2_image.proofs.Call.Refused.{prepares_after, stays_kept}
 use Rattle.qcow2_image.proofs.Call.FaultCounts.{counted_marked}
 use Rattle.qcow2_image.proofs.Call.Marked.{marks_memory, may_mark}
@@ -74,32 +72,21 @@ returns-clause-taken g c = λ may out sound.
     (λ e taken is. taken_before view old mid c.args.offset c.args.length stays.header stays.covers out (taken is))
     (c.prepare-prepared.ensures.taken some out stays.sound))
 
-pub returns-clause-emptied : goal.returns-clause-emptied
-returns-clause-emptied g c = λ may out sound.
+pub returns-then-length-eq0-clause-listed : goal.returns-then-length-eq0-clause-listed
+returns-then-length-eq0-clause-listed g c = λ may some out sound. absurd (let none = c.if-length-eq0.true in omega (arith, none, some))
+
+pub returns-clause-listed : goal.returns-clause-listed
+returns-clause-listed g c = λ may some out sound.
     let view = g.S.Storage.view in
     let below = g.F.BackingDisk.backing in
     let old = c.args.self.now in
     let mid = c.begin.new.self in
     let new = c.prepare-prepared.new.self in
-    let some : 0 < c.args.length = let isnt = c.if-length-eq0.false in omega arith in
     let stays = stays_kept view below out old mid sound (listed view below out old mid (λ s. record { keeps = c.begin.ensures.keeps (pending_in view below old out) out s; list = c.begin.ensures.list }) sound) in
-    subst (λ (image : Qcow2 _ _). IfErr c.mark_failure.result (FreesRefused image)) (sym c.mark_failure.ensures.rest)
-    (subst (λ (r : Result _ _). IfErr r (FreesRefused (record new { is_failed = is_failed c.mark_failure.new.self }))) (sym c.mark_failure.ensures.answer)
-    (c.prepare-prepared.ensures.emptied some out stays.sound))
+    subst (λ (image : Qcow2 _ _). PreparesList c.args.offset old image c.mark_failure.result) (sym c.mark_failure.ensures.rest)
+    (subst (λ (r : Result _ _). PreparesList c.args.offset old (record new { is_failed = is_failed c.mark_failure.new.self }) r) (sym c.mark_failure.ensures.answer)
+    (lists_begun old mid new (is_failed c.mark_failure.new.self) c.args.offset c.prepare-prepared.result c.begin.ensures.rest (c.prepare-prepared.ensures.listed some out stays.sound)))
 
 pub returns-clause-faults : goal.returns-clause-faults
 returns-clause-faults g c =
     counted_marked g.S.Storage.view g.F.BackingDisk.backing c.args.self.now c.begin.new.self c.prepare-prepared.new.self c.mark_failure.new.self c.prepare-prepared.result c.mark_failure.result c.begin.ensures.faults c.prepare-prepared.ensures.faults c.mark_failure.ensures.answer c.mark_failure.ensures.rest
-
-pub returns-clause-reaches : goal.returns-clause-reaches
-returns-clause-reaches g c = λ some out sound.
-    let view = g.S.Storage.view in
-    let below = g.F.BackingDisk.backing in
-    let old = c.args.self.now in
-    let mid = c.begin.new.self in
-    let new = c.prepare-prepared.new.self in
-    let step = c.begin.ensures.keeps (pending_in view below old out) out sound in
-    let stays = stays_kept view below out old mid sound (listed view below out old mid (λ s. record { keeps = c.begin.ensures.keeps (pending_in view below old out) out s; list = c.begin.ensures.list }) sound) in
-    subst (λ (image : Qcow2 _ _). OnOk c.mark_failure.result (ReachesOffset c.args.offset old.file.header.fields image.file.header.fields)) (sym c.mark_failure.ensures.rest)
-    (subst (λ (r : Result _ _). OnOk r (ReachesOffset c.args.offset old.file.header.fields new.file.header.fields)) (sym c.mark_failure.ensures.answer)
-    (on_ok c.prepare-prepared.result (reaches_begun old.file.header.fields mid.file.header.fields new.file.header.fields c.args.offset step.unseen.header) (c.prepare-prepared.ensures.reaches out stays.sound)))

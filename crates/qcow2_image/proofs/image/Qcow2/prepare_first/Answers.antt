@@ -15,6 +15,8 @@ use Rattle.qcow2_image.proofs.Prepare.KeptShares.{data_keep_none}
 use Rattle.qcow2_image.proofs.Prepare.Onward.{if_room, room_as}
 use Rattle.qcow2_image.proofs.Prepare.Owning.{refused as any_refusal}
 use Rattle.qcow2_image.proofs.Prepare.ReadyingNew.{back_none, first_stands, not_pinned, readied_in_place}
+use Rattle.qcow2_image.proofs.Prepare.Listing.{lists_none, lists_still}
+use Rattle.qcow2_image.specs.declared.image.Qcow2.{Qcow2}
 use Rattle.qcow2_image.proofs.image.Qcow2.prepare_first.Goals as goal
 
 pub returns-then-l2_is_pinned-clause-readies : goal.returns-then-l2_is_pinned-clause-readies
@@ -85,3 +87,9 @@ returns-in-None-clause-kept g c = λ out sound holds.
     let p = pending_in view g.F.BackingDisk.backing old out in
     let covered = first_stands view g.F.BackingDisk.backing old p c.args.offset c.args.table c.new.result c.cluster_bits.result c.cluster-cluster.result c.in_ok-old.old c.cluster-cluster.ensures c.new.ensures c.cluster_bits.ensures.value holds (c.in_ok-old.ensures.says p (l1_index_of old.file.header.fields c.args.offset) sound.file) in
     if_ok c.prepare_private.result (λ p begins host at. begins host (sym covered ∙ at)) c.prepare_private.ensures.kept
+
+pub returns-in-Some-clause-former : goal.returns-in-Some-clause-former
+returns-in-Some-clause-former g c =
+    let then = c.prepare_at.ensures.pins.rest in
+    lists_still c.args.self.now c.args.self.now c.prepare_at.new.self (lists_none c.args.self.now c.requires.writable)
+    (record { allocator = ap (λ (image : Qcow2 _ _). image.allocator) then; list = ap (λ (image : Qcow2 _ _). image.file.free_list) then })

@@ -12,6 +12,7 @@ use Rattle.qcow2_image.proofs.Call.Refused.{back_refused}
 use Rattle.qcow2_image.proofs.Free.{free_places}
 use Rattle.qcow2_image.proofs.Prepare.Onward.{release_prepared_broken, refused_free}
 use Rattle.qcow2_image.proofs.Call.FaultCounts.{counted_as, counted_still}
+use Rattle.qcow2_image.proofs.Prepare.Listing.{lists_then}
 use Rattle.qcow2_image.proofs.image.Qcow2.prepare_in.Goals as goal
 
 pub returns-in_err-prepared-clause-readies : goal.returns-in_err-prepared-clause-readies
@@ -95,3 +96,6 @@ returns-in-Err-clause-header g c =
     let old = c.args.self.now in
     subst (λ v. KeepsHeader old.file.header v) (sym (ap (λ (i : Qcow2 _ _). i.file.header) c.release_prepared.ensures.rest.rest))
     (header_then old.file.header c.prepare_first.new.self.file.header c.prepare_rest.new.self.file.header c.prepare_first.ensures.header c.prepare_rest.ensures.header)
+
+pub returns-in-Ok-clause-former : goal.returns-in-Ok-clause-former
+returns-in-Ok-clause-former g c = lists_then c.args.self.now c.prepare_first.new.self c.prepare_rest.new.self c.in_ok-prepared.ensures.former c.in-Ok.ensures.former

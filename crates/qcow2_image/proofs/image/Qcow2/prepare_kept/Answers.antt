@@ -45,3 +45,12 @@ returns-clause-first g c =
 pub returns-clause-place : goal.returns-clause-place
 returns-clause-place g c =
     ap (λ (x : Prepared). x.offset) c.prepare_at.ensures.value ∙ ap (λ (image : Qcow2 _ _). c.args.host + c.args.offset % cluster_size image.file.header.fields) c.fill_kept.ensures.rest
+
+pub returns-in_err-fill_kept-clause-list : goal.returns-in_err-fill_kept-clause-list
+returns-in_err-fill_kept-clause-list g c = record { allocator = ap (λ (image : Qcow2 _ _). image.allocator) c.fill_kept.ensures.rest; list = ap (λ (image : Qcow2 _ _). image.file.free_list) c.fill_kept.ensures.rest }
+
+pub returns-clause-list : goal.returns-clause-list
+returns-clause-list g c =
+    let first = c.fill_kept.ensures.rest in
+    let then = c.prepare_at.ensures.pins.rest in
+    record { allocator = ap (λ (image : Qcow2 _ _). image.allocator) then ∙ ap (λ (image : Qcow2 _ _). image.allocator) first; list = ap (λ (image : Qcow2 _ _). image.file.free_list) then ∙ ap (λ (image : Qcow2 _ _). image.file.free_list) first }

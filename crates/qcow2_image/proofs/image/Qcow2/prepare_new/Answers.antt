@@ -16,6 +16,7 @@ use Rattle.qcow2_image.proofs.Prepare.Gaining.{listed_after_on, image_step_left,
 use Rattle.qcow2_image.proofs.Prepare.Filling.{image_step_kept, image_step_then}
 use Rattle.qcow2_image.proofs.Prepare.Owning.{refused as any_refusal}
 use Rattle.qcow2_image.proofs.Prepare.ReadyingNew.{back_none, readied_new}
+use Rattle.qcow2_image.proofs.Prepare.Listing.{lists_still}
 use Rattle.qcow2_image.proofs.image.Qcow2.prepare_new.Goals as goal
 
 pub returns-in_err-old_data-clause-readies : goal.returns-in_err-old_data-clause-readies
@@ -79,3 +80,9 @@ returns-in-Ok-clause-first g c =
     let size : cluster_size mid.file.header.fields ≡ cluster_size h = ap (λ (x : HeaderFields). cluster_size x) (ap (λ x. x.fields) c.in-Ok.ensures.header ∙ format) in
     subst (λ (x : Prepared). IsFirst h c.args.offset c.args.table x) (sym c.prepare_at.ensures.value)
     (record { guest = refl; under = refl; rest = ap (λ s. s - c.args.offset % s) size; one = ap (λ (l : List Share). length l) c.prepare_at.ensures.share })
+
+pub returns-in-Ok-clause-former : goal.returns-in-Ok-clause-former
+returns-in-Ok-clause-former g c =
+    let then = c.prepare_at.ensures.pins.rest in
+    lists_still c.args.self.now c.new_cluster.new.self c.prepare_at.new.self c.in_ok-pending.ensures.former
+    (record { allocator = ap (λ (image : Qcow2 _ _). image.allocator) then ∙ c.load_l2.ensures.allocator; list = ap (λ (image : Qcow2 _ _). image.file.free_list) then ∙ c.load_l2.ensures.list })

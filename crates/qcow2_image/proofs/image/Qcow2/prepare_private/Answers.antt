@@ -1,6 +1,8 @@
 use Rattle.std.proofs.Common.{refl, ◌∙◌}
 use Rattle.qcow2_image.proofs.Map.Loading.{if_ok, if_ok_any}
 use Rattle.qcow2_image.proofs.Prepare.KeptShares.{begins_kept}
+use Rattle.qcow2_alloc.proofs.KeptTables.Turning.{always_ok}
+use Rattle.qcow2_image.proofs.Prepare.Listing.{lists_none, lists_still}
 use Rattle.qcow2_image.proofs.image.Qcow2.prepare_private.Goals as goal
 
 pub returns-in-Some-clause-readies : goal.returns-in-Some-clause-readies
@@ -11,3 +13,6 @@ returns-in-Some-clause-kept g c = if_ok c.prepare_kept.result (λ p place. begin
 
 pub returns-in-None-clause-kept : goal.returns-in-None-clause-kept
 returns-in-None-clause-kept g c = if_ok_any c.prepare_new.result (λ p host at. absurd (c.in-None.ensures.none refl host at))
+
+pub returns-in-Some-clause-former : goal.returns-in-Some-clause-former
+returns-in-Some-clause-former g c = always_ok c.prepare_kept.result (lists_still c.args.self.now c.args.self.now c.prepare_kept.new.self (lists_none c.args.self.now c.requires.writable) c.prepare_kept.ensures.list)

@@ -1,17 +1,18 @@
 use Rattle.std.proofs.Common.{inl, refl, sym, ◌∙◌, subst, None, [], ◌∷◌}
 use Rattle.qcow2_alloc.specs.ImageFile.{known_in}
 use Rattle.qcow2_alloc.proofs.AllocationSteps.{handed_on}
-use Rattle.qcow2_alloc.proofs.KeptTables.Turning.{always_ok}
 use Rattle.qcow2_image.specs.CallParts.{PreparesRange}
 use Rattle.qcow2_image.specs.Preparing.{IsPlaceOf, IsWritableAt}
 use Rattle.qcow2_image.specs.ImageInvariant.{meaning, pending_in}
 use Rattle.qcow2_image.proofs.Prepare.PreparedAs.{answered_before, answered_existing, answered_range, taken_before}
 use Rattle.qcow2_image.proofs.Map.Loading.{if_ok}
 use Rattle.qcow2_image.proofs.Free.{free_places}
-use Rattle.qcow2_image.proofs.Grow.Lengths.{kept_length}
+use Rattle.qcow2_image.proofs.Grow.Lengths.{kept_length, on_ok}
 use Rattle.qcow2_image.proofs.Prepare.Preparing.{readied_existing}
 use Rattle.qcow2_image.proofs.Call.Refused.{prepares_after, readied_after}
 use Rattle.qcow2_image.proofs.Prepare.Taken.{if_err, taken_by}
+use Rattle.qcow2_image.proofs.Prepare.Listing.{lists_none}
+use Rattle.std.specs.Prelude.{IsTrue}
 use Rattle.qcow2_image.proofs.image.Qcow2.prepare_range.Goals as goal
 
 pub returns-in_err-table-clause-readies : goal.returns-in_err-table-clause-readies
@@ -85,9 +86,22 @@ returns-in-None-clause-taken g c = λ some out sound.
     taken_before view old mid c.args.offset c.args.length found.0.header found.0.covers out
     (taken_by view below mid p out found.0.sound c.args.offset c.in_ok-table.table found.1 (known_in view mid.file) c.args.length (taken is) place)) c.prepare_in.ensures.taken
 
-pub returns-in-Some-clause-reaches : goal.returns-in-Some-clause-reaches
-returns-in-Some-clause-reaches g c = λ out sound. c.in_ok-table.ensures.reaches out sound
+pub returns-in-Some-clause-tables : goal.returns-in-Some-clause-tables
+returns-in-Some-clause-tables g c = λ out sound.
+    let mid = c.table_for.new.self in
+    record {
+      reaches = c.in_ok-table.ensures.reaches out sound;
+      held = mid;
+      freed = c.in_ok-table.ensures.freed out sound;
+      since = lists_none mid (subst IsTrue (sym c.table_for.ensures.stays.image.writable) c.requires.writable);
+    }
 
-pub returns-in-None-clause-reaches : goal.returns-in-None-clause-reaches
-returns-in-None-clause-reaches g c = λ out sound.
-    always_ok c.prepare_in.result (kept_length c.table_for.new.self.file.header c.prepare_in.new.self.file.header c.prepare_in.ensures.header ∙ c.in_ok-table.ensures.reaches out sound)
+pub returns-in-None-clause-tables : goal.returns-in-None-clause-tables
+returns-in-None-clause-tables g c = λ out sound.
+    on_ok c.prepare_in.result
+    (λ former. record {
+      reaches = kept_length c.table_for.new.self.file.header c.prepare_in.new.self.file.header c.prepare_in.ensures.header ∙ c.in_ok-table.ensures.reaches out sound;
+      held = c.table_for.new.self;
+      freed = c.in_ok-table.ensures.freed out sound;
+      since = former;
+    }) c.prepare_in.ensures.former

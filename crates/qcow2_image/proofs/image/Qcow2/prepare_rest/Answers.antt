@@ -7,6 +7,7 @@ use Rattle.qcow2_image.specs.Ranges.{BreaksOff, Ends, GoesNext, GoesOn}
 use Rattle.qcow2_image.proofs.Call.Slots.{get_set_same}
 use Rattle.qcow2_image.proofs.Prepare.Onward.{may_go_on, so_far_all, so_far_ends, so_far_next}
 use Rattle.qcow2_image.proofs.Call.FaultCounts.{counted_ok, counted_on, fewer_then}
+use Rattle.qcow2_image.proofs.Prepare.Listing.{lists_none, lists_then}
 use Rattle.qcow2_image.proofs.image.Qcow2.prepare_rest.Goals as goal
 
 pub returns-in_err-prepare_next-clause-image_step : goal.returns-in_err-prepare_next-clause-image_step
@@ -69,6 +70,7 @@ loop-prepared-preserved g c =
           (c.prepare_next.ensures.next (c.in_ok-prepare_next.was ∙ ap Ok c.if-not-branch.false)) c.prepare_next.ensures.room
           (λ out k at may sound. subst (λ b. GoesNext view below now new out k n c.args.overwrite q r (Ok b)) c.if-not-branch.false (c.in_ok-prepare_next.ensures.image_step out k at may sound));
       faults = fewer_then view below c.args.self.now now new c.loop-prepared.invariant.faults c.prepare_next.ensures.faults.no_fewer;
+      former = lists_then c.args.self.now now new c.loop-prepared.invariant.former c.in_ok-prepare_next.ensures.former;
     }
 
 pub returns-clause-image_step : goal.returns-clause-image_step
@@ -89,3 +91,6 @@ returns-then-not-branch-clause-faults g c =
 
 pub returns-clause-faults : goal.returns-clause-faults
 returns-clause-faults g c = counted_ok g.S.Storage.view g.F.BackingDisk.backing c.args.self.now c.loop-prepared.self tt c.loop-prepared.invariant.faults
+
+pub returns-then-not-branch-clause-former : goal.returns-then-not-branch-clause-former
+returns-then-not-branch-clause-former g c = lists_then c.args.self.now c.loop-prepared.self c.prepare_next.new.self c.loop-prepared.invariant.former c.in_ok-prepare_next.ensures.former

@@ -24,9 +24,8 @@ returns-then-size-clause-sees g c =
 pub returns-then-takes_over-clause-sees : goal.returns-then-takes_over-clause-sees
 returns-then-takes_over-clause-sees g c = grows_over g.S.Storage.view g.F.BackingDisk.backing c.args.self.now c.args.size c.args.mode
 
-pub returns-then-takes_over-clause-version : goal.returns-then-takes_over-clause-version
-returns-then-takes_over-clause-version g c = λ none larger zero lacks out sound.
-    absurd (let no : true ≡ false = sym c.if-takes_over.true ∙ c.takes_over.ensures ∙ ap (takes_over c.args.self.now) zero in cc)
-
 pub returns-then-takes_over-clause-tables : goal.returns-then-takes_over-clause-tables
-returns-then-takes_over-clause-tables g c = λ none larger out sound is. absurd cc
+returns-then-takes_over-clause-tables g c = λ none larger out sound. record {
+  taken = λ is. absurd cc;
+  zeros = λ zero lacks. absurd (let no : true ≡ false = sym c.if-takes_over.true ∙ c.takes_over.ensures ∙ ap (takes_over c.args.self.now) zero in cc);
+}

@@ -13,6 +13,7 @@ use Rattle.qcow2_image.proofs.Call.Refused.{back_refused}
 use Rattle.qcow2_image.proofs.Prepare.Gaining.{listed_after_same}
 use Rattle.qcow2_image.proofs.Prepare.KeptShares.{behind_alone, behind_kept}
 use Rattle.qcow2_image.proofs.Prepare.Behind.{behind_in_place, ends_elsewhere, finds_shared, next_cluster, next_says}
+use Rattle.qcow2_image.proofs.Prepare.Listing.{lists_none, lists_still}
 use Rattle.qcow2_image.proofs.image.Qcow2.share_behind.Goals as goal
 
 pub returns-in-Some-copied_place-clause-finds : goal.returns-in-Some-copied_place-clause-finds
@@ -99,3 +100,15 @@ returns-in-None-2-clause-finds g c = λ out k at may sound.
     (subst (λ x. SharesAt view below before old new out x (n - p.length) o mapping (p.offset + p.length) r) c.in-Some.ensures.1
     (subst (λ x. SharesAt view below before old new out c.in-Some.next x o mapping (p.offset + p.length) r) c.saturating_sub-left.ensures
     (subst (λ x. SharesAt view below before old new out c.in-Some.next c.saturating_sub-left.result o mapping x r) c.in-Some-checked_add.ensures.1 (c.share_at.ensures.shares before out sound (λ m. omega arith)))))
+
+pub returns-in-Some-copied_place-clause-former : goal.returns-in-Some-copied_place-clause-former
+returns-in-Some-copied_place-clause-former g c = lists_none c.args.self.now c.requires.writable
+
+pub returns-in-Some-2-clause-former : goal.returns-in-Some-2-clause-former
+returns-in-Some-2-clause-former g c = lists_none c.args.self.now c.requires.writable
+
+pub returns-in_ok-fill_kept-in-None-clause-former : goal.returns-in_ok-fill_kept-in-None-clause-former
+returns-in_ok-fill_kept-in-None-clause-former g c =
+    let rest = c.fill_kept.ensures.rest in
+    lists_still c.args.self.now c.args.self.now c.fill_kept.new.self (lists_none c.args.self.now c.requires.writable)
+    (record { allocator = ap (λ (image : Qcow2 _ _). image.allocator) rest; list = ap (λ (image : Qcow2 _ _). image.file.free_list) rest })

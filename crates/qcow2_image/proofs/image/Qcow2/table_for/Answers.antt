@@ -150,7 +150,7 @@ returns-clause-reaches g c = λ out sound.
     (kept_length freed.file.header c.ensure_l2-2.new.self.file.header c.ensure_l2-2.ensures.keeps_rest.header ∙ same_length mid.file.header freed.file.header c.free_listed.ensures.keeps_rest.header ∙ kept_length long.file.header mid.file.header c.own_l2.ensures.keeps_rest.header ∙ told)
 
 pub returns-then-has_own_l2-clause-freed : goal.returns-then-has_own_l2-clause-freed
-returns-then-has_own_l2-clause-freed g c = λ out sound. always_ok c.ensure_l2.result (inl (c.has_own_l2.ensures.0 c.if-has_own_l2.true))
+returns-then-has_own_l2-clause-freed g c = λ out sound. let own = c.has_own_l2.ensures.0 c.if-has_own_l2.true in always_ok c.ensure_l2.result (inl (own, c.ensure_l2.ensures.quiet own))
 
 pub returns-clause-freed : goal.returns-clause-freed
 returns-clause-freed g c = λ out sound.
@@ -165,4 +165,4 @@ returns-clause-freed g c = λ out sound.
     let at = ap (λ (v : HeaderView). l1_index_of v.fields c.args.offset) c.own_l2.ensures.keeps_rest.header in
     let own = own_after view below out (pending_with_listed (pending_in view below long out) long mid) mid freed owned.0.sound c.args.offset (l1_index_of long.file.header.fields c.args.offset) at owned.1.own c.free_listed.ensures.table c.free_listed.ensures.keeps_rest.header in
     let writable = subst IsTrue (sym (c.own_l2.ensures.stays.image.writable ∙ c.reach_entry.ensures.stays.image.writable)) c.requires.writable in
-    always_ok c.ensure_l2-2.result (inr (c.ensure_l2-2.ensures.quiet own ∙ c.in_ok-free_listed.ensures.emptied writable))
+    always_ok c.ensure_l2-2.result (inr ((c.ensure_l2-2.ensures.quiet own).list ∙ c.in_ok-free_listed.ensures.emptied writable))

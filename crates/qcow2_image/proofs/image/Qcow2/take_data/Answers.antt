@@ -6,6 +6,7 @@ use Rattle.qcow2_alloc.specs.KeptAllocators.{IsAllocatorOf}
 use Rattle.qcow2_alloc.specs.declared.clusters_to_free.ClusterKind.TheVariants as Kind
 use Rattle.qcow2_image.proofs.Formats.{lists_grow}
 use Rattle.qcow2_image.proofs.Prepare.Gaining.{takes_data}
+use Rattle.std.proofs.Common.{refl}
 use Rattle.qcow2_image.proofs.image.Qcow2.take_data.Goals as goal
 
 pub returns-clause-takes : goal.returns-clause-takes
@@ -20,3 +21,6 @@ returns-clause-takes g c = λ p out sound holds.
 
 pub returns-clause-list : goal.returns-clause-list
 returns-clause-list g c = lists_grow c.args.self.now (record c.args.self.now { file = c.allocate_data.new.file; allocator = Some c.allocate_data.new.self }) c.allocate_data.ensures.list
+
+pub returns-clause-former : goal.returns-clause-former
+returns-clause-former g c = record { before = c.in-Some.allocator; after = c.allocate_data.new.self; was = c.in-Some.is; is = refl; behind = c.allocate_data.ensures.former }

@@ -4,6 +4,7 @@ use Rattle.qcow2_alloc.specs.ImageFile.{AllocatorInvariant}
 use Rattle.qcow2_alloc.specs.KeptAllocators.{IsAllocatorOf}
 use Rattle.qcow2_image.proofs.Formats.{lists_grow}
 use Rattle.qcow2_image.proofs.Prepare.Gaining.{takes_data_at}
+use Rattle.std.proofs.Common.{refl}
 use Rattle.qcow2_image.proofs.image.Qcow2.take_data_at.Goals as goal
 
 pub returns-clause-takes : goal.returns-clause-takes
@@ -16,3 +17,6 @@ returns-clause-takes g c = λ p out sound holds.
 
 pub returns-clause-list : goal.returns-clause-list
 returns-clause-list g c = lists_grow c.args.self.now (record c.args.self.now { file = c.allocate_data_at.new.file; allocator = Some c.allocate_data_at.new.self }) c.allocate_data_at.ensures.list
+
+pub returns-clause-former : goal.returns-clause-former
+returns-clause-former g c = record { before = c.in-Some.allocator; after = c.allocate_data_at.new.self; was = c.in-Some.is; is = refl; behind = c.allocate_data_at.ensures.former }

@@ -47,3 +47,6 @@ returns-clause-fills g c = λ out sound low high whole version.
     fills_or_refuses view below out a d c.zero_range.new.self c.args.from c.args.old c.in_ok-next.next c.args.end (omega (arith, low, next.0)) (omega (arith, next.2, high)) both next.0 (still_at a.file.header.fields d.file.header.fields c.in_ok-next.next both.header ends) c.zero_range.result
     (c.zero_range.ensures.fills out both.sound (omega (arith, next.2, high)) (still_at a.file.header.fields d.file.header.fields c.in_ok-next.next both.header ends, still_at a.file.header.fields d.file.header.fields c.args.end both.header whole.1)
     (subst (λ v. 3 ≤ v) (sym (same_version a.file.header.fields d.file.header.fields both.header)) version))
+
+pub returns-clause-emptied : goal.returns-clause-emptied
+returns-clause-emptied g c = λ none. c.zero_range.ensures.emptied (c.in_ok-fill_range.ensures.emptied (c.in_ok-next.ensures.emptied none))

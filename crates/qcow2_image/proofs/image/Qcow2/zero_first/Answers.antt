@@ -1,4 +1,5 @@
-use Rattle.std.proofs.Common.{◌≡◌, ◌∙◌, ◌+◌, ◌-◌, ◌^◌, ◌<◌, min, ap, subst, arith, rules}
+use Rattle.std.proofs.Common.{◌≡◌, ◌∙◌, ◌+◌, ◌-◌, ◌^◌, ◌<◌, min, ap, subst, sym, arith, rules}
+use Rattle.std.specs.Prelude.{IsTrue}
 use Rattle.qcow2_disk.specs.Found.{rest_of_table}
 use Rattle.qcow2_laws.specs.CrashInvariant.{Pending}
 use Rattle.qcow2_laws.proofs.Places.{Sizes-from}
@@ -107,3 +108,6 @@ returns-clause-fills g c = λ out sound le whole version.
     })) in
     let listed = subst (λ (x : Pending). ImageInvariant view below x mid out) (all_listed view below mid out) part.sound in
     fills_stays view below out old mid new 0 from next part (tidy_stays view below mid out new part.sound (c.in_ok-free_listed.ensures.frees (beside view below mid out) out listed)) c.free_listed.ensures.keeps_rest.header
+
+pub returns-clause-emptied : goal.returns-clause-emptied
+returns-clause-emptied g c = λ none. c.in_ok-free_listed.ensures.emptied (subst IsTrue (sym c.clear_between.ensures.stays.image.writable) c.requires.writable)
