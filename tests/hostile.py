@@ -106,9 +106,23 @@ def an_image_with_a_bitmap(needs, answer, bits, status):
     equal(contents("disk"), before[:88] + bits + before[96:], "the contents")
 
 
+def a_tail_that_cant_be_dropped():
+    """The L2 table of the tail doesn't lie on a cluster, so dropping the tail is refused. What was listed before is freed then: the next write takes its cluster."""
+    create("disk", 262144, 1024)
+    put("disk", 3080, (1 << 63 | 512).to_bytes(8, "big"))
+    answers("disk", [
+        ("prepare 0 0 1024 overwrite", "prepared 5120 1024"),
+        ("drop 0", "ok"),
+        ("shrink 200000", "shrunk 200000"),
+        ("fill 0 1024 11", "ok"),
+        ("map 0 1024", "raw image 5120 1024 rw"),
+        ("flush", "ok"),
+    ])
+
+
 def main():
     checks = Checks()
-    for check in (a_header_that_is_not_counted, nothing_is_counted, a_reftable_without_clusters, an_l1_table_that_ends_past_64_bits):
+    for check in (a_header_that_is_not_counted, nothing_is_counted, a_reftable_without_clusters, an_l1_table_that_ends_past_64_bits, a_tail_that_cant_be_dropped):
         checks.run(check.__name__, check)
     for cluster, width in ((512, 16), (512, 64), (65536, 16), (2 << 20, 1)):
         checks.run(f"a first range without a refblock, {cluster} {width}", a_first_range_without_a_refblock, cluster, width)

@@ -3,6 +3,7 @@ pub mod Noted
 pub mod Tails
 pub mod Turns
 pub mod Shrinking
+pub mod RefusedTurns
 pub mod ShrinkCalls
 pub mod Growing
 pub mod GrowCalls

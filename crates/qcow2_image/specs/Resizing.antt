@@ -63,6 +63,11 @@ module _ {S F : Type 0} where
   abbrev pub boundary_in : Qcow2 S F → ℕ → ℕ
   boundary_in image offset = rounded_up (cluster_size image.file.header.fields) offset
 
+-- What a turn from an offset on leaves on the list. Nothing, where it was empty before or a whole cluster was uncovered, nor where the turn was refused, but after a fault.
+abbrev pub FreesTurn : {S F : Type 0} → Qcow2 S F → Qcow2 S F → ℕ → Result ℕ ImageError → Type 0
+FreesTurn old new at (Ok next) = (boundary_in old at < size_of old) ⊎ HasNothingToFree old → HasNothingToFree new
+FreesTurn old new at (Err e) = IsFaultOfTables e ⊎ HasNothingToFree new
+
 -- What refuses a smaller disk where nothing did so before: a fault, or a prepared mapping, which is told exactly where one is out. Then nothing changed.
 pub record IsMetShrinking {S F : Type 0} (view : S → StorageView) (backing : F → BackingView) (old new : Qcow2 S F) (e : ImageError) : Type 0 where
   pub cause : IsFaultOfTables e ⊎ (e ≡ I.MappingPrepared)
@@ -83,6 +88,11 @@ module _ {S F : Type 0} (view : S → StorageView) where
   -- a refused turn is a fault, or has one of these causes
   abbrev pub IsFaultOrCantUncover : (end : ℕ) → Qcow2 S F → ℕ → ImageError → Type 0
   IsFaultOrCantUncover end image offset e = IsFaultOfTables e ⊎ CantUncover end image offset
+
+  -- Why the tail is uncovered up to an answer alone, and that no cluster is left to be freed where a whole one lay behind the new end.
+  pub record EndsTail (old new : Qcow2 S F) (size answer : ℕ) : Type 0 where
+    pub stops : answer < size_of old → CantUncover (size_of old) new answer
+    pub emptied : boundary_in old size < size_of old → HasNothingToFree new
 
 module _ {S F : Type 0} (view : S → StorageView) (backing : F → BackingView) where
   -- The size is written last: each moment since has the old size, or is what stands on the storage then.

@@ -16,7 +16,7 @@ ghost use Rattle.qcow2_image.specs.Image.{HasNothingToFree, IsSameImage, ImageSt
 ghost use Rattle.qcow2_image.specs.ImageInvariant.{ImageInvariant, abstract_of, pending_in};
 ghost use Rattle.qcow2_image.specs.LongerTables.{MakesEntry};
 ghost use Rattle.qcow2_image.specs.Refusals.{IsMet, IsMetPreparing, MarksFailed, MarksRefused};
-ghost use Rattle.qcow2_image.specs.Resizing.{CantUncover, GrowsTables, GrowsTo, IsFaultOrCantUncover, IsMetShrinking, IsResized, Shrinks, UncoversNext, UncoversTail, WritesSize, WritesSizeLast, refuses_to_resize, size_after, takes_over};
+ghost use Rattle.qcow2_image.specs.Resizing.{CantUncover, EndsTail, FreesTurn, GrowsTables, GrowsTo, IsFaultOrCantUncover, IsMetShrinking, IsResized, Shrinks, UncoversNext, UncoversTail, WritesSize, WritesSizeLast, boundary_in, refuses_to_resize, size_after, takes_over};
 ghost use Rattle.qcow2_image.specs.Faults.{CountsImageFaults, NoFewerFaults, TellsFault};
 
 use crate::Qcow2;
@@ -28,7 +28,8 @@ use qcow2_metadata::GuestOffset;
 impl<S: Storage, F: WrappedFormat<S>> Qcow2<S, F> {
     /// Makes the disk smaller, and drops the whole clusters behind its new end, so that the disk below shows there should it grow again.
     /// Answers the offset up to which that was done, which is less than the old size only where dropping the next cluster is refused. A
-    /// size that isn't smaller changes nothing, and answers the old one.
+    /// size that isn't smaller changes nothing, and answers the old one. Where a whole cluster lay behind the new end, none is left to be
+    /// freed.
     /// Refused in this order: 16 (failed), 12 (dependency), 1 (read-only). Of a smaller size also 17 (mapping prepared) while a mapping
     /// is prepared that isn't existing. Where the work meets them: 14 (memory), 15 (storage).
     pub fn resize_shrink(&mut self, size: u64) -> Result<u64, ImageError>
@@ -39,7 +40,7 @@ impl<S: Storage, F: WrappedFormat<S>> Qcow2<S, F> {
         ensures marks { MarksFailed self.old self.new result }
         ensures image { size < size_of self.old → IsResized (size_after result (size_of self.old) size) self.old self.new }
         ensures sees { Shrinks S.view F.backing self.old self.new size result }
-        ensures stops { (out : List (Option Prepared)) → (abstract_of S.view F.backing self.old out).is_sound → IfOk result (λ answer. answer < size_of self.old → CantUncover S.view (size_of self.old) self.new answer) }
+        ensures stops { (out : List (Option Prepared)) → (abstract_of S.view F.backing self.old out).is_sound → IfOk result (EndsTail S.view self.old self.new size) }
         ensures last { (out : List (Option Prepared)) → (abstract_of S.view F.backing self.old out).is_sound → WritesSizeLast S.view F.backing self.old self.new }
         ensures faults { CountsImageFaults S.view F.backing self.old self.new result }
     {
@@ -73,7 +74,7 @@ impl<S: Storage, F: WrappedFormat<S>> Qcow2<S, F> {
         ensures image { IsResized (size_after result (size_of self.old) size) self.old self.new }
         ensures sees { Shrinks S.view F.backing self.old self.new size result }
         ensures stops { refuses_to_resize self.old ≡ None → (out : List (Option Prepared)) → (abstract_of S.view F.backing self.old out).is_sound → (HasPrepared out → ⊥)
-            → IfOk result (λ answer. answer < size_of self.old → CantUncover S.view (size_of self.old) self.new answer) }
+            → IfOk result (EndsTail S.view self.old self.new size) }
         ensures last { (out : List (Option Prepared)) → (abstract_of S.view F.backing self.old out).is_sound → WritesSizeLast S.view F.backing self.old self.new }
         ensures faults { CountsImageFaults S.view F.backing self.old self.new result }
     {
@@ -92,6 +93,7 @@ impl<S: Storage, F: WrappedFormat<S>> Qcow2<S, F> {
 
     // Uncovers the whole clusters behind a size, in turns: up to where, and the refusal that ended the call. Any other one ends the turns.
     fn uncover_tail(&mut self, size: u64) -> (u64, Option<ImageError>)
+        requires usable { is_failed self.old ≡ false }
         requires smaller { size < size_of self.old }
         ensures image { IsSameImage self.old self.new }
         ensures cause { IfSome result.1 IsFault }
@@ -99,6 +101,7 @@ impl<S: Storage, F: WrappedFormat<S>> Qcow2<S, F> {
         ensures uncovers { (out : List (Option Prepared)) → ImageInvariant S.view F.backing (pending_in S.view F.backing self.old out) self.old out → UncoversTail S.view F.backing self.old self.new size result.0 result.1 out }
         ensures stops { refuses_to_resize self.old ≡ None → (out : List (Option Prepared)) → (abstract_of S.view F.backing self.old out).is_sound → (HasPrepared out → ⊥)
             → result.1 ≡ None → result.0 < size_of self.old → CantUncover S.view (size_of self.old) self.new result.0 }
+        ensures emptied { IsTrue (is_writable self.old) → (out : List (Option Prepared)) → ImageInvariant S.view F.backing (pending_in S.view F.backing self.old out) self.old out → result.1 ≡ None → boundary_in self.old size < size_of self.old → HasNothingToFree self.new }
         ensures faults { NoFewerFaults S.view F.backing self.old self.new × IfSome result.1 (TellsFault S.view F.backing self.old self.new) }
     {
         self.begin();
@@ -118,8 +121,9 @@ impl<S: Storage, F: WrappedFormat<S>> Qcow2<S, F> {
         (at, None)
     }
 
-    // Uncovers the whole clusters from an offset on, as far as one L2 table goes. Answers where the next turn begins.
+    // Uncovers the whole clusters from an offset on, as far as one L2 table goes. Answers where the next turn begins. Refused, the clusters that are to be freed are freed, but after a fault.
     fn uncover_from(&mut self, at: u64) -> Result<u64, ImageError>
+        requires usable { is_failed self.old ≡ false }
         requires inside { at < size_of self.old }
         ensures on { IfOk result (λ next. (at < next) × (next ≤ size_of self.old)) }
         ensures image { IsSameImage self.old self.new }
@@ -127,6 +131,31 @@ impl<S: Storage, F: WrappedFormat<S>> Qcow2<S, F> {
         ensures uncovers { UncoversNext S.view F.backing self.old self.new at result }
         ensures stops { refuses_to_resize self.old ≡ None → (out : List (Option Prepared)) → (abstract_of S.view F.backing self.old out).is_sound → (HasPrepared out → ⊥)
             → IfErr result (IsFaultOrCantUncover S.view (size_of self.old) self.new at) }
+        ensures emptied { IsTrue (is_writable self.old) → (out : List (Option Prepared)) → ImageInvariant S.view F.backing (pending_in S.view F.backing self.old out) self.old out → FreesTurn self.old self.new at result }
+        ensures faults { CountsImageFaults S.view F.backing self.old self.new result }
+    {
+        match self.uncover_next(at) {
+            Ok(next) => Ok(next),
+            Err(refusal) => {
+                if refusal.is_fault() {
+                    return Err(refusal);
+                }
+                self.end_freeing()?;
+                Err(refusal)
+            }
+        }
+    }
+
+    // Uncovers the whole clusters from an offset on, as far as one L2 table goes. Answers where the next turn begins.
+    fn uncover_next(&mut self, at: u64) -> Result<u64, ImageError>
+        requires inside { at < size_of self.old }
+        ensures on { IfOk result (λ next. (at < next) × (next ≤ size_of self.old)) }
+        ensures image { IsSameImage self.old self.new }
+        ensures marks { MarksFailed self.old self.new result }
+        ensures uncovers { UncoversNext S.view F.backing self.old self.new at result }
+        ensures stops { refuses_to_resize self.old ≡ None → (out : List (Option Prepared)) → (abstract_of S.view F.backing self.old out).is_sound → (HasPrepared out → ⊥)
+            → IfErr result (IsFaultOrCantUncover S.view (size_of self.old) self.new at) }
+        ensures emptied { (out : List (Option Prepared)) → ImageInvariant S.view F.backing (pending_in S.view F.backing self.old out) self.old out → OnOk result ((boundary_in self.old at < size_of self.old) ⊎ HasNothingToFree self.old → HasNothingToFree self.new) }
         ensures faults { CountsImageFaults S.view F.backing self.old self.new result }
     {
         let end = self.file.header.size();

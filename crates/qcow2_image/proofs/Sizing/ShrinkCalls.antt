@@ -1,6 +1,6 @@
 -- A smaller disk as a call: it is refused, or has nothing to do, before any work.
 use Rattle.std.proofs.Common.{◌≡◌, inr, ℕ, ◌<◌, ◌≤◌, Bool, true, false, [], ◌∷◌, refl, sym, ap, ◌∙◌, arith}
-use Rattle.std.specs.Prelude.{Some, None, Ok, Err, not}
+use Rattle.std.specs.Prelude.{Some, None, Ok, Err, IsTrue, not}
 use Rattle.std.specs.Option.{option_or}
 use Rattle.image_access.specs.Backing.{BackingView}
 use Rattle.image_access.specs.Moments.{StorageView}
@@ -30,6 +30,15 @@ none_fails false false false x is fault = absurd cc
 
 pub resize_works : {S F : Type 0} (image : Qcow2 S F) → refuses_to_resize image ≡ None → is_failed image ≡ false
 resize_works image is = works_if (is_failed image) (refuse_if (is_external image) I.Dependency) _ is
+
+writable_if : (a b c : Bool) → option_or (option_or (refuse_if a I.Failed) (refuse_if b I.Dependency)) (refuse_if (not c) I.ReadOnly) ≡ None → IsTrue c
+writable_if true b c is = absurd (cc)
+writable_if false true c is = absurd (cc)
+writable_if false false true is = refl
+writable_if false false false is = absurd (cc)
+
+pub resize_writable : {S F : Type 0} (image : Qcow2 S F) → refuses_to_resize image ≡ None → IsTrue (is_writable image)
+resize_writable image is = writable_if (is_failed image) (is_external image) (is_writable image) is
 
 module _ {S F : Type 0} (view : S → StorageView) (backing : F → BackingView) (old : Qcow2 S F) (size : ℕ) where
   -- what is refused gives and asks nothing

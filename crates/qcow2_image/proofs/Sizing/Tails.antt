@@ -83,6 +83,10 @@ module _ (h : HeaderFields) (some : 0 < cluster_size h) (rows : 0 < entries_per_
       let below = mod_below from table some_table in
       omega (arith, is, below)
 
+  -- a whole cluster before the end is touched
+  pub touches_before : from < end → from < to
+  touches_before before = let is = to_is in let past = past_table in let up = rounded_from (cluster_size h) end some in omega (arith, is, past, up, before)
+
   pub to_at_most : to ≤ rounded_up (cluster_size h) end
   to_at_most = let is = to_is in omega (arith, is)
 

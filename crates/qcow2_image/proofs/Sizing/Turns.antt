@@ -1,8 +1,8 @@
 -- One turn uncovers whole clusters up to the end of an L2 table, or is refused.
 use Rattle.std.proofs.Common.{◌≡◌, ◌⊎◌, inl, inr, refl, Bool, true, false, None, ℕ, ◌+◌, ◌-◌, ◌^◌, ◌<◌, ◌≤◌, List, [], sym, ap, ◌∙◌, subst, arith, min}
-use Rattle.std.specs.Prelude.{◌||◌, ◌&&◌, ◌==◌, Option, Ok, Err, nat_le, nat_lt, not}
+use Rattle.std.specs.Prelude.{◌||◌, ◌&&◌, ◌==◌, IfSome, Option, Some, Result, Ok, Err, nat_le, nat_lt, not}
 use Rattle.std.specs.Option.{option_or}
-use Rattle.std.proofs.lemmas.Bool.{le-ltb, leb-true}
+use Rattle.std.proofs.lemmas.Bool.{cases_lt, le-ltb, leb-true}
 use Rattle.std.proofs.lemmas.Nat.{pow_pos}
 use Rattle.image_access.specs.Backing.{BackingView}
 use Rattle.image_access.specs.Moments.{StorageView}
@@ -12,7 +12,7 @@ use Rattle.qcow2_metadata.specs.Header.{cluster_size, entries_per_cluster, round
 use Rattle.qcow2_disk.specs.AbstractImages.{AbstractImage, Setting, guest_of}
 use Rattle.qcow2_disk.specs.Calls.{Refusal, RefusedEffect, EffectOnSound, with_disk}
 use Rattle.qcow2_disk.specs.Disk.{Disk}
-use Rattle.qcow2_disk.specs.Rules.{answered, touched_to}
+use Rattle.qcow2_disk.specs.Rules.{answered, touched_from, touched_to}
 use Rattle.qcow2_disk.specs.Stops.{GivenBytes, IsGiven}
 use Rattle.qcow2_disk.proofs.Compose.{works_less}
 use Rattle.qcow2_laws.proofs.Places.{Sizes-from}
@@ -25,13 +25,13 @@ use Rattle.qcow2_image.specs.Clearing.{Clears, RefusesClearing, RefusesUngiven, 
 use Rattle.qcow2_image.specs.declared.discarding.Clearance.TheVariants.{Uncovered}
 use Rattle.qcow2_image.specs.declared.image.Qcow2.{Qcow2}
 use Rattle.qcow2_image.specs.declared.prepared.Prepared.{Prepared}
-use Rattle.qcow2_image.specs.Image.{is_external, is_failed, is_writable, size_of}
+use Rattle.qcow2_image.specs.Image.{HasNothingToFree, is_external, is_failed, is_writable, size_of}
 use Rattle.qcow2_image.specs.ImageInvariant.{ImageInvariant, abstract_of, disk_of, pending_in}
 use Rattle.qcow2_image.specs.NewTables.{LacksTable}
 use Rattle.qcow2_image.specs.Refusals.{passes, refuse_if}
 use Rattle.qcow2_image.specs.Resizing.{IsFaultOrCantUncover, IsTurnEnd, UncoversNext, UncoversPart, boundary_in, refuses_to_resize}
 use Rattle.qcow2_image.proofs.Sizes.{disk_size}
-use Rattle.qcow2_image.proofs.Sizing.Tails.{given_as, given_below, given_is, mono_up, shown_below, to_at_most, turn_numbers}
+use Rattle.qcow2_image.proofs.Sizing.Tails.{given_as, given_below, given_is, mono_up, shown_below, to_at_most, touches_before, turn_numbers}
 
 -- a call that gives fewer bytes gives these too
 pub refuses_giving : (v w : AbstractImage) (gs more : List GivenBytes) (e : Refusal) (still : Type 0) → (v.is_sound → (o : ℕ) (x : Value) → IsGiven gs o x → IsGiven more o x) → RefusedEffect v w gs [] e still → RefusedEffect v w more [] e still
@@ -59,6 +59,11 @@ rounds_if false false false false false none far near = refl
 within_end : (a : Bool) (size n : ℕ) → n ≡ size → a && nat_lt size n ≡ false
 within_end false size n is = refl
 within_end true size n is = le-ltb size n (omega (arith, is))
+
+-- what is answered isn't refused at once
+pub none_early : {B : Type 0} (P : Type 0) (o : Option ImageError) (b : B) (r : Result B ImageError) → IfSome o (λ e. (r ≡ Err e) × P) → r ≡ Ok b → o ≡ None
+none_early P None b r early was = refl
+none_early P (Some e) b r early was = absurd (let no : Ok b ≡ Err e = sym was ∙ early.0 in cc)
 
 module _ {S F : Type 0} (view : S → StorageView) (backing : F → BackingView) (old new : Qcow2 S F) (at end : ℕ) where
   abbrev h : HeaderFields
@@ -139,3 +144,14 @@ module _ {S F : Type 0} (view : S → StorageView) (backing : F → BackingView)
             | inl fault ↦ inl fault
             | inr lacks ↦ inr (inr (subst (λ k. LacksTable view new (rounded_up k at)) (sym same_size) lacks))
           ]
+
+  -- what an answered turn leaves to be freed: nothing, where it cleared a cluster, or where nothing was listed and it cleared none
+  pub turn_frees : end ≡ size_of old → at < size_of old → (touched_from (cluster_size h) at < touched_to (cluster_size h) (size_of old) at (end - at) → HasNothingToFree new)
+      → (touched_to (cluster_size h) (size_of old) at (end - at) ≤ touched_from (cluster_size h) at → new ≡ old) → (out : List (Option Prepared)) → ImageInvariant view backing (pending_in view backing old out) old out
+      → (boundary_in old at < size_of old) ⊎ HasNothingToFree old → HasNothingToFree new
+  turn_frees is lt clears nothing out sound (inl before) =
+      clears (subst (λ n. rounded_up (cluster_size h) at < touched_to (cluster_size h) (size_of old) at (n - at)) (sym is) (touches_before h (some out sound) (rows out sound) (size_of old) at lt before))
+  turn_frees is lt clears nothing out sound (inr none) = elim (cases_lt (touched_from (cluster_size h) at) (touched_to (cluster_size h) (size_of old) at (end - at))) [
+    | inl touched ↦ clears touched
+    | inr least ↦ subst (λ (i : Qcow2 S F). HasNothingToFree i) (sym (nothing least)) none
+  ]

@@ -43,3 +43,6 @@ returns-clause-faults g c =
 
 pub returns-clause-header : goal.returns-clause-header
 returns-clause-header g c = ap (λ (i : Qcow2 _ _). i.file.header) c.mark_failure.ensures.rest ∙ c.free_listed-freed.ensures.keeps_rest.header
+
+pub returns-clause-table : goal.returns-clause-table
+returns-clause-table g c = ap (λ (i : Qcow2 _ _). i.l1_table) c.mark_failure.ensures.rest ∙ c.free_listed-freed.ensures.table

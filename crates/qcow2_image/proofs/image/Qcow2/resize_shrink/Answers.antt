@@ -2,7 +2,10 @@ use Rattle.std.proofs.Common.{◌≤◌, ◌∙◌, sym, subst, arith}
 use Rattle.std.specs.Prelude.{Ok, Result}
 use Rattle.qcow2_alloc.specs.ImageFile.{l2_pins}
 use Rattle.qcow2_image.specs.Resizing.{Shrinks, refuses_to_resize}
+use Rattle.std.proofs.lemmas.Nat.{pow_pos}
+use Rattle.qcow2_metadata.specs.Header.{cluster_size}
 use Rattle.qcow2_image.proofs.Backings.{found_pinned, none_prepared}
+use Rattle.qcow2_image.proofs.Clear.Touched.{rounded_from}
 use Rattle.qcow2_image.proofs.Clear.ClearCalls.{err_is, not_refused, refused_for}
 use Rattle.qcow2_image.proofs.Sizing.ShrinkCalls.{met_prepared, resize_works, shrinks_early, shrinks_nothing, shrinks_prepared}
 use Rattle.qcow2_image.proofs.image.Qcow2.resize_shrink.Goals as goal
@@ -45,4 +48,9 @@ returns-clause-stops g c = λ out sound.
     (none_prepared view below old out sound (c.first_pinned_l2.ensures.none (sym c.is_some.ensures ∙ c.if-is_some.false)))
 
 pub returns-then-size-clause-stops : goal.returns-then-size-clause-stops
-returns-then-size-clause-stops g c = λ out sound lt. absurd (let is = c.size-then-size.ensures in omega (arith, lt, is))
+returns-then-size-clause-stops g c = λ out sound.
+    let is = c.size-then-size.ensures in
+    let old = c.args.self.now in
+    let le = subst (λ n. n ≤ c.args.size) c.size.ensures c.if-size.true in
+    let up = rounded_from (cluster_size old.file.header.fields) c.args.size (pow_pos old.file.header.fields.cluster_bits) in
+    record { stops = λ lt. absurd (omega (arith, lt, is)); emptied = λ before. absurd (omega (arith, le, up, before)) }

@@ -11,6 +11,7 @@ use Rattle.qcow2_image.specs.Refusals.{MarksRefused}
 use Rattle.qcow2_image.specs.Resizing.{Shrinks, UncoversTail, WritesSizeLast}
 use Rattle.qcow2_image.proofs.Sizing.Noted.{fewer_noted, shrinks_noted}
 use Rattle.qcow2_image.proofs.Sizing.Shrinking.{shrinks_done, shrinks_stopped, shrinks_unwritten, size_is_last, uncovered_honest, written_stops}
+use Rattle.qcow2_image.proofs.Sizing.ShrinkCalls.{resize_writable}
 use Rattle.qcow2_image.proofs.Call.Marked.{may_mark_refused, refused_on, refused_since}
 use Rattle.qcow2_image.proofs.Call.FaultCounts.{counted_as, counted_still}
 use Rattle.qcow2_image.specs.Faults.{TellsFault}
@@ -80,7 +81,7 @@ returns-clause-last g c = λ out sound.
     size_is_last g.S.Storage.view g.F.BackingDisk.backing c.args.self.now c.uncover_tail-end.new.self c.write_size.new.self c.args.size c.uncover_tail-end.result.0 c.uncover_tail-end.result.1 c.uncover_tail-end.ensures.uncovers (c.write_size.ensures.time (uncovered_honest g.S.Storage.view g.F.BackingDisk.backing c.args.self.now c.uncover_tail-end.new.self c.args.size c.uncover_tail-end.result.0 out (subst (λ r. UncoversTail g.S.Storage.view g.F.BackingDisk.backing c.args.self.now c.uncover_tail-end.new.self c.args.size c.uncover_tail-end.result.0 r out) c.in_default.is (c.uncover_tail-end.ensures.uncovers out sound)))) out sound
 
 pub returns-clause-stops : goal.returns-clause-stops
-returns-clause-stops g c = λ none out sound unprepared lt.
+returns-clause-stops g c = λ none out sound unprepared.
     let view = g.S.Storage.view in
     let below = g.F.BackingDisk.backing in
     let old = c.args.self.now in
@@ -88,8 +89,12 @@ returns-clause-stops g c = λ none out sound unprepared lt.
     let new = c.write_size.new.self in
     let at = c.uncover_tail-end.result.0 in
     let tail = subst (λ r. UncoversTail view below old mid c.args.size at r out) c.in_default.is (c.uncover_tail-end.ensures.uncovers out sound) in
-    written_stops view below out (size_of old) at c.args.size mid new tail.0.sound (c.in_default-write_size.ensures.writes out tail.0.sound).sound (ap (λ (i : Qcow2 _ _). i.l1_table) c.write_size.ensures.rest) c.in_default-write_size.ensures.header
-    (c.uncover_tail-end.ensures.stops none out sound unprepared c.in_default.is lt)
+    record {
+      stops = λ lt.
+          written_stops view below out (size_of old) at c.args.size mid new tail.0.sound (c.in_default-write_size.ensures.writes out tail.0.sound).sound (ap (λ (i : Qcow2 _ _). i.l1_table) c.write_size.ensures.rest) c.in_default-write_size.ensures.header
+          (c.uncover_tail-end.ensures.stops none out sound unprepared c.in_default.is lt);
+      emptied = λ before. ap (λ (i : Qcow2 _ _). i.file.free_list) c.write_size.ensures.rest ∙ c.uncover_tail-end.ensures.emptied (resize_writable old none) out sound c.in_default.is before;
+    }
 
 pub returns-in-Some-clause-faults : goal.returns-in-Some-clause-faults
 returns-in-Some-clause-faults g c =

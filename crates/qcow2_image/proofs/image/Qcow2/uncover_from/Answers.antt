@@ -1,39 +1,143 @@
-use Rattle.std.proofs.Common.{◌≤◌, inl, inr, refl, sym, subst, arith}
-use Rattle.std.specs.Prelude.{IfErr, Result}
+use Rattle.std.proofs.Common.{◌≡◌, ◌∙◌, inl, inr, refl, sym, subst}
+use Rattle.std.specs.Prelude.{Err, IfErr, IsTrue, Result}
 use Rattle.qcow2_alloc.proofs.AllocationSteps.{handed_on}
-use Rattle.qcow2_image.specs.Image.{size_of}
-use Rattle.qcow2_image.specs.Resizing.{IsFaultOrCantUncover, UncoversNext}
+use Rattle.qcow2_alloc.proofs.Outcomes.{not_both}
+use Rattle.qcow2_alloc.specs.ImageError.{IsFault}
+use Rattle.qcow2_image.specs.Image.{has_noted_change, is_failed, size_of}
+use Rattle.qcow2_image.specs.ImageInvariant.{ImageInvariant, pending_in}
+use Rattle.qcow2_image.specs.Refusals.{MarksFailed}
+use Rattle.qcow2_image.specs.Resizing.{FreesTurn, IsFaultOrCantUncover, UncoversNext}
+use Rattle.qcow2_image.proofs.Call.FaultCounts.{counted_as, counted_on, counted_still, untouched}
+use Rattle.qcow2_image.proofs.Call.Marked.{refused_since}
 use Rattle.qcow2_image.proofs.Clear.ClearCalls.{err_is}
-use Rattle.qcow2_image.proofs.Sizing.Turns.{turn_done, turn_refused, turn_stops}
+use Rattle.qcow2_image.proofs.Sizing.RefusedTurns.{failed_other, not_marked, turn_ended, turn_still}
+use Rattle.qcow2_image.proofs.Sizing.Shrinking.{fault_of, written_stops}
 use Rattle.qcow2_image.proofs.image.Qcow2.uncover_from.Goals as goal
-use Rattle.qcow2_image.proofs.image.Qcow2.uncover_from.Goals.{else-at-next-via-then-at-next+else-next-end, else-at-next-via-else-at-next}
 
-pub returns-in_err-from-clause-uncovers : goal.returns-in_err-from-clause-uncovers
-returns-in_err-from-clause-uncovers g c =
+pub returns-in-Ok-clause-uncovers : goal.returns-in-Ok-clause-uncovers
+returns-in-Ok-clause-uncovers g c = c.in-Ok.ensures.uncovers
+
+pub returns-then-is_fault-clause-uncovers : goal.returns-then-is_fault-clause-uncovers
+returns-then-is_fault-clause-uncovers g c = c.in-Err.ensures.uncovers
+
+pub returns-in_err-end_freeing-in-Err-clause-uncovers : goal.returns-in_err-end_freeing-in-Err-clause-uncovers
+returns-in_err-end_freeing-in-Err-clause-uncovers g c =
     let view = g.S.Storage.view in
     let below = g.F.BackingDisk.backing in
     let old = c.args.self.now in
-    let new = c.clear_range.new.self in
-    let e = c.in_err-from.field-0.0 in
+    let mid = c.uncover_next.new.self in
+    let new = c.end_freeing.new.self in
+    let e = c.in-Err.refusal in
+    let none : IsFault c.in-Err.refusal → ⊥ = λ fault. not_both c.is_fault.result (c.is_fault.ensures.1 fault) c.if-is_fault.false in
+    let failed = not_marked view below old mid new e none c.in-Err.ensures.marks in
+    let f = c.in_err-end_freeing-in-Err.field-0.0 in
     subst (λ (r : Result _ _). UncoversNext view below old new c.args.at r) (sym (err_is c.from_residual.result c.from_residual.ensures))
-    (turn_refused view below old new c.args.at c.size-end.result e c.size-end.ensures c.requires.inside c.in_err-from.ensures.sees c.in_err-from.ensures.refused.ungiven)
+    (turn_ended view below old mid new e none c.args.at c.requires.usable (c.end_freeing.ensures.image.number ∙ c.uncover_next.ensures.image.number) c.in-Err.ensures.uncovers f (refused_since old mid new failed f c.in_err-end_freeing-in-Err.ensures.marks)
+    (λ out sound. inr (c.in_err-end_freeing-in-Err.ensures.frees out sound).0))
 
-pub returns-then-next-end-clause-uncovers : goal.returns-then-next-end-clause-uncovers
-returns-then-next-end-clause-uncovers g c = λ out sound.
-    turn_done g.S.Storage.view g.F.BackingDisk.backing c.args.self.now c.clear_range.new.self c.args.at c.size-end.result (c.in_ok-from.from, c.in_ok-from.count) c.size-end.ensures c.requires.inside (omega (arith, c.size-end.type_inv)) c.in_ok-from.ensures.sees c.saturating_add-next.result
-    (inl (c.saturating_add-next.ensures, c.if-at-next.true, c.if-next-end.true)) out sound
-
-pub returns-else-at-next-clause-uncovers : goal.returns-else-at-next-clause-uncovers
-returns-else-at-next-clause-uncovers g c = λ out sound.
-    turn_done g.S.Storage.view g.F.BackingDisk.backing c.args.self.now c.clear_range.new.self c.args.at c.size-end.result (c.in_ok-from.from, c.in_ok-from.count) c.size-end.ensures c.requires.inside (omega (arith, c.size-end.type_inv)) c.in_ok-from.ensures.sees c.size-end.result
-    (inr (refl, (let h = c.saturating_add-next.ensures in elim c.else-at-next.branch [ else-at-next-via-then-at-next+else-next-end w ↦ inr (subst (λ n. c.size-end.result ≤ n) h w.if-next-end.false) | else-at-next-via-else-at-next w ↦ inl (subst (λ n. n ≤ c.args.at) h w.if-at-next.false) ]))) out sound
-
-pub returns-in_err-from-clause-stops : goal.returns-in_err-from-clause-stops
-returns-in_err-from-clause-stops g c = λ none out sound unprepared.
+pub returns-in_ok-end_freeing-in-Err-clause-uncovers : goal.returns-in_ok-end_freeing-in-Err-clause-uncovers
+returns-in_ok-end_freeing-in-Err-clause-uncovers g c =
     let view = g.S.Storage.view in
     let below = g.F.BackingDisk.backing in
     let old = c.args.self.now in
-    let new = c.clear_range.new.self in
-    let e = c.in_err-from.field-0.0 in
-    handed_on (λ r. IfErr r (IsFaultOrCantUncover view (size_of old) new c.args.at)) c.from_residual.result e c.from_residual.ensures
-    (turn_stops view below old new c.args.at c.size-end.result e c.size-end.ensures c.requires.inside none c.in_err-from.ensures.sees c.in_err-from.ensures.refused out sound unprepared)
+    let mid = c.uncover_next.new.self in
+    let new = c.end_freeing.new.self in
+    let e = c.in-Err.refusal in
+    let none : IsFault c.in-Err.refusal → ⊥ = λ fault. not_both c.is_fault.result (c.is_fault.ensures.1 fault) c.if-is_fault.false in
+    let failed = not_marked view below old mid new e none c.in-Err.ensures.marks in
+    turn_ended view below old mid new e none c.args.at c.requires.usable (c.end_freeing.ensures.image.number ∙ c.uncover_next.ensures.image.number) c.in-Err.ensures.uncovers e
+    (failed_other e (is_failed old) (has_noted_change new) (is_failed new) none (c.in_ok-end_freeing-in-Err.ensures.marks ∙ failed)) (λ out sound. inl (c.in_ok-end_freeing-in-Err.ensures.frees out sound))
+
+pub returns-in_err-end_freeing-in-Err-clause-marks : goal.returns-in_err-end_freeing-in-Err-clause-marks
+returns-in_err-end_freeing-in-Err-clause-marks g c =
+    let view = g.S.Storage.view in
+    let below = g.F.BackingDisk.backing in
+    let old = c.args.self.now in
+    let mid = c.uncover_next.new.self in
+    let new = c.end_freeing.new.self in
+    let e = c.in-Err.refusal in
+    let none : IsFault c.in-Err.refusal → ⊥ = λ fault. not_both c.is_fault.result (c.is_fault.ensures.1 fault) c.if-is_fault.false in
+    let failed = not_marked view below old mid new e none c.in-Err.ensures.marks in
+    subst (λ (r : Result _ _). MarksFailed old new r) (sym (err_is c.from_residual.result c.from_residual.ensures)) (refused_since old mid new failed c.in_err-end_freeing-in-Err.field-0.0 c.in_err-end_freeing-in-Err.ensures.marks)
+
+pub returns-in_ok-end_freeing-in-Err-clause-marks : goal.returns-in_ok-end_freeing-in-Err-clause-marks
+returns-in_ok-end_freeing-in-Err-clause-marks g c =
+    let view = g.S.Storage.view in
+    let below = g.F.BackingDisk.backing in
+    let old = c.args.self.now in
+    let mid = c.uncover_next.new.self in
+    let new = c.end_freeing.new.self in
+    let e = c.in-Err.refusal in
+    let none : IsFault c.in-Err.refusal → ⊥ = λ fault. not_both c.is_fault.result (c.is_fault.ensures.1 fault) c.if-is_fault.false in
+    let failed = not_marked view below old mid new e none c.in-Err.ensures.marks in
+    failed_other e (is_failed old) (has_noted_change new) (is_failed new) none (c.in_ok-end_freeing-in-Err.ensures.marks ∙ failed)
+
+pub returns-then-is_fault-clause-stops : goal.returns-then-is_fault-clause-stops
+returns-then-is_fault-clause-stops g c = λ none out sound unprepared. inl (c.is_fault.ensures.0 c.if-is_fault.true)
+
+pub returns-in_err-end_freeing-in-Err-clause-stops : goal.returns-in_err-end_freeing-in-Err-clause-stops
+returns-in_err-end_freeing-in-Err-clause-stops g c = λ usable out sound unprepared.
+    let view = g.S.Storage.view in
+    let below = g.F.BackingDisk.backing in
+    let old = c.args.self.now in
+    let mid = c.uncover_next.new.self in
+    let new = c.end_freeing.new.self in
+    let e = c.in-Err.refusal in
+    let none : IsFault c.in-Err.refusal → ⊥ = λ fault. not_both c.is_fault.result (c.is_fault.ensures.1 fault) c.if-is_fault.false in
+    let failed = not_marked view below old mid new e none c.in-Err.ensures.marks in
+    let still = turn_still view below old mid mid e none c.args.at c.requires.usable c.uncover_next.ensures.image.number c.in-Err.ensures.uncovers out sound in
+    handed_on (λ r. IfErr r (IsFaultOrCantUncover view (size_of old) new c.args.at)) c.from_residual.result c.in_err-end_freeing-in-Err.field-0.0 c.from_residual.ensures
+    (inl (fault_of c.in_err-end_freeing-in-Err.field-0.0 (c.in_err-end_freeing-in-Err.ensures.frees out still.0).1))
+
+pub returns-in_ok-end_freeing-in-Err-clause-stops : goal.returns-in_ok-end_freeing-in-Err-clause-stops
+returns-in_ok-end_freeing-in-Err-clause-stops g c = λ usable out sound unprepared.
+    let view = g.S.Storage.view in
+    let below = g.F.BackingDisk.backing in
+    let old = c.args.self.now in
+    let mid = c.uncover_next.new.self in
+    let new = c.end_freeing.new.self in
+    let e = c.in-Err.refusal in
+    let none : IsFault c.in-Err.refusal → ⊥ = λ fault. not_both c.is_fault.result (c.is_fault.ensures.1 fault) c.if-is_fault.false in
+    let failed = not_marked view below old mid new e none c.in-Err.ensures.marks in
+    let still = turn_still view below old mid mid e none c.args.at c.requires.usable c.uncover_next.ensures.image.number c.in-Err.ensures.uncovers out sound in
+    elim (c.in-Err.ensures.stops usable out sound unprepared) [
+      | inl fault ↦ absurd (none fault)
+      | inr cant ↦ inr (written_stops view below out (size_of old) c.args.at (size_of mid) mid new still.0 (c.in_ok-end_freeing-in-Err.ensures.frees out still.0).sound c.end_freeing.ensures.table c.end_freeing.ensures.header cant)
+    ]
+
+pub returns-in-Ok-clause-emptied : goal.returns-in-Ok-clause-emptied
+returns-in-Ok-clause-emptied g c = λ writable out sound. c.in-Ok.ensures.emptied out sound
+
+pub returns-then-is_fault-clause-emptied : goal.returns-then-is_fault-clause-emptied
+returns-then-is_fault-clause-emptied g c = λ writable out sound. inl (c.is_fault.ensures.0 c.if-is_fault.true)
+
+pub returns-in_err-end_freeing-in-Err-clause-emptied : goal.returns-in_err-end_freeing-in-Err-clause-emptied
+returns-in_err-end_freeing-in-Err-clause-emptied g c = λ writable out sound.
+    let view = g.S.Storage.view in
+    let below = g.F.BackingDisk.backing in
+    let old = c.args.self.now in
+    let mid = c.uncover_next.new.self in
+    let new = c.end_freeing.new.self in
+    let e = c.in-Err.refusal in
+    let none : IsFault c.in-Err.refusal → ⊥ = λ fault. not_both c.is_fault.result (c.is_fault.ensures.1 fault) c.if-is_fault.false in
+    let failed = not_marked view below old mid new e none c.in-Err.ensures.marks in
+    let still = turn_still view below old mid mid e none c.args.at c.requires.usable c.uncover_next.ensures.image.number c.in-Err.ensures.uncovers out sound in
+    handed_on (FreesTurn old new c.args.at) c.from_residual.result c.in_err-end_freeing-in-Err.field-0.0 c.from_residual.ensures
+    (inl (fault_of c.in_err-end_freeing-in-Err.field-0.0 (c.in_err-end_freeing-in-Err.ensures.frees out still.0).1))
+
+pub returns-in_ok-end_freeing-in-Err-clause-emptied : goal.returns-in_ok-end_freeing-in-Err-clause-emptied
+returns-in_ok-end_freeing-in-Err-clause-emptied g c = λ writable out sound. inr (c.in_ok-end_freeing-in-Err.ensures.emptied (subst IsTrue (sym c.uncover_next.ensures.image.writable) writable))
+
+pub returns-in_err-end_freeing-in-Err-clause-faults : goal.returns-in_err-end_freeing-in-Err-clause-faults
+returns-in_err-end_freeing-in-Err-clause-faults g c =
+    let view = g.S.Storage.view in
+    let below = g.F.BackingDisk.backing in
+    counted_on view below c.args.self.now c.uncover_next.new.self c.end_freeing.new.self c.end_freeing.result c.in_err-end_freeing-in-Err.field-0.0 c.from_residual.result c.uncover_next.ensures.faults.no_fewer c.end_freeing.ensures.faults c.in_err-end_freeing-in-Err.was c.from_residual.ensures
+
+pub returns-in_ok-end_freeing-in-Err-clause-faults : goal.returns-in_ok-end_freeing-in-Err-clause-faults
+returns-in_ok-end_freeing-in-Err-clause-faults g c =
+    let view = g.S.Storage.view in
+    let below = g.F.BackingDisk.backing in
+    let old = c.args.self.now in
+    let e = c.in-Err.refusal in
+    counted_still view below old c.uncover_next.new.self c.end_freeing.new.self (Err e) (counted_as view below old old c.uncover_next.new.self c.uncover_next.result e (untouched view below old old refl refl) c.uncover_next.ensures.faults c.in-Err.is) c.end_freeing.ensures.faults.no_fewer

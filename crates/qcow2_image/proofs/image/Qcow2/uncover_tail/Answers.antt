@@ -1,6 +1,8 @@
-use Rattle.std.proofs.Common.{◌∙◌, arith, refl, Some, None, Err}
+use Rattle.std.proofs.Common.{◌∙◌, ◌<◌, arith, inl, inr, refl, sym, subst, Some, None, Err}
+use Rattle.std.specs.Prelude.{IsTrue}
 use Rattle.qcow2_alloc.proofs.Outcomes.{not_both}
 use Rattle.qcow2_image.specs.ImageInvariant.{pending_in}
+use Rattle.qcow2_image.proofs.Sizing.RefusedTurns.{frees_next}
 use Rattle.qcow2_image.proofs.Sizing.Shrinking.{next_so_far, none_so_far, tail_refused, tail_stops}
 use Rattle.qcow2_image.proofs.Call.FaultCounts.{counted_as, fewer_then}
 use Rattle.qcow2_image.specs.Faults.{CountsImageFaults}
@@ -14,6 +16,7 @@ loop-at-init g c =
       turns = none_so_far view below c.args.self.now c.begin.new.self c.args.size c.size-end.result c.begin.ensures.stays.image c.begin.ensures.stays.failed (c.size-end.ensures ∙ c.begin.ensures.stays.image.size) c.requires.smaller
           (λ out sound. record { keeps = c.begin.ensures.keeps (pending_in view below c.args.self.now out) out sound; list = c.begin.ensures.list });
       faults = c.begin.ensures.faults;
+      emptied = λ writable out sound before. inl refl;
     }
 
 pub loop-at-preserved : goal.loop-at-preserved
@@ -21,6 +24,10 @@ loop-at-preserved g c = record {
   turns = next_so_far g.S.Storage.view g.F.BackingDisk.backing c.args.self.now c.loop-at.self c.uncover_from.new.self c.args.size c.loop-at.at c.size-end.result c.loop-at.invariant.turns c.in-Ok.next c.in-Ok.ensures.on.0 c.in-Ok.ensures.on.1 c.in-Ok.ensures.uncovers
       c.uncover_from.ensures.image c.in-Ok.ensures.marks;
   faults = fewer_then g.S.Storage.view g.F.BackingDisk.backing c.args.self.now c.loop-at.self c.uncover_from.new.self c.loop-at.invariant.faults c.uncover_from.ensures.faults.no_fewer;
+  emptied = λ writable out sound before.
+      let so = c.loop-at.invariant.turns in
+      inr (c.in-Ok.ensures.emptied (subst IsTrue (sym so.image.writable) writable) out (so.so_far out sound).0.sound
+      (frees_next g.S.Storage.view g.F.BackingDisk.backing c.args.self.now c.loop-at.self c.args.size c.loop-at.at c.size-end.result so out sound before (c.loop-at.invariant.emptied writable out sound before)));
 }
 
 pub returns-then-is_fault-clause-uncovers : goal.returns-then-is_fault-clause-uncovers
@@ -61,3 +68,26 @@ returns-in-Err-clause-faults g c =
 
 pub returns-clause-faults : goal.returns-clause-faults
 returns-clause-faults g c = (c.loop-at.invariant.faults, tt)
+
+pub returns-then-is_fault-clause-emptied : goal.returns-then-is_fault-clause-emptied
+returns-then-is_fault-clause-emptied g c = λ writable out sound is before. absurd cc
+
+pub returns-in-Err-clause-emptied : goal.returns-in-Err-clause-emptied
+returns-in-Err-clause-emptied g c = λ writable out sound is before.
+    let so = c.loop-at.invariant.turns in
+    elim (c.in-Err.ensures.emptied (subst IsTrue (sym so.image.writable) writable) out (so.so_far out sound).0.sound) [
+      | inl fault ↦ absurd (not_both c.is_fault.result (c.is_fault.ensures.1 fault) c.if-is_fault.false)
+      | inr none ↦ none
+    ]
+
+pub returns-clause-emptied : goal.returns-clause-emptied
+returns-clause-emptied g c = λ writable out sound is before.
+    let last = c.loop-at.invariant.turns.last in
+    let smaller = c.requires.smaller in
+    elim (c.loop-at.invariant.emptied writable out sound (omega (arith, before, last))) [
+      | inl first ↦ absurd (omega (arith, first, last, smaller, c.loop-at-test.false))
+      | inr none ↦ none
+    ]
+
+pub uncover_from-requires-clause-usable : goal.uncover_from-requires-clause-usable
+uncover_from-requires-clause-usable g c = c.loop-at.invariant.turns.failed ∙ c.requires.usable

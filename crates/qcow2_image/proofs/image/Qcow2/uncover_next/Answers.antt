@@ -1,0 +1,53 @@
+use Rattle.std.proofs.Common.{◌-◌, ◌≤◌, inl, inr, refl, sym, subst, arith}
+use Rattle.std.specs.Prelude.{IfErr, Result}
+use Rattle.qcow2_alloc.proofs.AllocationSteps.{handed_on}
+use Rattle.qcow2_image.specs.Image.{size_of}
+use Rattle.qcow2_image.specs.Resizing.{IsFaultOrCantUncover, UncoversNext}
+use Rattle.qcow2_image.proofs.Clear.ClearCalls.{err_is}
+use Rattle.qcow2_image.proofs.Sizing.Turns.{none_early, turn_done, turn_frees, turn_refused, turn_stops}
+use Rattle.qcow2_image.specs.Clearing.{refuses_to_clear}
+use Rattle.qcow2_image.specs.declared.discarding.Clearance.TheVariants.{Uncovered}
+use Rattle.qcow2_image.proofs.image.Qcow2.uncover_next.Goals as goal
+use Rattle.qcow2_image.proofs.image.Qcow2.uncover_next.Goals.{else-at-next-via-then-at-next+else-next-end, else-at-next-via-else-at-next}
+
+pub returns-in_err-from-clause-uncovers : goal.returns-in_err-from-clause-uncovers
+returns-in_err-from-clause-uncovers g c =
+    let view = g.S.Storage.view in
+    let below = g.F.BackingDisk.backing in
+    let old = c.args.self.now in
+    let new = c.clear_range.new.self in
+    let e = c.in_err-from.field-0.0 in
+    subst (λ (r : Result _ _). UncoversNext view below old new c.args.at r) (sym (err_is c.from_residual.result c.from_residual.ensures))
+    (turn_refused view below old new c.args.at c.size-end.result e c.size-end.ensures c.requires.inside c.in_err-from.ensures.sees c.in_err-from.ensures.refused.ungiven)
+
+pub returns-then-next-end-clause-uncovers : goal.returns-then-next-end-clause-uncovers
+returns-then-next-end-clause-uncovers g c = λ out sound.
+    turn_done g.S.Storage.view g.F.BackingDisk.backing c.args.self.now c.clear_range.new.self c.args.at c.size-end.result (c.in_ok-from.from, c.in_ok-from.count) c.size-end.ensures c.requires.inside (omega (arith, c.size-end.type_inv)) c.in_ok-from.ensures.sees c.saturating_add-next.result
+    (inl (c.saturating_add-next.ensures, c.if-at-next.true, c.if-next-end.true)) out sound
+
+pub returns-else-at-next-clause-uncovers : goal.returns-else-at-next-clause-uncovers
+returns-else-at-next-clause-uncovers g c = λ out sound.
+    turn_done g.S.Storage.view g.F.BackingDisk.backing c.args.self.now c.clear_range.new.self c.args.at c.size-end.result (c.in_ok-from.from, c.in_ok-from.count) c.size-end.ensures c.requires.inside (omega (arith, c.size-end.type_inv)) c.in_ok-from.ensures.sees c.size-end.result
+    (inr (refl, (let h = c.saturating_add-next.ensures in elim c.else-at-next.branch [ else-at-next-via-then-at-next+else-next-end w ↦ inr (subst (λ n. c.size-end.result ≤ n) h w.if-next-end.false) | else-at-next-via-else-at-next w ↦ inl (subst (λ n. n ≤ c.args.at) h w.if-at-next.false) ]))) out sound
+
+pub returns-in_err-from-clause-stops : goal.returns-in_err-from-clause-stops
+returns-in_err-from-clause-stops g c = λ none out sound unprepared.
+    let view = g.S.Storage.view in
+    let below = g.F.BackingDisk.backing in
+    let old = c.args.self.now in
+    let new = c.clear_range.new.self in
+    let e = c.in_err-from.field-0.0 in
+    handed_on (λ r. IfErr r (IsFaultOrCantUncover view (size_of old) new c.args.at)) c.from_residual.result e c.from_residual.ensures
+    (turn_stops view below old new c.args.at c.size-end.result e c.size-end.ensures c.requires.inside none c.in_err-from.ensures.sees c.in_err-from.ensures.refused out sound unprepared)
+
+pub returns-then-next-end-clause-emptied : goal.returns-then-next-end-clause-emptied
+returns-then-next-end-clause-emptied g c = λ out sound.
+    let old = c.args.self.now in
+    let none = none_early _ (refuses_to_clear old c.args.at (c.size-end.result - c.args.at) Uncovered) (c.in_ok-from.from, c.in_ok-from.count) c.clear_range.result c.clear_range.ensures.early c.in_ok-from.was in
+    turn_frees g.S.Storage.view g.F.BackingDisk.backing old c.clear_range.new.self c.args.at c.size-end.result c.size-end.ensures c.requires.inside c.in_ok-from.ensures.emptied (λ least. (c.in_ok-from.ensures.nothing none least).1) out sound
+
+pub returns-else-at-next-clause-emptied : goal.returns-else-at-next-clause-emptied
+returns-else-at-next-clause-emptied g c = λ out sound.
+    let old = c.args.self.now in
+    let none = none_early _ (refuses_to_clear old c.args.at (c.size-end.result - c.args.at) Uncovered) (c.in_ok-from.from, c.in_ok-from.count) c.clear_range.result c.clear_range.ensures.early c.in_ok-from.was in
+    turn_frees g.S.Storage.view g.F.BackingDisk.backing old c.clear_range.new.self c.args.at c.size-end.result c.size-end.ensures c.requires.inside c.in_ok-from.ensures.emptied (λ least. (c.in_ok-from.ensures.nothing none least).1) out sound
