@@ -36,3 +36,4 @@ pub mod Limits
 pub mod LoadedTables
 pub mod HeaderClusters
 pub mod SparedHeaders
+pub mod KeptNotes

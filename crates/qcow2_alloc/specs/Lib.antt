@@ -2,6 +2,7 @@ pub mod AsyncLruCache
 pub mod ImageError
 pub mod RefusalNames
 pub mod ImageStorage
+pub mod KeptNotes
 pub mod ClusterChain
 pub mod ClustersToFree
 pub mod AsyncLruCacheBackend

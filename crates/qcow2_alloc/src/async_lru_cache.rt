@@ -82,6 +82,7 @@ impl<B: AsyncLruCacheBackend> AsyncLruCache<B> {
         ensures miss { IsNone (lookup (B.Key.eq key) self.old.entries)
             → GetsNew (B.steps self.old.backend) B.Key.eq self.old.size may_flush key store.old self.old.entries result store.new self.new.entries }
         ensures others { self.new ≡ with_entries self.old self.new.entries }
+        ensures keeps { B.keeps store.old store.new }
 
         // What is got is in front. Only the least recently used entry with no pin goes, after its flush succeeded.
         ensures front { result ≡ Ok true → IsInFront (B.Key.eq key) self.new.entries }
@@ -125,6 +126,7 @@ impl<B: AsyncLruCacheBackend> AsyncLruCache<B> {
         ensures missing { IsNone (lookup (B.Key.eq key) self.old.entries) → IfSome value.old (λ v.
             InsertsNew (B.steps self.old.backend) B.Key.eq self.old.size may_flush key v store.old self.old.entries result store.new self.new.entries value.new) }
         ensures others { self.new ≡ with_entries self.old self.new.entries }
+        ensures keeps { B.keeps store.old store.new }
 
         ensures stays { OthersStay B.Key.eq key self.old.entries self.new.entries }
         ensures pins { KeepsPins B.Key.eq self.old.entries self.new.entries }
@@ -219,6 +221,7 @@ impl<B: AsyncLruCacheBackend> AsyncLruCache<B> {
     pub fn flush(&mut self, store: &mut B::Store) -> Result<(), CacheError<B::Key, B::Error>>
         ensures flushed { Flushes (B.steps self.old.backend) store.old self.old.entries result store.new self.new.entries }
         ensures others { self.new ≡ with_entries self.old self.new.entries }
+        ensures keeps { B.keeps store.old store.new }
         ensures pins { KeepsPins B.Key.eq self.old.entries self.new.entries }
         ensures known { KeepsKnown B.Key.eq B.is_modified B.bytes (B.stored self.old.backend) B.is_honest store.old self.old.entries store.new self.new.entries }
     {
@@ -239,6 +242,7 @@ impl<B: AsyncLruCacheBackend> AsyncLruCache<B> {
         ensures there { IfSome (lookup (B.Key.eq key) self.old.entries) (λ s.
             FlushesKey (B.steps self.old.backend) (B.Key.eq key) key s store.old self.old.entries result store.new self.new.entries) }
         ensures others { self.new ≡ with_entries self.old self.new.entries }
+        ensures keeps { B.keeps store.old store.new }
         ensures known { KeepsKnown B.Key.eq B.is_modified B.bytes (B.stored self.old.backend) B.is_honest store.old self.old.entries store.new self.new.entries }
     {
         if !self.entries.contains(&key) {

@@ -18,6 +18,7 @@ ghost use Rattle.qcow2_alloc.specs.TableChanges.{CountsMore, CountsLess, SetsEnt
 ghost use Rattle.qcow2_alloc.specs.Quiet.{WritesNothing, GetsTableQuietly, GetsBlockQuietly, PutsTableQuietly, PutsBlockQuietly, OtherTablesStay, OtherBlocksStay};
 ghost use Rattle.qcow2_alloc.specs.Faults.{CountsFaults};
 ghost use Rattle.qcow2_alloc.specs.SparedHeaders.{AreBehindHeader, KeepBehindHeader, CachesSpareHeader};
+ghost use Rattle.qcow2_alloc.specs.KeptNotes.{KeepsNotes};
 ghost use Rattle.qcow2_alloc.specs.CachePins.{l2_pins, CachesHaveRoom, KeepsPinsAndNotes, SameTables, SetsPins, IsInUseOrFault, LeavesPinned};
 
 mod backends;
@@ -103,6 +104,7 @@ impl<S: Storage> MetadataCaches<S> {
     fn write_blocks(&mut self, storage: &mut ImageStorage<S>) -> Result<(), ImageError>
         ensures cause { IfErr result IsOfTables }
         ensures storage_faults { CountsFaults S.view storage.old storage.new result }
+        ensures notes { KeepsNotes S.view storage.old storage.new }
         ensures direction { self.new.direction ≡ self.old.direction }
         ensures tables { self.new.l2 ≡ self.old.l2 }
         ensures written { OnOk result (AreClean (refblocks self.new)) }
@@ -224,6 +226,7 @@ impl<S: Storage> MetadataCaches<S> {
     fn before_l2(&mut self, storage: &mut ImageStorage<S>) -> Result<(), ImageError>
         ensures cause { IfErr result IsOfTables }
         ensures storage_faults { CountsFaults S.view storage.old storage.new result }
+        ensures notes { KeepsNotes S.view storage.old storage.new }
         ensures order { order_of self.new ≡ order_of self.old }
         ensures tables { self.new.l2 ≡ self.old.l2 }
         ensures blocks { AreClean (refblocks self.old) → AreClean (refblocks self.new) }
@@ -274,6 +277,7 @@ impl<S: Storage> MetadataCaches<S> {
     ) -> Result<(), ImageError>
         ensures cause { IfErr result IsOfTables }
         ensures storage_faults { CountsFaults S.view storage.old storage.new result }
+        ensures notes { KeepsNotes S.view storage.old storage.new }
         ensures order { order_of self.new ≡ order_of self.old }
         ensures cached { OnOk result (IsSome (l2_at self.new cluster)) }
         ensures marks { KeepsPinsAndNotes self.old self.new }

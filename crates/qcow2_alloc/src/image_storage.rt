@@ -105,9 +105,10 @@ impl<S: Storage> ImageStorage<S> {
 }
 
 impl<S: Storage> Storage for ImageStorage<S> {
-    ghost use Rattle.image_access.specs.Contents.{overwritten, resized, zeroed};
-    ghost use Rattle.image_access.specs.Moments.{Calls, Changes};
-    ghost use Rattle.qcow2_alloc.specs.ImageStorage.{storage_of, NotesWrite};
+    ghost use Rattle.std.specs.Prelude.{◌≡◌, length, IfOk, OnOk};
+    ghost use Rattle.image_access.specs.Contents.{bytes_at, overwritten, resized, zeroed};
+    ghost use Rattle.image_access.specs.Moments.{Calls, Changes, ContentsStay, QuietCalls};
+    ghost use Rattle.qcow2_alloc.specs.ImageStorage.{storage_of, is_changed_of, NotesWrite};
 
     ghost view = { λ s. S.view s.storage };
 
@@ -119,11 +120,21 @@ impl<S: Storage> Storage for ImageStorage<S> {
         self.storage.name()
     }
 
-    fn size(&mut self) -> Result<u64, StorageError> {
+    fn size(&mut self) -> Result<u64, StorageError>
+        ensures size { (S.view (storage_of self.old)).is_honest → IfOk result (λ size. size ≡ length (S.view (storage_of self.old)).contents) }
+        ensures same { ContentsStay (S.view (storage_of self.old)) (S.view (storage_of self.new)) }
+        ensures calls { QuietCalls (S.view (storage_of self.old)) (S.view (storage_of self.new)) result }
+        ensures unnoted { is_changed_of self.new ≡ is_changed_of self.old }
+    {
         self.storage.size()
     }
 
-    fn read(&mut self, at: u64, buf: &mut [u8]) -> Result<(), StorageError> {
+    fn read(&mut self, at: u64, buf: &mut [u8]) -> Result<(), StorageError>
+        ensures read { (S.view (storage_of self.old)).is_honest → OnOk result (buf.new ≡ bytes_at (S.view (storage_of self.old)).contents at (length buf.old)) }
+        ensures same { ContentsStay (S.view (storage_of self.old)) (S.view (storage_of self.new)) }
+        ensures calls { QuietCalls (S.view (storage_of self.old)) (S.view (storage_of self.new)) result }
+        ensures unnoted { is_changed_of self.new ≡ is_changed_of self.old }
+    {
         self.storage.read(at, buf)
     }
 
@@ -163,15 +174,27 @@ impl<S: Storage> Storage for ImageStorage<S> {
         self.noted(done)
     }
 
-    fn flush(&mut self) -> Result<(), StorageError> {
+    fn flush(&mut self) -> Result<(), StorageError>
+        ensures same { ContentsStay (S.view (storage_of self.old)) (S.view (storage_of self.new)) }
+        ensures calls { QuietCalls (S.view (storage_of self.old)) (S.view (storage_of self.new)) result }
+        ensures unnoted { is_changed_of self.new ≡ is_changed_of self.old }
+    {
         self.storage.flush()
     }
 
-    fn sync(&mut self) -> Result<(), StorageError> {
+    fn sync(&mut self) -> Result<(), StorageError>
+        ensures same { ContentsStay (S.view (storage_of self.old)) (S.view (storage_of self.new)) }
+        ensures calls { QuietCalls (S.view (storage_of self.old)) (S.view (storage_of self.new)) result }
+        ensures unnoted { is_changed_of self.new ≡ is_changed_of self.old }
+    {
         self.storage.sync()
     }
 
-    fn invalidate_cache(&mut self) -> Result<(), StorageError> {
+    fn invalidate_cache(&mut self) -> Result<(), StorageError>
+        ensures same { ContentsStay (S.view (storage_of self.old)) (S.view (storage_of self.new)) }
+        ensures calls { QuietCalls (S.view (storage_of self.old)) (S.view (storage_of self.new)) result }
+        ensures unnoted { is_changed_of self.new ≡ is_changed_of self.old }
+    {
         self.storage.invalidate_cache()
     }
 

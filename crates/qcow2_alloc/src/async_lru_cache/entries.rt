@@ -36,8 +36,9 @@ pub(crate) fn flush_entry<B: AsyncLruCacheBackend>(
     key: B::Key,
 ) -> Result<(), B::Error>
     requires { IsSome (lookup (B.Key.eq key) entries.old.entries) }
-    ensures { IfSome (lookup (B.Key.eq key) entries.old.entries) (λ slot.
+    ensures flushed { IfSome (lookup (B.Key.eq key) entries.old.entries) (λ slot.
         FlushesFound (B.steps backend.now) (B.Key.eq key) key slot store.old entries.old (result_err result) store.new entries.new) }
+    ensures keeps { B.keeps store.old store.new }
 {
     match entries.peek_mut(&key) {
         Some(slot) => backend.flush(store, key, &mut slot.value),
@@ -59,6 +60,7 @@ pub(crate) fn make_room<B: AsyncLruCacheBackend>(
     ensures space { result ≡ Ok true → length entries.new.entries < size }
     ensures fits { length entries.new.entries ≤ size }
     ensures cap { entries.new.cap ≡ entries.old.cap }
+    ensures keeps { B.keeps store.old store.new }
 {
     if entries.len() < size {
         return Ok(true);
@@ -92,6 +94,7 @@ pub(crate) fn load_new<B: AsyncLruCacheBackend>(
     ensures loads { GetsNew (B.steps backend.now) B.Key.eq size may_flush key store.old entries.old.entries result store.new entries.new.entries }
     ensures fits { length entries.new.entries ≤ size }
     ensures cap { entries.new.cap ≡ entries.old.cap }
+    ensures keeps { B.keeps store.old store.new }
 {
     match make_room(backend, store, entries, size, may_flush) {
         Ok(true) => {}
@@ -127,6 +130,7 @@ pub(crate) fn insert_new<B: AsyncLruCacheBackend>(
         InsertsNew (B.steps backend.now) B.Key.eq size may_flush key v store.old entries.old.entries result store.new entries.new.entries value.new) }
     ensures fits { length entries.new.entries ≤ size }
     ensures cap { entries.new.cap ≡ entries.old.cap }
+    ensures keeps { B.keeps store.old store.new }
 {
     match make_room(backend, store, entries, size, may_flush) {
         Ok(true) => {}
@@ -165,6 +169,7 @@ pub(crate) fn replace_entry<B: AsyncLruCacheBackend>(
         Replaces (B.steps backend.now) key e (remove_entry (B.Key.eq key) entries.old.entries) v may_flush store.old entries.old.entries result store.new entries.new.entries value.new)) }
     ensures fits { length entries.new.entries ≡ length entries.old.entries }
     ensures cap { entries.new.cap ≡ entries.old.cap }
+    ensures keeps { B.keeps store.old store.new }
 {
     if !may_flush {
         return Ok(false);
@@ -188,6 +193,7 @@ pub(crate) fn flush_all<B: AsyncLruCacheBackend>(
     ensures distinct { IsDistinct B.Key.eq (keys_of entries.old.entries) }
     ensures flushed { FlushesAll (B.steps backend.now) store.old entries.old.entries result store.new entries.new.entries }
     ensures cap { entries.new.cap ≡ entries.old.cap }
+    ensures keeps { B.keeps store.old store.new }
 {
     let mut first = None;
     for _turn in 0..entries.len() {

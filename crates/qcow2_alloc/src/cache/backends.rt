@@ -21,6 +21,7 @@ impl<S: Storage> AsyncLruCacheBackend for L2CacheBackend<S> {
     ghost use Rattle.qcow2_alloc.specs.ImageStorage.{storage_of};
     ghost use Rattle.qcow2_alloc.specs.TableCaches.{l2_steps, cleared_l2, IsTableOf};
     ghost use Rattle.qcow2_alloc.specs.TableLaws.{table_laws};
+    ghost use Rattle.qcow2_alloc.specs.KeptNotes.{KeepsNotes, kept_same, kept_then};
 
     type Key = HostCluster;
 
@@ -42,6 +43,8 @@ impl<S: Storage> AsyncLruCacheBackend for L2CacheBackend<S> {
 
     ghost is_modified = { λ v. v.is_modified };
 
+    ghost keeps = { λ s t. KeepsNotes S.view s t };
+
     fn load(
         &self,
         alloc: Global,
@@ -51,7 +54,7 @@ impl<S: Storage> AsyncLruCacheBackend for L2CacheBackend<S> {
         if key.checked_offset(self.header.cluster_bits()).is_none() {
             return Err(MetadataError::Limit);
         }
-        L2Table::load(alloc, store, &self.header, key)
+        L2Table::load(alloc, &mut store.storage, &self.header, key)
     }
 
     fn flush(
@@ -80,6 +83,10 @@ impl<S: Storage> AsyncLruCacheBackend for L2CacheBackend<S> {
     fn evict(&self, _key: HostCluster, _value: L2Table) {}
 
     ghost lawful = { λ b. table_laws (λ s. S.view (storage_of s)) b.header.fields.cluster_bits (λ (v : L2TableView). v.bytes) (λ v. v.is_modified) cleared_l2 (IsTableOf b.header.fields) (λ _. refl) (λ _. refl) };
+
+    ghost keeps_same = { λ s. kept_same s };
+
+    ghost keeps_then = { λ s t u first then. kept_then s t u first then };
 }
 
 impl<S> L2CacheBackend<S> {
@@ -111,6 +118,7 @@ impl<S: Storage> AsyncLruCacheBackend for RefBlockCacheBackend<S> {
     ghost use Rattle.qcow2_alloc.specs.ImageStorage.{storage_of};
     ghost use Rattle.qcow2_alloc.specs.TableCaches.{rb_steps, cleared_rb, IsBlockOf};
     ghost use Rattle.qcow2_alloc.specs.TableLaws.{table_laws};
+    ghost use Rattle.qcow2_alloc.specs.KeptNotes.{KeepsNotes, kept_same, kept_then};
 
     type Key = HostCluster;
 
@@ -132,6 +140,8 @@ impl<S: Storage> AsyncLruCacheBackend for RefBlockCacheBackend<S> {
 
     ghost is_modified = { λ v. v.is_modified };
 
+    ghost keeps = { λ s t. KeepsNotes S.view s t };
+
     fn load(
         &self,
         alloc: Global,
@@ -141,7 +151,7 @@ impl<S: Storage> AsyncLruCacheBackend for RefBlockCacheBackend<S> {
         if key.checked_offset(self.header.cluster_bits()).is_none() {
             return Err(MetadataError::Limit);
         }
-        RefBlock::load(alloc, store, &self.header, key)
+        RefBlock::load(alloc, &mut store.storage, &self.header, key)
     }
 
     fn flush(
@@ -170,6 +180,10 @@ impl<S: Storage> AsyncLruCacheBackend for RefBlockCacheBackend<S> {
     fn evict(&self, _key: HostCluster, _value: RefBlock) {}
 
     ghost lawful = { λ b. table_laws (λ s. S.view (storage_of s)) b.header.fields.cluster_bits (λ (v : RefBlockView). v.bytes) (λ v. v.is_modified) cleared_rb (IsBlockOf b.header.fields) (λ _. refl) (λ _. refl) };
+
+    ghost keeps_same = { λ s. kept_same s };
+
+    ghost keeps_then = { λ s t u first then. kept_then s t u first then };
 }
 
 impl<S> RefBlockCacheBackend<S> {

@@ -49,6 +49,8 @@ impl AsyncLruCacheBackend for Pages {
 
     ghost is_modified = { λ v. v.modified };
 
+    ghost keeps = { λ _ _. ⊤ };
+
     fn load(&self, _alloc: Global, store: &mut Disk, key: u32) -> Result<Page, u32> {
         if store.load_fails.contains(&key) {
             return Err(key);
@@ -80,6 +82,10 @@ impl AsyncLruCacheBackend for Pages {
       flush_writes = λ s t k v w h honest. absurd honest;
       failed_flush_keeps = λ s t k v e h honest. absurd honest;
     } };
+
+    ghost keeps_same = { λ _. tt };
+
+    ghost keeps_then = { λ _ _ _ _ _. tt };
 }
 
 type Answer = Result<bool, CacheError<u32, u32>>;

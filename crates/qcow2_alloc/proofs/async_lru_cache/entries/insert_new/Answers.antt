@@ -17,4 +17,5 @@ returns-in-Ok g c =
       inserts = rw (sym c.take.ensures.value ∙ c.unwrap-taken.ensures) ((m.entries, room, p.entries), c.take.ensures.after);
       fits = p.fits;
       cap = ap (λ x. x.cap) c.in-Ok.ensures.entries ∙ c.make_room.ensures.cap;
+      keeps = c.make_room.ensures.keeps;
     }

@@ -17,4 +17,5 @@ returns-in-Ok-put g c =
       loads = (c.make_room.new.store, m.entries, c.in-Ok.value, room, c.in-Ok.ensures.ok, p.entries);
       fits = p.fits;
       cap = ap (λ x. x.cap) c.in-Ok-put.ensures.entries ∙ c.make_room.ensures.cap;
+      keeps = g.met.B.AsyncLruCacheBackend.keeps_then _ _ _ c.make_room.ensures.keeps c.load.ensures.keeps;
     }

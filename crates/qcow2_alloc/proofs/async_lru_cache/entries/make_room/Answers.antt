@@ -12,12 +12,13 @@ returns-in-Err g c =
     let o = oldest g.B.Key.PartialEq.eq c.args.entries.now.entries g.met.B.Key.Eq.laws c.len.ensures.valid.0 c.in-Some.key c.in-Some.ensures in
     let r = room_refused (g.B.AsyncLruCacheBackend.steps c.args.backend.now) g.B.Key.PartialEq.eq c.args.size c.args.may_flush c.args.store.now c.args.entries.now
     (record { full = omega (arith, c.len.ensures.len, c.if-len-size.false); may = c.if-not-may_flush.false })
-    c.in-Some.key o c.flush_entry.new.store c.flush_entry.new.entries c.in-Err.failure c.in-Err.ensures in record {
+    c.in-Some.key o c.flush_entry.new.store c.flush_entry.new.entries c.in-Err.failure c.in-Err.ensures.flushed in record {
       distinct = c.len.ensures.valid.0;
       room = r.room;
       space = λ h. cc;
       fits = let len = ap (λ m. length m.entries) r.same in omega (arith, len, c.requires);
       cap = ap (λ m. m.cap) r.same;
+      keeps = c.flush_entry.ensures.keeps;
     }
 
 pub returns : goal.returns
@@ -25,10 +26,11 @@ returns g c =
     let o = oldest g.B.Key.PartialEq.eq c.args.entries.now.entries g.met.B.Key.Eq.laws c.len.ensures.valid.0 c.in-Some.key c.in-Some.ensures in
     let r = room_made (g.B.AsyncLruCacheBackend.steps c.args.backend.now) g.B.Key.PartialEq.eq c.args.size c.args.may_flush c.args.store.now c.args.entries.now
     (record { full = omega (arith, c.len.ensures.len, c.if-len-size.false); may = c.if-not-may_flush.false })
-    c.in-Some.key o c.flush_entry.new.store c.flush_entry.new.entries c.requires c.in_default-flush_entry.ensures c.pop.new.self c.pop.ensures.entries in record {
+    c.in-Some.key o c.flush_entry.new.store c.flush_entry.new.entries c.requires c.in_default-flush_entry.ensures.flushed c.pop.new.self c.pop.ensures.entries in record {
       distinct = c.len.ensures.valid.0;
       room = r.room;
       space = λ _. r.space;
       fits = omega (arith, r.space);
       cap = r.cap;
+      keeps = c.flush_entry.ensures.keeps;
     }

@@ -65,3 +65,9 @@ returns-in_err-flush-clause-header_cluster g c = blocks_flushed_behind g.S.Stora
 
 pub returns-clause-header_cluster : goal.returns-clause-header_cluster
 returns-clause-header_cluster g c = blocks_flushed_behind g.S.Storage.view c.args.storage.now c.flush.new.store c.args.self.now c.flush.new.self c.flush.result c.flush.ensures.others c.flush.ensures.flushed
+
+pub returns-in_err-flush-clause-notes : goal.returns-in_err-flush-clause-notes
+returns-in_err-flush-clause-notes g c = c.flush.ensures.keeps
+
+pub returns-clause-notes : goal.returns-clause-notes
+returns-clause-notes g c = c.flush.ensures.keeps
