@@ -15,7 +15,7 @@ use Rattle.qcow2_session.specs.declared.session.Reply.{Reply}
 use Rattle.qimg.proofs.Known.{appends_known, known_kept}
 use Rattle.qimg.proofs.Scripts.{asked_all}
 use Rattle.qimg.specs.Lines.{order_of_command}
-use Rattle.qimg.specs.Printed.{are_accepted, end_text, is_accepted, replies_text, run_text, status_of}
+use Rattle.qimg.specs.Printed.{are_accepted, end_text, is_accepted, replies_text, run_text, run_status}
 use Rattle.qimg.specs.Printing.{is_refusal, text_of}
 use Rattle.qimg.specs.Reading.{is_cut}
 use Rattle.qimg.specs.Program.{ArePrinted, EndsOrLeaves, EndsScript, HasRun, HasRunText, IsClosed}
@@ -41,22 +41,22 @@ printed_to_the_end first second (Err e) (Ok x) (Ok y) (Ok done) old mid late new
 printed_to_the_end first second (Ok w) (Ok x) (Ok y) (Ok done) old mid late new a from_answer b from_ended keeps ok = known_kept old late new (option_append first (Some second)) (appends_known old mid late first (Some second) a b) keeps
 
 -- the status of what the run answered is that of what it was told
-pub status_told : (cut before : Bool) (status : ℕ) (answer ended last : Result Bool Error) (written : Result (Unit {0}) Error) → IfOk answer (λ a. a ≡ before) → IfOk ended (λ a. answer ≡ Ok a) → IfOk last (λ a. ended ≡ Ok a) → IfOk last (λ a. (written ≡ Ok tt) × (status ≡ status_of cut a true)) → IfErr last (λ e. (written ≡ Err e) × ((a : Bool) → status ≡ status_of cut a false)) → status ≡ status_of cut before (is_ok written)
-status_told cut before status answer ended (Err e) written is from_answer from_ended done failed = failed.1 before ∙ ap (λ w. status_of cut before (is_ok w)) (sym failed.0)
+pub status_told : (cut before : Bool) (status : ℕ) (answer ended last : Result Bool Error) (written : Result (Unit {0}) Error) → IfOk answer (λ a. a ≡ before) → IfOk ended (λ a. answer ≡ Ok a) → IfOk last (λ a. ended ≡ Ok a) → IfOk last (λ a. (written ≡ Ok tt) × (status ≡ run_status cut a true)) → IfErr last (λ e. (written ≡ Err e) × ((a : Bool) → status ≡ run_status cut a false)) → status ≡ run_status cut before (is_ok written)
+status_told cut before status answer ended (Err e) written is from_answer from_ended done failed = failed.1 before ∙ ap (λ w. run_status cut before (is_ok w)) (sym failed.0)
 status_told cut before status answer (Err e) (Ok y) written is from_answer from_ended done failed = let never : Err e ≡ Ok y = from_ended in absurd cc
 status_told cut before status (Err e) (Ok x) (Ok y) written is from_answer from_ended done failed = let never : Err e ≡ Ok x = from_answer in absurd cc
 status_told cut before status (Ok w) (Ok x) (Ok y) written is from_answer from_ended done failed =
     let first : w ≡ x = cc in
     let second : x ≡ y = cc in
     let same : y ≡ before = sym second ∙ sym first ∙ is in
-    done.1 ∙ ap (λ a. status_of cut a true) same ∙ ap (λ v. status_of cut before (is_ok v)) (sym done.0)
+    done.1 ∙ ap (λ a. run_status cut a true) same ∙ ap (λ v. run_status cut before (is_ok v)) (sym done.0)
 
-pub written_told : (cut : Bool) (status : ℕ) (last : Result Bool Error) (written : Result (Unit {0}) Error) → IfErr last (λ e. (written ≡ Err e) × ((a : Bool) → status ≡ status_of cut a false)) → is_ok written ≡ true → is_ok last ≡ true
+pub written_told : (cut : Bool) (status : ℕ) (last : Result Bool Error) (written : Result (Unit {0}) Error) → IfErr last (λ e. (written ≡ Err e) × ((a : Bool) → status ≡ run_status cut a false)) → is_ok written ≡ true → is_ok last ≡ true
 written_told cut status (Ok y) written failed ok = refl
 written_told cut status (Err e) written failed ok = let never : false ≡ true = ap is_ok (sym failed.0) ∙ ok in absurd cc
 
 -- status 0 is of a script that wasn't cut, was accepted and was written
-pub status_zero : (cut accepted written : Bool) → status_of cut accepted written ≡ 0 → (cut ≡ false) × (accepted ≡ true) × (written ≡ true)
+pub status_zero : (cut accepted written : Bool) → run_status cut accepted written ≡ 0 → (cut ≡ false) × (accepted ≡ true) × (written ≡ true)
 status_zero true accepted written is = absurd cc
 status_zero false false written is = absurd cc
 status_zero false true false is = absurd cc

@@ -32,8 +32,8 @@ abbrev pub are_accepted : ℕ → List Reply → Bool
 are_accepted count replies = (length replies == count) && not (list_any is_refusal replies)
 
 -- The status: 2 where a line couldn't be read, else 0 where nothing was refused and all was written, else 1.
-abbrev pub status_of : Bool → Bool → Bool → ℕ
-status_of is_cut accepted written = if is_cut then 2 else if accepted && written then 0 else 1
+abbrev pub run_status : Bool → Bool → Bool → ℕ
+run_status is_cut accepted written = if is_cut then 2 else if accepted && written then 0 else 1
 
 module _ {S F : Type 0} where
   -- what a run of so many commands prints: the lines of its replies and of the flush behind it, or why no image opened

@@ -16,7 +16,7 @@ use Rattle.qcow2_session.specs.Opening.{Headline, TellsOfOpened}
 use Rattle.qcow2_session.specs.declared.session.Command.{Command}
 use Rattle.qcow2_session.specs.declared.session.Reply.{Reply}
 use Rattle.qimg.specs.Lines.{order_of_command}
-use Rattle.qimg.specs.Printed.{end_text, is_accepted, refusal_text, run_text, status_of}
+use Rattle.qimg.specs.Printed.{end_text, is_accepted, refusal_text, run_text, run_status}
 use Rattle.qimg.specs.Printing.{is_refusal, text_of}
 use Rattle.qimg.specs.Reading.{Asks, IsScriptOf, is_cut}
 use Rattle.qimg.specs.declared.reading.ScriptEnd.{ScriptEnd}
@@ -69,7 +69,7 @@ module _ {S F : Type 0} (view : S → StorageView) (backing : F → BackingView)
     pub asks : IfSome text (λ text. IsScriptOf text (map order_of_command commands) stop)
     pub ran : EndsRun commands
     pub printed : OnOk written (IfSome (option_append (run_text (length commands) ran.run ran.flush) (Some (end_text (is_cut stop) (length commands)))) (Appends old new))
-    pub status_is : status ≡ status_of (is_cut stop) (is_accepted (length commands) ran.run ran.flush) (is_ok written)
+    pub status_is : status ≡ run_status (is_cut stop) (is_accepted (length commands) ran.run ran.flush) (is_ok written)
 
   -- Or there was no room for the commands: the storage was left alone, and that was printed.
   abbrev pub EndsOrLeaves : Option (List ℕ) → ℕ → Result (Unit {0}) Error → Option (List ℕ) → Option (List ℕ) → Type 0

@@ -3,7 +3,7 @@ ghost use Rattle.std.specs.Io.KnownBytes.{Appends, Keeps};
 ghost use Rattle.image_access.specs.Moments.{ContentsStay};
 ghost use Rattle.qcow2_image.specs.Opened.{NeedsAnother};
 ghost use Rattle.qimg.specs.Creating.{CreatesOrLeaves, HasCreated};
-ghost use Rattle.qimg.specs.Printed.{are_accepted, end_text, flush_text, refusal_text, replies_text, status_of};
+ghost use Rattle.qimg.specs.Printed.{are_accepted, end_text, flush_text, refusal_text, replies_text, run_status};
 ghost use Rattle.qimg.specs.Program.{EndsOrLeaves, HasRunText, PrintsRun};
 ghost use Rattle.qimg.specs.Reading.{is_cut};
 
@@ -92,7 +92,7 @@ pub fn script<S: Storage, F: WrappedFormat<S>, R: BufRead, W: Write, M: Write>(
     );
     let printed = print_end(output, messages, &script, printed);
     let printed = flush_output(output, printed);
-    let (status, written) = status_of(script.is_cut(), printed);
+    let (status, written) = run_status(script.is_cut(), printed);
     (status, written, storage)
 }
 
@@ -138,9 +138,9 @@ fn flush_output<W: Write, T: Drop>(output: &mut W, printed: io::Result<T>) -> io
 }
 
 // The exit status, where a run was told whether nothing was refused, and whether its lines could be written.
-fn status_of(cut: bool, printed: io::Result<bool>) -> (u8, io::Result<()>)
-    ensures status { IfOk printed (λ accepted. (result.1 ≡ Ok tt) × (result.0 ≡ status_of cut accepted true)) }
-    ensures unwritten { IfErr printed (λ e. (result.1 ≡ Err e) × ((accepted : Bool) → result.0 ≡ status_of cut accepted false)) }
+fn run_status(cut: bool, printed: io::Result<bool>) -> (u8, io::Result<()>)
+    ensures status { IfOk printed (λ accepted. (result.1 ≡ Ok tt) × (result.0 ≡ run_status cut accepted true)) }
+    ensures unwritten { IfErr printed (λ e. (result.1 ≡ Err e) × ((accepted : Bool) → result.0 ≡ run_status cut accepted false)) }
 {
     match (cut, printed) {
         (true, Ok(_)) => (UNREADABLE, Ok(())),
