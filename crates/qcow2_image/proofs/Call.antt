@@ -8,3 +8,4 @@ pub mod Stepped
 pub mod CallOutcomes
 pub mod Refused
 pub mod Slots
+pub mod OnceWritten

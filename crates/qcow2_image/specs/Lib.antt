@@ -26,3 +26,4 @@ pub mod Preallocation
 pub mod Unwritten
 pub mod L1Entries
 pub mod ListedClusters
+pub mod Noted

@@ -17,6 +17,8 @@ ghost use Rattle.qcow2_image.specs.Refusals.{unusable, refuses_mapping, refuses_
 ghost use Rattle.qcow2_image.specs.SpecialReads.{TellsCompressed, TellsWhether};
 ghost use Rattle.qcow2_image.specs.Unwritten.{OnlyReadsImage};
 ghost use Rattle.qcow2_alloc.specs.declared.error.ImageError.TheVariants.{NotCompressed, OutdatedMapping, ReadOnly};
+ghost use Rattle.qcow2_alloc.specs.KeptNotes.{KeepsNotes};
+ghost use Rattle.qcow2_image.specs.Noted.{FailsOnceWritten};
 ghost use Rattle.qcow2_alloc.specs.ImageFile.{known_in};
 
 use crate::mappings::passes;
@@ -61,6 +63,7 @@ impl<S: Storage, F: WrappedFormat<S>> Qcow2<S, F> {
             → ¬ IsFoundWhole S.view self.new (mapping.now.offset + at) (further_by at mapping.now.kind) (length bytes.old) }
         ensures sees { AnswersCall S.view F.backing self.old self.new [] (λ done old new. (new ≡ old) × Shows old.disk (mapping.now.offset + at) bytes.new) result }
         ensures faults { CountsImageFaults S.view F.backing self.old self.new result }
+        ensures once_written { FailsOnceWritten S.view self.old self.new result }
         ensures unwritten { OnlyReadsImage S.view F.backing self.old self.new }
     {
         self.check_usable()?;
@@ -89,6 +92,7 @@ impl<S: Storage, F: WrappedFormat<S>> Qcow2<S, F> {
             → ¬ IsFoundWhole S.view self.new (mapping.now.offset + at) (further_by at mapping.now.kind) (length bytes.old) }
         ensures shows { 0 < length bytes.old → (p : Pending) (out : List (Option Prepared)) → ImageInvariant S.view F.backing p self.old out → IfOk result (λ done. Shows (disk_of S.view F.backing self.new) (mapping.now.offset + at) bytes.new) }
         ensures faults { CountsImageFaults S.view F.backing self.old self.new result }
+        ensures notes { KeepsNotes S.view self.old.file.storage self.new.file.storage }
         ensures unwritten { OnlyReadsImage S.view F.backing self.old self.new }
     {
         let offset = self.place_within(mapping.offset, at)?;
@@ -125,6 +129,7 @@ impl<S: Storage, F: WrappedFormat<S>> Qcow2<S, F> {
         ensures outdated { (p : Pending) (out : List (Option Prepared)) → ImageInvariant S.view F.backing p self.old out → result ≡ Err OutdatedMapping → ¬ IsFoundWhole S.view self.new offset wanted.now length }
         ensures mapped { 0 < length → (p : Pending) (out : List (Option Prepared)) → ImageInvariant S.view F.backing p self.old out → IfOk result (λ done. IsMappedAs S.view self.new offset wanted.now length) }
         ensures faults { CountsImageFaults S.view F.backing self.old self.new result }
+        ensures notes { KeepsNotes S.view self.old.file.storage self.new.file.storage }
         ensures unwritten { OnlyReadsImage S.view F.backing self.old self.new }
     {
         let (kind, found) = self.look_up(offset, length)?;
@@ -151,6 +156,7 @@ impl<S: Storage, F: WrappedFormat<S>> Qcow2<S, F> {
         ensures shows { (p : Pending) (out : List (Option Prepared)) → ImageInvariant S.view F.backing p self.old out → IsMappedAs S.view self.old offset kind.now (length bytes.old)
             → IfOk result (λ done. Shows (disk_of S.view F.backing self.new) offset bytes.new) }
         ensures faults { CountsImageFaults S.view F.backing self.old self.new result }
+        ensures notes { KeepsNotes S.view self.old.file.storage self.new.file.storage }
         ensures unwritten { OnlyReadsImage S.view F.backing self.old self.new }
     {
         match kind {
@@ -181,6 +187,7 @@ impl<S: Storage, F: WrappedFormat<S>> Qcow2<S, F> {
         ensures keeps { (p : Pending) (out : List (Option Prepared)) → ImageInvariant S.view F.backing p self.old out → UnseenStep S.view F.backing p p self.old self.new out }
         ensures reads { IsHonestBacking S.view F.backing self.old.backing → IfOk result (λ done. (length bytes.new ≡ length bytes.old) × AreBytesOf (backing_bytes S.view F.backing self.old.backing) offset bytes.new) }
         ensures faults { CountsImageFaults S.view F.backing self.old self.new result }
+        ensures notes { KeepsNotes S.view self.old.file.storage self.new.file.storage }
     {
         let Some(backing) = &mut self.backing else {
             bytes.fill(0);
@@ -205,6 +212,7 @@ impl<S: Storage, F: WrappedFormat<S>> Qcow2<S, F> {
         ensures tells { 0 < length bytes.old → (out : List (Option Prepared)) → (abstract_of S.view F.backing self.old out).is_sound → IfErr result (TellsCompressed (known_in S.view self.old.file) offset) }
         ensures sees { AnswersCall S.view F.backing self.old self.new [] (λ done was is. is ≡ was) result }
         ensures faults { CountsImageFaults S.view F.backing self.old self.new result }
+        ensures once_written { FailsOnceWritten S.view self.old self.new result }
         ensures unwritten { OnlyReadsImage S.view F.backing self.old self.new }
     {
         match self.try_readv_special(bytes, offset)? {
@@ -231,6 +239,7 @@ impl<S: Storage, F: WrappedFormat<S>> Qcow2<S, F> {
         ensures tells { 0 < length bytes.old → (out : List (Option Prepared)) → (abstract_of S.view F.backing self.old out).is_sound → TellsWhether (known_in S.view self.old.file) offset result }
         ensures sees { AnswersCall S.view F.backing self.old self.new [] (λ at was is. is ≡ was) result }
         ensures faults { CountsImageFaults S.view F.backing self.old self.new result }
+        ensures once_written { FailsOnceWritten S.view self.old self.new result }
         ensures unwritten { OnlyReadsImage S.view F.backing self.old self.new }
     {
         self.check_usable()?;
@@ -251,6 +260,7 @@ impl<S: Storage, F: WrappedFormat<S>> Qcow2<S, F> {
         ensures keeps { (p : Pending) (out : List (Option Prepared)) → ImageInvariant S.view F.backing p self.old out → UnseenStep S.view F.backing p p self.old self.new out }
         ensures tells { (p : Pending) (out : List (Option Prepared)) → ImageInvariant S.view F.backing p self.old out → TellsWhether (known_in S.view self.old.file) offset result }
         ensures faults { CountsImageFaults S.view F.backing self.old self.new result }
+        ensures notes { KeepsNotes S.view self.old.file.storage self.new.file.storage }
         ensures unwritten { OnlyReadsImage S.view F.backing self.old self.new }
     {
         let (kind, _length) = self.look_up(offset, length)?;
@@ -282,6 +292,7 @@ impl<S: Storage, F: WrappedFormat<S>> Qcow2<S, F> {
         ensures private { IsSome (table_of prepared.now) → result ≢ Err OutdatedMapping }
         ensures sees { Puts S.view F.backing self.old self.new prepared.now at bytes.now result }
         ensures faults { CountsImageFaults S.view F.backing self.old self.new result }
+        ensures once_written { FailsOnceWritten S.view self.old self.new result }
     {
         self.check_usable()?;
         if prepared.image != self.number {
@@ -312,6 +323,7 @@ impl<S: Storage, F: WrappedFormat<S>> Qcow2<S, F> {
         ensures puts { 0 < length bytes.now → at + length bytes.now ≤ prepared.now.length → (out : List (Option Prepared)) (k : ℕ) → slice_get out k ≡ Some (Some prepared.now)
             → ImageInvariant S.view F.backing (pending_in S.view F.backing self.old out) self.old out → PutsPart S.view F.backing self.old self.new out k prepared.now at bytes.now result }
         ensures faults { CountsImageFaults S.view F.backing self.old self.new result }
+        ensures notes { KeepsNotes S.view self.old.file.storage self.new.file.storage }
     {
         let Some(host) = prepared.offset.checked_add(at) else {
             return Err(ImageError::Overflow);
@@ -337,6 +349,7 @@ impl<S: Storage, F: WrappedFormat<S>> Qcow2<S, F> {
             → IfOk result (λ done. IsMappedAs S.view self.new (prepared.now.guest + at) (Raw Image host true) length) }
         ensures private { IsSome (table_of prepared.now) → result ≡ Ok tt }
         ensures faults { CountsImageFaults S.view F.backing self.old self.new result }
+        ensures notes { KeepsNotes S.view self.old.file.storage self.new.file.storage }
     {
         if prepared.table.is_some() {
             return Ok(());
@@ -356,6 +369,7 @@ impl<S: Storage, F: WrappedFormat<S>> Qcow2<S, F> {
         ensures current { result ≢ Err OutdatedMapping }
         ensures written { WritesBytes S.view self.old self.new host bytes.now result }
         ensures faults { CountsImageFaults S.view F.backing self.old self.new result }
+        ensures notes { KeepsNotes S.view self.old.file.storage self.new.file.storage }
     {
         self.file.storage.will_write(WriteKind::Data);
         self.file.storage.write_data(host, bytes)?;

@@ -9,6 +9,8 @@ ghost use Rattle.qcow2_image.specs.Ranges.{ReleasesOneMapping, Reaches};
 ghost use Rattle.qcow2_image.specs.Unwritten.{OnlyReadsImage};
 ghost use Rattle.qcow2_laws.specs.CrashInvariant.{Pending};
 ghost use Rattle.qcow2_alloc.specs.MetadataCaches.{IsEntryAt, l2_at};
+ghost use Rattle.qcow2_alloc.specs.KeptNotes.{KeepsNotes};
+ghost use Rattle.qcow2_image.specs.Noted.{FailsOnceWritten};
 ghost use Rattle.qcow2_alloc.specs.ImageFile.{known_in, FileInvariant, KeepsHeader};
 ghost use Rattle.qcow2_image.specs.ListedClusters.{ListsFormer, PreparesList, PreparesTable};
 ghost use Rattle.qcow2_alloc.specs.ImageStorage.{storage_of};
@@ -164,6 +166,7 @@ impl<S: Storage, F: WrappedFormat<S>> Qcow2<S, F> {
         ensures known { (out : List (Option Prepared)) → (abstract_of S.view F.backing self.old out).is_sound → known_in S.view self.new.file ≡ known_in S.view self.old.file }
         ensures run { (out : List (Option Prepared)) → (abstract_of S.view F.backing self.old out).is_sound → IfOk result (λ (mapping, n). IsFoundIn (known_in S.view self.new.file) (is_some self.new.backing) offset max (found_kind mapping.kind) n) }
         ensures faults { CountsImageFaults S.view F.backing self.old self.new result }
+        ensures once_written { FailsOnceWritten S.view self.old self.new result }
         ensures unwritten { OnlyReadsImage S.view F.backing self.old self.new }
     {
         self.check_usable()?;
@@ -194,6 +197,7 @@ impl<S: Storage, F: WrappedFormat<S>> Qcow2<S, F> {
         ensures past { size_of self.old ≤ offset → result ≡ Ok (Eof, 0) }
         ensures found { (p : Pending) (out : List (Option Prepared)) → ImageInvariant S.view F.backing p self.old out → IfOk result (λ (kind, n). IsFoundInImage S.view self.new offset max kind n) }
         ensures faults { CountsImageFaults S.view F.backing self.old self.new result }
+        ensures notes { KeepsNotes S.view self.old.file.storage self.new.file.storage }
         ensures unwritten { OnlyReadsImage S.view F.backing self.old self.new }
     {
         let size = self.file.header.size();

@@ -13,6 +13,11 @@ use Rattle.qcow2_image.specs.Calls.{refusal_of}
 use Rattle.qcow2_image.proofs.Call.Answers.{answers_err, usable_works}
 use Rattle.qcow2_image.proofs.Call.Called.{quietly_then, quiet_does, quiet_refuses}
 use Rattle.qcow2_image.proofs.Map.Unmodified.{read_call}
+use Rattle.qcow2_image.proofs.Call.OnceWritten.{once_written}
+use Rattle.qcow2_image.specs.Noted.{FailsOnceWritten}
+use Rattle.qcow2_alloc.proofs.AllocationSteps.{handed_on}
+use Rattle.qcow2_alloc.proofs.Outcomes.{err_as}
+use Rattle.qcow2_alloc.specs.declared.error.ImageError.TheVariants.{Memory}
 use Rattle.qcow2_image.proofs.image.Qcow2.get_mapping.Goals as goal
 
 pub returns-in_err-kind-clause-sees : goal.returns-in_err-kind-clause-sees
@@ -74,3 +79,11 @@ returns-in_err-kind-clause-unwritten g c = read_call g.S.Storage.view g.F.Backin
 
 pub returns-clause-unwritten : goal.returns-clause-unwritten
 returns-clause-unwritten g c = read_call g.S.Storage.view g.F.BackingDisk.backing c.args.self.now c.begin.new.self c.look_up-found.new.self c.mark_failure.new.self (is_failed c.mark_failure.new.self) c.begin.ensures.storage c.begin.ensures.keeps c.begin.ensures.known c.look_up-found.ensures.unwritten c.mark_failure.ensures.rest
+
+pub returns-in_err-kind-clause-once_written : goal.returns-in_err-kind-clause-once_written
+returns-in_err-kind-clause-once_written g c =
+    handed_on (λ r. FailsOnceWritten g.S.Storage.view c.args.self.now c.mark_failure.new.self r) c.from_residual-in_err-kind.result c.in_err-kind.field-0.0 c.from_residual-in_err-kind.ensures
+    (λ memory. once_written g.S.Storage.view c.args.self.now c.begin.new.self c.look_up-found.new.self c.mark_failure.new.self c.look_up-found.result c.begin.ensures.storage c.look_up-found.ensures.notes c.mark_failure.ensures.marks c.mark_failure.ensures.rest (sym c.mark_failure.ensures.answer ∙ c.in_err-kind.was ∙ err_as c.in_err-kind.field-0.0 Memory memory))
+
+pub returns-clause-once_written : goal.returns-clause-once_written
+returns-clause-once_written g c = λ bad. absurd (cc)

@@ -14,6 +14,7 @@ use Rattle.qcow2_image.specs.ImageInvariant.{backing_bytes, disk_of}
 use Rattle.qcow2_image.proofs.Map.Loading.{read_moved, if_ok}
 use Rattle.qcow2_image.proofs.Map.Reading.{raw_shown, zero_shown, indirect_shown, none_below}
 use Rattle.qcow2_image.proofs.Map.Unmodified.{read_bytes, read_same}
+use Rattle.qcow2_alloc.proofs.KeptNotes.{read_kept}
 use Rattle.qcow2_image.proofs.image.Qcow2.read_as.Goals as goal
 
 pub returns-in_err-read-in-Raw-clause-keeps : goal.returns-in_err-read-in-Raw-clause-keeps
@@ -72,3 +73,9 @@ returns-in_ok-read-in-Raw-clause-unwritten g c = λ p out sound clean. read_byte
 
 pub returns-in-Indirect-clause-unwritten : goal.returns-in-Indirect-clause-unwritten
 returns-in-Indirect-clause-unwritten g c = λ p out sound clean. read_same g.S.Storage.view c.args.self.now c.read_backing.new.self c.read_backing.ensures.file clean
+
+pub returns-in_err-read-in-Raw-clause-notes : goal.returns-in_err-read-in-Raw-clause-notes
+returns-in_err-read-in-Raw-clause-notes g c = read_kept _ _ c.read.result c.read.ensures.calls c.read.ensures.same c.read.ensures.unnoted
+
+pub returns-in_ok-read-in-Raw-clause-notes : goal.returns-in_ok-read-in-Raw-clause-notes
+returns-in_ok-read-in-Raw-clause-notes g c = read_kept _ _ c.read.result c.read.ensures.calls c.read.ensures.same c.read.ensures.unnoted

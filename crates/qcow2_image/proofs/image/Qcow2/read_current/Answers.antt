@@ -7,6 +7,7 @@ use Rattle.qcow2_image.specs.ImageInvariant.{disk_of}
 use Rattle.qcow2_image.proofs.Call.Called.{keeps_then}
 use Rattle.qcow2_image.proofs.Map.Looked.{none_past}
 use Rattle.qcow2_image.proofs.Map.Unmodified.{reads_on}
+use Rattle.qcow2_alloc.specs.KeptNotes.{kept_then}
 use Rattle.qcow2_image.proofs.image.Qcow2.read_current.Goals as goal
 
 pub returns-clause-keeps : goal.returns-clause-keeps
@@ -39,3 +40,6 @@ returns-clause-outdated g c = λ some p out sound is whole.
 
 pub returns-clause-unwritten : goal.returns-clause-unwritten
 returns-clause-unwritten g c = reads_on g.S.Storage.view g.F.BackingDisk.backing c.args.self.now c.check_mapped.new.self c.read_as.new.self c.in_ok-check_mapped.ensures.keeps c.in_ok-check_mapped.ensures.unwritten c.read_as.ensures.unwritten
+
+pub returns-clause-notes : goal.returns-clause-notes
+returns-clause-notes g c = kept_then _ _ _ c.check_mapped.ensures.notes c.read_as.ensures.notes

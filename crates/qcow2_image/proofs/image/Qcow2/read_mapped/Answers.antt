@@ -14,6 +14,7 @@ use Rattle.qcow2_image.proofs.Call.Called.{told_answers, tells_quietly, quietly_
 use Rattle.qcow2_image.proofs.Map.Loading.{if_ok}
 use Rattle.qcow2_image.proofs.Call.FaultCounts.{counted_marked}
 use Rattle.qcow2_image.proofs.Map.Unmodified.{read_call}
+use Rattle.qcow2_image.proofs.Call.OnceWritten.{once_written}
 use Rattle.qcow2_image.proofs.image.Qcow2.read_mapped.Goals as goal
 
 pub returns-clause-sees : goal.returns-clause-sees
@@ -51,3 +52,6 @@ returns-clause-faults g c = counted_marked g.S.Storage.view g.F.BackingDisk.back
 
 pub returns-clause-unwritten : goal.returns-clause-unwritten
 returns-clause-unwritten g c = read_call g.S.Storage.view g.F.BackingDisk.backing c.args.self.now c.begin.new.self c.read_current-done.new.self c.mark_failure.new.self (is_failed c.mark_failure.new.self) c.begin.ensures.storage c.begin.ensures.keeps c.begin.ensures.known c.read_current-done.ensures.unwritten c.mark_failure.ensures.rest
+
+pub returns-clause-once_written : goal.returns-clause-once_written
+returns-clause-once_written g c = λ memory. once_written g.S.Storage.view c.args.self.now c.begin.new.self c.read_current-done.new.self c.mark_failure.new.self c.read_current-done.result c.begin.ensures.storage c.read_current-done.ensures.notes c.mark_failure.ensures.marks c.mark_failure.ensures.rest (sym c.mark_failure.ensures.answer ∙ memory)

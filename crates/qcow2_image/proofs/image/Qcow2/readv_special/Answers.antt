@@ -1,4 +1,4 @@
-use Rattle.std.proofs.Common.{◌≡◌, [], IfErr, subst}
+use Rattle.std.proofs.Common.{◌≡◌, ◌∙◌, [], IfErr, subst}
 use Rattle.qcow2_disk.specs.Calls.{not_compressed, storage}
 use Rattle.qcow2_alloc.specs.ImageFile.{known_in}
 use Rattle.qcow2_alloc.proofs.AllocationSteps.{handed_on}
@@ -8,6 +8,9 @@ use Rattle.qcow2_image.specs.SpecialReads.{TellsCompressed}
 use Rattle.qcow2_image.proofs.Call.Answers.{answers_err}
 use Rattle.qcow2_image.proofs.Map.Special.{refuses_after}
 use Rattle.qcow2_image.proofs.Sizes.{sound_is_usable}
+use Rattle.qcow2_image.specs.Noted.{FailsOnceWritten}
+use Rattle.qcow2_alloc.proofs.Outcomes.{err_as}
+use Rattle.qcow2_alloc.specs.declared.error.ImageError.TheVariants.{Memory}
 use Rattle.qcow2_image.proofs.image.Qcow2.readv_special.Goals as goal
 
 pub returns-in_err-try_readv_special-clause-tells :
@@ -32,3 +35,11 @@ pub returns-in-Some-clause-sees : goal.returns-in-Some-clause-sees
 returns-in-Some-clause-sees g c = λ out.
     let none : not_compressed c.in-Some.offset ≡ storage → ⊥ = λ is. cc in
     refuses_after (not_compressed c.in-Some.offset) none (c.in_ok-try_readv_special.ensures.sees out)
+
+pub returns-in_err-try_readv_special-clause-once_written : goal.returns-in_err-try_readv_special-clause-once_written
+returns-in_err-try_readv_special-clause-once_written g c =
+    handed_on (λ r. FailsOnceWritten g.S.Storage.view c.args.self.now c.try_readv_special.new.self r) c.from_residual.result c.in_err-try_readv_special.field-0.0 c.from_residual.ensures
+    (λ memory. c.try_readv_special.ensures.once_written (c.in_err-try_readv_special.was ∙ err_as c.in_err-try_readv_special.field-0.0 Memory memory))
+
+pub returns-in-Some-clause-once_written : goal.returns-in-Some-clause-once_written
+returns-in-Some-clause-once_written g c = λ bad. absurd (cc)

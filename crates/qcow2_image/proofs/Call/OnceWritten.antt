@@ -1,0 +1,24 @@
+-- A call begins with no note, does a part that keeps the notes of the storage, and marks a failure: want of memory once the contents changed fails the image.
+use Rattle.std.proofs.Common.{◌≡◌, Err, sym, ap, ◌∙◌, subst}
+use Rattle.std.specs.Prelude.{IsTrue, Result, ◌||◌}
+use Rattle.std.proofs.lemmas.Bool.{or_left, or_right}
+use Rattle.image_access.specs.Moments.{StorageView, ContentsStay}
+use Rattle.qcow2_alloc.specs.declared.error.ImageError.{ImageError}
+use Rattle.qcow2_alloc.specs.declared.error.ImageError.TheVariants.{Memory}
+use Rattle.qcow2_alloc.specs.declared.image_file.ImageFile.{ImageFile}
+use Rattle.qcow2_alloc.specs.KeptNotes.{KeepsNotes}
+use Rattle.qcow2_alloc.specs.ImageFile.{view_in}
+use Rattle.qcow2_alloc.specs.ImageStorage.{storage_of, is_changed_of}
+use Rattle.qcow2_image.specs.declared.image.Qcow2.{Qcow2}
+use Rattle.qcow2_image.specs.Image.{has_noted_change, is_failed}
+use Rattle.qcow2_image.specs.Refusals.{MarksFailed}
+
+module _ {S F : Type 0} (view : S → StorageView) where
+  pub once_written : {A : Type 0} (old begun last new : Qcow2 S F) (done : Result A ImageError) → storage_of begun.file.storage ≡ storage_of old.file.storage → KeepsNotes view begun.file.storage last.file.storage
+      → MarksFailed last new done → new ≡ record last { is_failed = new.is_failed } → done ≡ Err Memory → ¬ IsTrue (is_failed new) → ContentsStay (view_in view old.file) (view_in view new.file)
+  once_written {A} old begun last new done begins kept marks rest is works =
+      let same : new.file ≡ last.file = ap (λ (i : Qcow2 S F). i.file) rest in
+      let mark : is_failed new ≡ (is_failed last || has_noted_change new) = subst (λ (r : Result A ImageError). MarksFailed last new r) is marks in
+      let none : ¬ IsTrue (is_changed_of last.file.storage) = λ noted.
+      works (mark ∙ or_right (is_failed last) (has_noted_change new) (or_left (is_changed_of new.file.storage) new.file.caches.is_changed (ap (λ (f : ImageFile S). is_changed_of f.storage) same ∙ noted))) in
+      subst (λ (f : ImageFile S). ContentsStay (view_in view old.file) (view_in view f)) (sym same) (subst (λ (s : S). ContentsStay (view s) (view_in view last.file)) begins (kept.contents none))
