@@ -48,10 +48,10 @@ FlushedIsExact =
     → ((disk b backing).size ≡ d.size) × ((o : ℕ) → o < d.size → (disk b backing).value o ≡ d.value o)
 
 -- other contents name the same backing file, and have the same extensions behind the header
-pub record SameNames (old new : Bytes) : Type 0 where
+pub record KeepsNames (old new : Bytes) : Type 0 where
   pub backing_name : backing_name (header new) new ≡ backing_name (header old) old
   pub extensions : (list : List (ℕ × List ℕ)) → AreExtensions old (cluster_size (header old)) (header old).header_length list → AreExtensions new (cluster_size (header new)) (header new).header_length list
 
 -- Where the rest of a header that reads stays, so do its names and its extensions.
 abbrev pub HeaderRestHasNames : Type 0
-HeaderRestHasNames = (old new : Bytes) → HeaderReads (header old) old → KeepsHeaderRest old new → SameNames old new
+HeaderRestHasNames = (old new : Bytes) → HeaderReads (header old) old → KeepsHeaderRest old new → KeepsNames old new
