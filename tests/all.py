@@ -1,6 +1,6 @@
 #!/usr/bin/env python3
-"""Runs the merge gate and the wrong bodies beside it, then the tests of the crates and the scripts on real files beside them. At the end stands how long each part took, and what it
-took of processors; the last line sums what passed and what failed."""
+"""Runs the merge gate, then the scripts on real files and the tests of the crates, and beside all these the wrong bodies. At the end stands how long each part took, and what it took of
+processors; the last line sums what passed and what failed."""
 
 import os
 import re
@@ -102,42 +102,42 @@ def scripts(parts):
 
 
 def gate(file, told):
-    """Runs the merge gate, and writes the name of each crate that it has proved to a file, and `end` behind them."""
+    """Runs the merge gate, and writes the name of each crate that it has proved to a file."""
 
     def note(line):
-        with open(file, "a", encoding="utf-8") as it:
-            it.write(line + "\n")
+        for name in PROVED.findall(line):
+            append(file, name)
 
+    return counts(["rt", "ci"], told, note)
+
+
+def append(file, line):
+    """Writes a line to the end of a file."""
+    with open(file, "a", encoding="utf-8") as it:
+        it.write(line + "\n")
+
+
+def in_turn(parts, file):
+    """Runs the gate, and what needs no more than it has made: the scripts, how wrong bodies are tried, and the tests of the crates. Then the file of crates that are proved gets a line
+    `end`."""
     try:
-        return counts(["rt", "ci"], told, lambda line: [note(name) for name in PROVED.findall(line)])
-    finally:
-        note("end")
-
-
-def proofs(parts):
-    """Runs the gate, and the wrong bodies of each crate as soon as the crates below it are proved."""
-    with tempfile.TemporaryDirectory() as room:
-        file = f"{room}/proved"
-        open(file, "w", encoding="utf-8").close()
-        beside = threading.Thread(target=parts.command, args=("the wrong bodies, begun with the gate", ["tests/wrong_bodies.py", "--beside", file]))
-        beside.start()
         parts.run("the gate", lambda: gate(file, parts.told))
-        beside.join()
-
-
-def units(parts):
-    """Tries how wrong bodies are tried, and runs the tests of the crates."""
-    parts.command("the trial of the wrong bodies", ["tests/trial.py"])
-    parts.command("the tests of the crates", ["tests/units.py"])
+        scripts(parts)
+        parts.command("the trial of the wrong bodies", ["tests/trial.py"])
+        parts.command("the tests of the crates", ["tests/units.py"])
+    finally:
+        append(file, "end")
 
 
 def main():
     parts = Parts()
-    proofs(parts)
-    beside = threading.Thread(target=units, args=(parts,))
-    beside.start()
-    scripts(parts)
-    beside.join()
+    with tempfile.TemporaryDirectory() as room:
+        file = f"{room}/proved"
+        open(file, "w", encoding="utf-8").close()
+        beside = threading.Thread(target=in_turn, args=(parts, file))
+        beside.start()
+        parts.command("the wrong bodies, begun with the gate", ["tests/wrong_bodies.py", "--beside", file])
+        beside.join()
     return int(parts.tell())
 
 

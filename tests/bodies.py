@@ -111,9 +111,11 @@ def proof_files(crate, folder, body, function):
 
 def alone(text, body, proof):
     """The text with a body, and its proof, where the clause that it names stands alone. None where it names none, or the clause can't be cut out."""
-    cut = clauses.kept_alone(body.changed(text), body.place(text), body.clause) if body.clause else None
-    kept = {path: clauses.answers_kept(it, body.clause) if path.endswith("/Answers.antt") else it for path, it in proof.items()}
-    return None if cut is None or None in kept.values() else (cut, kept)
+    cut, other = body.clause and clauses.kept_alone(body.changed(text), body.place(text), body.clause) or (None, None)
+    if cut is None:
+        return None
+    kept = {path: clauses.answers_kept(it, body.clause, other) if path.endswith("/Answers.antt") else it for path, it in proof.items()}
+    return None if None in kept.values() else (cut, kept)
 
 
 def placed(crate, folder, body):

@@ -25,7 +25,8 @@ def promises(lines, contract):
 
 
 def kept_alone(text, at, name):
-    """The text with one clause of the function that a line stands in: the other ones say that what is left is what is left. None where clauses have no name, or none has this one."""
+    """The text with one clause of the function that a line stands in, and the name of another one that stays, and says that what is left is what is left: answers are named by a clause where
+    there are several. None where clauses have no name, or none has this one."""
     lines = text.split("\n")
     found = promises(lines, contract_of(lines, at))
     if not found or name not in [it for _, it in found] or any(not re.fullmatch(r"\w+", it) for _, it in found) or "◌≡◌" not in text:
@@ -33,15 +34,17 @@ def kept_alone(text, at, name):
     word = next((it for it in LEFT if any(it in lines[i] for where, _ in found for i in where)), None)
     if word is None:
         return None
+    other = next((it for _, it in found if it != name), None)
     for where, it in found:
         if it != name:
             indent = CLAUSE.match(lines[where.start])[1]
-            lines[where.start : where.stop] = [f"{indent}ensures {it} {{ {word} ≡ {word} }}", *[""] * (len(where) - 1)]
-    return "\n".join(lines)
+            lines[where.start : where.stop] = [f"{indent}ensures {it} {{ {word} ≡ {word} }}" if it == other else "", *[""] * (len(where) - 1)]
+    return "\n".join(lines), other
 
 
-def fields_kept(lines, name):
-    """An answer that is a record with a field for each clause, where the other clauses say that what is left is what is left. None where it is no such record, or has no field for the clause."""
+def fields_kept(lines, name, other):
+    """An answer that is a record with a field for each clause, with those of one clause and of another one, which says that what is left is what is left. None where it is no such record, or
+    has no field for the clause."""
     indent = lines[-1].removesuffix("}")
     if lines[-1].strip() != "}":
         return None
@@ -54,7 +57,7 @@ def fields_kept(lines, name):
         begun = field.match(line)
         if begun:
             passes = begun[1] != name
-            kept += [f"{indent}  {begun[1]} = search rules;"] if passes else []
+            kept += [f"{indent}  {other} = search rules;"] if begun[1] == other else []
         kept += [] if passes and line != lines[-1] else [line]
     return kept
 
@@ -84,8 +87,8 @@ def imports_kept(lines):
     return kept
 
 
-def answers_kept(text, name):
-    """The answers in a proof but for those that are given to other clauses. None where one is given to all clauses together, and not clause by clause."""
+def answers_kept(text, name, other):
+    """The answers in a proof but for those that are given to other clauses, of which one stays. None where one is given to all clauses together, and not clause by clause."""
     kept = []
     for lines in declarations(text):
         named = ANSWER.match(lines[0])
@@ -93,7 +96,7 @@ def answers_kept(text, name):
         clause = OF_A_CLAUSE.fullmatch(named[1]) if is_answer else None
         if is_answer and not clause:
             blank = next((i for i in range(len(lines)) if not any(it.strip() for it in lines[i:])), len(lines))
-            fields = fields_kept(lines[:blank], name)
+            fields = fields_kept(lines[:blank], name, other)
             if fields is None:
                 return None
             kept += [*fields, *lines[blank:]]

@@ -5,10 +5,11 @@ A check takes many bodies. Each stands in a copy of its function, which nothing 
 other functions and its lemmas state is taken as it stands (tests/promises.py), over the libraries that the gate has just proved; where it hasn't run, they are proved first. Each body must
 be refused for itself, by what its contract says: not only because a proof names what the body took away, and not because a proof can't be read. One of which a check says too little is
 tried once more, alone. A check begins with what earlier ones of its crate have read. Checks run side by side, one a processor. Words CRATE and CRATE/BODY choose what is tried. With
---beside FILE the gate runs beside it, and the file gets a line for each crate that is proved, and a line `end`. The last line counts."""
+--beside FILE the gate runs beside it, and the file gets a line for each crate that is proved, and a line `end` where nothing runs beside it any more. The last line counts."""
 
 import importlib.machinery
 import importlib.util
+import math
 import os
 import re
 import shutil
@@ -26,6 +27,7 @@ from promises import read, take_promises
 ROOT = os.path.dirname(os.path.dirname(os.path.abspath(__file__)))
 HOW_MANY_LINES = 8
 MOST_IN_A_CHECK = 110
+LEAST_IN_A_CHECK = 25
 SECONDS_TO_LOOK_AGAIN = 5
 MISSING_NAME = re.compile(r": error: module `|has no field|is not in scope|has no `|was not admitted|is no name")
 OF_AN_ANSWER = re.compile(r"\S+: error: (`[^`]*`: |module `|\d+ declarations? that depends? on )")
@@ -64,21 +66,23 @@ class Trial:
 
     def weight(self):
         """What is left to be done, as far as the length of proofs tells."""
-        return len(self.left) * length_of_proofs(self.crate)
+        return len(self.left) * (1 + length_of_proofs(self.crate))
 
     def can_begin(self):
         """Whether another check can begin: where nothing is kept, the first one leaves what it proved to the others."""
         return self.left and (os.path.isdir(self.kept) or not self.running)
 
-    def next_bodies(self):
-        """Takes the bodies of a check out of those that are left: one of which a check said too little is tried alone, and one of two that change one function in its place waits."""
+    def next_bodies(self, share):
+        """Takes the bodies of a check out of those that are left, no more than a share of them: one of which a check said too little is tried alone, and one of two that change one function
+        in its place waits."""
         taken, in_place = [], set()
+        most = min(self.most, max(LEAST_IN_A_CHECK, math.ceil(share * len(self.left))))
         for body in self.left:
             is_in_place = body.name in self.in_place
             if body.name in self.alone and not taken:
                 taken.append(body)
                 break
-            if body.name not in self.alone and len(taken) < self.most and not (is_in_place and body.function in in_place):
+            if body.name not in self.alone and len(taken) < most and not (is_in_place and body.function in in_place):
                 taken.append(body)
                 in_place.update({body.function} if is_in_place else ())
         self.left = [it for it in self.left if it not in taken]
@@ -281,7 +285,9 @@ class Lanes:
                 ready = [it for it in self.trials if it.can_begin() and self.gate.has_proved(it.crate)]
                 if ready:
                     trial = max(ready, key=Trial.weight)
-                    return trial, trial.next_bodies()
+                    # so that no processor waits at the end, a check takes no more than one's part of all that is left
+                    part = sum(it.weight() for it in self.trials) / len(os.sched_getaffinity(0))
+                    return trial, trial.next_bodies(part / trial.weight())
                 if not any(it.running for it in self.trials) and (is_over or not any(it.left for it in self.trials)):
                     return None
                 self.changed.wait(SECONDS_TO_LOOK_AGAIN)
@@ -326,7 +332,7 @@ def is_built(crate):
 def tried_in(trials, gate):
     """Tries the wrong bodies of crates, and answers how many were refused and how many weren't."""
     lanes = Lanes(trials, gate)
-    # while the gate runs, one processor is its own
+    # one processor is the gate's, and that of what comes behind it
     workers = [threading.Thread(target=lanes.work) for _ in range(len(os.sched_getaffinity(0)) - 1)]
     for it in workers:
         it.start()
