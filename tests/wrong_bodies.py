@@ -65,8 +65,8 @@ class Trial:
             leave(f"{self.folder}/out/incremental", self.kept)
 
     def weight(self):
-        """What is left to be done, as far as the length of proofs tells."""
-        return len(self.left) * (1 + length_of_proofs(self.crate))
+        """What is left to be done, as far as the number of crates below tells what a body costs."""
+        return len(self.left) * (1 + len(self.crate.below()))
 
     def can_begin(self):
         """Whether another check can begin: where nothing is kept, the first one leaves what it proved to the others."""
@@ -264,11 +264,6 @@ def tell(crate, tried):
         print(f"wrong body {crate}/{body.name}: NOT REFUSED: {body.function}: {why[:300]}", flush=True)
     for other in tried.others:
         print(f"wrong bodies of {crate}: FAILED: {other} has none, and was refused for itself", flush=True)
-
-
-def length_of_proofs(crate):
-    """How many bytes a crate's proofs have."""
-    return sum(os.path.getsize(os.path.join(folder, it)) for folder, _, files in os.walk(f"{crate.folder}/proofs") for it in files)
 
 
 class Lanes:
