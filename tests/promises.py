@@ -1,5 +1,5 @@
-"""Takes the promises of a crate as they stand: in its copy each function, and each lemma, is stated as in the crate, and a hole stands for its proof. The gate proves them all; what is tried
-over them is only whether a wrong body is refused, so that a proof of what it calls would say nothing more."""
+"""Takes the promises of a crate as they stand: in its copy each function, and each lemma, is stated as in the crate, and a hole stands for its proof. A function's body does nothing there, so
+that nothing is read that it calls. The gate proves them all; what is tried over them is only whether a wrong body is refused, so that a proof of what it calls would say nothing more."""
 
 import os
 import re
@@ -29,21 +29,43 @@ def module_of(file):
 
 
 def written_functions(folder):
-    """The paths of the functions that a crate's text has at the top of a file, and as methods of a type: not those of a trait, whose paths the text doesn't show."""
+    """The functions that a crate's text has at the top of a file, and as methods of a type: their paths, and for each its file and the number of its line with `fn`, from 0. Not those of a
+    trait, whose paths the text doesn't show."""
     texts = {it: read(f"{folder}/src/{it}") for it in files_below(f"{folder}/src", ".rt")}
     types = {name: [*module_of(file), name] for file, text in texts.items() for name in TYPE.findall(text)}
-    found = set()
+    found = {}
     for file, text in texts.items():
         above = module_of(file)
-        for line in text.split("\n"):
+        for number, line in enumerate(text.split("\n")):
             if line[:1].strip():
                 begun = INHERENT.fullmatch(line)
                 above = types.get(begun[1]) if begun else module_of(file)
             is_method = above is not None and above != module_of(file)
             started = STARTED.match(line.removeprefix("    ") if is_method else line)
             if started and above is not None:
-                found.add("/".join([*above, started[1]]))
+                found["/".join([*above, started[1]])] = (file, number)
     return found
+
+
+def without_body(lines, first):
+    """The lines of a file where the body of a function, which begins with this line, does nothing. There are as many as before."""
+    margin = lines[first][: len(lines[first]) - len(lines[first].lstrip())]
+    # at its margin stand its first line, the end of its parameters, and the braces of its body
+    opened = next(i for i in range(first, len(lines)) if lines[i].endswith(("{", "}", ";")) and lines[i].startswith(margin) and not lines[i].startswith(margin + " "))
+    if not lines[opened].endswith("{"):
+        return lines
+    closed = lines.index(margin + "}", opened)
+    empty = [margin + "    unreachable!()"] + [""] * (closed - opened - 2) if closed > opened + 1 else []
+    return [*lines[: opened + 1], *empty, *lines[closed:]]
+
+
+def take_bodies_out(folder, functions):
+    """Takes the bodies of functions out of a crate's text."""
+    for path, (file, first) in written_functions(folder).items():
+        if path in functions:
+            lines = without_body(read(f"{folder}/src/{file}").split("\n"), first)
+            with open(f"{folder}/src/{file}", "w", encoding="utf-8") as it:
+                it.write("\n".join(lines))
 
 
 def proved_functions(folder):
@@ -83,7 +105,8 @@ def without_proof(block, opened):
 def take_promises(crate, room, proved):
     """Takes the promises as they stand in the copy of a crate in a folder, but for some functions, whose proofs are looked at."""
     kept = {it.replace("::", "/") for it in proved}
-    functions = (written_functions(room) | proved_functions(room)) - kept
+    functions = (set(written_functions(room)) | proved_functions(room)) - kept
+    take_bodies_out(room, functions)
     for function in functions:
         folder = f"{room}/proofs/{function}"
         os.makedirs(folder, exist_ok=True)

@@ -136,11 +136,11 @@ def checked(rt, crate, texts, only, kept):
         for part in rt.rtlib.PARTS:
             if os.path.isdir(f"{crate.folder}/{part}"):
                 shutil.copytree(f"{crate.folder}/{part}", f"{room}/{part}")
-        take_promises(crate.name, room, only)
         for path, text in texts.items():
             os.makedirs(os.path.dirname(f"{room}/{path}"), exist_ok=True)
             with open(f"{room}/{path}", "w", encoding="utf-8") as it:
                 it.write(text)
+        take_promises(crate.name, room, only)
         flags = ["--jobs", "1", "--allow-holes", "--progress", *[word for function in only for word in ("--only", function)]]
         words = [*rt.rtlib.guarded(), rt.rtlib.RATTLE, "check", *crate.words(flags, keeps=False), "--incremental", kept]
         ran = subprocess.Popen(words, cwd=room, stdin=subprocess.DEVNULL, stdout=subprocess.PIPE, stderr=subprocess.STDOUT, text=True, errors="replace")
