@@ -1,5 +1,5 @@
 -- What a contract sees of an open image.
-use Rattle.std.specs.Prelude.{◌≡◌, ◌||◌, ℕ, Bool, [], is_some}
+use Rattle.std.specs.Prelude.{◌≡◌, ◌||◌, ℕ, Bool, false, [], is_some}
 use Rattle.std.specs.Option.{option_map_or}
 use Rattle.qcow2_metadata.specs.Header.{has_data_file}
 use Rattle.qcow2_alloc.specs.declared.allocation.Allocator.{Allocator}
@@ -59,6 +59,13 @@ module _ {S F : Type 0} where
   pub record ImageStays (old new : Qcow2 S F) : Type 0 where
     pub image : IsSameImage old new
     pub failed : is_failed new ≡ is_failed old
+
+  -- A call has begun on it: no change is noted yet, and all else is as before.
+  pub record IsBegun (old new : Qcow2 S F) : Type 0 where
+    pub storage : storage_of_image new ≡ storage_of_image old
+    pub unnoted : is_changed_of new.file.storage ≡ false
+    pub caches : new.file.caches ≡ record old.file.caches { is_changed = false }
+    pub rest : new ≡ record old { file = record old.file { storage = new.file.storage; caches = new.file.caches } }
 
   -- its header and its backing disk stay as they are
   pub record KeepsRest (old new : Qcow2 S F) : Type 0 where

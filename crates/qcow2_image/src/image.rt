@@ -60,7 +60,7 @@ impl<S: Storage, F: WrappedFormat<S>> Qcow2<S, F> {
     ghost use Rattle.qcow2_image.specs.CountedOpening.{OpeningCounts};
     ghost use Rattle.qcow2_image.specs.Readable.{IsReasonAgainstTables, OpensRightly, NeededTablesRead};
     ghost use Rattle.qcow2_image.specs.Faults.{CountsImageFaults, NoFewerFaults};
-    ghost use Rattle.qcow2_image.specs.Image.{storage_of_image, HasNothingToFree, ImageStays, KeepsRest, IsSameImage, is_failed, is_writable, is_external, has_noted_change, leaked_in, number_of, size_of};
+    ghost use Rattle.qcow2_image.specs.Image.{storage_of_image, HasNothingToFree, ImageStays, IsBegun, KeepsRest, IsSameImage, is_failed, is_writable, is_external, has_noted_change, leaked_in, number_of, size_of};
     ghost use Rattle.std.specs.Prelude.{List, Option};
     ghost use Rattle.qcow2_disk.specs.AbstractImages.{guest_of};
     ghost use Rattle.qcow2_image.specs.declared.prepared.Prepared.{Prepared};
@@ -416,7 +416,7 @@ impl<S: Storage, F: WrappedFormat<S>> Qcow2<S, F> {
         Ok(())
     }
 
-    // Frees the clusters that are to be freed. Refused, those not freed yet are to be freed still.
+    // Frees the clusters that are to be freed. Refused, those not freed yet are to be freed still. Where there are none, nothing is done.
     pub(crate) fn free_listed(&mut self) -> Result<(), ImageError>
         ensures stays { ImageStays self.old self.new }
         ensures keeps_rest { KeepsRest self.old self.new }
@@ -426,9 +426,13 @@ impl<S: Storage, F: WrappedFormat<S>> Qcow2<S, F> {
         ensures frees { (p : Pending) (out : List (Option Prepared)) → ImageInvariant S.view F.backing (with_listed p self.old.file.free_list) self.old out → FreesListed S.view F.backing p self.old self.new out result }
         ensures faults { (p : Pending) (out : List (Option Prepared)) → ImageInvariant S.view F.backing (with_listed p self.old.file.free_list) self.old out → IfErr result IsFault }
         ensures noted { IsTrue self.old.file.caches.is_changed → IsTrue self.new.file.caches.is_changed }
+        ensures idle { HasNothingToFree self.old → (result ≡ Ok tt) × (self.new ≡ self.old) }
         ensures untouched { is_writable self.old ≡ false → self.new ≡ self.old }
         ensures counts { CountsImageFaults S.view F.backing self.old self.new result }
     {
+        if self.file.free_list.is_empty() {
+            return Ok(());
+        }
         let Some(allocator) = &mut self.allocator else {
             return Ok(());
         };
@@ -448,9 +452,6 @@ impl<S: Storage, F: WrappedFormat<S>> Qcow2<S, F> {
         ensures header { self.new.file.header ≡ self.old.file.header }
         ensures faults { CountsImageFaults S.view F.backing self.old self.new result }
     {
-        if self.file.free_list.is_empty() {
-            return Ok(());
-        }
         let freed = self.free_listed();
         self.mark_failure(freed)
     }
@@ -465,6 +466,7 @@ impl<S: Storage, F: WrappedFormat<S>> Qcow2<S, F> {
         ensures keeps { (p : Pending) (out : List (Option Prepared)) → ImageInvariant S.view F.backing p self.old out → UnseenStep S.view F.backing p p self.old self.new out }
         ensures known { (p : Pending) (out : List (Option Prepared)) → ImageInvariant S.view F.backing p self.old out → known_in S.view self.new.file ≡ known_in S.view self.old.file }
         ensures rest { self.new ≡ record self.old { file = record self.old.file { storage = self.new.file.storage; caches = self.new.file.caches } } }
+        ensures begun { IsBegun self.old self.new }
     {
         self.file.storage.begin();
         self.file.caches.begin();

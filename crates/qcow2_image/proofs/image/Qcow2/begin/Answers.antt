@@ -1,4 +1,4 @@
-use Rattle.std.proofs.Common.{ap}
+use Rattle.std.proofs.Common.{ap, refl}
 use Rattle.qcow2_alloc.specs.CachePins.{l2_pins}
 use Rattle.qcow2_alloc.specs.ImageFile.{view_in}
 use Rattle.qcow2_image.proofs.Map.Loading.{caches_moved, stays}
@@ -16,3 +16,6 @@ pub returns-clause-known : goal.returns-clause-known
 returns-clause-known g c = λ p out sound.
     (stays c.args.self.now.file.header.fields p c.args.self.now.file.caches c.begin-2.new.self c.begin-2.ensures.tables (view_in g.S.Storage.view c.args.self.now.file) (g.S.Storage.view c.begin.new.self.storage)
     (ap g.S.Storage.view c.begin.ensures.storage) sound.file.honest sound.file.caches).known
+
+pub returns-clause-begun : goal.returns-clause-begun
+returns-clause-begun g c = record { storage = c.begin.ensures.storage; unnoted = c.begin.ensures.unchanged; caches = c.begin-2.ensures.same; rest = refl }

@@ -4,11 +4,8 @@ use Rattle.qcow2_laws.specs.CrashInvariant.{Pending}
 use Rattle.qcow2_image.specs.declared.image.Qcow2.{Qcow2}
 use Rattle.qcow2_image.specs.Image.{is_failed}
 use Rattle.qcow2_image.specs.CallParts.{EndsFreeing}
-use Rattle.qcow2_image.specs.ImageInvariant.{ImageInvariant, pending_in}
-use Rattle.qcow2_image.specs.UnseenSteps.{UnseenFillingStep}
-use Rattle.qcow2_image.proofs.Call.Refused.{image_step_stays}
-use Rattle.qcow2_image.proofs.Prepare.Filling.{image_step_none}
-use Rattle.qcow2_image.proofs.Prepare.Gaining.{listed_after_same}
+use Rattle.qcow2_image.specs.ImageInvariant.{ImageInvariant}
+use Rattle.qcow2_image.specs.Refusals.{MarksFailed}
 use Rattle.qcow2_image.proofs.Flush.Freeing.{all_listed, beside, ends_freeing}
 use Rattle.qcow2_image.proofs.Call.FaultCounts.{counted_marked, untouched}
 use Rattle.qcow2_image.proofs.Call.Marked.{marks_memory, may_mark}
@@ -28,13 +25,12 @@ returns-clause-frees g c = λ out sound.
     (ends_freeing view below old sound.works new (is_failed c.mark_failure.new.self) c.free_listed-freed.ensures.stays.image.number out sound r (may_mark c.free_listed-freed.new.self c.mark_failure.new.self c.free_listed-freed.result c.mark_failure.ensures.marks) (marks_memory c.free_listed-freed.new.self c.mark_failure.new.self c.free_listed-freed.new.self c.free_listed-freed.result c.mark_failure.ensures.marks (ap (λ (i : Qcow2 _ _). i.file) c.mark_failure.ensures.rest)) c.free_listed-freed.ensures.noted
     (c.free_listed-freed.ensures.faults p out listed) (c.free_listed-freed.ensures.frees p out listed)))
 
-pub returns-then-is_empty-clause-frees : goal.returns-then-is_empty-clause-frees
-returns-then-is_empty-clause-frees g c = λ out sound.
-    let view = g.S.Storage.view in
-    let below = g.F.BackingDisk.backing in
-    let old = c.args.self.now in
-    let p : Pending = pending_in view below old out in
-    image_step_stays view below out old old (subst (λ q. UnseenFillingStep view below p q old old out) (sym (listed_after_same view below out p old old refl)) (image_step_none view below out old p sound))
+pub returns-clause-idle : goal.returns-clause-idle
+returns-clause-idle g c = λ none.
+    let new = c.free_listed-freed.new.self in
+    let last = c.mark_failure.new.self in
+    let kept = c.free_listed-freed.ensures.idle none in
+    (c.mark_failure.ensures.answer ∙ kept.0, c.mark_failure.ensures.rest ∙ ap (λ f. record new { is_failed = f }) (subst (λ (r : Result _ _). MarksFailed new last r) kept.0 c.mark_failure.ensures.marks) ∙ kept.1)
 
 pub returns-clause-faults : goal.returns-clause-faults
 returns-clause-faults g c =

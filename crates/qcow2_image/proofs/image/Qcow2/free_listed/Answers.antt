@@ -2,8 +2,17 @@ use Rattle.std.proofs.Common.{subst}
 use Rattle.std.specs.Prelude.{IfSome}
 use Rattle.qcow2_alloc.specs.FreeList.{with_listed}
 use Rattle.qcow2_alloc.specs.KeptAllocators.{IsAllocatorOf}
+use Rattle.qcow2_image.proofs.Call.Answered.{freeing_step_kept}
 use Rattle.qcow2_image.proofs.Flush.Freeing.{frees_listed, frees_fault}
+use Rattle.qcow2_image.proofs.Prepare.Entering.{keeps_none}
 use Rattle.qcow2_image.proofs.image.Qcow2.free_listed.Goals as goal
+
+pub returns-then-is_empty-clause-frees : goal.returns-then-is_empty-clause-frees
+returns-then-is_empty-clause-frees g c = λ p out sound.
+    let view = g.S.Storage.view in
+    let below = g.F.BackingDisk.backing in
+    let old = c.args.self.now in
+    freeing_step_kept view below old old out (with_listed p old.file.free_list) (with_listed p old.file.free_list) (keeps_none view below out (with_listed p old.file.free_list) old sound)
 
 pub returns-clause-frees : goal.returns-clause-frees
 returns-clause-frees g c = λ p out sound.
