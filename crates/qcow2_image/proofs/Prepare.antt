@@ -20,3 +20,4 @@ pub mod Behind
 pub mod Onward
 pub mod KeptShares
 pub mod Listing
+pub mod FarEntries

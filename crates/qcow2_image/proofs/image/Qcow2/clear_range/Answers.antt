@@ -16,6 +16,7 @@ use Rattle.qcow2_image.proofs.Call.CallOutcomes.{is_fault, outcome}
 use Rattle.qcow2_image.proofs.Sizing.Shrinking.{fault_of}
 use Rattle.qcow2_image.proofs.Clear.ClearCalls.{begins, clear_interruption, clear_covers, clear_done, clear_refused, clear_works, clears_early, clears_nothing, err_is, fault_interruption, if_some, not_refused, refused_for, under_after, under_before, ungiven_interruption, ungiven_early, ungiven_refused, whole_in}
 use Rattle.qcow2_image.proofs.Call.FaultCounts.{counted_marked, counted_ok, counted_on, fewer_then, untouched}
+use Rattle.qcow2_image.proofs.Prepare.FarEntries.{far_begun, far_handed_on, far_then_marked, far_unanswered}
 use Rattle.qcow2_image.proofs.image.Qcow2.clear_range.Goals as goal
 
 pub returns-in_err-from-clause-early : goal.returns-in_err-from-clause-early
@@ -303,3 +304,44 @@ returns-clause-reaches g c = λ lt out sound.
     let reached = subst (λ (r : Result _ _). OnOk r (ReachesOffset c.in_ok-from.from begun.file.header.fields entries.file.header.fields)) done (c.clear_between-cleared.ensures.reaches out began.sound) in
     same_length entries.file.header c.end_freeing.new.self.file.header (c.end_freeing.ensures.header ∙ ap (λ (i : Qcow2 _ _). i.file.header) c.mark_failure.ensures.rest)
     ∙ reaches_begun old.file.header.fields begun.file.header.fields entries.file.header.fields (from_in old c.args.offset c.args.length) step.unseen.header (subst (λ n. ReachesOffset n begun.file.header.fields entries.file.header.fields) from reached)
+
+pub returns-in_err-from-clause-far : goal.returns-in_err-from-clause-far
+returns-in_err-from-clause-far g c = λ some none needs.
+    let old = c.args.self.now in
+    let refused = refused_for c.check_clear.result _ (refuses_to_clear old c.args.offset c.args.length c.args.how) c.in_err-from.field-0.0 c.check_clear.ensures.refusal c.in_err-from.was in
+    absurd (let no : None ≡ Some c.in_err-from.field-0.0 = sym none ∙ refused in cc)
+
+pub returns-then-to-from-clause-far : goal.returns-then-to-from-clause-far
+returns-then-to-from-clause-far g c = λ some none needs.
+    let old = c.args.self.now in
+    let range = not_refused c.check_clear.result _ (refuses_to_clear old c.args.offset c.args.length c.args.how) (c.in_ok-from.from, c.in_ok-from.to) c.check_clear.ensures.refusal c.in_ok-from.was in
+    let from : c.in_ok-from.from ≡ from_in c.args.self.now c.args.offset c.args.length = ap (λ (r : ℕ × ℕ). r.0) range.1 in
+    let to : c.in_ok-from.to ≡ to_in c.args.self.now c.args.offset c.args.length = ap (λ (r : ℕ × ℕ). r.1) range.1 in
+    absurd (omega (arith, c.if-to-from.true, from, to, some))
+
+pub returns-in_err-mark_failure-clause-far : goal.returns-in_err-mark_failure-clause-far
+returns-in_err-mark_failure-clause-far g c = λ some none needs.
+    let old = c.args.self.now in
+    let begun = c.begin.new.self in
+    let entries = c.clear_between-cleared.new.self in
+    let range = not_refused c.check_clear.result _ (refuses_to_clear old c.args.offset c.args.length c.args.how) (c.in_ok-from.from, c.in_ok-from.to) c.check_clear.ensures.refusal c.in_ok-from.was in
+    let from : c.in_ok-from.from ≡ from_in c.args.self.now c.args.offset c.args.length = ap (λ (r : ℕ × ℕ). r.0) range.1 in
+    let refused = c.clear_between-cleared.ensures.far (far_begun old begun (from_in old c.args.offset c.args.length) c.in_ok-from.from from c.begin.ensures.begun needs) in
+    let marked = far_then_marked old begun entries c.mark_failure.new.self c.clear_between-cleared.result c.begin.ensures.begun refused c.mark_failure.ensures.marks c.mark_failure.ensures.rest in
+    far_handed_on c.mark_failure.result c.in_err-mark_failure.field-0.0 c.from_residual-in_err-mark_failure.result c.in_err-mark_failure.was (c.mark_failure.ensures.answer ∙ marked.0, marked.1) c.from_residual-in_err-mark_failure.ensures
+
+pub returns-in_err-end_freeing-clause-far : goal.returns-in_err-end_freeing-clause-far
+returns-in_err-end_freeing-clause-far g c = λ some none needs.
+    let old = c.args.self.now in
+    let range = not_refused c.check_clear.result _ (refuses_to_clear old c.args.offset c.args.length c.args.how) (c.in_ok-from.from, c.in_ok-from.to) c.check_clear.ensures.refusal c.in_ok-from.was in
+    let from : c.in_ok-from.from ≡ from_in c.args.self.now c.args.offset c.args.length = ap (λ (r : ℕ × ℕ). r.0) range.1 in
+    let done : c.clear_between-cleared.result ≡ Ok c.in_ok-mark_failure.field-0 = sym c.mark_failure.ensures.answer ∙ c.in_ok-mark_failure.was in
+    absurd (far_unanswered c.clear_between-cleared.result c.in_ok-mark_failure.field-0 done (c.clear_between-cleared.ensures.far (far_begun old c.begin.new.self (from_in old c.args.offset c.args.length) c.in_ok-from.from from c.begin.ensures.begun needs)).0)
+
+pub returns-clause-far : goal.returns-clause-far
+returns-clause-far g c = λ some none needs.
+    let old = c.args.self.now in
+    let range = not_refused c.check_clear.result _ (refuses_to_clear old c.args.offset c.args.length c.args.how) (c.in_ok-from.from, c.in_ok-from.to) c.check_clear.ensures.refusal c.in_ok-from.was in
+    let from : c.in_ok-from.from ≡ from_in c.args.self.now c.args.offset c.args.length = ap (λ (r : ℕ × ℕ). r.0) range.1 in
+    let done : c.clear_between-cleared.result ≡ Ok c.in_ok-mark_failure.field-0 = sym c.mark_failure.ensures.answer ∙ c.in_ok-mark_failure.was in
+    absurd (far_unanswered c.clear_between-cleared.result c.in_ok-mark_failure.field-0 done (c.clear_between-cleared.ensures.far (far_begun old c.begin.new.self (from_in old c.args.offset c.args.length) c.in_ok-from.from from c.begin.ensures.begun needs)).0)

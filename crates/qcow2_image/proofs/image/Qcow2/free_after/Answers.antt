@@ -1,4 +1,4 @@
-use Rattle.std.proofs.Common.{inl, subst, Err}
+use Rattle.std.proofs.Common.{◌≡◌, inl, inr, refl, sym, ◌∙◌, subst, Ok, Err}
 use Rattle.qcow2_laws.specs.CrashInvariant.{Pending}
 use Rattle.qcow2_image.specs.ImageInvariant.{ImageInvariant}
 use Rattle.qcow2_image.proofs.Flush.Freeing.{all_listed, beside, freed_refused, tidy_stays}
@@ -36,3 +36,25 @@ returns-in-Ok-clause-faults g c = λ start told.
 pub returns-in-Err-clause-faults : goal.returns-in-Err-clause-faults
 returns-in-Err-clause-faults g c = λ start told.
     counted_as g.S.Storage.view g.F.BackingDisk.backing start c.args.self.now c.free_listed.new.self c.free_listed.result c.in-Err.fault told.no_fewer c.free_listed.ensures.counts c.in-Err.is
+
+pub returns-then-is_last-clause-idle : goal.returns-then-is_last-clause-idle
+returns-then-is_last-clause-idle g c = λ none. (refl, refl)
+
+pub returns-in-Ok-clause-idle : goal.returns-in-Ok-clause-idle
+returns-in-Ok-clause-idle g c = λ none. (refl, (c.free_listed.ensures.idle none).1)
+
+pub returns-in-Err-clause-idle : goal.returns-in-Err-clause-idle
+returns-in-Err-clause-idle g c = λ none. absurd (let no : Ok tt ≡ Err c.in-Err.fault = sym (c.free_listed.ensures.idle none).0 ∙ c.in-Err.is in cc)
+
+pub returns-then-is_last-clause-told : goal.returns-then-is_last-clause-told
+returns-then-is_last-clause-told g c = λ out sound. inl refl
+
+pub returns-in-Ok-clause-told : goal.returns-in-Ok-clause-told
+returns-in-Ok-clause-told g c = λ out sound. inl refl
+
+pub returns-in-Err-clause-told : goal.returns-in-Err-clause-told
+returns-in-Err-clause-told g c = λ out sound.
+    let view = g.S.Storage.view in
+    let below = g.F.BackingDisk.backing in
+    let old = c.args.self.now in
+    inr (c.in-Err.ensures.faults (beside view below old out) out (subst (λ (x : Pending). ImageInvariant view below x old out) (all_listed view below old out) sound))

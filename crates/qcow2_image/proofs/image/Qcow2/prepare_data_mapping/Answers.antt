@@ -1,5 +1,5 @@
 use Rattle.std.proofs.Common.{◌≡◌, ◌<◌, sym, ◌∙◌, subst, arith, ap}
-use Rattle.std.specs.Prelude.{IfErr, IfOk, Result}
+use Rattle.std.specs.Prelude.{IfErr, IfOk, None, Result, Some}
 use Rattle.qcow2_alloc.specs.declared.error.ImageError.TheVariants.{TablePrepared}
 use Rattle.qcow2_alloc.specs.ImageFile.{known_in}
 use Rattle.qcow2_image.specs.Preparing.{IsAnswered, IsTaken}
@@ -12,7 +12,10 @@ use Rattle.qcow2_image.specs.Image.{is_failed}
 use Rattle.qcow2_image.specs.ListedClusters.{PreparesList}
 use Rattle.qcow2_image.specs.CallParts.{IsExisting}
 use Rattle.qcow2_image.specs.ImageInvariant.{meaning, pending_in}
-use Rattle.qcow2_image.proofs.Call.Called.{listed}
+use Rattle.qcow2_image.specs.Refusals.{refuses_to_prepare}
+use Rattle.qcow2_image.proofs.Call.Called.{listed, quiet_sound}
+use Rattle.qcow2_image.proofs.Clear.ClearCalls.{refused_for}
+use Rattle.qcow2_image.proofs.Prepare.FarEntries.{far_prepared}
 use Rattle.qcow2_image.proofs.Call.Answers.{prepare_usable}
 use Rattle.qcow2_image.proofs.Prepare.PrepareCalls.{lists_begun, prepares_nothing, prepares_with_outcome}
 use Rattle.qcow2_image.proofs.Call.Refused.{prepares_after, stays_kept}
@@ -90,3 +93,21 @@ returns-clause-listed g c = λ may some out sound.
 pub returns-clause-faults : goal.returns-clause-faults
 returns-clause-faults g c =
     counted_marked g.S.Storage.view g.F.BackingDisk.backing c.args.self.now c.begin.new.self c.prepare-prepared.new.self c.mark_failure.new.self c.prepare-prepared.result c.mark_failure.result c.begin.ensures.faults c.prepare-prepared.ensures.faults c.mark_failure.ensures.answer c.mark_failure.ensures.rest
+
+pub returns-in_err-check_prepare-clause-far : goal.returns-in_err-check_prepare-clause-far
+returns-in_err-check_prepare-clause-far g c = λ some none needs.
+    let refused = refused_for c.check_prepare.result tt (refuses_to_prepare c.args.self.now c.args.offset c.args.length) c.in_err-check_prepare.field-0.0 c.check_prepare.ensures.refusal c.in_err-check_prepare.was in
+    absurd (let no : None ≡ Some c.in_err-check_prepare.field-0.0 = sym none ∙ refused in cc)
+
+pub returns-then-length-eq0-clause-far : goal.returns-then-length-eq0-clause-far
+returns-then-length-eq0-clause-far g c = λ some none needs. absurd (let is = c.if-length-eq0.true in omega (arith, is, some))
+
+pub returns-clause-far : goal.returns-clause-far
+returns-clause-far g c = λ some.
+    let view = g.S.Storage.view in
+    let below = g.F.BackingDisk.backing in
+    let old = c.args.self.now in
+    let mid = c.begin.new.self in
+    far_prepared view below (refuses_to_prepare old c.args.offset c.args.length) c.args.offset old mid c.prepare-prepared.new.self c.mark_failure.new.self c.prepare-prepared.result c.mark_failure.result c.begin.ensures.begun
+    (λ out sound. quiet_sound view below out old mid (λ s. record { keeps = c.begin.ensures.keeps (pending_in view below old out) out s; list = c.begin.ensures.list }) sound)
+    c.prepare-prepared.ensures.far c.mark_failure.ensures.answer c.mark_failure.ensures.marks c.mark_failure.ensures.rest
