@@ -1,5 +1,5 @@
 //! Reading and writing what is mapped.
-ghost use Rattle.std.specs.Prelude.{◌≡◌, ◌≢◌, ◌+◌, ◌^◌, ◌<◌, ◌≤◌, ℕ, List, [], Option, length, slice_get, ◌⊎◌, IfOk, IfErr, IfSome, IsErr, IsSome, IsTrue, MatchOption, Ok, Err, Some, None, true, false};
+ghost use Rattle.std.specs.Prelude.{◌≡◌, ◌≢◌, ◌+◌, ◌^◌, ◌<◌, ◌≤◌, ℕ, List, [], Option, length, slice_get, ◌⊎◌, IfOk, IfErr, IfSome, OnOk, IsErr, IsSome, IsTrue, MatchOption, Ok, Err, Some, None, true, false};
 ghost use Rattle.qcow2_disk.specs.Calls.{Shows};
 ghost use Rattle.qcow2_laws.specs.CrashInvariant.{Pending};
 ghost use Rattle.qcow2_image.specs.Calls.{AnswersCall, Puts};
@@ -61,6 +61,8 @@ impl<S: Storage, F: WrappedFormat<S>> Qcow2<S, F> {
         ensures image { IsSameImage self.old self.new }
         ensures outdated { (out : List (Option Prepared)) → (abstract_of S.view F.backing self.old out).is_sound → result ≡ Err OutdatedMapping
             → ¬ IsFoundWhole S.view self.new (mapping.now.offset + at) (further_by at mapping.now.kind) (length bytes.old) }
+        ensures mapped { 0 < length bytes.old → (out : List (Option Prepared)) → (abstract_of S.view F.backing self.old out).is_sound
+            → OnOk result (IsFoundWhole S.view self.old (mapping.now.offset + at) (further_by at mapping.now.kind) (length bytes.old)) }
         ensures sees { AnswersCall S.view F.backing self.old self.new [] (λ done old new. (new ≡ old) × Shows old.disk (mapping.now.offset + at) bytes.new) result }
         ensures faults { CountsImageFaults S.view F.backing self.old self.new result }
         ensures once_written { FailsOnceWritten S.view self.old self.new result }
@@ -90,6 +92,7 @@ impl<S: Storage, F: WrappedFormat<S>> Qcow2<S, F> {
         ensures keeps { (p : Pending) (out : List (Option Prepared)) → ImageInvariant S.view F.backing p self.old out → UnseenStep S.view F.backing p p self.old self.new out }
         ensures outdated { 0 < length bytes.old → (p : Pending) (out : List (Option Prepared)) → ImageInvariant S.view F.backing p self.old out → result ≡ Err OutdatedMapping
             → ¬ IsFoundWhole S.view self.new (mapping.now.offset + at) (further_by at mapping.now.kind) (length bytes.old) }
+        ensures mapped { (p : Pending) (out : List (Option Prepared)) → ImageInvariant S.view F.backing p self.old out → OnOk result (IsFoundWhole S.view self.old (mapping.now.offset + at) (further_by at mapping.now.kind) (length bytes.old)) }
         ensures shows { 0 < length bytes.old → (p : Pending) (out : List (Option Prepared)) → ImageInvariant S.view F.backing p self.old out → IfOk result (λ done. Shows (disk_of S.view F.backing self.new) (mapping.now.offset + at) bytes.new) }
         ensures faults { CountsImageFaults S.view F.backing self.old self.new result }
         ensures notes { KeepsNotes S.view self.old.file.storage self.new.file.storage }
@@ -128,6 +131,7 @@ impl<S: Storage, F: WrappedFormat<S>> Qcow2<S, F> {
         ensures keeps { (p : Pending) (out : List (Option Prepared)) → ImageInvariant S.view F.backing p self.old out → UnseenStep S.view F.backing p p self.old self.new out }
         ensures outdated { (p : Pending) (out : List (Option Prepared)) → ImageInvariant S.view F.backing p self.old out → result ≡ Err OutdatedMapping → ¬ IsFoundWhole S.view self.new offset wanted.now length }
         ensures mapped { 0 < length → (p : Pending) (out : List (Option Prepared)) → ImageInvariant S.view F.backing p self.old out → IfOk result (λ done. IsMappedAs S.view self.new offset wanted.now length) }
+        ensures found { (p : Pending) (out : List (Option Prepared)) → ImageInvariant S.view F.backing p self.old out → OnOk result (IsFoundWhole S.view self.old offset wanted.now length) }
         ensures faults { CountsImageFaults S.view F.backing self.old self.new result }
         ensures notes { KeepsNotes S.view self.old.file.storage self.new.file.storage }
         ensures unwritten { OnlyReadsImage S.view F.backing self.old self.new }
@@ -289,6 +293,8 @@ impl<S: Storage, F: WrappedFormat<S>> Qcow2<S, F> {
         ensures image { IsSameImage self.old self.new }
         ensures outdated { table_of prepared.now ≡ None → (out : List (Option Prepared)) → (abstract_of S.view F.backing self.old out).is_sound → result ≡ Err OutdatedMapping
             → ¬ IsFoundWhole S.view self.new (prepared.now.guest + at) (Raw Image (prepared.now.offset + at) true) (length bytes.now) }
+        ensures mapped { table_of prepared.now ≡ None → 0 < length bytes.now → (out : List (Option Prepared)) → (abstract_of S.view F.backing self.old out).is_sound
+            → OnOk result (IsFoundWhole S.view self.old (prepared.now.guest + at) (Raw Image (prepared.now.offset + at) true) (length bytes.now)) }
         ensures private { IsSome (table_of prepared.now) → result ≢ Err OutdatedMapping }
         ensures sees { Puts S.view F.backing self.old self.new prepared.now at bytes.now result }
         ensures faults { CountsImageFaults S.view F.backing self.old self.new result }
@@ -319,6 +325,8 @@ impl<S: Storage, F: WrappedFormat<S>> Qcow2<S, F> {
         ensures cause { IfErr result IsMet }
         ensures outdated { 0 < length bytes.now → table_of prepared.now ≡ None → (p : Pending) (out : List (Option Prepared)) → ImageInvariant S.view F.backing p self.old out → result ≡ Err OutdatedMapping
             → ¬ IsFoundWhole S.view self.new (prepared.now.guest + at) (Raw Image (prepared.now.offset + at) true) (length bytes.now) }
+        ensures mapped { table_of prepared.now ≡ None → (p : Pending) (out : List (Option Prepared)) → ImageInvariant S.view F.backing p self.old out
+            → OnOk result (IsFoundWhole S.view self.old (prepared.now.guest + at) (Raw Image (prepared.now.offset + at) true) (length bytes.now)) }
         ensures private { IsSome (table_of prepared.now) → result ≢ Err OutdatedMapping }
         ensures puts { 0 < length bytes.now → at + length bytes.now ≤ prepared.now.length → (out : List (Option Prepared)) (k : ℕ) → slice_get out k ≡ Some (Some prepared.now)
             → ImageInvariant S.view F.backing (pending_in S.view F.backing self.old out) self.old out → PutsPart S.view F.backing self.old self.new out k prepared.now at bytes.now result }
@@ -347,6 +355,7 @@ impl<S: Storage, F: WrappedFormat<S>> Qcow2<S, F> {
         ensures outdated { 0 < length → (p : Pending) (out : List (Option Prepared)) → ImageInvariant S.view F.backing p self.old out → result ≡ Err OutdatedMapping → ¬ IsFoundWhole S.view self.new (prepared.now.guest + at) (Raw Image host true) length }
         ensures mapped { table_of prepared.now ≡ None → 0 < length → (p : Pending) (out : List (Option Prepared)) → ImageInvariant S.view F.backing p self.old out
             → IfOk result (λ done. IsMappedAs S.view self.new (prepared.now.guest + at) (Raw Image host true) length) }
+        ensures found { table_of prepared.now ≡ None → (p : Pending) (out : List (Option Prepared)) → ImageInvariant S.view F.backing p self.old out → OnOk result (IsFoundWhole S.view self.old (prepared.now.guest + at) (Raw Image host true) length) }
         ensures private { IsSome (table_of prepared.now) → result ≡ Ok tt }
         ensures faults { CountsImageFaults S.view F.backing self.old self.new result }
         ensures notes { KeepsNotes S.view self.old.file.storage self.new.file.storage }

@@ -1,12 +1,13 @@
 -- What a lookup finds: the longest run of clusters that are mapped alike, within one L2 table.
-use Rattle.std.proofs.Common.{◌≡◌, ⊎_elim, ℕ, zero, suc, ◌+◌, ◌-◌, ◌*◌, ◌/◌, ◌%◌, ◌^◌, ◌<◌, ◌≤◌, ◌≢◌, refl, sym, ap, ◌∙◌, arith, subst, min, Bool, true, false, is_some}
+use Rattle.std.proofs.Common.{◌≡◌, ⊎_elim, ℕ, zero, suc, ◌+◌, ◌-◌, ◌*◌, ◌/◌, ◌%◌, ◌^◌, ◌<◌, ◌≤◌, ◌≢◌, refl, sym, ap, ◌∙◌, arith, subst, min, Bool, true, false, is_some, List, Option}
+use mathlib.Core.Path.{fun_ext}
 use Rattle.std.proofs.lemmas.Nat.{div-add-mod', div-mul-add, mod_below}
 use Rattle.std.specs.Prelude.{◌==◌, if◌then◌else◌}
 use Rattle.std.proofs.Math.Nat.{div-div-eq-div-mul, div-mul-le_self}
 use Rattle.std.proofs.Math.Pow.{pow_mono}
 use Rattle.qcow2_metadata.specs.Bytes.{Bytes}
 use Rattle.qcow2_metadata.specs.declared.header.HeaderFields.{HeaderFields}
-use Rattle.qcow2_metadata.specs.Header.{cluster_size, entries_per_cluster}
+use Rattle.qcow2_metadata.specs.Header.{cluster_size, entries_per_cluster, with_reftable}
 use Rattle.qcow2_metadata.specs.Entries.{l2_entry}
 use Rattle.qcow2_metadata.specs.TableBytes.{entry_at}
 use Rattle.qcow2_metadata.specs.Cover.{cover, cover_of, entry_cover}
@@ -19,19 +20,23 @@ use Rattle.qcow2_laws.proofs.Places.{Sizes, cover_none, cover_in}
 use Rattle.qcow2_alloc.specs.TableCaches.{IsTableOf}
 use Rattle.qcow2_laws.proofs.Alike.{run_first, run_less, run_begins, clusters_on, clusters_end, run_longest}
 use Rattle.std.proofs.lemmas.Bool.{cases_lt}
+use Rattle.image_access.specs.Backing.{BackingView}
 use Rattle.image_access.specs.Moments.{StorageView}
 use Rattle.qcow2_alloc.specs.ImageFile.{contents_in, known_in, FileInvariant}
 use Rattle.qcow2_alloc.specs.declared.image_file.ImageFile.{ImageFile}
 use Rattle.qcow2_alloc.specs.MetadataCaches.{IsEntryAt, ShowsKnown}
-use Rattle.qcow2_laws.specs.CrashInvariant.{Pending}
+use Rattle.qcow2_laws.specs.CrashInvariant.{Pending, SameCovers}
+use Rattle.qcow2_laws.proofs.Formats.{cover_with}
 use Rattle.qcow2_laws.proofs.Places.{Sizes-from}
 use Rattle.qcow2_laws.proofs.Tops.{IsTop-top}
 use Rattle.qcow2_image.specs.declared.image.Qcow2.{Qcow2}
 use Rattle.qcow2_image.specs.declared.mapping.MappingKind.{MappingKind}
 use Rattle.qcow2_image.specs.declared.mapping.MappingKind.TheVariants as M
 use Rattle.qcow2_image.specs.Image.{size_of}
-use Rattle.qcow2_disk.specs.Found.{Kind, raw, indirect, zeros, special, eof, kind_at, rest_of_table}
+use Rattle.qcow2_disk.specs.Found.{Kind, raw, indirect, zeros, special, eof, kind_at, rest_of_table, IsFound as IsFoundOf}
 use Rattle.qcow2_image.specs.declared.mapping.Place.TheVariants.{Image, DataFile}
+use Rattle.qcow2_image.specs.declared.prepared.Prepared.{Prepared}
+use Rattle.qcow2_image.specs.UnseenSteps.{UnseenStep}
 use Rattle.qcow2_image.specs.Found.{found_kind, mapping_of, l1_index_of, AreAlikeBehind, IsAlikeTo, IsRunBehind, IsFoundInImage, IsFoundWhole, IsMappedAs}
 
 pub product_le : (m n k : ℕ) → m ≤ n → m * k ≤ n * k
@@ -194,3 +199,37 @@ pub none_past : {S F : Type 0} (view : S → StorageView) (image : Qcow2 S F) (o
 none_past view image offset n some whole = ⊎_elim
     (λ lt. kind_within image.file.header.fields (is_some image.backing) offset (cover image.file.header.fields (known_in view image.file) (offset / cluster_size image.file.header.fields)) (whole.run lt).kind_is)
     (λ past. absurd (let none = (whole.past past).1 in omega arith)) (cases_lt offset (size_of image))
+
+-- ---- where the same stands for each guest cluster, the same is found
+
+module _ (h : HeaderFields) (place clusters : ℕ) (known known' : Bytes) (covers : SameCovers h known known') where
+  -- by what stands for each of them, a byte behind an offset is mapped like that at it
+  abbrev AreAlike : (offset i : ℕ) → (ℕ → L2Mapping) → Type 0
+  AreAlike offset i covered = IsAlike (((offset + i) / cluster_size h - offset / cluster_size h) * cluster_size h) (covered (offset / cluster_size h)) (covered ((offset + i) / cluster_size h))
+
+  same_cover : cover (with_reftable h place clusters) known' ≡ cover h known
+  same_cover = fun_ext (λ g. cover_with h place clusters known' g ∙ sym (covers g))
+
+  -- so it is where the reftable has moved
+  found_still : (backed : Bool) (offset max : ℕ) (kind : Kind) (n : ℕ) → IsFoundOf (with_reftable h place clusters) known' backed offset max kind n → IsFoundOf h known backed offset max kind n
+  found_still backed offset max kind n is = record {
+    past = is.past;
+    run = λ lt. let run = is.run lt in record {
+      kind_is = run.kind_is ∙ ap (λ (f : ℕ → L2Mapping). kind_at h backed offset (f (offset / cluster_size h))) same_cover;
+      longest = record {
+        within = run.longest.within;
+        alike = λ i below. subst (AreAlike offset i) same_cover (run.longest.alike i below);
+        longest = λ short next. run.longest.longest short (subst (AreAlike offset n) (sym same_cover) next);
+      };
+    };
+  }
+
+-- what is found whole behind a step that no guest sees was found so before
+pub found_before : {S F : Type 0} (view : S → StorageView) (backing : F → BackingView) (old new : Qcow2 S F) (out : List (Option Prepared)) (p p' : Pending) (offset n : ℕ) (kind : MappingKind) → UnseenStep view backing p p' old new out
+    → IsFoundWhole view new offset kind n → IsFoundWhole view old offset kind n
+found_before view backing old new out p p' offset n kind step whole =
+    let h = old.file.header.fields in
+    let known = known_in view new.file in
+    found_still h new.file.header.fields.reftable_offset new.file.header.fields.reftable_clusters (known_in view old.file) known step.unseen.covers (is_some old.backing) offset n (found_kind kind) n
+    (subst (λ (b : Bool). IsFoundOf (with_reftable h new.file.header.fields.reftable_offset new.file.header.fields.reftable_clusters) known b offset n (found_kind kind) n) (ap (λ (x : Bool × Bytes). x.0) step.below)
+    (subst (λ (x : HeaderFields). IsFoundOf x known (is_some new.backing) offset n (found_kind kind) n) step.unseen.header whole))

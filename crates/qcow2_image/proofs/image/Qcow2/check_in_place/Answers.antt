@@ -2,6 +2,7 @@ use Rattle.std.proofs.Common.{true, sym, subst, arith}
 use Rattle.qcow2_image.specs.declared.mapping.MappingKind.TheVariants.{Raw}
 use Rattle.qcow2_image.specs.declared.mapping.Place.TheVariants.{Image}
 use Rattle.qcow2_image.specs.Found.{IsFoundWhole, IsMappedAs}
+use Rattle.qcow2_image.proofs.Grow.Lengths.{on_ok}
 use Rattle.qcow2_image.proofs.Map.Loading.{if_ok}
 use Rattle.qcow2_image.proofs.image.Qcow2.check_in_place.Goals as goal
 
@@ -16,3 +17,7 @@ pub returns-clause-mapped : goal.returns-clause-mapped
 returns-clause-mapped g c = λ none some p out sound.
     if_ok c.check_mapped.result (λ done is. subst (λ o. IsMappedAs g.S.Storage.view c.check_mapped.new.self o (Raw Image c.args.host true) c.args.length) c.in_ok-guest.ensures.place is)
     (c.check_mapped.ensures.mapped some p out sound)
+
+pub returns-clause-found : goal.returns-clause-found
+returns-clause-found g c = λ none p out sound.
+    on_ok c.check_mapped.result (λ is. subst (λ o. IsFoundWhole g.S.Storage.view c.args.self.now o (Raw Image c.args.host true) c.args.length) c.in_ok-guest.ensures.place is) (c.check_mapped.ensures.found p out sound)

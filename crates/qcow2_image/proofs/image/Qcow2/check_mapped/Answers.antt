@@ -1,6 +1,6 @@
-use Rattle.std.proofs.Common.{◌≡◌, IsTrue, true, false, sym, subst, arith}
-use Rattle.qcow2_image.specs.Found.{IsMappedAs}
-use Rattle.qcow2_image.proofs.Map.Looked.{found_whole, mapped_as}
+use Rattle.std.proofs.Common.{◌≡◌, ◌≤◌, IsTrue, true, false, sym, subst, arith}
+use Rattle.qcow2_image.specs.Found.{IsFoundInImage, IsFoundWhole, IsMappedAs}
+use Rattle.qcow2_image.proofs.Map.Looked.{found_before, found_whole, mapped_as}
 use Rattle.qcow2_image.proofs.image.Qcow2.check_mapped.Goals.{else-found-length-via-then-found-length+else-is, else-found-length-via-else-found-length}
 use Rattle.qcow2_image.proofs.image.Qcow2.check_mapped.Goals as goal
 
@@ -17,3 +17,14 @@ returns-clause-outdated g c = λ p out sound is whole.
       | else-found-length-via-then-found-length+else-is w ↦ absurd (let no : false ≡ true = subst IsTrue w.if-is.false (w.is.ensures.1 both.0) in cc)
       | else-found-length-via-else-found-length w ↦ absurd (let short = w.if-found-length.false in omega (arith, both.1))
     ]
+
+pub returns-then-is-clause-found : goal.returns-then-is-clause-found
+returns-then-is-clause-found g c = λ p out sound.
+    let view = g.S.Storage.view in
+    let new = c.look_up.new.self in
+    let offset = c.args.offset in
+    let n = c.args.length in
+    let same : c.args.wanted.now ≡ c.in_ok-kind.kind = c.is.ensures.0 c.if-is.true in
+    let whole : c.in_ok-kind.found ≡ c.args.length = let least = c.if-found-length.true in let most : c.in_ok-kind.found ≤ c.args.length = c.in_ok-kind.ensures.within in omega arith in
+    found_before view g.F.BackingDisk.backing c.args.self.now new out p p offset n c.args.wanted.now (c.in_ok-kind.ensures.keeps p out sound)
+    (subst (λ k. IsFoundWhole view new offset k n) (sym same) (subst (λ m. IsFoundInImage view new offset n c.in_ok-kind.kind m) whole (c.in_ok-kind.ensures.found p out sound)))

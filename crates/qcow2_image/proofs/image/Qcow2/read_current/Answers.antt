@@ -2,6 +2,7 @@ use Rattle.std.proofs.Common.{◌≡◌, ◌+◌, ◌∙◌, length, Err, subst,
 use Rattle.qcow2_disk.specs.Calls.{Shows}
 use Rattle.qcow2_alloc.specs.declared.error.ImageError.TheVariants.{OutdatedMapping}
 use Rattle.qcow2_alloc.proofs.AllocationSteps.{handed_on}
+use Rattle.qcow2_alloc.proofs.KeptTables.Turning.{always_ok}
 use Rattle.qcow2_image.specs.Found.{IsFoundWhole, further_by}
 use Rattle.qcow2_image.specs.ImageInvariant.{disk_of}
 use Rattle.qcow2_image.proofs.Call.Called.{keeps_then}
@@ -43,3 +44,12 @@ returns-clause-unwritten g c = reads_on g.S.Storage.view g.F.BackingDisk.backing
 
 pub returns-clause-notes : goal.returns-clause-notes
 returns-clause-notes g c = kept_then _ _ _ c.check_mapped.ensures.notes c.read_as.ensures.notes
+
+pub returns-clause-mapped : goal.returns-clause-mapped
+returns-clause-mapped g c = λ p out sound.
+    let view = g.S.Storage.view in
+    let old = c.args.self.now in
+    let n = length c.args.bytes.now in
+    always_ok c.read_as.result
+    (subst (λ o. IsFoundWhole view old o (further_by c.args.at c.args.mapping.now.kind) n) c.in_ok-offset.ensures.place
+    (subst (λ k. IsFoundWhole view old c.in_ok-offset.offset k n) c.further-kind.ensures (c.in_ok-check_mapped.ensures.found p out sound)))

@@ -1,5 +1,5 @@
-use Rattle.std.proofs.Common.{◌≡◌, ◌+◌, ◌<◌, [], Err, sym, ap, ◌∙◌, subst, rules, length}
-use Rattle.std.specs.Prelude.{Result}
+use Rattle.std.proofs.Common.{◌≡◌, ◌+◌, ◌<◌, [], Err, sym, ap, ◌∙◌, subst, rules, arith, length}
+use Rattle.std.specs.Prelude.{OnOk, Result}
 use Rattle.qcow2_disk.specs.Calls.{Shows, IsSame}
 use Rattle.qcow2_disk.specs.AbstractImages.{guest_of}
 use Rattle.qcow2_image.specs.Calls.{AnswersCall}
@@ -11,7 +11,9 @@ use Rattle.qcow2_image.proofs.Call.Marked.{MayMarkBy, may_mark}
 use Rattle.qcow2_image.specs.ImageInvariant.{pending_in}
 use Rattle.qcow2_image.proofs.Call.Answers.{usable_works}
 use Rattle.qcow2_image.proofs.Call.Called.{told_answers, tells_quietly, quietly_then}
+use Rattle.qcow2_image.proofs.Grow.Lengths.{on_ok}
 use Rattle.qcow2_image.proofs.Map.Loading.{if_ok}
+use Rattle.qcow2_image.proofs.Map.Looked.{found_before}
 use Rattle.qcow2_image.proofs.Call.FaultCounts.{counted_marked}
 use Rattle.qcow2_image.proofs.Map.Unmodified.{read_call}
 use Rattle.qcow2_image.proofs.Call.OnceWritten.{once_written}
@@ -55,3 +57,19 @@ returns-clause-unwritten g c = read_call g.S.Storage.view g.F.BackingDisk.backin
 
 pub returns-clause-once_written : goal.returns-clause-once_written
 returns-clause-once_written g c = λ memory. once_written g.S.Storage.view c.args.self.now c.begin.new.self c.read_current-done.new.self c.mark_failure.new.self c.read_current-done.result c.begin.ensures.storage c.read_current-done.ensures.notes c.mark_failure.ensures.marks c.mark_failure.ensures.rest (sym c.mark_failure.ensures.answer ∙ memory)
+
+pub returns-then-is_empty-clause-mapped : goal.returns-then-is_empty-clause-mapped
+returns-then-is_empty-clause-mapped g c = λ some out sound. absurd (let none : length c.args.bytes.now ≡ 0 = search rules in omega (arith, none, some))
+
+pub returns-clause-mapped : goal.returns-clause-mapped
+returns-clause-mapped g c = λ some out sound.
+    let view = g.S.Storage.view in
+    let below = g.F.BackingDisk.backing in
+    let old = c.args.self.now in
+    let p = pending_in view below old out in
+    let place = c.args.mapping.now.offset + c.args.at in
+    let kind = further_by c.args.at c.args.mapping.now.kind in
+    let n = length c.args.bytes.now in
+    let begun = c.begin.ensures.keeps p out sound in
+    subst (λ (r : Result _ _). OnOk r (IsFoundWhole view old place kind n)) (sym c.mark_failure.ensures.answer)
+    (on_ok c.read_current-done.result (λ whole. found_before view below old c.begin.new.self out p p place n kind begun whole) (c.read_current-done.ensures.mapped p out begun.sound))

@@ -3,6 +3,7 @@ use Rattle.image_access.specs.Contents.{overwritten}
 use Rattle.qcow2_alloc.specs.ImageFile.{view_in}
 use Rattle.qcow2_alloc.specs.declared.error.ImageError.TheVariants.{OutdatedMapping, Overflow}
 use Rattle.qcow2_alloc.proofs.AllocationSteps.{handed_on}
+use Rattle.qcow2_alloc.proofs.KeptTables.Turning.{always_ok}
 use Rattle.qcow2_image.specs.declared.image.Qcow2.{Qcow2}
 use Rattle.qcow2_image.specs.declared.mapping.MappingKind.TheVariants.{Raw}
 use Rattle.qcow2_image.specs.declared.mapping.Place.TheVariants.{Image}
@@ -61,3 +62,10 @@ returns-in_default-clause-puts g c = λ some fits out k placed sound. puts_nothi
 
 pub returns-clause-notes : goal.returns-clause-notes
 returns-clause-notes g c = kept_then _ _ _ c.check_in_place.ensures.notes c.write_data.ensures.notes
+
+pub returns-clause-mapped : goal.returns-clause-mapped
+returns-clause-mapped g c = λ none p out sound.
+    let view = g.S.Storage.view in
+    let old = c.args.self.now in
+    always_ok c.write_data.result
+    (subst (λ o. IsFoundWhole view old (c.args.prepared.now.guest + c.args.at) (Raw Image o true) (length c.args.bytes.now)) c.in-Some.ensures.1 (c.in_ok-check_in_place.ensures.found none p out sound))

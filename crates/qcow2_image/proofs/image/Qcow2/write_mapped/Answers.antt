@@ -1,5 +1,5 @@
-use Rattle.std.proofs.Common.{◌≡◌, ◌+◌, ◌<◌, [], Err, true, ap, length, sym, ◌∙◌, subst, rules}
-use Rattle.std.specs.Prelude.{Result}
+use Rattle.std.proofs.Common.{◌≡◌, ◌+◌, ◌<◌, [], Err, true, ap, length, sym, ◌∙◌, subst, rules, arith}
+use Rattle.std.specs.Prelude.{OnOk, Result}
 use Rattle.std.proofs.lemmas.List.{nil_from_length}
 use Rattle.qcow2_image.specs.declared.image.Qcow2.{Qcow2}
 use Rattle.qcow2_image.specs.Calls.{Puts}
@@ -12,6 +12,8 @@ use Rattle.qcow2_image.proofs.Call.Marked.{MayMarkBy, may_mark}
 use Rattle.qcow2_image.specs.ImageInvariant.{pending_in}
 use Rattle.qcow2_image.proofs.Call.Answers.{usable_works}
 use Rattle.qcow2_image.proofs.Call.Called.{Quietly, quiet_sound}
+use Rattle.qcow2_image.proofs.Grow.Lengths.{on_ok}
+use Rattle.qcow2_image.proofs.Map.Looked.{found_before}
 use Rattle.qcow2_image.proofs.Write.PutParts.{puts_early, puts_none, puts_then, puts_with_outcome}
 use Rattle.qcow2_image.proofs.Call.FaultCounts.{counted_marked}
 use Rattle.qcow2_image.proofs.Call.OnceWritten.{once_written}
@@ -65,3 +67,19 @@ returns-clause-faults g c = counted_marked g.S.Storage.view g.F.BackingDisk.back
 
 pub returns-clause-once_written : goal.returns-clause-once_written
 returns-clause-once_written g c = λ memory. once_written g.S.Storage.view c.args.self.now c.begin.new.self c.write_current-done.new.self c.mark_failure.new.self c.write_current-done.result c.begin.ensures.storage c.write_current-done.ensures.notes c.mark_failure.ensures.marks c.mark_failure.ensures.rest (sym c.mark_failure.ensures.answer ∙ memory)
+
+pub returns-then-is_empty-clause-mapped : goal.returns-then-is_empty-clause-mapped
+returns-then-is_empty-clause-mapped g c = λ none some out sound. absurd (let no : length c.args.bytes.now ≡ 0 = search rules in omega (arith, no, some))
+
+pub returns-clause-mapped : goal.returns-clause-mapped
+returns-clause-mapped g c = λ none some out sound.
+    let view = g.S.Storage.view in
+    let below = g.F.BackingDisk.backing in
+    let old = c.args.self.now in
+    let p = pending_in view below old out in
+    let place = c.args.prepared.now.guest + c.args.at in
+    let kind = Raw Image (c.args.prepared.now.offset + c.args.at) true in
+    let n = length c.args.bytes.now in
+    let begun = c.begin.ensures.keeps p out sound in
+    subst (λ (r : Result _ _). OnOk r (IsFoundWhole view old place kind n)) (sym c.mark_failure.ensures.answer)
+    (on_ok c.write_current-done.result (λ whole. found_before view below old c.begin.new.self out p p place n kind begun whole) (c.write_current-done.ensures.mapped none p out begun.sound))
