@@ -171,6 +171,7 @@ module _ {S : Type 0} (c : MetadataCaches S) (k : ℕ) (l2 : Cache (L2CacheBacke
         l2_at = λ cluster. same_values (eqb cluster) c.l2.entries es same;
         order = refl;
         room = λ r. record { tables = r.tables; some = r.some; free = r.free };
+        behind = λ bits are. record { l2_bits = are.l2_bits; rb_bits = are.rb_bits; tables = same_values (eqb 0) c.l2.entries es same ∙ are.tables; blocks = are.blocks };
       })
 
   set_answer : (s : Slot L2TableView) (n : ℕ) → lookup (eqb k) c.l2.entries ≡ Some s → l2 ≡ with_entries c.l2 (set_value (eqb k) c.l2.entries (slot_of s.value n)) → SetsPins c (record c { l2 = l2 }) k n

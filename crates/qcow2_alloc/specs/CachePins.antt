@@ -8,6 +8,7 @@ use Rattle.qcow2_metadata.specs.declared.header.HeaderFields.{HeaderFields}
 use Rattle.qcow2_laws.specs.CrashInvariant.{Pending}
 use Rattle.qcow2_alloc.specs.AsyncLruCache.{pinned}
 use Rattle.qcow2_alloc.specs.MetadataCaches.{order_of, l2_at, l2_tables, refblocks, known_of, CacheInvariant}
+use Rattle.qcow2_alloc.specs.BehindHeader.{KeepBehindHeader}
 use Rattle.qcow2_alloc.specs.ImageError.{IsFault}
 use Rattle.qcow2_alloc.specs.declared.async_lru_cache.slot.Slot.{Slot}
 use Rattle.qcow2_alloc.specs.declared.cache.MetadataCaches.{MetadataCaches}
@@ -40,6 +41,7 @@ module _ {S : Type 0} where
     pub l2_at : (cluster : ℕ) → l2_at new cluster ≡ l2_at old cluster
     pub order : order_of new ≡ order_of old
     pub room : CachesHaveRoom old → CachesHaveRoom new
+    pub behind : KeepBehindHeader old new
 
   -- the L2 table of a cluster has so many pins, and the others have as many as before
   pub record SetsPins (old new : MetadataCaches S) (cluster pins : ℕ) : Type 0 where

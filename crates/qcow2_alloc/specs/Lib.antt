@@ -15,6 +15,7 @@ pub mod KeptTables
 pub mod MetadataCaches
 pub mod Quiet
 pub mod TableChanges
+pub mod BehindHeader
 pub mod CachePins
 pub mod ImageFile
 pub mod Allocation

@@ -1,27 +1,16 @@
 -- What the calls of the caches and of the allocator leave of cluster 0, where the header lies, whatever an image's contents are.
-use Rattle.std.specs.Prelude.{ℕ, ◌≡◌, Some, None}
+use Rattle.std.specs.Prelude.{ℕ, ◌≡◌, Some}
 use Rattle.image_access.specs.Moments.{StorageView}
 use Rattle.qcow2_metadata.specs.EntryTable.{EntryTableView}
+pub use Rattle.qcow2_alloc.specs.BehindHeader.{AreBehindHeader, KeepBehindHeader}
 use Rattle.qcow2_alloc.specs.HeaderClusters.{IsInHeaderCluster, IsBesidePointer, BytesStay, KeepsHeaderCluster}
 use Rattle.qcow2_alloc.specs.ImageFile.{view_in}
 use Rattle.qcow2_alloc.specs.ImageStorage.{storage_of}
-use Rattle.qcow2_alloc.specs.MetadataCaches.{l2_at, rb_at}
 use Rattle.qcow2_alloc.specs.declared.cache.MetadataCaches.{MetadataCaches}
 use Rattle.qcow2_alloc.specs.declared.image_file.ImageFile.{ImageFile}
 use Rattle.qcow2_alloc.specs.declared.image_storage.ImageStorage.{ImageStorage}
 
 module _ {S : Type 0} where
-  -- no cached table stands at cluster 0, and each cluster has so many bits
-  pub record AreBehindHeader (bits : ℕ) (caches : MetadataCaches S) : Type 0 where
-    pub l2_bits : caches.l2.backend.header.fields.cluster_bits ≡ bits
-    pub rb_bits : caches.rb.backend.header.fields.cluster_bits ≡ bits
-    pub tables : l2_at caches 0 ≡ None
-    pub blocks : rb_at caches 0 ≡ None
-
-  -- a call of the caches keeps that
-  abbrev pub KeepBehindHeader : MetadataCaches S → MetadataCaches S → Type 0
-  KeepBehindHeader caches caches' = (bits : ℕ) → AreBehindHeader bits caches → AreBehindHeader bits caches'
-
   -- neither a cached table of an image nor its reftable stands at cluster 0
   pub record StandsBehindHeader (bits : ℕ) (reftable : EntryTableView) (file : ImageFile S) : Type 0 where
     pub header : file.header.fields.cluster_bits ≡ bits

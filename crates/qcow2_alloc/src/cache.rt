@@ -467,6 +467,7 @@ impl<S: Storage> MetadataCaches<S> {
         ensures left { LeavesPinned self.old.l2.entries result self.new.l2.entries }
         ensures marks { KeepsPinsAndNotes self.old self.new }
         ensures taken { TakesOff (AreClean (l2_tables self.old)) self.old self.new }
+        ensures header_cluster { KeepBehindHeader self.old self.new }
     {
         self.l2.invalidate()?;
         Ok(())
@@ -481,6 +482,7 @@ impl<S: Storage> MetadataCaches<S> {
         ensures left { LeavesPinned self.old.rb.entries result self.new.rb.entries }
         ensures marks { KeepsPinsAndNotes self.old self.new }
         ensures taken { TakesOff (AreClean (refblocks self.old)) self.old self.new }
+        ensures header_cluster { KeepBehindHeader self.old self.new }
     {
         self.rb.invalidate()?;
         Ok(())
@@ -540,6 +542,7 @@ impl<S: Storage> MetadataCaches<S> {
         ensures noted { NotesEntry self.old self.new cluster index host }
         ensures entry { IfSome (l2_at self.old cluster) (λ t. index < entries_of t → IsHostCluster t.cluster_bits host → SetsEntry self.old self.new cluster index t (copied_entry (host * 2 ^ t.cluster_bits)) result) }
         ensures refused { IfSome (l2_at self.old cluster) (λ t. index < entries_of t → IsHostCluster t.cluster_bits host → ⊥) → (result ≡ None) × (self.new ≡ self.old) }
+        ensures header_cluster { KeepBehindHeader self.old self.new }
     {
         let table = self.l2.peek_mut(cluster)?;
         let bits = table.cluster_bits();
@@ -563,6 +566,7 @@ impl<S: Storage> MetadataCaches<S> {
         ensures noted { NotesHeld self.old self.new cluster index }
         ensures entry { IfSome (l2_at self.old cluster) (λ t. index < entries_of t → SetsEntry self.old self.new cluster index t (zero_entry (if keep then copied_host (cover_at t index) else None)) result) }
         ensures refused { IfSome (l2_at self.old cluster) (λ t. entries_of t ≤ index) → (result ≡ None) × (self.new ≡ self.old) }
+        ensures header_cluster { KeepBehindHeader self.old self.new }
     {
         let table = self.l2.peek_mut(cluster)?;
         if index >= table.entries() {
@@ -584,6 +588,7 @@ impl<S: Storage> MetadataCaches<S> {
         ensures noted { NotesHeld self.old self.new cluster index }
         ensures entry { IfSome (l2_at self.old cluster) (λ t. index < entries_of t → SetsEntry self.old self.new cluster index t 0 result) }
         ensures refused { IfSome (l2_at self.old cluster) (λ t. entries_of t ≤ index) → (result ≡ None) × (self.new ≡ self.old) }
+        ensures header_cluster { KeepBehindHeader self.old self.new }
     {
         let table = self.l2.peek_mut(cluster)?;
         if index >= table.entries() {

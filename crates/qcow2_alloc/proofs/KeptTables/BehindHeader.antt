@@ -26,6 +26,7 @@ use Rattle.qcow2_alloc.specs.TableCaches.{l2_steps, rb_steps, cleared_l2, cleare
 use Rattle.qcow2_alloc.proofs.HeaderClusters.{below_others, bytes_stay, call_keeps, quiet_keeps, same_kept, above_kept, header_cluster_none, header_cluster_then}
 use Rattle.qcow2_alloc.proofs.KeptTables.Fetching.{none_or_some}
 use Rattle.qcow2_alloc.proofs.KeptTables.Inserting.{found_or_not, lookup_none}
+use Rattle.qcow2_alloc.proofs.KeptTables.Off.{SomeOf}
 
 above_zero : (k : ℕ) → eqb 0 k ≡ false → 0 < k
 above_zero k other = grind (arith, nat_tests)
@@ -89,6 +90,16 @@ module _ {V : Type 0} where
       elim (test e.0) as (λ b. lookup (eqb 0) (cond b ((e.0, s) ∷ es) (e ∷ set_value test es s)) ≡ None) [
         | true ↦ none_more e.0 s es rest.0 rest.1
         | false ↦ none_more e.0 e.1 (set_value test es s) rest.0 (none_set test es s rest.1)
+      ]
+
+  -- nor is one among some of them
+  none_left : (es fs : List (ℕ × Slot V)) → SomeOf es fs → lookup (eqb 0) es ≡ None → lookup (eqb 0) fs ≡ None
+  none_left [] fs some none = ap (lookup (eqb 0)) some
+  none_left (e ∷ es) fs some none =
+      let rest = none_first e es none in
+      elim some [
+        | inl less ↦ none_left es fs less rest.1
+        | inr more ↦ ap (lookup (eqb 0)) more.1 ∙ none_more e.0 e.1 more.0 rest.0 (none_left es more.0 more.2 rest.1)
       ]
 
   -- where the others stay, none comes
@@ -259,6 +270,16 @@ module _ {S : Type 0} where
   -- a value is changed in its place
   pub set_behind : (caches : MetadataCaches S) (key : ℕ) (b : RefBlockView) → KeepBehindHeader caches (record caches { rb = with_entries caches.rb (set_at (eqb key) caches.rb.entries b) })
   set_behind caches key b bits are = with_blocks caches (with_entries caches.rb (set_at (eqb key) caches.rb.entries b)) bits refl (set_case (eqb key) caches.rb.entries b (no_key (lookup (eqb 0) caches.rb.entries) are.blocks)) are
+
+  pub set_table_behind : (caches : MetadataCaches S) (key : ℕ) (t : L2TableView) → KeepBehindHeader caches (record caches { l2 = with_entries caches.l2 (set_at (eqb key) caches.l2.entries t) })
+  set_table_behind caches key t bits are = with_tables caches (with_entries caches.l2 (set_at (eqb key) caches.l2.entries t)) bits refl (set_case (eqb key) caches.l2.entries t (no_key (lookup (eqb 0) caches.l2.entries) are.tables)) are
+
+  -- some entries are left
+  pub tables_left_behind : (caches : MetadataCaches S) (l2 : Cache (L2CacheBackend S) ℕ L2TableView) → l2 ≡ with_entries caches.l2 l2.entries → SomeOf caches.l2.entries l2.entries → KeepBehindHeader caches (record caches { l2 = l2 })
+  tables_left_behind caches l2 others some bits are = with_tables caches l2 bits others (none_left caches.l2.entries l2.entries some (no_key (lookup (eqb 0) caches.l2.entries) are.tables)) are
+
+  pub blocks_left_behind : (caches : MetadataCaches S) (rb : Cache (RefBlockCacheBackend S) ℕ RefBlockView) → rb ≡ with_entries caches.rb rb.entries → SomeOf caches.rb.entries rb.entries → KeepBehindHeader caches (record caches { rb = rb })
+  blocks_left_behind caches rb others some bits are = with_blocks caches rb bits others (none_left caches.rb.entries rb.entries some (no_key (lookup (eqb 0) caches.rb.entries) are.blocks)) are
 
   -- a refblock is taken out
   pub removed_behind : (caches : MetadataCaches S) (key : ℕ) (b : Bool) (rb : Cache (RefBlockCacheBackend S) ℕ RefBlockView) → rb ≡ with_entries caches.rb (cond b (remove_entry (eqb key) caches.rb.entries) caches.rb.entries) → KeepBehindHeader caches (record caches { rb = rb })

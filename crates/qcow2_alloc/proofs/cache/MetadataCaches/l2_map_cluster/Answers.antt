@@ -5,6 +5,7 @@ use Rattle.qcow2_metadata.specs.L2Table.{L2TableView, copied_entry}
 use Rattle.qcow2_metadata.specs.TableBytes.{ChangesEntry}
 use Rattle.qcow2_alloc.proofs.KeptTables.Mapping.{bits_is, index_fits, entry_made}
 use Rattle.qcow2_alloc.proofs.CachePins.{marks_tables, marks_noted, set_keeps_pins}
+use Rattle.qcow2_alloc.proofs.KeptTables.BehindHeader.{set_table_behind, noted_behind}
 use Rattle.qcow2_alloc.specs.AsyncLruCache.{with_entries, set_at}
 use Rattle.std.proofs.Common.{ℕ, ◌<◌, List, Option}
 use Rattle.std.specs.Option.{IfSome}
@@ -106,3 +107,13 @@ returns-clause-refused g c = λ none.
     let refused = subst (λ (o : Option L2TableView). IfSome o (λ t. c.args.index < entries_of t → IsHostCluster t.cluster_bits c.args.host → ⊥)) found none in
     absurd (refused (let count = c.entries.ensures.value in let inside = c.if-index-entries.false in omega arith)
     (subst (λ n. IsHostCluster n c.args.host) c.cluster_bits-bits.ensures.value (nameable c.is_nameable.result c.is_nameable.ensures c.if-not-is_nameable.false)))
+
+pub returns-then-index-entries-clause-header_cluster : goal.returns-then-index-entries-clause-header_cluster
+returns-then-index-entries-clause-header_cluster g c = elim c.then-index-entries.branch [
+  | then-index-entries-via-then-index-entries w ↦ rw w.self-is (set_table_behind c.args.self.now c.args.cluster c.in_ok-table.table.now)
+  | then-index-entries-via-else-index-entries+then-not-is_nameable w ↦ rw w.self-is (set_table_behind c.args.self.now c.args.cluster c.in_ok-table.table.now)
+]
+
+pub returns-clause-header_cluster : goal.returns-clause-header_cluster
+returns-clause-header_cluster g c =
+    noted_behind c.args.self.now (record c.args.self.now { l2 = with_entries c.args.self.now.l2 (set_at (eqb c.args.cluster) c.args.self.now.l2.entries c.map_cluster.new.self) }) (set_table_behind c.args.self.now c.args.cluster c.map_cluster.new.self)

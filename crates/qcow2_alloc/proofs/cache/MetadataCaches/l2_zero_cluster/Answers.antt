@@ -5,6 +5,7 @@ use Rattle.qcow2_metadata.specs.L2Table.{L2TableView, zero_entry, copied_host}
 use Rattle.qcow2_metadata.specs.TableBytes.{ChangesEntry}
 use Rattle.qcow2_alloc.proofs.KeptTables.Mapping.{index_fits, covers_known, entry_made}
 use Rattle.qcow2_alloc.proofs.CachePins.{marks_tables, marks_noted, set_keeps_pins}
+use Rattle.qcow2_alloc.proofs.KeptTables.BehindHeader.{set_table_behind, noted_behind}
 use Rattle.qcow2_alloc.specs.AsyncLruCache.{with_entries, set_at}
 use Rattle.std.proofs.Common.{◌≡◌, ℕ, ◌≤◌, List, Option}
 use Rattle.std.specs.Option.{IfSome}
@@ -80,3 +81,10 @@ returns-clause-refused g c = λ past.
     let found = sym c.peek_mut.ensures.value ∙ ap option_copied_mut c.in_ok-table.was in
     let beyond = subst (λ (o : Option L2TableView). IfSome o (λ t. entries_of t ≤ c.args.index)) found past in
     absurd (let count = c.entries.ensures.value in let inside = c.if-index-entries.false in omega arith)
+
+pub returns-then-index-entries-clause-header_cluster : goal.returns-then-index-entries-clause-header_cluster
+returns-then-index-entries-clause-header_cluster g c = set_table_behind c.args.self.now c.args.cluster c.in_ok-table.table.now
+
+pub returns-clause-header_cluster : goal.returns-clause-header_cluster
+returns-clause-header_cluster g c =
+    noted_behind c.args.self.now (record c.args.self.now { l2 = with_entries c.args.self.now.l2 (set_at (eqb c.args.cluster) c.args.self.now.l2.entries c.zero_cluster.new.self) }) (set_table_behind c.args.self.now c.args.cluster c.zero_cluster.new.self)
