@@ -37,3 +37,4 @@ pub mod LoadedTables
 pub mod HeaderClusters
 pub mod SparedHeaders
 pub mod KeptNotes
+pub mod KeptMarks

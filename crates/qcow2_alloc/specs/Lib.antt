@@ -17,6 +17,7 @@ pub mod Quiet
 pub mod TableChanges
 pub mod BehindHeader
 pub mod CachePins
+pub mod KeptMarks
 pub mod ImageFile
 pub mod Allocation
 pub mod LowestRuns

@@ -5,6 +5,8 @@ ghost use Rattle.qcow2_laws.specs.Clusters.{L2DependsOnRb};
 ghost use Rattle.qcow2_laws.specs.CrashInvariant.{Pending};
 ghost use Rattle.qcow2_alloc.specs.Allocation.{MayTake, IsUnaligned, TakesCluster, TakesRun, TakesSomeRun, is_data, Allocates, AllocatesAt, SameLeaks};
 ghost use Rattle.qcow2_alloc.specs.FreeList.{pending_then, ListsTables, ListsReftables};
+ghost use Rattle.qcow2_alloc.specs.KeptMarks.{KeepsMarks};
+ghost use Rattle.qcow2_alloc.specs.KeptNotes.{KeepsNotes};
 ghost use Rattle.qcow2_alloc.specs.CachePins.{KeepsPinsAndNotes};
 ghost use Rattle.qcow2_alloc.specs.Faults.{CountsFaults};
 ghost use Rattle.qcow2_alloc.specs.SparedHeaders.{AreBehindHeader, StandsBehindHeader, SparesHeaderButPointer};
@@ -91,8 +93,7 @@ impl Allocator {
         file: &mut ImageFile<S>,
         count: ClusterCount,
     ) -> Result<PendingClusters, ImageError>
-        ensures marks { KeepsPinsAndNotes file.old.caches file.new.caches }
-        ensures order { order_of file.new.caches ≡ order_of file.old.caches }
+        ensures marks { KeepsMarks S.view file.old file.new }
         ensures noted { OnOk result (IsTrue file.new.caches.is_changed) }
         ensures sound { (p : Pending) → AllocatorInvariant S.view self.old p file.old → Allocates S.view p file.old self.new file.new (pending_then p file.old.free_list file.new.free_list) ClusterKind.Metadata count result }
         ensures header { KeepsHeader file.old.header file.new.header }
@@ -119,6 +120,7 @@ impl Allocator {
         count: ClusterCount,
     ) -> Result<PendingClusters, ImageError>
         ensures marks { KeepsPinsAndNotes file.old.caches file.new.caches }
+        ensures notes { KeepsNotes S.view file.old.storage file.new.storage }
         ensures order { OnOk result (order_of file.new.caches ≡ L2DependsOnRb) }
         ensures noted { OnOk result (IsTrue file.new.caches.is_changed) }
         ensures sound { (p : Pending) → AllocatorInvariant S.view self.old p file.old → Allocates S.view p file.old self.new file.new (pending_then p file.old.free_list file.new.free_list) ClusterKind.Data count result }
@@ -148,6 +150,7 @@ impl Allocator {
         cluster: HostCluster,
     ) -> Result<Option<PendingClusters>, ImageError>
         ensures marks { KeepsPinsAndNotes file.old.caches file.new.caches }
+        ensures notes { KeepsNotes S.view file.old.storage file.new.storage }
         ensures order { OnOk result (order_of file.new.caches ≡ L2DependsOnRb) }
         ensures noted { IfOk result (λ run. IsSome run → IsTrue file.new.caches.is_changed) }
         ensures sound { (p : Pending) → AllocatorInvariant S.view self.old p file.old → AllocatesAt S.view p file.old self.new file.new (pending_then p file.old.free_list file.new.free_list) cluster result }
@@ -197,8 +200,7 @@ impl Allocator {
         count: ClusterCount,
         kind: ClusterKind,
     ) -> Result<PendingClusters, ImageError>
-        ensures marks { KeepsPinsAndNotes file.old.caches file.new.caches }
-        ensures order { order_of file.new.caches ≡ order_of file.old.caches }
+        ensures marks { KeepsMarks S.view file.old file.new }
         ensures noted { OnOk result (IsTrue file.new.caches.is_changed) }
         ensures sound { (p : Pending) → AllocatorInvariant S.view self.old p file.old → MayTake (is_data kind) file.old → Allocates S.view p file.old self.new file.new (pending_then p file.old.free_list file.new.free_list) kind count result }
         ensures header { KeepsHeader file.old.header file.new.header }
@@ -233,8 +235,7 @@ impl Allocator {
 
     // Takes the lowest run of n clusters that fits below the greatest offset. Cluster 0 is the header's, whatever its count is.
     fn lowest_run<S: Storage>(&mut self, file: &mut ImageFile<S>, n: u64) -> Result<u64, ImageError>
-        ensures marks { KeepsPinsAndNotes file.old.caches file.new.caches }
-        ensures order { order_of file.new.caches ≡ order_of file.old.caches }
+        ensures marks { KeepsMarks S.view file.old file.new }
         ensures noted { OnOk result (IsTrue file.new.caches.is_changed) }
         ensures sound { (p : Pending) (is_data : Bool) → AllocatorInvariant S.view self.old p file.old → MayTake is_data file.old → TakesSomeRun S.view p file.old self.new file.new (pending_then p file.old.free_list file.new.free_list) is_data n result }
         ensures header { KeepsHeader file.old.header file.new.header }
@@ -271,8 +272,7 @@ impl Allocator {
         n: u64,
     ) -> Result<u64, ImageError>
         requires { first + n < 2 ^ 63 }
-        ensures marks { KeepsPinsAndNotes file.old.caches file.new.caches }
-        ensures order { order_of file.new.caches ≡ order_of file.old.caches }
+        ensures marks { KeepsMarks S.view file.old file.new }
         ensures noted { IfOk result (λ taken. taken ≡ n → 0 < n → IsTrue file.new.caches.is_changed) }
         ensures sound { (p : Pending) (is_data : Bool) → AllocatorInvariant S.view self.old p file.old → MayTake is_data file.old → TakesRun S.view p file.old self.new file.new (pending_then p file.old.free_list file.new.free_list) is_data first n result }
         ensures header { KeepsHeader file.old.header file.new.header }
@@ -313,8 +313,7 @@ impl Allocator {
         cluster: u64,
     ) -> Result<bool, ImageError>
         requires { cluster < 2 ^ 63 }
-        ensures marks { KeepsPinsAndNotes file.old.caches file.new.caches }
-        ensures order { order_of file.new.caches ≡ order_of file.old.caches }
+        ensures marks { KeepsMarks S.view file.old file.new }
         ensures noted { IfOk result (λ taken. IsTrue taken → IsTrue file.new.caches.is_changed) }
         ensures sound { (p : Pending) (is_data : Bool) → AllocatorInvariant S.view self.old p file.old → MayTake is_data file.old → TakesCluster S.view p file.old self.new file.new (pending_then p file.old.free_list file.new.free_list) is_data cluster result }
         ensures header { KeepsHeader file.old.header file.new.header }

@@ -85,6 +85,7 @@ impl<S: Storage> MetadataCaches<S> {
     fn write_tables(&mut self, storage: &mut ImageStorage<S>) -> Result<(), ImageError>
         ensures cause { IfErr result IsOfTables }
         ensures storage_faults { CountsFaults S.view storage.old storage.new result }
+        ensures notes { KeepsNotes S.view storage.old storage.new }
         ensures direction { self.new.direction ≡ self.old.direction }
         ensures refblocks { self.new.rb ≡ self.old.rb }
         ensures written { OnOk result (AreClean (l2_tables self.new)) }
@@ -125,6 +126,7 @@ impl<S: Storage> MetadataCaches<S> {
     pub fn l2_depends_on_rb(&mut self, storage: &mut ImageStorage<S>) -> Result<(), ImageError>
         ensures cause { IfErr result IsOfTables }
         ensures storage_faults { CountsFaults S.view storage.old storage.new result }
+        ensures notes { KeepsNotes S.view storage.old storage.new }
         ensures order { OnOk result (order_of self.new ≡ L2DependsOnRb) }
         ensures refused { OnErr result (order_of self.new ≡ order_of self.old) }
         ensures marks { KeepsPinsAndNotes self.old self.new }
@@ -151,6 +153,7 @@ impl<S: Storage> MetadataCaches<S> {
     pub fn rb_depends_on_l2(&mut self, storage: &mut ImageStorage<S>) -> Result<(), ImageError>
         ensures cause { IfErr result IsOfTables }
         ensures storage_faults { CountsFaults S.view storage.old storage.new result }
+        ensures notes { KeepsNotes S.view storage.old storage.new }
         ensures order { OnOk result (order_of self.new ≡ RbDependsOnL2) }
         ensures refused { OnErr result (order_of self.new ≡ order_of self.old) }
         ensures marks { KeepsPinsAndNotes self.old self.new }
@@ -176,6 +179,7 @@ impl<S: Storage> MetadataCaches<S> {
     pub fn flush_all(&mut self, storage: &mut ImageStorage<S>) -> Result<(), ImageError>
         ensures cause { IfErr result IsOfTables }
         ensures storage_faults { CountsFaults S.view storage.old storage.new result }
+        ensures notes { KeepsNotes S.view storage.old storage.new }
         ensures order { order_of self.new ≡ order_of self.old }
         ensures written { OnOk result (AreAllWritten self.new) }
         ensures marks { KeepsPinsAndNotes self.old self.new }
@@ -202,6 +206,7 @@ impl<S: Storage> MetadataCaches<S> {
     pub fn flush_rb(&mut self, storage: &mut ImageStorage<S>) -> Result<(), ImageError>
         ensures cause { IfErr result IsOfTables }
         ensures storage_faults { CountsFaults S.view storage.old storage.new result }
+        ensures notes { KeepsNotes S.view storage.old storage.new }
         ensures order { order_of self.new ≡ order_of self.old }
         ensures written { OnOk result (AreClean (refblocks self.new)) }
         ensures first { OnOk result (BlocksMayGo (order_of self.new) (l2_tables self.new)) }
@@ -249,6 +254,7 @@ impl<S: Storage> MetadataCaches<S> {
     fn before_rb(&mut self, storage: &mut ImageStorage<S>) -> Result<(), ImageError>
         ensures cause { IfErr result IsOfTables }
         ensures storage_faults { CountsFaults S.view storage.old storage.new result }
+        ensures notes { KeepsNotes S.view storage.old storage.new }
         ensures order { order_of self.new ≡ order_of self.old }
         ensures refblocks { self.new.rb ≡ self.old.rb }
         ensures free { (size cluster : ℕ) → IsFreeOf size (l2_tables self.old) cluster → IsFreeOf size (l2_tables self.new) cluster }
@@ -307,6 +313,7 @@ impl<S: Storage> MetadataCaches<S> {
     ) -> Result<(), ImageError>
         ensures cause { IfErr result IsOfTables }
         ensures storage_faults { CountsFaults S.view storage.old storage.new result }
+        ensures notes { KeepsNotes S.view storage.old storage.new }
         ensures order { order_of self.new ≡ order_of self.old }
         ensures cached { OnOk result (IsSome (rb_at self.new cluster)) }
         ensures marks { KeepsPinsAndNotes self.old self.new }
@@ -337,6 +344,7 @@ impl<S: Storage> MetadataCaches<S> {
         requires { IsSome table.cluster }
         ensures cause { IfErr result IsOfTables }
         ensures storage_faults { CountsFaults S.view storage.old storage.new result }
+        ensures notes { KeepsNotes S.view storage.old storage.new }
         ensures order { order_of self.new ≡ order_of self.old }
         ensures cached { OnOk result (IfSome table.cluster (λ cluster. l2_at self.new cluster ≡ Some table)) }
         ensures marks { KeepsPinsAndNotes self.old self.new }
@@ -377,6 +385,7 @@ impl<S: Storage> MetadataCaches<S> {
         requires { IsSome block.cluster }
         ensures cause { IfErr result IsOfTables }
         ensures storage_faults { CountsFaults S.view storage.old storage.new result }
+        ensures notes { KeepsNotes S.view storage.old storage.new }
         ensures order { order_of self.new ≡ order_of self.old }
         ensures cached { OnOk result (IfSome block.cluster (λ cluster. rb_at self.new cluster ≡ Some block)) }
         ensures marks { KeepsPinsAndNotes self.old self.new }

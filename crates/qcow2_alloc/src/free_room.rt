@@ -3,7 +3,7 @@ ghost use Rattle.std.specs.Prelude.{◌≡◌, ◌≢◌, ◌⊎◌, ℕ, ◌+�
 ghost use Rattle.qcow2_metadata.specs.Header.{counts_per_block};
 ghost use Rattle.qcow2_laws.specs.CrashInvariant.{Pending};
 ghost use Rattle.qcow2_alloc.specs.Allocation.{run_at, UnseenAllocatorStep, GivesBack, SameLeaks};
-ghost use Rattle.qcow2_alloc.specs.CachePins.{KeepsPinsAndNotes};
+ghost use Rattle.qcow2_alloc.specs.KeptMarks.{KeepsMarks};
 ghost use Rattle.qcow2_alloc.specs.Faults.{CountsFaults};
 ghost use Rattle.qcow2_alloc.specs.SparedHeaders.{SparesHeader};
 ghost use Rattle.qcow2_alloc.specs.GrownTables.{counted_run, with_run};
@@ -11,7 +11,6 @@ ghost use Rattle.qcow2_alloc.specs.ImageError.{IsOfTables};
 ghost use Rattle.qcow2_alloc.specs.ImageFile.{AllocatorInvariant};
 ghost use Rattle.qcow2_alloc.specs.Limits.{IsFaultOr, HasNoRoomBelow, IsLowestRoom};
 ghost use Rattle.qcow2_alloc.specs.LowestRuns.{NoFreeBelowHint, IsUsed};
-ghost use Rattle.qcow2_alloc.specs.MetadataCaches.{order_of};
 ghost use Rattle.qcow2_alloc.specs.Rooms.{lacks, opens, opened, room_length, TakesFree, ReachesRoom, TakesRoom};
 
 use crate::{Allocator, ImageError, ImageFile};
@@ -46,8 +45,7 @@ impl Allocator {
         requires some { 0 < clusters }
         requires few { clusters ≤ 2 ^ 32 }
         requires near { end ≤ 2 ^ 60 }
-        ensures marks { KeepsPinsAndNotes file.old.caches file.new.caches }
-        ensures order { order_of file.new.caches ≡ order_of file.old.caches }
+        ensures marks { KeepsMarks S.view file.old file.new }
         ensures reftable { self.new.reftable ≡ self.old.reftable }
         ensures first { self.new.first_free_cluster ≡ self.old.first_free_cluster }
         ensures sound { (p : Pending) → AllocatorInvariant S.view self.old p file.old → TakesRoom S.view p file.old self.new file.new self.old.reftable result }
@@ -91,8 +89,7 @@ impl Allocator {
         requires below { first < end }
         requires few { clusters ≤ 2 ^ 32 }
         requires near { end ≤ 2 ^ 60 }
-        ensures marks { KeepsPinsAndNotes file.old.caches file.new.caches }
-        ensures order { order_of file.new.caches ≡ order_of file.old.caches }
+        ensures marks { KeepsMarks S.view file.old file.new }
         ensures same { self.new ≡ self.old }
         ensures sound { (p : Pending) → AllocatorInvariant S.view self.old p file.old → ReachesRoom S.view p file.old self.new file.new self.old.reftable first result }
         ensures noted { IfOk result (λ reach. ((k : ℕ) → counted_run file.old.header.fields self.old.reftable first reach.taken k ≡ 0) ⊎ IsTrue file.new.caches.is_changed) }
@@ -130,8 +127,7 @@ impl Allocator {
     ) -> Result<bool, ImageError>
         requires counts { counts_per_block file.old.header.fields ≡ 2 ^ bits }
         requires few { bits < 64 }
-        ensures marks { KeepsPinsAndNotes file.old.caches file.new.caches }
-        ensures order { order_of file.new.caches ≡ order_of file.old.caches }
+        ensures marks { KeepsMarks S.view file.old file.new }
         ensures same { self.new ≡ self.old }
         ensures sound { (p : Pending) → AllocatorInvariant S.view self.old p file.old → TakesFree S.view p file.old self.new file.new self.old.reftable cluster result }
         ensures noted { IfOk result (λ taken. IsTrue taken → lacks self.old.reftable (cluster / 2 ^ bits) ≡ false → IsTrue file.new.caches.is_changed) }
@@ -165,8 +161,7 @@ impl Allocator {
     ) -> Result<(), ImageError>
         requires near { first + n < 2 ^ 63 }
         requires free { self.old.first_free_cluster ≤ first }
-        ensures marks { KeepsPinsAndNotes file.old.caches file.new.caches }
-        ensures order { order_of file.new.caches ≡ order_of file.old.caches }
+        ensures marks { KeepsMarks S.view file.old file.new }
         ensures reftable { self.new.reftable ≡ self.old.reftable }
         ensures first { self.new.first_free_cluster ≡ self.old.first_free_cluster }
         ensures sound { (p : Pending) (start : ImageFile S) → start.header ≡ file.old.header → UnseenAllocatorStep S.view p start self.old file.old (with_run p start.header.fields self.old.reftable first n)

@@ -4,6 +4,8 @@ ghost use Rattle.qcow2_laws.specs.Changes.{one_at};
 ghost use Rattle.qcow2_laws.specs.CrashInvariant.{Pending};
 ghost use Rattle.qcow2_alloc.specs.Allocation.{run_at, taken_as, MayFree, Owed, listed_as, owed_as, MayLower, SameLeaks, Frees, LowersOne, GivesBack, GivesBackRun};
 ghost use Rattle.qcow2_alloc.specs.FreeList.{run_of, with_listed, but, GoOffInOrder};
+ghost use Rattle.qcow2_alloc.specs.KeptMarks.{KeepsMarks};
+ghost use Rattle.qcow2_alloc.specs.KeptNotes.{KeepsNotes};
 ghost use Rattle.qcow2_alloc.specs.CachePins.{KeepsPinsAndNotes};
 ghost use Rattle.qcow2_alloc.specs.Faults.{CountsFaults};
 ghost use Rattle.qcow2_alloc.specs.SparedHeaders.{SparesHeader};
@@ -12,7 +14,6 @@ ghost use Rattle.qcow2_alloc.specs.SoundAllocators.{SoundAllocator};
 ghost use Rattle.qcow2_alloc.specs.LowestRuns.{NoFreeBelowHint, KeepsNoFreeBelowHint, KeepsUsedBut};
 ghost use Rattle.qcow2_alloc.specs.ImageError.{IsOfTables};
 ghost use Rattle.qcow2_alloc.specs.ImageFile.{AllocatorInvariant};
-ghost use Rattle.qcow2_alloc.specs.MetadataCaches.{order_of};
 
 use crate::{Allocator, ClusterKind, ImageError, ImageFile, PendingClusters, TakenClusters};
 use image_access::Storage;
@@ -28,8 +29,7 @@ impl Allocator {
         n: u64,
     ) -> Result<(), ImageError>
         requires { first + n < 2 ^ 63 }
-        ensures marks { KeepsPinsAndNotes file.old.caches file.new.caches }
-        ensures order { order_of file.new.caches ≡ order_of file.old.caches }
+        ensures marks { KeepsMarks S.view file.old file.new }
         ensures reftable { self.new.reftable ≡ self.old.reftable }
         ensures sound { GivesBackRun S.view self.old file.old self.new file.new first n result }
         ensures header { file.new.header ≡ file.old.header }
@@ -56,8 +56,7 @@ impl Allocator {
         file: &mut ImageFile<S>,
         cluster: u64,
     ) -> Result<(), ImageError>
-        ensures marks { KeepsPinsAndNotes file.old.caches file.new.caches }
-        ensures order { order_of file.new.caches ≡ order_of file.old.caches }
+        ensures marks { KeepsMarks S.view file.old file.new }
         ensures reftable { self.new.reftable ≡ self.old.reftable }
         ensures first { self.old.first_free_cluster ≤ cluster → self.new.first_free_cluster ≡ self.old.first_free_cluster }
         ensures sound { (p : Pending) (owed : Owed) → AllocatorInvariant S.view self.old (owed_as owed p (one_at cluster)) file.old → MayLower owed file.old
@@ -90,6 +89,7 @@ impl Allocator {
     /// can't be lowered for another reason is counted by `leaked_clusters`.
     pub fn free<S: Storage>(&mut self, file: &mut ImageFile<S>) -> Result<(), ImageError>
         ensures marks { KeepsPinsAndNotes file.old.caches file.new.caches }
+        ensures notes { KeepsNotes S.view file.old.storage file.new.storage }
         ensures emptied { OnOk result (file.new.free_list ≡ []) }
         ensures in_order { GoOffInOrder file.old.free_list file.new.free_list }
         ensures sound { (p : Pending) → AllocatorInvariant S.view self.old (with_listed p file.old.free_list) file.old
@@ -116,8 +116,7 @@ impl Allocator {
         file: &mut ImageFile<S>,
         kind: ClusterKind,
     ) -> Result<(), ImageError>
-        ensures marks { KeepsPinsAndNotes file.old.caches file.new.caches }
-        ensures order { order_of file.new.caches ≡ order_of file.old.caches }
+        ensures marks { KeepsMarks S.view file.old file.new }
         ensures left { OnOk result (file.new.free_list ≡ but kind file.old.free_list) }
         ensures others { but kind file.new.free_list ≡ but kind file.old.free_list }
         ensures sound { (p : Pending) → AllocatorInvariant S.view self.old (with_listed p file.old.free_list) file.old → MayFree kind file.old
@@ -143,8 +142,7 @@ impl Allocator {
         taken: &mut TakenClusters,
         kind: ClusterKind,
     ) -> Result<(), ImageError>
-        ensures marks { KeepsPinsAndNotes file.old.caches file.new.caches }
-        ensures order { order_of file.new.caches ≡ order_of file.old.caches }
+        ensures marks { KeepsMarks S.view file.old file.new }
         ensures all { OnOk result (taken.new ≡ []) }
         ensures left { OnOk result (file.new.free_list ≡ file.old.free_list ++ but kind taken.old) }
         ensures others { but kind (file.new.free_list ++ taken.new) ≡ but kind (file.old.free_list ++ taken.old) }
@@ -171,8 +169,7 @@ impl Allocator {
         pending: PendingClusters,
         kind: ClusterKind,
     ) -> Result<(), ImageError>
-        ensures marks { KeepsPinsAndNotes file.old.caches file.new.caches }
-        ensures order { order_of file.new.caches ≡ order_of file.old.caches }
+        ensures marks { KeepsMarks S.view file.old file.new }
         ensures left { OnOk result (file.new.free_list ≡ file.old.free_list ++ but kind (pending ∷ [])) }
         ensures others { but kind file.new.free_list ≡ but kind (file.old.free_list ++ pending ∷ []) }
         ensures sound { (p : Pending) → AllocatorInvariant S.view self.old (with_listed p (file.old.free_list ++ pending ∷ [])) file.old → MayFree kind file.old
@@ -198,8 +195,7 @@ impl Allocator {
         file: &mut ImageFile<S>,
         pending: PendingClusters,
     ) -> Result<(), ImageError>
-        ensures marks { KeepsPinsAndNotes file.old.caches file.new.caches }
-        ensures order { order_of file.new.caches ≡ order_of file.old.caches }
+        ensures marks { KeepsMarks S.view file.old file.new }
         ensures left { OnOk result (file.new.free_list ≡ file.old.free_list) }
         ensures others { but pending.kind file.new.free_list ≡ but pending.kind file.old.free_list }
         ensures sound { (p : Pending) → AllocatorInvariant S.view self.old (with_listed p (file.old.free_list ++ pending ∷ [])) file.old → MayFree pending.kind file.old
@@ -231,8 +227,7 @@ impl Allocator {
         file: &mut ImageFile<S>,
         run: &mut PendingClusters,
     ) -> Result<(), ImageError>
-        ensures marks { KeepsPinsAndNotes file.old.caches file.new.caches }
-        ensures order { order_of file.new.caches ≡ order_of file.old.caches }
+        ensures marks { KeepsMarks S.view file.old file.new }
         ensures kind { run.new.kind ≡ run.old.kind }
         ensures all { OnOk result (run.new.count ≡ 0) }
         ensures sound { (p : Pending) → AllocatorInvariant S.view self.old (listed_as run.old.kind p (run_of run.old)) file.old → MayFree run.old.kind file.old
@@ -259,8 +254,7 @@ impl Allocator {
         file: &mut ImageFile<S>,
         cluster: u64,
     ) -> Result<bool, ImageError>
-        ensures marks { KeepsPinsAndNotes file.old.caches file.new.caches }
-        ensures order { order_of file.new.caches ≡ order_of file.old.caches }
+        ensures marks { KeepsMarks S.view file.old file.new }
         ensures reftable { self.new.reftable ≡ self.old.reftable }
         ensures leaked { self.new.leaked_clusters ≡ self.old.leaked_clusters }
         ensures tries { TriesToLower file.new cluster result }

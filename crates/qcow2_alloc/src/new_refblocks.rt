@@ -8,7 +8,8 @@ ghost use Rattle.qcow2_metadata.specs.TableBytes.{HasPlace};
 ghost use Rattle.qcow2_laws.specs.Caches.{AreClean, BlocksMayGo};
 ghost use Rattle.qcow2_laws.specs.CrashInvariant.{Pending};
 ghost use Rattle.qcow2_alloc.specs.Allocation.{run_at, NamesBehindHeader, SameLeaks};
-ghost use Rattle.qcow2_alloc.specs.CachePins.{KeepsPinsAndNotes};
+ghost use Rattle.qcow2_alloc.specs.KeptMarks.{KeepsMarks};
+ghost use Rattle.qcow2_alloc.specs.KeptNotes.{KeepsNotes};
 ghost use Rattle.qcow2_alloc.specs.Faults.{CountsFaults};
 ghost use Rattle.qcow2_alloc.specs.SparedHeaders.{KeepBehindHeader, SparesHeaderButPointer};
 ghost use Rattle.qcow2_alloc.specs.GrownTables.{with_run, NamesReftable};
@@ -66,8 +67,7 @@ fn write_new_block<S: Storage>(
     requires place { block.now.cluster ≡ Some cluster }
     requires elsewhere { 0 < cluster }
     requires whole { IsRefBlock block.now }
-    ensures marks { KeepsPinsAndNotes file.old.caches file.new.caches }
-    ensures order { order_of file.new.caches ≡ order_of file.old.caches }
+    ensures marks { KeepsMarks S.view file.old file.new }
     ensures tables { l2_tables file.new.caches ≡ l2_tables file.old.caches }
     ensures clean { AreClean (refblocks file.old.caches) → AreClean (refblocks file.new.caches) }
     ensures others { (c : ℕ) → (c ≡ cluster → ⊥) → rb_at file.new.caches c ≡ rb_at file.old.caches c }
@@ -97,6 +97,7 @@ pub(crate) fn place_table<S: Storage>(
     requires nameable { IsHostCluster table.old.cluster_bits cluster }
     requires elsewhere { 0 < cluster }
     ensures caches { file.new.caches ≡ file.old.caches }
+    ensures notes { KeepsNotes S.view file.old.storage file.new.storage }
     ensures table { table.new ≡ placed_at table.old cluster }
     ensures sound { (p : Pending) (first n clusters : ℕ) (allocator : AllocatorView) → AllocatorInvariant S.view allocator (with_run p file.old.header.fields allocator.reftable first n) file.old
         → BlocksMayGo (order_of file.old.caches) (l2_tables file.old.caches) → first ≤ cluster → cluster + clusters ≤ first + n → table.old.cluster_bits ≡ file.old.header.fields.cluster_bits
@@ -128,8 +129,7 @@ impl Allocator {
         requires near { room.first + room_length room ≤ greatest_offset / 2 ^ file.old.header.fields.cluster_bits + 1 }
         requires bits { table.old.cluster_bits ≡ file.old.header.fields.cluster_bits }
         requires blocks { room.blocks ≡ opened self.now.reftable (counts_per_block file.old.header.fields) room.first (room_length room) }
-        ensures marks { KeepsPinsAndNotes file.old.caches file.new.caches }
-        ensures order { order_of file.new.caches ≡ order_of file.old.caches }
+        ensures marks { KeepsMarks S.view file.old file.new }
         ensures tables { l2_tables file.new.caches ≡ l2_tables file.old.caches }
         ensures clean { AreClean (refblocks file.old.caches) → AreClean (refblocks file.new.caches) }
         ensures rest { table.new ≡ record table.old { bytes = table.new.bytes } }
@@ -182,8 +182,7 @@ impl Allocator {
         requires bits { table.cluster_bits ≡ file.old.header.fields.cluster_bits }
         requires blocks { room.blocks ≡ opened self.old.reftable (counts_per_block file.old.header.fields) room.first (room_length room) }
         requires noted { IsTrue file.old.caches.is_changed }
-        ensures marks { KeepsPinsAndNotes file.old.caches file.new.caches }
-        ensures order { order_of file.new.caches ≡ order_of file.old.caches }
+        ensures marks { KeepsMarks S.view file.old file.new }
         ensures table { OnOk result (entry_count self.new.reftable ≡ entry_count table) }
         ensures place { OnOk result (self.new.reftable.cluster ≡ Some (room.first + room.blocks)) }
         ensures behind { OnOk result (NamesBehindHeader table self.new.reftable) }

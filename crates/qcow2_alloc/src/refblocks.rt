@@ -3,7 +3,8 @@ ghost use Rattle.std.specs.Prelude.{◌≡◌, ◌≢◌, ◌/◌, false, ℕ, �
 ghost use Rattle.qcow2_laws.specs.CrashInvariant.{Pending};
 ghost use Rattle.qcow2_alloc.specs.Allocation.{placing, first_counts, HasPlaceFor, KeepsEntries, MayTake, LoadsBlock, WritesBlock, PlacesBlock, NamesBlock, IsUnaligned, TakesOne, HasNone, GetsBlock, TakesLowest, GrowsTable, SameLeaks};
 ghost use Rattle.qcow2_alloc.specs.FreeList.{pending_then, ListsTables, SamePlace, ListsReftables};
-ghost use Rattle.qcow2_alloc.specs.CachePins.{KeepsPinsAndNotes, LeavesPinned};
+ghost use Rattle.qcow2_alloc.specs.KeptMarks.{KeepsMarks};
+ghost use Rattle.qcow2_alloc.specs.CachePins.{LeavesPinned};
 ghost use Rattle.qcow2_alloc.specs.Faults.{CountsFaults};
 ghost use Rattle.qcow2_alloc.specs.SparedHeaders.{SparesHeader, SparesHeaderButPointer};
 ghost use Rattle.qcow2_alloc.specs.Limits.{IsFaultOr, CantCount};
@@ -53,8 +54,7 @@ fn new_block(
 fn write_block<S: Storage>(file: &mut ImageFile<S>, mut block: RefBlock) -> Result<(), ImageError>
     requires placed { IsSome block.cluster }
     requires elsewhere { IfSome block.cluster (λ at. 0 < at) }
-    ensures marks { KeepsPinsAndNotes file.old.caches file.new.caches }
-    ensures order { order_of file.new.caches ≡ order_of file.old.caches }
+    ensures marks { KeepsMarks S.view file.old file.new }
     ensures sound { (p : Pending) (counts_itself : Bool) (allocator : Allocator) (range at : ℕ) → AllocatorInvariant S.view allocator (placing counts_itself p at) file.old
         → HasPlaceFor counts_itself file.old.header.fields allocator.reftable range at → IsBlockOf file.old.header.fields block → block.cluster ≡ Some at
         → WritesBlock S.view (placing counts_itself p at) file.old allocator file.new block at result }
@@ -82,10 +82,9 @@ impl Allocator {
         file: &mut ImageFile<S>,
     ) -> Result<(), ImageError>
         ensures cause { IfErr result IsOfTables }
-        ensures order { order_of file.new.caches ≡ order_of file.old.caches }
         ensures tables { l2_tables file.new.caches ≡ l2_tables file.old.caches }
         ensures left { LeavesPinned file.old.caches.rb.entries result file.new.caches.rb.entries }
-        ensures marks { KeepsPinsAndNotes file.old.caches file.new.caches }
+        ensures marks { KeepsMarks S.view file.old file.new }
         ensures taken { TakesOff (AreClean (refblocks file.old.caches)) file.old.caches file.new.caches }
         ensures rest { file.new ≡ record file.old { caches = file.new.caches } }
         ensures anew { self.new ≡ record self.old { first_free_cluster = 0 } }
@@ -100,8 +99,7 @@ impl Allocator {
         file: &mut ImageFile<S>,
         range: u64,
     ) -> Result<Option<HostCluster>, ImageError>
-        ensures marks { KeepsPinsAndNotes file.old.caches file.new.caches }
-        ensures order { order_of file.new.caches ≡ order_of file.old.caches }
+        ensures marks { KeepsMarks S.view file.old file.new }
         ensures sound { (p : Pending) → AllocatorInvariant S.view self.now p file.old → LoadsBlock S.view p file.old self.now file.new range result }
         ensures header { file.new.header ≡ file.old.header }
         ensures list { file.new.free_list ≡ file.old.free_list }
@@ -127,8 +125,7 @@ impl Allocator {
         file: &mut ImageFile<S>,
         cluster: u64,
     ) -> Result<bool, ImageError>
-        ensures marks { KeepsPinsAndNotes file.old.caches file.new.caches }
-        ensures order { order_of file.new.caches ≡ order_of file.old.caches }
+        ensures marks { KeepsMarks S.view file.old file.new }
         ensures noted { IfOk result (λ taken. IsTrue taken → IsTrue file.new.caches.is_changed) }
         ensures same { self.new ≡ self.old }
         ensures sound { (p : Pending) (is_data : Bool) → AllocatorInvariant S.view self.old p file.old → MayTake is_data file.old → TakesOne S.view p file.old self.new file.new is_data cluster result }
@@ -156,8 +153,7 @@ impl Allocator {
         cluster: u64,
     ) -> Result<(), ImageError>
         requires { cluster < 2 ^ 63 }
-        ensures marks { KeepsPinsAndNotes file.old.caches file.new.caches }
-        ensures order { order_of file.new.caches ≡ order_of file.old.caches }
+        ensures marks { KeepsMarks S.view file.old file.new }
         ensures sound { (p : Pending) → AllocatorInvariant S.view self.old p file.old → GrowsTable S.view p file.old self.new file.new (pending_then p file.old.free_list file.new.free_list) result }
         ensures header { KeepsHeader file.old.header file.new.header }
         ensures list { ListsTables file.old.free_list file.new.free_list }
@@ -187,8 +183,7 @@ impl Allocator {
         cluster: u64,
     ) -> Result<(), ImageError>
         requires { cluster < 2 ^ 63 }
-        ensures marks { KeepsPinsAndNotes file.old.caches file.new.caches }
-        ensures order { order_of file.new.caches ≡ order_of file.old.caches }
+        ensures marks { KeepsMarks S.view file.old file.new }
         ensures sound { (p : Pending) → AllocatorInvariant S.view self.old p file.old → GetsBlock S.view p file.old self.new file.new result }
         ensures header { file.new.header ≡ file.old.header }
         ensures list { file.new.free_list ≡ file.old.free_list }
@@ -230,8 +225,7 @@ impl Allocator {
         end: u64,
     ) -> Result<Option<u64>, ImageError>
         requires { end < 2 ^ 63 }
-        ensures marks { KeepsPinsAndNotes file.old.caches file.new.caches }
-        ensures order { order_of file.new.caches ≡ order_of file.old.caches }
+        ensures marks { KeepsMarks S.view file.old file.new }
         ensures noted { IfOk result (λ at. IsSome at → IsTrue file.new.caches.is_changed) }
         ensures below { IfOk result (λ at. IfSome at (λ at. (0 < at) × (at < end))) }
         ensures entries { KeepsEntries (λ k. end ≤ k * counts_per_block file.old.header.fields) self.old.reftable self.new.reftable }
@@ -266,8 +260,7 @@ impl Allocator {
         range: u64,
     ) -> Result<(), ImageError>
         requires { range * counts_per_block file.old.header.fields < 2 ^ 63 }
-        ensures marks { KeepsPinsAndNotes file.old.caches file.new.caches }
-        ensures order { order_of file.new.caches ≡ order_of file.old.caches }
+        ensures marks { KeepsMarks S.view file.old file.new }
         ensures entries { KeepsEntries (λ k. k ≢ range) self.old.reftable self.new.reftable }
         ensures sound { (p : Pending) → AllocatorInvariant S.view self.old p file.old → GetsBlock S.view p file.old self.new file.new result }
         ensures header { file.new.header ≡ file.old.header }
@@ -305,8 +298,7 @@ impl Allocator {
         requires elsewhere { 0 < at }
         requires nameable { IsHostCluster self.old.reftable.cluster_bits at }
         requires nameable_here { IsHostCluster file.old.header.fields.cluster_bits at }
-        ensures marks { KeepsPinsAndNotes file.old.caches file.new.caches }
-        ensures order { order_of file.new.caches ≡ order_of file.old.caches }
+        ensures marks { KeepsMarks S.view file.old file.new }
         ensures noted { OnOk result (IsTrue file.new.caches.is_changed) }
         ensures entries { KeepsEntries (λ k. k ≢ range) self.old.reftable self.new.reftable }
         ensures sound { (p : Pending) → AllocatorInvariant S.view self.old (placing counts_itself p at) file.old → HasPlaceFor counts_itself file.old.header.fields self.old.reftable range at

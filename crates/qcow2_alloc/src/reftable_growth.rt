@@ -5,7 +5,7 @@ ghost use Rattle.qcow2_metadata.specs.EntryTable.{entry_count, IsRefTable};
 ghost use Rattle.qcow2_metadata.specs.Header.{entries_per_cluster, counts_per_block};
 ghost use Rattle.qcow2_metadata.specs.TableBytes.{entry_at};
 ghost use Rattle.qcow2_alloc.specs.Allocation.{GrowsTable, NamesBehindHeader, SameLeaks};
-ghost use Rattle.qcow2_alloc.specs.CachePins.{KeepsPinsAndNotes};
+ghost use Rattle.qcow2_alloc.specs.KeptMarks.{KeepsMarks};
 ghost use Rattle.qcow2_alloc.specs.Faults.{CountsFaults};
 ghost use Rattle.qcow2_alloc.specs.SparedHeaders.{SparesHeaderButPointer};
 ghost use Rattle.qcow2_alloc.specs.ClustersToFree.{metadata_entry};
@@ -18,7 +18,6 @@ ghost use Rattle.qcow2_alloc.specs.ImageFile.{AllocatorInvariant, KeepsHeader};
 ghost use Rattle.qcow2_alloc.specs.Limits.{IsFaultOr, HasNoRoomFor, LiesLowest, CantGrow};
 ghost use Rattle.qcow2_alloc.specs.SoundAllocators.{SoundAllocator};
 ghost use Rattle.qcow2_alloc.specs.LowestRuns.{NoFreeBelowHint, KeepsUsed};
-ghost use Rattle.qcow2_alloc.specs.MetadataCaches.{order_of};
 
 use crate::reftable_length::grown_length;
 use crate::{
@@ -38,8 +37,7 @@ impl Allocator {
         file: &mut ImageFile<S>,
         index: usize,
     ) -> Result<(), ImageError>
-        ensures marks { KeepsPinsAndNotes file.old.caches file.new.caches }
-        ensures order { order_of file.new.caches ≡ order_of file.old.caches }
+        ensures marks { KeepsMarks S.view file.old file.new }
         ensures noted { OnOk result (IsTrue file.new.caches.is_changed) }
         ensures sound { (p : Pending) → AllocatorInvariant S.view self.old p file.old → GrowsTable S.view p file.old self.new file.new (pending_then p file.old.free_list file.new.free_list) result }
         ensures header { KeepsHeader file.old.header file.new.header }
@@ -123,8 +121,7 @@ impl Allocator {
         table: RefTable,
     ) -> Result<(), ImageError>
         requires some { 0 < entry_count table }
-        ensures marks { KeepsPinsAndNotes file.old.caches file.new.caches }
-        ensures order { order_of file.new.caches ≡ order_of file.old.caches }
+        ensures marks { KeepsMarks S.view file.old file.new }
         ensures noted { OnOk result (IsTrue file.new.caches.is_changed) }
         ensures enters { (p : Pending) → AllocatorInvariant S.view self.old p file.old → IsCloneOf self.old.reftable table → entry_count table % entries_per_cluster file.old.header.fields ≡ 0 → EntersReftable S.view p file.old self.new file.new result }
         ensures uses { (p : Pending) → AllocatorInvariant S.view self.old p file.old → IsCloneOf self.old.reftable table → entry_count table % entries_per_cluster file.old.header.fields ≡ 0 → KeepsUsed S.view file.old file.new result }

@@ -2,14 +2,13 @@
 ghost use Rattle.std.specs.Prelude.{◌≡◌, ℕ, ◌+◌, ◌<◌, OnOk, OnErr, IfErr, IfSome, IsTrue};
 ghost use Rattle.qcow2_laws.specs.CrashInvariant.{Pending};
 ghost use Rattle.qcow2_alloc.specs.Allocation.{SameLeaks};
-ghost use Rattle.qcow2_alloc.specs.CachePins.{KeepsPinsAndNotes};
+ghost use Rattle.qcow2_alloc.specs.KeptMarks.{KeepsMarks};
 ghost use Rattle.qcow2_alloc.specs.Faults.{CountsFaults};
 ghost use Rattle.qcow2_alloc.specs.SparedHeaders.{SparesHeaderButPointer};
 ghost use Rattle.qcow2_alloc.specs.GrownTables.{with_run, StandsGrown, NamesReftable};
 ghost use Rattle.qcow2_alloc.specs.ImageError.{IsOfTables};
 ghost use Rattle.qcow2_alloc.specs.ImageFile.{AllocatorInvariant, KeepsHeader};
 ghost use Rattle.qcow2_alloc.specs.LowestRuns.{KeepsUsed};
-ghost use Rattle.qcow2_alloc.specs.MetadataCaches.{order_of};
 
 use crate::{Allocator, ImageError, ImageFile, WriteKind};
 use image_access::Storage;
@@ -22,8 +21,7 @@ impl Allocator {
         file: &mut ImageFile<S>,
         table: RefTable,
     ) -> Result<(), ImageError>
-        ensures marks { KeepsPinsAndNotes file.old.caches file.new.caches }
-        ensures order { order_of file.new.caches ≡ order_of file.old.caches }
+        ensures marks { KeepsMarks S.view file.old file.new }
         ensures noted { OnOk result (IsTrue file.new.caches.is_changed) }
         ensures names { (p : Pending) (first blocks clusters : ℕ) → AllocatorInvariant S.view self.old (with_run p file.old.header.fields self.old.reftable first (blocks + clusters)) file.old
             → StandsGrown S.view file.old self.old.reftable table first blocks clusters

@@ -1,13 +1,12 @@
 //! Clusters in use, which a search for free ones passes over.
 ghost use Rattle.std.specs.Prelude.{◌≡◌, ◌+◌, ◌^◌, ◌<◌, ◌≤◌, IfOk, IfErr};
 ghost use Rattle.qcow2_laws.specs.CrashInvariant.{Pending};
-ghost use Rattle.qcow2_alloc.specs.CachePins.{KeepsPinsAndNotes};
+ghost use Rattle.qcow2_alloc.specs.KeptMarks.{KeepsMarks};
 ghost use Rattle.qcow2_alloc.specs.Faults.{CountsFaults};
 ghost use Rattle.qcow2_alloc.specs.SparedHeaders.{SparesHeader};
 ghost use Rattle.qcow2_alloc.specs.ImageError.{IsOfTables};
 ghost use Rattle.qcow2_alloc.specs.ImageFile.{AllocatorInvariant};
 ghost use Rattle.qcow2_alloc.specs.LowestRuns.{NoFreeBelowHint, KeepsNoFreeBelowHint};
-ghost use Rattle.qcow2_alloc.specs.MetadataCaches.{order_of};
 ghost use Rattle.qcow2_alloc.specs.UsedCounts.{passed_hint, PassesUsed};
 
 use crate::{Allocator, ImageError, ImageFile};
@@ -22,8 +21,7 @@ impl Allocator {
         cluster: u64,
     ) -> Result<u64, ImageError>
         requires { cluster < 2 ^ 63 }
-        ensures marks { KeepsPinsAndNotes file.old.caches file.new.caches }
-        ensures order { order_of file.new.caches ≡ order_of file.old.caches }
+        ensures marks { KeepsMarks S.view file.old file.new }
         ensures moves { self.new ≡ record self.old { first_free_cluster = passed_hint self.old.first_free_cluster cluster result } }
         ensures sound { (p : Pending) → AllocatorInvariant S.view self.old p file.old → PassesUsed S.view p file.old self.new file.new cluster result }
         ensures header { file.new.header ≡ file.old.header }
@@ -48,8 +46,7 @@ impl Allocator {
         cluster: u64,
     ) -> Result<u64, ImageError>
         requires { cluster < 2 ^ 63 }
-        ensures marks { KeepsPinsAndNotes file.old.caches file.new.caches }
-        ensures order { order_of file.new.caches ≡ order_of file.old.caches }
+        ensures marks { KeepsMarks S.view file.old file.new }
         ensures sound { (p : Pending) → AllocatorInvariant S.view self.now p file.old → PassesUsed S.view p file.old self.now file.new cluster result }
         ensures header { file.new.header ≡ file.old.header }
         ensures list { file.new.free_list ≡ file.old.free_list }

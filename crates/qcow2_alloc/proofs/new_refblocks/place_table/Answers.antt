@@ -1,4 +1,4 @@
-use Rattle.std.proofs.Common.{◌*◌, ◌^◌, subst}
+use Rattle.std.proofs.Common.{◌*◌, ◌^◌, subst, refl, sym, IsSome}
 use Rattle.std.specs.Option.{IfSome}
 use Rattle.image_access.specs.Contents.{overwritten}
 use Rattle.image_access.specs.Moments.{Changes}
@@ -10,6 +10,7 @@ use Rattle.qcow2_alloc.specs.ImageStorage.{storage_of}
 use Rattle.qcow2_alloc.specs.Rooms.{WritesTable}
 use Rattle.qcow2_alloc.proofs.AllocationSteps.{handed_on}
 use Rattle.qcow2_alloc.proofs.RoomWrites.{table_refused, table_stands}
+use Rattle.qcow2_alloc.proofs.KeptMarks.{placed_kept}
 use Rattle.qcow2_alloc.proofs.new_refblocks.place_table.Goals as goal
 
 pub returns-in_err-place_reftable-clause-sound : goal.returns-in_err-place_reftable-clause-sound
@@ -38,3 +39,13 @@ pub returns-clause-header_cluster : goal.returns-clause-header_cluster
 returns-clause-header_cluster g c =
     subst (λ s. KeepsHeaderCluster c.args.table.now.cluster_bits (g.S.Storage.view s) (g.S.Storage.view (storage_of c.place_reftable.new.self))) c.will_write.ensures.storage
     (subst (λ (x : EntryTableView). KeepsHeaderCluster x.cluster_bits (g.S.Storage.view (storage_of c.will_write.new.self)) (g.S.Storage.view (storage_of c.place_reftable.new.self))) c.set_cluster.ensures c.place_reftable.ensures.header_cluster)
+
+pub returns-in_err-place_reftable-clause-notes : goal.returns-in_err-place_reftable-clause-notes
+returns-in_err-place_reftable-clause-notes g c = 
+    placed_kept c.args.file.now.storage c.will_write.new.self c.place_reftable.new.self c.place_reftable.result c.will_write.ensures.storage c.will_write.ensures.changed c.set_cluster.new.self.cluster _
+    (subst (λ (x : EntryTableView). IsSome x.cluster) (sym c.set_cluster.ensures) refl) c.place_reftable.ensures.written c.place_reftable.ensures.calls c.place_reftable.ensures.noted
+
+pub returns-clause-notes : goal.returns-clause-notes
+returns-clause-notes g c = 
+    placed_kept c.args.file.now.storage c.will_write.new.self c.place_reftable.new.self c.place_reftable.result c.will_write.ensures.storage c.will_write.ensures.changed c.set_cluster.new.self.cluster _
+    (subst (λ (x : EntryTableView). IsSome x.cluster) (sym c.set_cluster.ensures) refl) c.place_reftable.ensures.written c.place_reftable.ensures.calls c.place_reftable.ensures.noted

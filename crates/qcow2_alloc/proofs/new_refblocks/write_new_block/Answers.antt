@@ -1,4 +1,4 @@
-use Rattle.std.proofs.Common.{sym, subst}
+use Rattle.std.proofs.Common.{sym, subst, refl, IsSome, ℕ, Option}
 use Rattle.std.proofs.lemmas.Bool.{ne_eqb}
 use Rattle.qcow2_alloc.specs.GrownTables.{with_run}
 use Rattle.qcow2_alloc.specs.ImageError.{of_storage}
@@ -8,6 +8,7 @@ use Rattle.qcow2_alloc.specs.ImageStorage.{storage_of}
 use Rattle.qcow2_alloc.specs.Rooms.{WritesTo}
 use Rattle.qcow2_alloc.proofs.AllocationSteps.{handed_on}
 use Rattle.qcow2_alloc.proofs.RoomWrites.{block_refused, block_stands}
+use Rattle.qcow2_alloc.proofs.KeptMarks.{kept_marks_then, marks_of_caches, placed_kept, marks_of_storage}
 use Rattle.qcow2_alloc.proofs.new_refblocks.write_new_block.Goals as goal
 
 pub returns-clause-others : goal.returns-clause-others
@@ -42,3 +43,15 @@ returns-in_err-place_refblock-clause-behind_header g c = c.rb_remove.ensures.hea
 
 pub returns-clause-behind_header : goal.returns-clause-behind_header
 returns-clause-behind_header g c = c.rb_remove.ensures.header_cluster
+
+pub returns-in_err-place_refblock-clause-marks : goal.returns-in_err-place_refblock-clause-marks
+returns-in_err-place_refblock-clause-marks g c = 
+    kept_marks_then (marks_of_caches c.rb_remove.ensures.marks c.rb_remove.ensures.order)
+    (marks_of_storage refl (placed_kept c.args.file.now.storage c.will_write.new.self c.place_refblock.new.self c.place_refblock.result c.will_write.ensures.storage c.will_write.ensures.changed c.args.block.now.cluster _ (subst (λ (o : Option ℕ). IsSome o) (sym c.requires.place) refl)
+    c.place_refblock.ensures.written c.place_refblock.ensures.calls c.place_refblock.ensures.noted))
+
+pub returns-clause-marks : goal.returns-clause-marks
+returns-clause-marks g c = 
+    kept_marks_then (marks_of_caches c.rb_remove.ensures.marks c.rb_remove.ensures.order)
+    (marks_of_storage refl (placed_kept c.args.file.now.storage c.will_write.new.self c.place_refblock.new.self c.place_refblock.result c.will_write.ensures.storage c.will_write.ensures.changed c.args.block.now.cluster _ (subst (λ (o : Option ℕ). IsSome o) (sym c.requires.place) refl)
+    c.place_refblock.ensures.written c.place_refblock.ensures.calls c.place_refblock.ensures.noted))

@@ -28,6 +28,7 @@ use Rattle.qcow2_alloc.proofs.PlacedBlocks.{IsFree, is_free, file_step_rewritten
 use Rattle.qcow2_alloc.proofs.SparedHeaders.{spares_cached, spares_then, spares_written, at_place}
 use Rattle.qcow2_alloc.specs.SparedHeaders.{CachesSpareHeader}
 use Rattle.qcow2_alloc.specs.HeaderClusters.{KeepsHeaderCluster}
+use Rattle.qcow2_alloc.proofs.KeptMarks.{kept_marks_then, marks_of_both, placed_kept, marks_of_storage}
 use Rattle.qcow2_alloc.proofs.refblocks.write_block.Goals as goal
 
 -- all counts are written, and then the block's bytes, or they are not
@@ -137,3 +138,14 @@ returns-clause-header_cluster g c = λ r bits.
     let put_in = at_place c.args.block.cluster c.requires.placed c.requires.elsewhere
     (subst (λ (b : RefBlockView). IfSome b.cluster (λ k. 0 < k → CachesSpareHeader g.S.Storage.view c.place_refblock.new.self c.flush_rb.new.self c.rb_insert.new.storage c.rb_insert.new.self)) c.clear_modified.ensures c.rb_insert.ensures.header_cluster) in
     spares_then (spares_then (spares_cached r c.args.file.now c.flush_rb.new.storage c.flush_rb.new.self c.flush_rb.ensures.header_cluster) (spares_written r (record c.args.file.now { storage = c.flush_rb.new.storage; caches = c.flush_rb.new.self }) c.args.block.cluster_bits c.place_refblock.new.self bits (subst (λ s. KeepsHeaderCluster c.args.block.cluster_bits (g.S.Storage.view s) (g.S.Storage.view (storage_of c.place_refblock.new.self))) c.will_write.ensures.storage c.place_refblock.ensures.header_cluster))) (spares_cached r f2 c.rb_insert.new.storage c.rb_insert.new.self put_in)
+
+pub returns-in_err-flush_rb-clause-marks : goal.returns-in_err-flush_rb-clause-marks
+returns-in_err-flush_rb-clause-marks g c = marks_of_both c.flush_rb.ensures.marks c.flush_rb.ensures.order c.flush_rb.ensures.notes
+
+pub returns-in_err-place_refblock-clause-marks : goal.returns-in_err-place_refblock-clause-marks
+returns-in_err-place_refblock-clause-marks g c = kept_marks_then (marks_of_both c.flush_rb.ensures.marks c.flush_rb.ensures.order c.flush_rb.ensures.notes) (marks_of_storage refl (placed_kept c.flush_rb.new.storage c.will_write.new.self c.place_refblock.new.self c.place_refblock.result c.will_write.ensures.storage c.will_write.ensures.changed c.args.block.cluster _ c.requires.placed c.place_refblock.ensures.written c.place_refblock.ensures.calls c.place_refblock.ensures.noted))
+
+pub returns-clause-marks : goal.returns-clause-marks
+returns-clause-marks g c = 
+    kept_marks_then (kept_marks_then (marks_of_both c.flush_rb.ensures.marks c.flush_rb.ensures.order c.flush_rb.ensures.notes) (marks_of_storage refl (placed_kept c.flush_rb.new.storage c.will_write.new.self c.place_refblock.new.self c.place_refblock.result c.will_write.ensures.storage c.will_write.ensures.changed c.args.block.cluster _ c.requires.placed c.place_refblock.ensures.written c.place_refblock.ensures.calls c.place_refblock.ensures.noted)))
+    (marks_of_both c.rb_insert.ensures.marks c.rb_insert.ensures.order c.rb_insert.ensures.notes)

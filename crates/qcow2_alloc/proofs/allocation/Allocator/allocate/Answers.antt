@@ -6,12 +6,12 @@ use Rattle.qcow2_alloc.specs.LowestRuns.{IsLowestRun}
 use Rattle.qcow2_alloc.proofs.AllocationSteps.{of_equal}
 use Rattle.qcow2_alloc.specs.Limits.{IsFaultOr, HasNoPlace}
 use Rattle.qcow2_alloc.proofs.FormerReftables.{former_none}
-use Rattle.qcow2_alloc.proofs.CachePins.{marks_none}
 use Rattle.qcow2_alloc.proofs.ListedAfter.{header_same, lists_none}
 use Rattle.qcow2_alloc.proofs.Faults.{told_ok}
 use Rattle.qcow2_alloc.proofs.Outcomes.{told_memory, told_err}
 use Rattle.std.proofs.Math.Nat.{le_refl}
 use Rattle.qcow2_alloc.proofs.SparedHeaders.{spares_none}
+use Rattle.qcow2_alloc.proofs.KeptMarks.{kept_marks_none}
 use Rattle.qcow2_alloc.proofs.allocation.Allocator.allocate.Goals as goal
 
 pub returns-in-Ok-lowest_run-clause-sound : goal.returns-in-Ok-lowest_run-clause-sound
@@ -52,9 +52,6 @@ returns-in_default-clause-former g c = former_none c.args.self.now.reftable c.ar
 pub returns-in-Ok-lowest_run-clause-marks : goal.returns-in-Ok-lowest_run-clause-marks
 returns-in-Ok-lowest_run-clause-marks g c = c.lowest_run.ensures.marks
 
-pub returns-in-Ok-lowest_run-clause-order : goal.returns-in-Ok-lowest_run-clause-order
-returns-in-Ok-lowest_run-clause-order g c = c.lowest_run.ensures.order
-
 pub returns-in-Ok-lowest_run-clause-header : goal.returns-in-Ok-lowest_run-clause-header
 returns-in-Ok-lowest_run-clause-header g c = c.lowest_run.ensures.header
 
@@ -67,9 +64,6 @@ returns-in-Ok-lowest_run-clause-former g c = c.lowest_run.ensures.former
 pub returns-in-Err-clause-marks : goal.returns-in-Err-clause-marks
 returns-in-Err-clause-marks g c = c.lowest_run.ensures.marks
 
-pub returns-in-Err-clause-order : goal.returns-in-Err-clause-order
-returns-in-Err-clause-order g c = c.lowest_run.ensures.order
-
 pub returns-in-Err-clause-header : goal.returns-in-Err-clause-header
 returns-in-Err-clause-header g c = c.lowest_run.ensures.header
 
@@ -80,10 +74,7 @@ pub returns-in-Err-clause-former : goal.returns-in-Err-clause-former
 returns-in-Err-clause-former g c = c.lowest_run.ensures.former
 
 pub returns-in_default-clause-marks : goal.returns-in_default-clause-marks
-returns-in_default-clause-marks g c = marks_none _
-
-pub returns-in_default-clause-order : goal.returns-in_default-clause-order
-returns-in_default-clause-order g c = refl
+returns-in_default-clause-marks g c = kept_marks_none
 
 pub returns-in_default-clause-header : goal.returns-in_default-clause-header
 returns-in_default-clause-header g c = header_same c.args.file.now.header c.args.file.now.header refl

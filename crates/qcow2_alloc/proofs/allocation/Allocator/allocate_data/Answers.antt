@@ -17,6 +17,7 @@ use Rattle.qcow2_alloc.proofs.CachePins.{marks_then}
 use Rattle.qcow2_alloc.proofs.Faults.{told_on, told_since}
 use Rattle.qcow2_alloc.proofs.Outcomes.{on_no_ok, if_no_ok, handed_cause, on_ok}
 use Rattle.qcow2_alloc.proofs.SparedHeaders.{spares_then, spares_less, spares_cached}
+use Rattle.qcow2_alloc.specs.KeptNotes.{kept_then}
 use Rattle.qcow2_alloc.proofs.allocation.Allocator.allocate_data.Goals as goal
 
 pub returns-in_err-l2_depends_on_rb-clause-sound : goal.returns-in_err-l2_depends_on_rb-clause-sound
@@ -97,7 +98,7 @@ pub returns-in_err-l2_depends_on_rb-clause-list : goal.returns-in_err-l2_depends
 returns-in_err-l2_depends_on_rb-clause-list g c = lists_none _
 
 pub returns-clause-marks : goal.returns-clause-marks
-returns-clause-marks g c = marks_then _ _ _ c.l2_depends_on_rb.ensures.marks c.allocate.ensures.marks
+returns-clause-marks g c = marks_then _ _ _ c.l2_depends_on_rb.ensures.marks c.allocate.ensures.marks.pins
 
 pub returns-clause-noted : goal.returns-clause-noted
 returns-clause-noted g c = c.allocate.ensures.noted
@@ -121,7 +122,7 @@ pub returns-clause-former : goal.returns-clause-former
 returns-clause-former g c = c.allocate.ensures.former
 
 pub returns-clause-order : goal.returns-clause-order
-returns-clause-order g c = on_ok _ c.allocate.result (c.allocate.ensures.order ∙ c.in_ok-l2_depends_on_rb.ensures.order)
+returns-clause-order g c = on_ok _ c.allocate.result (c.allocate.ensures.marks.order ∙ c.in_ok-l2_depends_on_rb.ensures.order)
 
 pub returns-clause-storage_faults : goal.returns-clause-storage_faults
 returns-clause-storage_faults g c = told_since _ _ _ c.l2_depends_on_rb.ensures.storage_faults.no_fewer c.allocate.ensures.storage_faults
@@ -137,3 +138,9 @@ returns-in_err-l2_depends_on_rb-clause-header_cluster g c = spares_less (spares_
 
 pub returns-clause-header_cluster : goal.returns-clause-header_cluster
 returns-clause-header_cluster g c = spares_then (spares_less (spares_cached c.args.self.now.reftable c.args.file.now c.l2_depends_on_rb.new.storage c.l2_depends_on_rb.new.self c.l2_depends_on_rb.ensures.header_cluster)) (c.allocate.ensures.header_cluster)
+
+pub returns-in_err-l2_depends_on_rb-clause-notes : goal.returns-in_err-l2_depends_on_rb-clause-notes
+returns-in_err-l2_depends_on_rb-clause-notes g c = c.l2_depends_on_rb.ensures.notes
+
+pub returns-clause-notes : goal.returns-clause-notes
+returns-clause-notes g c = kept_then _ _ _ c.l2_depends_on_rb.ensures.notes c.allocate.ensures.marks.notes

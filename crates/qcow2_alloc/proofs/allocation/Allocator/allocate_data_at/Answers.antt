@@ -20,6 +20,7 @@ use Rattle.qcow2_alloc.proofs.Faults.{told_on, told_ok, told_since}
 use Rattle.qcow2_alloc.proofs.Outcomes.{told_memory, told_err, on_no_ok, if_no_ok, handed_cause}
 use Rattle.std.proofs.Math.Nat.{le_trans}
 use Rattle.qcow2_alloc.proofs.SparedHeaders.{spares_then, spares_less, spares_cached}
+use Rattle.qcow2_alloc.specs.KeptNotes.{kept_then}
 use Rattle.qcow2_alloc.proofs.allocation.Allocator.allocate_data_at.Goals as goal
 
 pub returns-in_err-l2_depends_on_rb-clause-sound : goal.returns-in_err-l2_depends_on_rb-clause-sound
@@ -225,7 +226,7 @@ pub returns-in_default-clause-list : goal.returns-in_default-clause-list
 returns-in_default-clause-list g c = lists_none _
 
 pub returns-in-Ok-true-clause-marks : goal.returns-in-Ok-true-clause-marks
-returns-in-Ok-true-clause-marks g c = marks_then _ _ _ c.l2_depends_on_rb.ensures.marks c.take.ensures.marks
+returns-in-Ok-true-clause-marks g c = marks_then _ _ _ c.l2_depends_on_rb.ensures.marks c.take.ensures.marks.pins
 
 pub returns-in-Ok-true-clause-header : goal.returns-in-Ok-true-clause-header
 returns-in-Ok-true-clause-header g c = c.take.ensures.header
@@ -237,7 +238,7 @@ pub returns-in-Ok-true-clause-former : goal.returns-in-Ok-true-clause-former
 returns-in-Ok-true-clause-former g c = c.take.ensures.former
 
 pub returns-in-Ok-false-clause-marks : goal.returns-in-Ok-false-clause-marks
-returns-in-Ok-false-clause-marks g c = marks_then _ _ _ c.l2_depends_on_rb.ensures.marks c.take.ensures.marks
+returns-in-Ok-false-clause-marks g c = marks_then _ _ _ c.l2_depends_on_rb.ensures.marks c.take.ensures.marks.pins
 
 pub returns-in-Ok-false-clause-header : goal.returns-in-Ok-false-clause-header
 returns-in-Ok-false-clause-header g c = c.take.ensures.header
@@ -249,7 +250,7 @@ pub returns-in-Ok-false-clause-former : goal.returns-in-Ok-false-clause-former
 returns-in-Ok-false-clause-former g c = c.take.ensures.former
 
 pub returns-in-Err-clause-marks : goal.returns-in-Err-clause-marks
-returns-in-Err-clause-marks g c = marks_then _ _ _ c.l2_depends_on_rb.ensures.marks c.take.ensures.marks
+returns-in-Err-clause-marks g c = marks_then _ _ _ c.l2_depends_on_rb.ensures.marks c.take.ensures.marks.pins
 
 pub returns-in-Err-clause-header : goal.returns-in-Err-clause-header
 returns-in-Err-clause-header g c = c.take.ensures.header
@@ -282,7 +283,7 @@ pub returns-in_default-clause-storage_faults : goal.returns-in_default-clause-st
 returns-in_default-clause-storage_faults g c = told_memory _ _ c.l2_depends_on_rb.ensures.storage_faults.no_fewer
 
 pub returns-in-Ok-true-clause-order : goal.returns-in-Ok-true-clause-order
-returns-in-Ok-true-clause-order g c = c.take.ensures.order ∙ c.in_ok-l2_depends_on_rb.ensures.order
+returns-in-Ok-true-clause-order g c = c.take.ensures.marks.order ∙ c.in_ok-l2_depends_on_rb.ensures.order
 
 pub returns-in-Ok-true-clause-cause : goal.returns-in-Ok-true-clause-cause
 returns-in-Ok-true-clause-cause g c = tt
@@ -291,7 +292,7 @@ pub returns-in-Ok-true-clause-storage_faults : goal.returns-in-Ok-true-clause-st
 returns-in-Ok-true-clause-storage_faults g c = told_ok _ _ _ (le_trans c.l2_depends_on_rb.ensures.storage_faults.no_fewer c.take.ensures.storage_faults.no_fewer)
 
 pub returns-in-Ok-false-clause-order : goal.returns-in-Ok-false-clause-order
-returns-in-Ok-false-clause-order g c = c.take.ensures.order ∙ c.in_ok-l2_depends_on_rb.ensures.order
+returns-in-Ok-false-clause-order g c = c.take.ensures.marks.order ∙ c.in_ok-l2_depends_on_rb.ensures.order
 
 pub returns-in-Ok-false-clause-cause : goal.returns-in-Ok-false-clause-cause
 returns-in-Ok-false-clause-cause g c = tt
@@ -343,3 +344,24 @@ returns-in-Ok-false-clause-header_cluster g c = spares_then (spares_less (spares
 
 pub returns-in-Err-clause-header_cluster : goal.returns-in-Err-clause-header_cluster
 returns-in-Err-clause-header_cluster g c = spares_then (spares_less (spares_cached c.args.self.now.reftable c.args.file.now c.l2_depends_on_rb.new.storage c.l2_depends_on_rb.new.self c.l2_depends_on_rb.ensures.header_cluster)) (c.take.ensures.header_cluster)
+
+pub returns-in_err-l2_depends_on_rb-clause-notes : goal.returns-in_err-l2_depends_on_rb-clause-notes
+returns-in_err-l2_depends_on_rb-clause-notes g c = c.l2_depends_on_rb.ensures.notes
+
+pub returns-then-at-eq0-clause-notes : goal.returns-then-at-eq0-clause-notes
+returns-then-at-eq0-clause-notes g c = c.l2_depends_on_rb.ensures.notes
+
+pub returns-then-not-is_nameable-clause-notes : goal.returns-then-not-is_nameable-clause-notes
+returns-then-not-is_nameable-clause-notes g c = c.l2_depends_on_rb.ensures.notes
+
+pub returns-in_default-clause-notes : goal.returns-in_default-clause-notes
+returns-in_default-clause-notes g c = c.l2_depends_on_rb.ensures.notes
+
+pub returns-in-Ok-true-clause-notes : goal.returns-in-Ok-true-clause-notes
+returns-in-Ok-true-clause-notes g c = kept_then _ _ _ c.l2_depends_on_rb.ensures.notes c.take.ensures.marks.notes
+
+pub returns-in-Ok-false-clause-notes : goal.returns-in-Ok-false-clause-notes
+returns-in-Ok-false-clause-notes g c = kept_then _ _ _ c.l2_depends_on_rb.ensures.notes c.take.ensures.marks.notes
+
+pub returns-in-Err-clause-notes : goal.returns-in-Err-clause-notes
+returns-in-Err-clause-notes g c = kept_then _ _ _ c.l2_depends_on_rb.ensures.notes c.take.ensures.marks.notes

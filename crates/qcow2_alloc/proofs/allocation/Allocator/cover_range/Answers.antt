@@ -8,11 +8,11 @@ use Rattle.qcow2_alloc.specs.ImageError.{IsFault}
 use Rattle.std.proofs.lemmas.Nat.{pow_pos}
 use Rattle.qcow2_alloc.specs.declared.error.ImageError.{ImageError}
 use Rattle.qcow2_alloc.proofs.Limits.{placed_fault, host_below, is_able}
-use Rattle.qcow2_alloc.proofs.CachePins.{marks_then}
 use Rattle.qcow2_alloc.proofs.Faults.{told_on, told_ok, told_since}
 use Rattle.qcow2_alloc.proofs.Outcomes.{told_limit, on_no_ok, handed_cause, entries_none}
 use Rattle.qcow2_metadata.specs.L2Mapping.{IsHostCluster}
 use Rattle.qcow2_alloc.proofs.SparedHeaders.{spares_then}
+use Rattle.qcow2_alloc.proofs.KeptMarks.{kept_marks_then}
 use Rattle.qcow2_alloc.proofs.allocation.Allocator.cover_range.Goals as goal
 
 pub returns-in_err-load_block-clause-sound : goal.returns-in_err-load_block-clause-sound
@@ -77,9 +77,6 @@ returns-then-not-can_name-clause-fault g c = λ p sound within near.
 pub returns-in_err-load_block-clause-marks : goal.returns-in_err-load_block-clause-marks
 returns-in_err-load_block-clause-marks g c = c.load_block.ensures.marks
 
-pub returns-in_err-load_block-clause-order : goal.returns-in_err-load_block-clause-order
-returns-in_err-load_block-clause-order g c = c.load_block.ensures.order
-
 pub returns-in_err-load_block-clause-cause : goal.returns-in_err-load_block-clause-cause
 returns-in_err-load_block-clause-cause g c = handed_cause c.from_residual.result c.in_err-load_block.field-0.0 c.from_residual.ensures c.in_err-load_block.ensures.cause
 
@@ -104,9 +101,6 @@ returns-in_err-load_block-clause-entries g c = entries_none _ c.args.self.now.re
 pub returns-then-is_some-clause-marks : goal.returns-then-is_some-clause-marks
 returns-then-is_some-clause-marks g c = c.load_block.ensures.marks
 
-pub returns-then-is_some-clause-order : goal.returns-then-is_some-clause-order
-returns-then-is_some-clause-order g c = c.load_block.ensures.order
-
 pub returns-then-is_some-clause-header : goal.returns-then-is_some-clause-header
 returns-then-is_some-clause-header g c = c.load_block.ensures.header
 
@@ -121,9 +115,6 @@ returns-then-is_some-clause-entries g c = entries_none _ c.args.self.now.reftabl
 
 pub returns-then-not-can_name-clause-marks : goal.returns-then-not-can_name-clause-marks
 returns-then-not-can_name-clause-marks g c = c.load_block.ensures.marks
-
-pub returns-then-not-can_name-clause-order : goal.returns-then-not-can_name-clause-order
-returns-then-not-can_name-clause-order g c = c.load_block.ensures.order
 
 pub returns-then-not-can_name-clause-header : goal.returns-then-not-can_name-clause-header
 returns-then-not-can_name-clause-header g c = c.load_block.ensures.header
@@ -156,10 +147,7 @@ pub returns-then-is_some-clause-fault : goal.returns-then-is_some-clause-fault
 returns-then-is_some-clause-fault g c = λ p sound within near. tt
 
 pub returns-clause-marks : goal.returns-clause-marks
-returns-clause-marks g c = marks_then _ _ _ c.load_block.ensures.marks c.place_block.ensures.marks
-
-pub returns-clause-order : goal.returns-clause-order
-returns-clause-order g c = c.place_block.ensures.order ∙ c.load_block.ensures.order
+returns-clause-marks g c = kept_marks_then c.load_block.ensures.marks c.place_block.ensures.marks
 
 pub returns-clause-header : goal.returns-clause-header
 returns-clause-header g c = c.place_block.ensures.header ∙ c.load_block.ensures.header

@@ -14,7 +14,6 @@ use Rattle.std.proofs.lemmas.Nat.{pow_pos}
 use Rattle.qcow2_alloc.specs.declared.error.ImageError.{ImageError}
 use Rattle.qcow2_alloc.proofs.Limits.{host_below, is_able, placed_fault, range_near}
 use Rattle.qcow2_alloc.proofs.FormerReftables.{place_none, place_as, place_then}
-use Rattle.qcow2_alloc.proofs.CachePins.{marks_then}
 use Rattle.qcow2_alloc.proofs.Faults.{told_on, told_ok, told_since}
 use Rattle.qcow2_alloc.proofs.Outcomes.{ok_no_err, not_both, told_limit, told_err, told_third, on_no_ok, handed_cause, handed_unaligned}
 use Rattle.qcow2_metadata.specs.EntryTable.{EntryTableView}
@@ -22,6 +21,7 @@ use Rattle.qcow2_metadata.specs.declared.header.HeaderFields.{HeaderFields}
 use Rattle.qcow2_alloc.specs.declared.error.ImageError.TheVariants as I
 use Rattle.qcow2_metadata.specs.L2Mapping.{IsHostCluster}
 use Rattle.qcow2_alloc.proofs.SparedHeaders.{spares_then}
+use Rattle.qcow2_alloc.proofs.KeptMarks.{kept_marks_then}
 use Rattle.qcow2_alloc.proofs.allocation.Allocator.ensure_block.Goals as goal
 
 is_unaligned : (h : HeaderFields) (t : EntryTableView) (cluster counts n : ℕ) → n ≡ counts → IsUnaligned h t (cluster / n) → IsUnaligned h t (cluster / counts)
@@ -63,7 +63,7 @@ returns-in-Ok-Some-clause-sound g c = λ p sound.
     let past : c.args.cluster / 2 ^ c.rb_bits-bits.result * 2 ^ c.rb_bits-bits.result % 18446744073709551616 ≤ c.args.cluster / 2 ^ c.rb_bits-bits.result * counts_per_block c.load_block.new.file.header.fields = omega (arith, e) in
     let still : HasNone c.take_lowest_below.new.self.reftable (c.args.cluster / 2 ^ c.rb_bits-bits.result) = ap block_offset (c.in-Ok-Some.ensures.entries.others (c.args.cluster / 2 ^ c.rb_bits-bits.result) past) ∙ none in
     let taken = allocator_step_then g.S.Storage.view p (taken_as false p (one_at c.in-Ok-Some.at)) c.args.file.now c.load_block.new.file c.take_lowest_below.new.file c.args.self.now c.take_lowest_below.new.self l.0 two in
-    gets_taken g.S.Storage.view p c.args.file.now c.take_lowest_below.new.file c.place_block.new.file c.take_lowest_below.new.self c.place_block.new.self _ c.in-Ok-Some.at c.place_block.result taken (c.place_block.ensures.marks.changed (noted refl))
+    gets_taken g.S.Storage.view p c.args.file.now c.take_lowest_below.new.file c.place_block.new.file c.take_lowest_below.new.self c.place_block.new.self _ c.in-Ok-Some.at c.place_block.result taken (c.place_block.ensures.marks.pins.changed (noted refl))
     (c.place_block.ensures.sound p (is_sound_now g.S.Storage.view p (taken_as false p (one_at c.in-Ok-Some.at)) c.args.file.now c.take_lowest_below.new.file c.take_lowest_below.new.self taken) (record { none = still; first = tt }))
 
 pub returns-in-Ok-None-clause-sound : goal.returns-in-Ok-None-clause-sound
@@ -246,9 +246,6 @@ returns-else-is_fault-clause-place g c = place_then c.args.self.now.reftable c.t
 pub returns-in_err-load_block-clause-marks : goal.returns-in_err-load_block-clause-marks
 returns-in_err-load_block-clause-marks g c = c.load_block.ensures.marks
 
-pub returns-in_err-load_block-clause-order : goal.returns-in_err-load_block-clause-order
-returns-in_err-load_block-clause-order g c = c.load_block.ensures.order
-
 pub returns-in_err-load_block-clause-header : goal.returns-in_err-load_block-clause-header
 returns-in_err-load_block-clause-header g c = c.load_block.ensures.header
 
@@ -257,9 +254,6 @@ returns-in_err-load_block-clause-list g c = c.load_block.ensures.list
 
 pub returns-then-is_some-clause-marks : goal.returns-then-is_some-clause-marks
 returns-then-is_some-clause-marks g c = c.load_block.ensures.marks
-
-pub returns-then-is_some-clause-order : goal.returns-then-is_some-clause-order
-returns-then-is_some-clause-order g c = c.load_block.ensures.order
 
 pub returns-then-is_some-clause-header : goal.returns-then-is_some-clause-header
 returns-then-is_some-clause-header g c = c.load_block.ensures.header
@@ -270,9 +264,6 @@ returns-then-is_some-clause-list g c = c.load_block.ensures.list
 pub returns-then-not-can_name-clause-marks : goal.returns-then-not-can_name-clause-marks
 returns-then-not-can_name-clause-marks g c = c.load_block.ensures.marks
 
-pub returns-then-not-can_name-clause-order : goal.returns-then-not-can_name-clause-order
-returns-then-not-can_name-clause-order g c = c.load_block.ensures.order
-
 pub returns-then-not-can_name-clause-header : goal.returns-then-not-can_name-clause-header
 returns-then-not-can_name-clause-header g c = c.load_block.ensures.header
 
@@ -280,10 +271,7 @@ pub returns-then-not-can_name-clause-list : goal.returns-then-not-can_name-claus
 returns-then-not-can_name-clause-list g c = c.load_block.ensures.list
 
 pub returns-in-Ok-Some-clause-marks : goal.returns-in-Ok-Some-clause-marks
-returns-in-Ok-Some-clause-marks g c = marks_then _ _ _ (marks_then _ _ _ c.load_block.ensures.marks c.take_lowest_below.ensures.marks) c.place_block.ensures.marks
-
-pub returns-in-Ok-Some-clause-order : goal.returns-in-Ok-Some-clause-order
-returns-in-Ok-Some-clause-order g c = c.place_block.ensures.order ∙ c.take_lowest_below.ensures.order ∙ c.load_block.ensures.order
+returns-in-Ok-Some-clause-marks g c = kept_marks_then (kept_marks_then c.load_block.ensures.marks c.take_lowest_below.ensures.marks) c.place_block.ensures.marks
 
 pub returns-in-Ok-Some-clause-header : goal.returns-in-Ok-Some-clause-header
 returns-in-Ok-Some-clause-header g c = c.place_block.ensures.header ∙ c.take_lowest_below.ensures.header ∙ c.load_block.ensures.header
@@ -292,10 +280,7 @@ pub returns-in-Ok-Some-clause-list : goal.returns-in-Ok-Some-clause-list
 returns-in-Ok-Some-clause-list g c = c.place_block.ensures.list ∙ c.take_lowest_below.ensures.list ∙ c.load_block.ensures.list
 
 pub returns-in-Ok-None-clause-marks : goal.returns-in-Ok-None-clause-marks
-returns-in-Ok-None-clause-marks g c = marks_then _ _ _ (marks_then _ _ _ c.load_block.ensures.marks c.take_lowest_below.ensures.marks) c.cover_range.ensures.marks
-
-pub returns-in-Ok-None-clause-order : goal.returns-in-Ok-None-clause-order
-returns-in-Ok-None-clause-order g c = c.cover_range.ensures.order ∙ c.take_lowest_below.ensures.order ∙ c.load_block.ensures.order
+returns-in-Ok-None-clause-marks g c = kept_marks_then (kept_marks_then c.load_block.ensures.marks c.take_lowest_below.ensures.marks) c.cover_range.ensures.marks
 
 pub returns-in-Ok-None-clause-header : goal.returns-in-Ok-None-clause-header
 returns-in-Ok-None-clause-header g c = c.cover_range.ensures.header ∙ c.take_lowest_below.ensures.header ∙ c.load_block.ensures.header
@@ -304,10 +289,7 @@ pub returns-in-Ok-None-clause-list : goal.returns-in-Ok-None-clause-list
 returns-in-Ok-None-clause-list g c = c.cover_range.ensures.list ∙ c.take_lowest_below.ensures.list ∙ c.load_block.ensures.list
 
 pub returns-then-is_fault-clause-marks : goal.returns-then-is_fault-clause-marks
-returns-then-is_fault-clause-marks g c = marks_then _ _ _ c.load_block.ensures.marks c.take_lowest_below.ensures.marks
-
-pub returns-then-is_fault-clause-order : goal.returns-then-is_fault-clause-order
-returns-then-is_fault-clause-order g c = c.take_lowest_below.ensures.order ∙ c.load_block.ensures.order
+returns-then-is_fault-clause-marks g c = kept_marks_then c.load_block.ensures.marks c.take_lowest_below.ensures.marks
 
 pub returns-then-is_fault-clause-header : goal.returns-then-is_fault-clause-header
 returns-then-is_fault-clause-header g c = c.take_lowest_below.ensures.header ∙ c.load_block.ensures.header
@@ -316,10 +298,7 @@ pub returns-then-is_fault-clause-list : goal.returns-then-is_fault-clause-list
 returns-then-is_fault-clause-list g c = c.take_lowest_below.ensures.list ∙ c.load_block.ensures.list
 
 pub returns-else-is_fault-clause-marks : goal.returns-else-is_fault-clause-marks
-returns-else-is_fault-clause-marks g c = marks_then _ _ _ (marks_then _ _ _ c.load_block.ensures.marks c.take_lowest_below.ensures.marks) c.cover_range-in-Err.ensures.marks
-
-pub returns-else-is_fault-clause-order : goal.returns-else-is_fault-clause-order
-returns-else-is_fault-clause-order g c = c.cover_range-in-Err.ensures.order ∙ c.take_lowest_below.ensures.order ∙ c.load_block.ensures.order
+returns-else-is_fault-clause-marks g c = kept_marks_then (kept_marks_then c.load_block.ensures.marks c.take_lowest_below.ensures.marks) c.cover_range-in-Err.ensures.marks
 
 pub returns-else-is_fault-clause-header : goal.returns-else-is_fault-clause-header
 returns-else-is_fault-clause-header g c = c.cover_range-in-Err.ensures.header ∙ c.take_lowest_below.ensures.header ∙ c.load_block.ensures.header

@@ -22,10 +22,10 @@ use Rattle.qcow2_alloc.proofs.Limits.{cause_as}
 use Rattle.qcow2_alloc.proofs.GrownReftables.{clone_clusters, clone_is_longer, entered, uses_entered, names_fault, room_now}
 use Rattle.qcow2_alloc.proofs.Hints.{uses_refused, used_stays}
 use Rattle.qcow2_alloc.proofs.ListedAfter.{header_same, header_then, header_counts}
-use Rattle.qcow2_alloc.proofs.CachePins.{marks_then}
 use Rattle.qcow2_alloc.proofs.Faults.{told_on, told_since}
 use Rattle.qcow2_alloc.proofs.Outcomes.{on_no_ok, handed_cause, on_err, on_ok}
 use Rattle.qcow2_alloc.proofs.SparedHeaders.{spares_then, spares_less, spares_tables, noted_keeps}
+use Rattle.qcow2_alloc.proofs.KeptMarks.{kept_marks_then, marks_of_caches}
 use Rattle.qcow2_alloc.proofs.allocation.Allocator.enter_reftable.Goals as goal
 
 -- the clusters that a reftable has entries for, as 64 bits hold them
@@ -176,9 +176,6 @@ returns-clause-lowest g c = λ p sound hint clone whole.
 pub returns-in_err-room-clause-marks : goal.returns-in_err-room-clause-marks
 returns-in_err-room-clause-marks g c = c.take_room.ensures.marks
 
-pub returns-in_err-room-clause-order : goal.returns-in_err-room-clause-order
-returns-in_err-room-clause-order g c = c.take_room.ensures.order
-
 pub returns-in_err-room-clause-cause : goal.returns-in_err-room-clause-cause
 returns-in_err-room-clause-cause g c = handed_cause c.from_residual.result c.in_err-room.field-0.0 c.from_residual.ensures c.in_err-room.ensures.cause
 
@@ -204,13 +201,10 @@ pub returns-in_err-room-clause-kept : goal.returns-in_err-room-clause-kept
 returns-in_err-room-clause-kept g c = on_err _ c.from_residual.result c.take_room.ensures.reftable
 
 pub returns-clause-marks : goal.returns-clause-marks
-returns-clause-marks g c = marks_then _ _ _ (marks_then _ _ _ c.take_room.ensures.marks c.note_change.ensures.marks) c.write_reftable.ensures.marks
-
-pub returns-clause-order : goal.returns-clause-order
-returns-clause-order g c = c.write_reftable.ensures.order ∙ c.note_change.ensures.tables.order ∙ c.take_room.ensures.order
+returns-clause-marks g c = kept_marks_then (kept_marks_then c.take_room.ensures.marks (marks_of_caches c.note_change.ensures.marks c.note_change.ensures.tables.order)) c.write_reftable.ensures.marks
 
 pub returns-clause-noted : goal.returns-clause-noted
-returns-clause-noted g c = on_ok _ c.write_reftable.result (c.write_reftable.ensures.marks.changed c.note_change.ensures.changed)
+returns-clause-noted g c = on_ok _ c.write_reftable.result (c.write_reftable.ensures.marks.pins.changed c.note_change.ensures.changed)
 
 pub returns-clause-header : goal.returns-clause-header
 returns-clause-header g c = header_then c.args.file.now.header c.take_room.new.file.header c.write_reftable.new.file.header (header_same c.args.file.now.header c.take_room.new.file.header c.take_room.ensures.header) c.write_reftable.ensures.header

@@ -13,6 +13,7 @@ use Rattle.qcow2_alloc.proofs.Faults.{told_on, told_ok, told_since}
 use Rattle.qcow2_alloc.proofs.Outcomes.{told_after, on_no_ok, handed_cause}
 use Rattle.std.proofs.Math.Nat.{le_trans}
 use Rattle.qcow2_alloc.proofs.SparedHeaders.{spares_then, spares_cached}
+use Rattle.qcow2_alloc.specs.KeptNotes.{kept_then}
 use Rattle.qcow2_alloc.proofs.allocation.Allocator.free.Goals as goal
 
 pub returns-in_err-free_kind-clause-sound : goal.returns-in_err-free_kind-clause-sound
@@ -121,7 +122,7 @@ pub returns-in_err-rb_depends_on_l2-clause-leaks : goal.returns-in_err-rb_depend
 returns-in_err-rb_depends_on_l2-clause-leaks g c = λ p sound. c.free_kind.ensures.leaks p sound tt
 
 pub returns-in_err-free_kind-clause-marks : goal.returns-in_err-free_kind-clause-marks
-returns-in_err-free_kind-clause-marks g c = c.free_kind.ensures.marks
+returns-in_err-free_kind-clause-marks g c = c.free_kind.ensures.marks.pins
 
 pub returns-in_err-free_kind-clause-cause : goal.returns-in_err-free_kind-clause-cause
 returns-in_err-free_kind-clause-cause g c = handed_cause c.from_residual.result c.in_err-free_kind.field-0.0 c.from_residual.ensures c.in_err-free_kind.ensures.cause
@@ -133,7 +134,7 @@ pub returns-in_err-free_kind-clause-emptied : goal.returns-in_err-free_kind-clau
 returns-in_err-free_kind-clause-emptied g c = on_no_ok _ c.from_residual.result c.in_err-free_kind.field-0.0 c.from_residual.ensures
 
 pub returns-in_err-rb_depends_on_l2-clause-marks : goal.returns-in_err-rb_depends_on_l2-clause-marks
-returns-in_err-rb_depends_on_l2-clause-marks g c = marks_then _ _ _ c.free_kind.ensures.marks c.rb_depends_on_l2.ensures.marks
+returns-in_err-rb_depends_on_l2-clause-marks g c = marks_then _ _ _ c.free_kind.ensures.marks.pins c.rb_depends_on_l2.ensures.marks
 
 pub returns-in_err-rb_depends_on_l2-clause-cause : goal.returns-in_err-rb_depends_on_l2-clause-cause
 returns-in_err-rb_depends_on_l2-clause-cause g c = handed_cause c.from_residual-in_err-rb_depends_on_l2.result c.in_err-rb_depends_on_l2.field-0.0 c.from_residual-in_err-rb_depends_on_l2.ensures c.in_err-rb_depends_on_l2.ensures.cause
@@ -163,7 +164,7 @@ pub returns-in_err-rb_depends_on_l2-clause-grows : goal.returns-in_err-rb_depend
 returns-in_err-rb_depends_on_l2-clause-grows g c = c.free_kind.ensures.grows
 
 pub returns-then-is_empty-clause-marks : goal.returns-then-is_empty-clause-marks
-returns-then-is_empty-clause-marks g c = c.free_kind.ensures.marks
+returns-then-is_empty-clause-marks g c = c.free_kind.ensures.marks.pins
 
 pub returns-then-is_empty-clause-cause : goal.returns-then-is_empty-clause-cause
 returns-then-is_empty-clause-cause g c = tt
@@ -172,7 +173,7 @@ pub returns-then-is_empty-clause-storage_faults : goal.returns-then-is_empty-cla
 returns-then-is_empty-clause-storage_faults g c = told_ok _ _ tt c.free_kind.ensures.storage_faults.no_fewer
 
 pub returns-clause-marks : goal.returns-clause-marks
-returns-clause-marks g c = marks_then _ _ _ (marks_then _ _ _ c.free_kind.ensures.marks c.rb_depends_on_l2.ensures.marks) c.free_kind-2.ensures.marks
+returns-clause-marks g c = marks_then _ _ _ (marks_then _ _ _ c.free_kind.ensures.marks.pins c.rb_depends_on_l2.ensures.marks) c.free_kind-2.ensures.marks.pins
 
 pub returns-clause-header : goal.returns-clause-header
 returns-clause-header g c = c.free_kind-2.ensures.header ∙ c.free_kind.ensures.header
@@ -197,3 +198,15 @@ returns-in_err-rb_depends_on_l2-clause-header_cluster g c = spares_then (c.free_
 
 pub returns-clause-header_cluster : goal.returns-clause-header_cluster
 returns-clause-header_cluster g c = spares_then (spares_then (c.free_kind.ensures.header_cluster) (spares_cached c.free_kind.new.self.reftable c.free_kind.new.file c.rb_depends_on_l2.new.storage c.rb_depends_on_l2.new.self c.rb_depends_on_l2.ensures.header_cluster)) (c.free_kind-2.ensures.header_cluster)
+
+pub returns-in_err-free_kind-clause-notes : goal.returns-in_err-free_kind-clause-notes
+returns-in_err-free_kind-clause-notes g c = c.free_kind.ensures.marks.notes
+
+pub returns-in_err-rb_depends_on_l2-clause-notes : goal.returns-in_err-rb_depends_on_l2-clause-notes
+returns-in_err-rb_depends_on_l2-clause-notes g c = kept_then _ _ _ c.free_kind.ensures.marks.notes c.rb_depends_on_l2.ensures.notes
+
+pub returns-then-is_empty-clause-notes : goal.returns-then-is_empty-clause-notes
+returns-then-is_empty-clause-notes g c = c.free_kind.ensures.marks.notes
+
+pub returns-clause-notes : goal.returns-clause-notes
+returns-clause-notes g c = kept_then _ _ _ (kept_then _ _ _ c.free_kind.ensures.marks.notes c.rb_depends_on_l2.ensures.notes) c.free_kind-2.ensures.marks.notes

@@ -54,9 +54,6 @@ returns-in-Err-clause-leaks g c = λ p sound may.
 pub returns-in-Ok-clause-marks : goal.returns-in-Ok-clause-marks
 returns-in-Ok-clause-marks g c = c.free_run.ensures.marks
 
-pub returns-in-Ok-clause-order : goal.returns-in-Ok-clause-order
-returns-in-Ok-clause-order g c = c.free_run.ensures.order
-
 pub returns-in-Ok-clause-header : goal.returns-in-Ok-clause-header
 returns-in-Ok-clause-header g c = c.free_run.ensures.header
 
@@ -65,9 +62,6 @@ returns-in-Ok-clause-grows g c = c.free_run.ensures.grows
 
 pub returns-in-Err-clause-marks : goal.returns-in-Err-clause-marks
 returns-in-Err-clause-marks g c = c.free_run.ensures.marks
-
-pub returns-in-Err-clause-order : goal.returns-in-Err-clause-order
-returns-in-Err-clause-order g c = c.free_run.ensures.order
 
 pub returns-in-Err-clause-header : goal.returns-in-Err-clause-header
 returns-in-Err-clause-header g c = c.free_run.ensures.header

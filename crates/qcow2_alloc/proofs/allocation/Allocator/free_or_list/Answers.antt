@@ -3,10 +3,10 @@ use Rattle.qcow2_alloc.specs.declared.clusters_to_free.ClusterKind.{ClusterKind}
 use Rattle.qcow2_alloc.specs.Allocation.{MayFree}
 use Rattle.qcow2_alloc.specs.FreeList.{but}
 use Rattle.qcow2_alloc.proofs.Freeing.{but_same}
-use Rattle.qcow2_alloc.proofs.CachePins.{marks_none}
 use Rattle.qcow2_alloc.proofs.Faults.{told_ok}
 use Rattle.std.proofs.Math.Nat.{le_refl}
 use Rattle.qcow2_alloc.proofs.SparedHeaders.{spares_none, spares_listed}
+use Rattle.qcow2_alloc.proofs.KeptMarks.{kept_marks_none}
 use Rattle.qcow2_alloc.proofs.allocation.Allocator.free_or_list.Goals as goal
 
 pub returns-then-eq-clause-sound : goal.returns-then-eq-clause-sound
@@ -35,9 +35,6 @@ returns-then-eq-clause-leaks g c = λ p sound may.
 pub returns-then-eq-clause-marks : goal.returns-then-eq-clause-marks
 returns-then-eq-clause-marks g c = c.free_entry.ensures.marks
 
-pub returns-then-eq-clause-order : goal.returns-then-eq-clause-order
-returns-then-eq-clause-order g c = c.free_entry.ensures.order
-
 pub returns-then-eq-clause-header : goal.returns-then-eq-clause-header
 returns-then-eq-clause-header g c = c.free_entry.ensures.header
 
@@ -51,10 +48,7 @@ pub returns-then-eq-clause-storage_faults : goal.returns-then-eq-clause-storage_
 returns-then-eq-clause-storage_faults g c = c.free_entry.ensures.storage_faults
 
 pub returns-clause-marks : goal.returns-clause-marks
-returns-clause-marks g c = marks_none _
-
-pub returns-clause-order : goal.returns-clause-order
-returns-clause-order g c = refl
+returns-clause-marks g c = kept_marks_none
 
 pub returns-clause-header : goal.returns-clause-header
 returns-clause-header g c = refl

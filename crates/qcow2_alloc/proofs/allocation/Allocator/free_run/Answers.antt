@@ -4,12 +4,12 @@ use Rattle.qcow2_alloc.specs.Allocation.{Listed, listed_as, Frees}
 use Rattle.qcow2_alloc.specs.FreeList.{run_of}
 use Rattle.qcow2_alloc.specs.LowestRuns.{KeepsNoFreeBelowHint}
 use Rattle.qcow2_alloc.proofs.AllocationSteps.{handed_on, may_lower_still, is_sound_now}
-use Rattle.qcow2_alloc.proofs.CachePins.{marks_then}
 use Rattle.qcow2_alloc.proofs.Freeing.{listed_new_data, behind_first, first_owed, run_refused, run_freed}
 use Rattle.qcow2_alloc.proofs.Faults.{told_ok}
 use Rattle.qcow2_alloc.proofs.Outcomes.{told_after, on_no_ok, handed_cause}
 use Rattle.std.proofs.Math.Nat.{le_trans}
 use Rattle.qcow2_alloc.proofs.SparedHeaders.{spares_then}
+use Rattle.qcow2_alloc.proofs.KeptMarks.{kept_marks_then}
 use Rattle.qcow2_alloc.proofs.allocation.Allocator.free_run.Goals as goal
 
 pub returns-in_err-lower-clause-sound : goal.returns-in_err-lower-clause-sound
@@ -24,15 +24,14 @@ returns-in_err-lower-clause-sound g c = λ p sound may.
     (run_refused g.S.Storage.view kind p c.freeing.run some c.value-in-freeing.result at q (listed_new_data kind p (run_of c.args.run.now) (run_of c.freeing.run)) c.args.file.now c.freeing.file c.lower.new.file c.freeing.self c.lower.new.self before c.in_err-lower.field-0.0
     (c.in_err-lower.ensures.sound (behind_first c.freeing.run kind p) (Listed kind)
     (first_owed g.S.Storage.view kind p c.freeing.run some c.value-in-freeing.result at c.freeing.file c.freeing.self (is_sound_now g.S.Storage.view q now c.args.file.now c.freeing.file c.freeing.self before))
-    (may_lower_still (Listed kind) c.args.file.now c.freeing.file c.freeing.invariant.order may)))
+    (may_lower_still (Listed kind) c.args.file.now c.freeing.file c.freeing.invariant.marks.order may)))
 
 pub freeing-preserved : goal.freeing-preserved
 freeing-preserved g c = record {
   header = c.lower.ensures.header ∙ c.freeing.invariant.header;
   list = c.lower.ensures.list ∙ c.freeing.invariant.list;
-  marks = marks_then c.args.file.now.caches c.freeing.file.caches c.lower.new.file.caches c.freeing.invariant.marks c.lower.ensures.marks;
+  marks = kept_marks_then c.freeing.invariant.marks c.lower.ensures.marks;
   faults = le_trans c.freeing.invariant.faults c.lower.ensures.storage_faults.no_fewer;
-  order = c.lower.ensures.order ∙ c.freeing.invariant.order;
   spared = spares_then c.freeing.invariant.spared c.lower.ensures.header_cluster;
   kind = c.drop_first.ensures.kind ∙ c.freeing.invariant.kind;
   sound = λ p sound may.
@@ -46,7 +45,7 @@ freeing-preserved g c = record {
       c.drop_first.new.self c.drop_first.ensures.first c.drop_first.ensures.count
       (c.in_ok-lower.ensures.sound (behind_first c.freeing.run kind p) (Listed kind)
       (first_owed g.S.Storage.view kind p c.freeing.run some c.value-in-freeing.result at c.freeing.file c.freeing.self (is_sound_now g.S.Storage.view q now c.args.file.now c.freeing.file c.freeing.self before))
-      (may_lower_still (Listed kind) c.args.file.now c.freeing.file c.freeing.invariant.order may));
+      (may_lower_still (Listed kind) c.args.file.now c.freeing.file c.freeing.invariant.marks.order may));
   hint = λ p sound may hint.
       let kind = c.args.run.now.kind in
       let q : Pending = listed_as kind p (run_of c.args.run.now) in
@@ -56,7 +55,7 @@ freeing-preserved g c = record {
       let some : 0 < c.freeing.run.count = omega (arith, c.freeing-test.true, c.value.ensures, c.count.ensures) in
       c.in_ok-lower.ensures.hint (behind_first c.freeing.run kind p) (Listed kind)
       (first_owed g.S.Storage.view kind p c.freeing.run some c.value-in-freeing.result at c.freeing.file c.freeing.self (is_sound_now g.S.Storage.view q now c.args.file.now c.freeing.file c.freeing.self before))
-      (may_lower_still (Listed kind) c.args.file.now c.freeing.file c.freeing.invariant.order may) (c.freeing.invariant.hint p sound may hint);
+      (may_lower_still (Listed kind) c.args.file.now c.freeing.file c.freeing.invariant.marks.order may) (c.freeing.invariant.hint p sound may hint);
   grows = omega (arith, c.freeing.invariant.grows, c.lower.ensures.grows);
   leaks = λ p sound may.
       let kind = c.args.run.now.kind in
@@ -67,7 +66,7 @@ freeing-preserved g c = record {
       let some : 0 < c.freeing.run.count = omega (arith, c.freeing-test.true, c.value.ensures, c.count.ensures) in
       c.lower.ensures.leaks (behind_first c.freeing.run kind p) (Listed kind)
       (first_owed g.S.Storage.view kind p c.freeing.run some c.value-in-freeing.result at c.freeing.file c.freeing.self (is_sound_now g.S.Storage.view q now c.args.file.now c.freeing.file c.freeing.self before))
-      (may_lower_still (Listed kind) c.args.file.now c.freeing.file c.freeing.invariant.order may)
+      (may_lower_still (Listed kind) c.args.file.now c.freeing.file c.freeing.invariant.marks.order may)
       ∙ c.freeing.invariant.leaks p sound may;
 }
 
@@ -82,7 +81,7 @@ returns-in_err-lower-clause-hint g c = λ p sound may hint.
     handed_on (KeepsNoFreeBelowHint g.S.Storage.view c.lower.new.self c.lower.new.file) c.from_residual.result c.in_err-lower.field-0.0 c.from_residual.ensures
     (c.in_err-lower.ensures.hint (behind_first c.freeing.run kind p) (Listed kind)
     (first_owed g.S.Storage.view kind p c.freeing.run some c.value-in-freeing.result at c.freeing.file c.freeing.self (is_sound_now g.S.Storage.view q now c.args.file.now c.freeing.file c.freeing.self before))
-    (may_lower_still (Listed kind) c.args.file.now c.freeing.file c.freeing.invariant.order may) (c.freeing.invariant.hint p sound may hint))
+    (may_lower_still (Listed kind) c.args.file.now c.freeing.file c.freeing.invariant.marks.order may) (c.freeing.invariant.hint p sound may hint))
 
 pub returns-clause-hint : goal.returns-clause-hint
 returns-clause-hint g c = λ p sound may hint. c.freeing.invariant.hint p sound may hint
@@ -97,14 +96,11 @@ returns-in_err-lower-clause-leaks g c = λ p sound may.
     let some : 0 < c.freeing.run.count = omega (arith, c.freeing-test.true, c.value.ensures, c.count.ensures) in
     c.lower.ensures.leaks (behind_first c.freeing.run kind p) (Listed kind)
     (first_owed g.S.Storage.view kind p c.freeing.run some c.value-in-freeing.result at c.freeing.file c.freeing.self (is_sound_now g.S.Storage.view q now c.args.file.now c.freeing.file c.freeing.self before))
-    (may_lower_still (Listed kind) c.args.file.now c.freeing.file c.freeing.invariant.order may)
+    (may_lower_still (Listed kind) c.args.file.now c.freeing.file c.freeing.invariant.marks.order may)
     ∙ c.freeing.invariant.leaks p sound may
 
 pub returns-in_err-lower-clause-marks : goal.returns-in_err-lower-clause-marks
-returns-in_err-lower-clause-marks g c = marks_then _ _ _ c.freeing.invariant.marks c.lower.ensures.marks
-
-pub returns-in_err-lower-clause-order : goal.returns-in_err-lower-clause-order
-returns-in_err-lower-clause-order g c = c.lower.ensures.order ∙ c.freeing.invariant.order
+returns-in_err-lower-clause-marks g c = kept_marks_then c.freeing.invariant.marks c.lower.ensures.marks
 
 pub returns-in_err-lower-clause-cause : goal.returns-in_err-lower-clause-cause
 returns-in_err-lower-clause-cause g c = handed_cause c.from_residual.result c.in_err-lower.field-0.0 c.from_residual.ensures c.in_err-lower.ensures.cause
@@ -129,9 +125,6 @@ returns-in_err-lower-clause-grows g c = le_trans c.freeing.invariant.grows c.low
 
 pub returns-clause-marks : goal.returns-clause-marks
 returns-clause-marks g c = c.freeing.invariant.marks
-
-pub returns-clause-order : goal.returns-clause-order
-returns-clause-order g c = c.freeing.invariant.order
 
 pub returns-clause-header : goal.returns-clause-header
 returns-clause-header g c = c.freeing.invariant.header

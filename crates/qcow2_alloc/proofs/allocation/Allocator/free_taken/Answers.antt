@@ -4,20 +4,19 @@ use Rattle.qcow2_alloc.specs.Allocation.{Listed, UnseenAllocatorStep, Frees}
 use Rattle.qcow2_alloc.specs.FreeList.{with_listed, but}
 use Rattle.qcow2_alloc.specs.LowestRuns.{KeepsNoFreeBelowHint}
 use Rattle.qcow2_alloc.proofs.AllocationSteps.{handed_on, may_lower_still, is_sound_now}
-use Rattle.qcow2_alloc.proofs.CachePins.{marks_then}
 use Rattle.qcow2_alloc.proofs.Freeing.{but_first, but_step, entry_sound, entry_eviction}
 use Rattle.qcow2_alloc.proofs.Faults.{told_ok}
 use Rattle.qcow2_alloc.proofs.Outcomes.{told_after, on_no_ok, handed_cause}
 use Rattle.std.proofs.Math.Nat.{le_trans}
 use Rattle.qcow2_alloc.proofs.SparedHeaders.{spares_then}
+use Rattle.qcow2_alloc.proofs.KeptMarks.{kept_marks_then}
 use Rattle.qcow2_alloc.proofs.allocation.Allocator.free_taken.Goals as goal
 
 pub freeing-preserved : goal.freeing-preserved
 freeing-preserved g c = record {
   header = c.free_or_list.ensures.header ∙ c.freeing.invariant.header;
-  marks = marks_then c.args.file.now.caches c.freeing.file.caches c.free_or_list.new.file.caches c.freeing.invariant.marks c.free_or_list.ensures.marks;
+  marks = kept_marks_then c.freeing.invariant.marks c.free_or_list.ensures.marks;
   faults = le_trans c.freeing.invariant.faults c.free_or_list.ensures.storage_faults.no_fewer;
-  order = c.free_or_list.ensures.order ∙ c.freeing.invariant.order;
   spared = spares_then c.freeing.invariant.spared c.free_or_list.ensures.header_cluster;
   others = but_step c.args.kind c.free_or_list.new.file.free_list c.freeing.file.free_list c.freeing.taken c.next_pending.new.self c.in-Some.pending c.in-Some.ensures.some c.free_or_list.ensures.others ∙ c.freeing.invariant.others;
   left =
@@ -32,13 +31,13 @@ freeing-preserved g c = record {
       entry_eviction g.S.Storage.view p c.freeing.taken c.next_pending.new.self c.in-Some.pending c.in-Some.ensures.some q c.args.file.now c.freeing.file c.free_or_list.new.file c.freeing.self c.free_or_list.new.self (Ok tt) (λ k some. some) before
       (c.in_ok-free_or_list.ensures.sound (with_listed p c.next_pending.new.self)
       (entry_sound g.S.Storage.view p c.freeing.taken c.next_pending.new.self c.in-Some.pending c.in-Some.ensures.some c.freeing.file c.freeing.self (is_sound_now g.S.Storage.view q now c.args.file.now c.freeing.file c.freeing.self before))
-      (may_lower_still (Listed c.args.kind) c.args.file.now c.freeing.file c.freeing.invariant.order may));
+      (may_lower_still (Listed c.args.kind) c.args.file.now c.freeing.file c.freeing.invariant.marks.order may));
   hint = λ p sound may hint.
       let q : Pending = with_listed p (c.args.file.now.free_list ++ c.args.taken.now) in
       let now : Pending = with_listed p (c.freeing.file.free_list ++ c.freeing.taken) in
       c.in_ok-free_or_list.ensures.hint (with_listed p c.next_pending.new.self)
       (entry_sound g.S.Storage.view p c.freeing.taken c.next_pending.new.self c.in-Some.pending c.in-Some.ensures.some c.freeing.file c.freeing.self (is_sound_now g.S.Storage.view q now c.args.file.now c.freeing.file c.freeing.self (c.freeing.invariant.sound p sound may)))
-      (may_lower_still (Listed c.args.kind) c.args.file.now c.freeing.file c.freeing.invariant.order may) (c.freeing.invariant.hint p sound may hint);
+      (may_lower_still (Listed c.args.kind) c.args.file.now c.freeing.file c.freeing.invariant.marks.order may) (c.freeing.invariant.hint p sound may hint);
   grows = omega (arith, c.freeing.invariant.grows, c.free_or_list.ensures.grows);
   leaks = λ p sound may.
       let q : Pending = with_listed p (c.args.file.now.free_list ++ c.args.taken.now) in
@@ -46,7 +45,7 @@ freeing-preserved g c = record {
       let before = c.freeing.invariant.sound p sound may in
       c.free_or_list.ensures.leaks (with_listed p c.next_pending.new.self)
       (entry_sound g.S.Storage.view p c.freeing.taken c.next_pending.new.self c.in-Some.pending c.in-Some.ensures.some c.freeing.file c.freeing.self (is_sound_now g.S.Storage.view q now c.args.file.now c.freeing.file c.freeing.self before))
-      (may_lower_still (Listed c.args.kind) c.args.file.now c.freeing.file c.freeing.invariant.order may)
+      (may_lower_still (Listed c.args.kind) c.args.file.now c.freeing.file c.freeing.invariant.marks.order may)
       ∙ c.freeing.invariant.leaks p sound may;
 }
 
@@ -60,7 +59,7 @@ returns-in_err-free_or_list-clause-sound g c = λ p sound may.
     (entry_eviction g.S.Storage.view p c.freeing.taken c.next_pending.new.self c.in-Some.pending c.in-Some.ensures.some q c.args.file.now c.freeing.file c.free_or_list.new.file c.freeing.self c.free_or_list.new.self (Err c.in_err-free_or_list.field-0.0) (λ k some. some) before
     (c.in_err-free_or_list.ensures.sound (with_listed p c.next_pending.new.self)
     (entry_sound g.S.Storage.view p c.freeing.taken c.next_pending.new.self c.in-Some.pending c.in-Some.ensures.some c.freeing.file c.freeing.self (is_sound_now g.S.Storage.view q now c.args.file.now c.freeing.file c.freeing.self before))
-    (may_lower_still (Listed c.args.kind) c.args.file.now c.freeing.file c.freeing.invariant.order may)))
+    (may_lower_still (Listed c.args.kind) c.args.file.now c.freeing.file c.freeing.invariant.marks.order may)))
 
 pub returns-in_err-free_or_list-clause-others : goal.returns-in_err-free_or_list-clause-others
 returns-in_err-free_or_list-clause-others g c =
@@ -79,7 +78,7 @@ returns-in_err-free_or_list-clause-hint g c = λ p sound may hint.
     handed_on (KeepsNoFreeBelowHint g.S.Storage.view c.free_or_list.new.self c.free_or_list.new.file) c.from_residual.result c.in_err-free_or_list.field-0.0 c.from_residual.ensures
     (c.in_err-free_or_list.ensures.hint (with_listed p c.next_pending.new.self)
     (entry_sound g.S.Storage.view p c.freeing.taken c.next_pending.new.self c.in-Some.pending c.in-Some.ensures.some c.freeing.file c.freeing.self (is_sound_now g.S.Storage.view q now c.args.file.now c.freeing.file c.freeing.self (c.freeing.invariant.sound p sound may)))
-    (may_lower_still (Listed c.args.kind) c.args.file.now c.freeing.file c.freeing.invariant.order may) (c.freeing.invariant.hint p sound may hint))
+    (may_lower_still (Listed c.args.kind) c.args.file.now c.freeing.file c.freeing.invariant.marks.order may) (c.freeing.invariant.hint p sound may hint))
 
 pub returns-clause-hint : goal.returns-clause-hint
 returns-clause-hint g c = λ p sound may hint. c.freeing.invariant.hint p sound may hint
@@ -91,14 +90,11 @@ returns-in_err-free_or_list-clause-leaks g c = λ p sound may.
     let before = c.freeing.invariant.sound p sound may in
     c.free_or_list.ensures.leaks (with_listed p c.next_pending.new.self)
     (entry_sound g.S.Storage.view p c.freeing.taken c.next_pending.new.self c.in-Some.pending c.in-Some.ensures.some c.freeing.file c.freeing.self (is_sound_now g.S.Storage.view q now c.args.file.now c.freeing.file c.freeing.self before))
-    (may_lower_still (Listed c.args.kind) c.args.file.now c.freeing.file c.freeing.invariant.order may)
+    (may_lower_still (Listed c.args.kind) c.args.file.now c.freeing.file c.freeing.invariant.marks.order may)
     ∙ c.freeing.invariant.leaks p sound may
 
 pub returns-in_err-free_or_list-clause-marks : goal.returns-in_err-free_or_list-clause-marks
-returns-in_err-free_or_list-clause-marks g c = marks_then _ _ _ c.freeing.invariant.marks c.free_or_list.ensures.marks
-
-pub returns-in_err-free_or_list-clause-order : goal.returns-in_err-free_or_list-clause-order
-returns-in_err-free_or_list-clause-order g c = c.free_or_list.ensures.order ∙ c.freeing.invariant.order
+returns-in_err-free_or_list-clause-marks g c = kept_marks_then c.freeing.invariant.marks c.free_or_list.ensures.marks
 
 pub returns-in_err-free_or_list-clause-cause : goal.returns-in_err-free_or_list-clause-cause
 returns-in_err-free_or_list-clause-cause g c = handed_cause c.from_residual.result c.in_err-free_or_list.field-0.0 c.from_residual.ensures c.in_err-free_or_list.ensures.cause
@@ -120,9 +116,6 @@ returns-in_err-free_or_list-clause-grows g c = le_trans c.freeing.invariant.grow
 
 pub returns-clause-marks : goal.returns-clause-marks
 returns-clause-marks g c = c.freeing.invariant.marks
-
-pub returns-clause-order : goal.returns-clause-order
-returns-clause-order g c = c.freeing.invariant.order
 
 pub returns-clause-header : goal.returns-clause-header
 returns-clause-header g c = c.freeing.invariant.header

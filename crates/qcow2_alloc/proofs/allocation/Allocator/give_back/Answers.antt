@@ -4,7 +4,6 @@ use Rattle.qcow2_laws.specs.CrashInvariant.{Pending}
 use Rattle.qcow2_alloc.specs.Allocation.{run_at, taken_as, Taken, UnseenAllocatorGrowth, GivesBackAs}
 use Rattle.qcow2_alloc.specs.ImageFile.{AllocatorInvariant, UnseenFileGrowth}
 use Rattle.qcow2_alloc.specs.LowestRuns.{KeepsNoFreeBelowHint, KeepsUsedBut}
-use Rattle.qcow2_alloc.proofs.CachePins.{marks_none, marks_then}
 use Rattle.qcow2_alloc.proofs.FileSteps.{file_step_on, on_then, on_interrupted_after}
 use Rattle.qcow2_alloc.proofs.AllocationSteps.{handed_on, is_sound_now}
 use Rattle.qcow2_alloc.proofs.Hints.{kept_refused, not_in_run, taken_pending, used_stays}
@@ -13,6 +12,7 @@ use Rattle.qcow2_alloc.proofs.Faults.{told_ok}
 use Rattle.qcow2_alloc.proofs.Outcomes.{told_after, handed_cause}
 use Rattle.std.proofs.Math.Nat.{le_trans, le_refl}
 use Rattle.qcow2_alloc.proofs.SparedHeaders.{spares_none, spares_then}
+use Rattle.qcow2_alloc.proofs.KeptMarks.{kept_marks_none, kept_marks_then}
 use Rattle.qcow2_alloc.proofs.allocation.Allocator.give_back.Goals as goal
 
 pub returns-then-n-eq0-clause-sound : goal.returns-then-n-eq0-clause-sound
@@ -22,9 +22,8 @@ pub lowering-init : goal.lowering-init
 lowering-init g c = record {
   header = refl;
   list = refl;
-  marks = marks_none c.args.file.now.caches;
+  marks = kept_marks_none;
   faults = omega arith;
-  order = refl;
   spared = spares_none;
   reftable = refl;
   sound = λ p p' d start new_data b.
@@ -48,16 +47,15 @@ returns-in_err-lower-clause-sound g c = λ p p' d start new_data b noted.
     handed_on (GivesBackAs g.S.Storage.view p start c.lower.new.self c.lower.new.file p') c.from_residual.result c.in_err-lower.field-0.0 c.from_residual.ensures (
       low.0,
       inr (on_interrupted_after g.S.Storage.view p (taken_as d q (one_at c.lowering.cluster)) start c.lowering.file c.lower.new.file c.lower.new.self c.in_err-lower.field-0.0 moved low.0
-          (c.lower.ensures.marks.changed (c.lowering.invariant.marks.changed (noted (let lt = c.lowering-test.true in let le = c.lowering.auto.cluster in omega arith)))) low.1),
+          (c.lower.ensures.marks.pins.changed (c.lowering.invariant.marks.pins.changed (noted (let lt = c.lowering-test.true in let le = c.lowering.auto.cluster in omega arith)))) low.1),
     )
 
 pub lowering-preserved : goal.lowering-preserved
 lowering-preserved g c = record {
   header = c.lower.ensures.header ∙ c.lowering.invariant.header;
   list = c.lower.ensures.list ∙ c.lowering.invariant.list;
-  marks = marks_then c.args.file.now.caches c.lowering.file.caches c.lower.new.file.caches c.lowering.invariant.marks c.lower.ensures.marks;
+  marks = kept_marks_then c.lowering.invariant.marks c.lower.ensures.marks;
   faults = le_trans c.lowering.invariant.faults c.lower.ensures.storage_faults.no_fewer;
-  order = c.lower.ensures.order ∙ c.lowering.invariant.order;
   spared = spares_then c.lowering.invariant.spared c.lower.ensures.header_cluster;
   reftable = c.lower.ensures.reftable ∙ c.lowering.invariant.reftable;
   sound = λ p p' d start new_data b.
@@ -123,10 +121,7 @@ pub returns-clause-kept : goal.returns-clause-kept
 returns-clause-kept g c = λ p d sound. (c.lowering.invariant.kept p d sound).1
 
 pub returns-in_err-lower-clause-marks : goal.returns-in_err-lower-clause-marks
-returns-in_err-lower-clause-marks g c = marks_then _ _ _ c.lowering.invariant.marks c.lower.ensures.marks
-
-pub returns-in_err-lower-clause-order : goal.returns-in_err-lower-clause-order
-returns-in_err-lower-clause-order g c = c.lower.ensures.order ∙ c.lowering.invariant.order
+returns-in_err-lower-clause-marks g c = kept_marks_then c.lowering.invariant.marks c.lower.ensures.marks
 
 pub returns-in_err-lower-clause-cause : goal.returns-in_err-lower-clause-cause
 returns-in_err-lower-clause-cause g c = handed_cause c.from_residual.result c.in_err-lower.field-0.0 c.from_residual.ensures c.in_err-lower.ensures.cause
@@ -144,10 +139,7 @@ pub returns-in_err-lower-clause-reftable : goal.returns-in_err-lower-clause-reft
 returns-in_err-lower-clause-reftable g c = c.lower.ensures.reftable ∙ c.lowering.invariant.reftable
 
 pub returns-then-n-eq0-clause-marks : goal.returns-then-n-eq0-clause-marks
-returns-then-n-eq0-clause-marks g c = marks_none _
-
-pub returns-then-n-eq0-clause-order : goal.returns-then-n-eq0-clause-order
-returns-then-n-eq0-clause-order g c = refl
+returns-then-n-eq0-clause-marks g c = kept_marks_none
 
 pub returns-then-n-eq0-clause-header : goal.returns-then-n-eq0-clause-header
 returns-then-n-eq0-clause-header g c = refl
@@ -166,9 +158,6 @@ returns-then-n-eq0-clause-storage_faults g c = told_ok _ _ tt (le_refl _)
 
 pub returns-clause-marks : goal.returns-clause-marks
 returns-clause-marks g c = c.lowering.invariant.marks
-
-pub returns-clause-order : goal.returns-clause-order
-returns-clause-order g c = c.lowering.invariant.order
 
 pub returns-clause-header : goal.returns-clause-header
 returns-clause-header g c = c.lowering.invariant.header

@@ -16,6 +16,7 @@ use Rattle.qcow2_alloc.proofs.ListedAfter.{listed_after_same}
 use Rattle.qcow2_alloc.proofs.GrownReftables.{grown}
 use Rattle.qcow2_alloc.proofs.FormerReftables.{former_none, former_one, former_still}
 use Rattle.qcow2_alloc.proofs.SparedHeaders.{spares_none, spares_listed}
+use Rattle.qcow2_alloc.proofs.KeptMarks.{kept_marks_none}
 use Rattle.qcow2_alloc.proofs.allocation.Allocator.grow_reftable.Goals as goal
 
 pub returns-in-Ok-clause-sound : goal.returns-in-Ok-clause-sound
@@ -106,3 +107,9 @@ returns-in-Ok-clause-header_cluster g c = spares_listed c.hand_back.new.list c.e
 
 pub returns-in-Err-clause-header_cluster : goal.returns-in-Err-clause-header_cluster
 returns-in-Err-clause-header_cluster g c = c.enter_reftable.ensures.header_cluster
+
+pub returns-in_err-table-clause-marks : goal.returns-in_err-table-clause-marks
+returns-in_err-table-clause-marks g c = kept_marks_none
+
+pub returns-in_err-former-clause-marks : goal.returns-in_err-former-clause-marks
+returns-in_err-former-clause-marks g c = kept_marks_none

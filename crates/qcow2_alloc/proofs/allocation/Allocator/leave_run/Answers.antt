@@ -3,15 +3,14 @@ use Rattle.qcow2_metadata.specs.Header.{counts_per_block}
 use Rattle.qcow2_laws.specs.Changes.{one_at}
 use Rattle.qcow2_laws.specs.CrashInvariant.{Pending}
 use Rattle.qcow2_alloc.specs.Allocation.{Taken, taken_as, UnseenAllocatorStep, GivesBack}
-use Rattle.qcow2_alloc.specs.CachePins.{KeepsPinsAndNotes}
 use Rattle.qcow2_alloc.specs.LowestRuns.{IsUsed}
-use Rattle.qcow2_alloc.specs.MetadataCaches.{order_of}
 use Rattle.qcow2_alloc.specs.GrownTables.{with_run}
 use Rattle.qcow2_alloc.specs.Rooms.{lacks}
-use Rattle.qcow2_alloc.proofs.CachePins.{marks_none, marks_then}
 use Rattle.qcow2_alloc.proofs.AllocationSteps.{handed_on, of_equal}
 use Rattle.qcow2_alloc.proofs.Hints.{not_in_run, taken_pending, used_stays}
 use Rattle.qcow2_alloc.proofs.Rooms.{run_past, left_none, left_one, left_fault, owed_now}
+use Rattle.qcow2_alloc.proofs.KeptMarks.{kept_marks_none, kept_marks_then}
+use Rattle.qcow2_alloc.specs.KeptMarks.{KeepsMarks}
 use Rattle.qcow2_alloc.proofs.allocation.Allocator.leave_run.Goals.{then-not-lacks_block+in_ok-lower, else-not-lacks_block}
 use Rattle.qcow2_alloc.specs.Faults.{faults_of}
 use Rattle.qcow2_alloc.proofs.Faults.{told_ok}
@@ -25,9 +24,8 @@ pub leaving-init : goal.leaving-init
 leaving-init g c = record {
   header = refl;
   list = refl;
-  marks = marks_none c.args.file.now.caches;
+  marks = kept_marks_none;
   faults = omega arith;
-  order = refl;
   spared = spares_none;
   reftable = refl;
   first = refl;
@@ -52,7 +50,7 @@ returns-in_err-lower-clause-sound g c = λ p start same b noted.
     let low = c.in_err-lower.ensures.sound (with_run p start.header.fields t (at + 1) (end - (at + 1))) (Taken false) (owed_now view p t at end start c.leaving.file c.lower.new.file c.leaving.self c.lower.new.self c.leaving-test.true has before) tt in
     handed_on (GivesBack view p start c.lower.new.self c.lower.new.file p) c.from_residual.result c.in_err-lower.field-0.0 c.from_residual.ensures
     (left_fault view p t at end start c.leaving.file c.lower.new.file c.leaving.self c.lower.new.self c.leaving-test.true has before c.args.first c.args.n c.in_err-lower.field-0.0 c.leaving.auto.cluster c.leaving-test.true
-    (elim noted [ inl none ↦ inl none | inr changed ↦ inr (c.lower.ensures.marks.changed (c.leaving.invariant.marks.changed changed)) ]) low)
+    (elim noted [ inl none ↦ inl none | inr changed ↦ inr (c.lower.ensures.marks.pins.changed (c.leaving.invariant.marks.pins.changed changed)) ]) low)
 
 pub leaving-preserved : goal.leaving-preserved
 leaving-preserved g c =
@@ -64,9 +62,8 @@ leaving-preserved g c =
       | then-not-lacks_block+in_ok-lower w ↦ record {
         header = ap (λ f. f.header) w.file-is ∙ w.lower.ensures.header ∙ c.leaving.invariant.header;
         list = ap (λ f. f.free_list) w.file-is ∙ w.lower.ensures.list ∙ c.leaving.invariant.list;
-        marks = subst (λ f. KeepsPinsAndNotes c.args.file.now.caches f.caches) (sym w.file-is) (marks_then c.args.file.now.caches c.leaving.file.caches w.lower.new.file.caches c.leaving.invariant.marks w.lower.ensures.marks);
+        marks = subst (λ f. KeepsMarks g.S.Storage.view c.args.file.now f) (sym w.file-is) (kept_marks_then c.leaving.invariant.marks w.lower.ensures.marks);
         faults = subst (λ f. faults_of g.S.Storage.view c.args.file.now.storage ≤ faults_of g.S.Storage.view f.storage) (sym w.file-is) (le_trans c.leaving.invariant.faults w.lower.ensures.storage_faults.no_fewer);
-        order = ap (λ f. order_of f.caches) w.file-is ∙ w.lower.ensures.order ∙ c.leaving.invariant.order;
         spared = of_equal (λ a f. SparesHeader g.S.Storage.view c.args.self.now.reftable c.args.file.now a.reftable f) c.if-not-lacks_block.self w.lower.new.self c.if-not-lacks_block.file w.lower.new.file w.self-is w.file-is (spares_then c.leaving.invariant.spared w.lower.ensures.header_cluster);
         reftable = ap (λ a. a.reftable) w.self-is ∙ w.lower.ensures.reftable ∙ c.leaving.invariant.reftable;
         first = ap (λ a. a.first_free_cluster) w.self-is
@@ -103,9 +100,8 @@ leaving-preserved g c =
       | else-not-lacks_block w ↦ record {
         header = ap (λ f. f.header) w.file-is ∙ c.leaving.invariant.header;
         list = ap (λ f. f.free_list) w.file-is ∙ c.leaving.invariant.list;
-        marks = subst (λ f. KeepsPinsAndNotes c.args.file.now.caches f.caches) (sym w.file-is) c.leaving.invariant.marks;
+        marks = subst (λ f. KeepsMarks g.S.Storage.view c.args.file.now f) (sym w.file-is) c.leaving.invariant.marks;
         faults = subst (λ f. faults_of g.S.Storage.view c.args.file.now.storage ≤ faults_of g.S.Storage.view f.storage) (sym w.file-is) c.leaving.invariant.faults;
-        order = ap (λ f. order_of f.caches) w.file-is ∙ c.leaving.invariant.order;
         spared = of_equal (λ a f. SparesHeader g.S.Storage.view c.args.self.now.reftable c.args.file.now a.reftable f) c.if-not-lacks_block.self c.leaving.self c.if-not-lacks_block.file c.leaving.file w.self-is w.file-is (c.leaving.invariant.spared);
         reftable = ap (λ a. a.reftable) w.self-is ∙ c.leaving.invariant.reftable;
         first = ap (λ a. a.first_free_cluster) w.self-is ∙ c.leaving.invariant.first;
@@ -131,10 +127,7 @@ pub returns-clause-kept : goal.returns-clause-kept
 returns-clause-kept g c = λ p start same b. c.leaving.invariant.kept p start same b
 
 pub returns-in_err-lower-clause-marks : goal.returns-in_err-lower-clause-marks
-returns-in_err-lower-clause-marks g c = marks_then _ _ _ c.leaving.invariant.marks c.lower.ensures.marks
-
-pub returns-in_err-lower-clause-order : goal.returns-in_err-lower-clause-order
-returns-in_err-lower-clause-order g c = c.lower.ensures.order ∙ c.leaving.invariant.order
+returns-in_err-lower-clause-marks g c = kept_marks_then c.leaving.invariant.marks c.lower.ensures.marks
 
 pub returns-in_err-lower-clause-cause : goal.returns-in_err-lower-clause-cause
 returns-in_err-lower-clause-cause g c = handed_cause c.from_residual.result c.in_err-lower.field-0.0 c.from_residual.ensures c.in_err-lower.ensures.cause
@@ -153,9 +146,6 @@ returns-in_err-lower-clause-reftable g c = c.lower.ensures.reftable ∙ c.leavin
 
 pub returns-clause-marks : goal.returns-clause-marks
 returns-clause-marks g c = c.leaving.invariant.marks
-
-pub returns-clause-order : goal.returns-clause-order
-returns-clause-order g c = c.leaving.invariant.order
 
 pub returns-clause-header : goal.returns-clause-header
 returns-clause-header g c = c.leaving.invariant.header

@@ -3,6 +3,7 @@ use Rattle.qcow2_alloc.specs.Allocation.{LoadsBlock}
 use Rattle.qcow2_alloc.proofs.FileSteps.{file_step_cached, reftable_cached}
 use Rattle.qcow2_alloc.proofs.AllocationSteps.{handed_on, place_fits, stands}
 use Rattle.qcow2_alloc.proofs.SparedHeaders.{spares_cached, not_first}
+use Rattle.qcow2_alloc.proofs.KeptMarks.{marks_of_both}
 use Rattle.qcow2_alloc.proofs.allocation.Allocator.load_block.Goals as goal
 
 pub returns-in_err-rb_get_or_insert-clause-sound : goal.returns-in_err-rb_get_or_insert-clause-sound
@@ -29,3 +30,9 @@ returns-in_err-rb_get_or_insert-clause-header_cluster g c = spares_cached c.args
 
 pub returns-clause-header_cluster : goal.returns-clause-header_cluster
 returns-clause-header_cluster g c = spares_cached c.args.self.now.reftable c.args.file.now c.rb_get_or_insert.new.storage c.rb_get_or_insert.new.self (c.rb_get_or_insert.ensures.header_cluster (not_first c.in-Some-checked_cluster.cluster (2 ^ c.cluster_bits.result) c.in-Some.offset c.in-Some.ensures.some c.in-Some-checked_cluster.ensures.cluster))
+
+pub returns-in_err-rb_get_or_insert-clause-marks : goal.returns-in_err-rb_get_or_insert-clause-marks
+returns-in_err-rb_get_or_insert-clause-marks g c = marks_of_both c.rb_get_or_insert.ensures.marks c.rb_get_or_insert.ensures.order c.rb_get_or_insert.ensures.notes
+
+pub returns-clause-marks : goal.returns-clause-marks
+returns-clause-marks g c = marks_of_both c.rb_get_or_insert.ensures.marks c.rb_get_or_insert.ensures.order c.rb_get_or_insert.ensures.notes

@@ -7,13 +7,13 @@ use Rattle.qcow2_alloc.specs.declared.allocation.Allocator.{Allocator}
 use Rattle.qcow2_alloc.proofs.Hints.{hint_header, lowest_behind, lowest_first, lowest_passed, lowest_stays, not_broken, used_stays}
 use Rattle.qcow2_alloc.specs.Allocation.{run_at, UnseenAllocatorGrowth, TakesSomeRun, RefusedGrowth}
 use Rattle.qcow2_alloc.specs.FreeList.{pending_then}
-use Rattle.qcow2_alloc.proofs.CachePins.{marks_none, marks_then}
 use Rattle.qcow2_alloc.proofs.AllocationSteps.{handed_on, may_still, on_none, on_of, leaves_as, is_sound_on}
 use Rattle.qcow2_alloc.proofs.ListedAfter.{header_same, header_then, lists_none, lists_same, lists_then, listed_after_same, then_none, then_taken, then_leaves, header_bits}
 use Rattle.std.specs.Prelude.{IfErr}
 use Rattle.qcow2_alloc.specs.declared.error.ImageError.{ImageError}
 use Rattle.qcow2_alloc.specs.Limits.{IsFaultOr, HasNoPlace, nameable_clusters}
 use Rattle.qcow2_alloc.proofs.Limits.{full_behind, limit_is_no_fault}
+use Rattle.qcow2_alloc.proofs.KeptMarks.{kept_marks_none, kept_marks_then}
 use Rattle.qcow2_alloc.proofs.allocation.Allocator.lowest_run.Goals.{then-search-test+then-n-limit+else-first-limit, then-search-test+else-n-limit, else-search-test}
 use Rattle.qcow2_alloc.proofs.FormerReftables.{former_none, former_still, former_then}
 use Rattle.qcow2_alloc.proofs.Faults.{told_ok}
@@ -27,7 +27,7 @@ returns-in_err-taken-clause-sound g c = λ p d sound may.
     let q : Pending = pending_then p c.args.file.now.free_list c.search.file.free_list in
     let now = is_sound_on g.S.Storage.view p q c.args.file.now c.search.file c.search.self before in
     handed_on (TakesSomeRun g.S.Storage.view p c.args.file.now c.take_run.new.self c.take_run.new.file (pending_then p c.args.file.now.free_list c.take_run.new.file.free_list) d c.args.n) c.from_residual.result c.in_err-taken.field-0.0 c.from_residual.ensures
-    (then_leaves g.S.Storage.view p c.args.file.now c.search.file c.take_run.new.file c.search.self c.take_run.new.self c.search.invariant.list c.take_run.ensures.list before c.in_err-taken.field-0.0 (c.in_err-taken.ensures.sound q d now (may_still d c.args.file.now c.search.file c.search.invariant.order may)))
+    (then_leaves g.S.Storage.view p c.args.file.now c.search.file c.take_run.new.file c.search.self c.take_run.new.self c.search.invariant.list c.take_run.ensures.list before c.in_err-taken.field-0.0 (c.in_err-taken.ensures.sound q d now (may_still d c.args.file.now c.search.file c.search.invariant.marks.order may)))
 
 pub returns-then-taken-n-clause-sound : goal.returns-then-taken-n-clause-sound
 returns-then-taken-n-clause-sound g c = λ p d sound may.
@@ -35,7 +35,7 @@ returns-then-taken-n-clause-sound g c = λ p d sound may.
     let q : Pending = pending_then p c.args.file.now.free_list c.search.file.free_list in
     let now = is_sound_on g.S.Storage.view p q c.args.file.now c.search.file c.search.self before in
     then_taken g.S.Storage.view p c.args.file.now c.search.file c.take_run.new.file c.search.self c.take_run.new.self c.search.invariant.list c.take_run.ensures.list before d (run_at c.search.first c.args.n)
-    ((c.in_ok-taken.ensures.sound q d now (may_still d c.args.file.now c.search.file c.search.invariant.order may)).0 c.if-taken-n.true)
+    ((c.in_ok-taken.ensures.sound q d now (may_still d c.args.file.now c.search.file c.search.invariant.marks.order may)).0 c.if-taken-n.true)
 
 pub search-init : goal.search-init
 search-init g c = record {
@@ -44,9 +44,8 @@ search-init g c = record {
   former = former_none c.args.self.now.reftable c.args.file.now.free_list;
   limit = ap (λ n. greatest_offset / 2 ^ n + 1) c.cluster_bits.ensures.value;
   near = let le = div-le_self greatest_offset (2 ^ c.cluster_bits.result) in omega (arith, le);
-  marks = marks_none c.args.file.now.caches;
+  marks = kept_marks_none;
   faults = omega arith;
-  order = refl;
   spared = spares_none;
   sound = λ p sound.
       subst (λ (r : Pending). UnseenAllocatorGrowth g.S.Storage.view p c.args.file.now (record c.args.self.now { first_free_cluster = c.max-self.result }) c.args.file.now r) (sym (listed_after_same p c.args.file.now.free_list c.args.file.now.free_list refl))
@@ -68,9 +67,8 @@ search-preserved g c = record {
   limit = c.search.invariant.limit;
   near = c.search.invariant.near;
   above = let behind = c.in_ok-first.ensures.behind in omega (arith, behind);
-  marks = marks_then c.args.file.now.caches c.take_run.new.file.caches c.pass_used.new.file.caches (marks_then c.args.file.now.caches c.search.file.caches c.take_run.new.file.caches c.search.invariant.marks c.take_run.ensures.marks) c.pass_used.ensures.marks;
+  marks = kept_marks_then (kept_marks_then c.search.invariant.marks c.take_run.ensures.marks) c.pass_used.ensures.marks;
   faults = le_trans (le_trans c.search.invariant.faults c.take_run.ensures.storage_faults.no_fewer) c.pass_used.ensures.storage_faults.no_fewer;
-  order = c.pass_used.ensures.order ∙ c.take_run.ensures.order ∙ c.search.invariant.order;
   spared = spares_then (spares_then c.search.invariant.spared c.take_run.ensures.header_cluster) (spares_less (c.pass_used.ensures.header_cluster));
   sound = λ p sound.
       let before = c.search.invariant.sound p sound in
@@ -95,7 +93,7 @@ search-preserved g c = record {
       let mid = then_none g.S.Storage.view p c.args.file.now c.search.file c.take_run.new.file c.search.self c.take_run.new.self c.search.invariant.list c.take_run.ensures.list before ((c.in_ok-taken.ensures.sound q false now tt).1 c.if-taken-n.false) in
       let r : Pending = pending_then p c.args.file.now.free_list c.take_run.new.file.free_list in
       let there = is_sound_on g.S.Storage.view p r c.args.file.now c.take_run.new.file c.take_run.new.self mid in
-      let may_now = may_still d c.args.file.now c.search.file c.search.invariant.order may in
+      let may_now = may_still d c.args.file.now c.search.file c.search.invariant.marks.order may in
       c.in_ok-first.ensures.hint r there (c.in_ok-taken.ensures.hint q d now may_now (c.search.invariant.hint p d sound may hint));
   lowest = λ p d sound may hint some.
       let before = c.search.invariant.sound p sound in
@@ -105,7 +103,7 @@ search-preserved g c = record {
       let mid = then_none g.S.Storage.view p c.args.file.now c.search.file c.take_run.new.file c.search.self c.take_run.new.self c.search.invariant.list c.take_run.ensures.list before ((c.in_ok-taken.ensures.sound q false now tt).1 c.if-taken-n.false) in
       let r : Pending = pending_then p c.args.file.now.free_list c.take_run.new.file.free_list in
       let there = is_sound_on g.S.Storage.view p r c.args.file.now c.take_run.new.file c.take_run.new.self mid in
-      let may_now = may_still d c.args.file.now c.search.file c.search.invariant.order may in
+      let may_now = may_still d c.args.file.now c.search.file c.search.invariant.marks.order may in
       let passed = c.in_ok-first.ensures.sound r there in
       lowest_passed g.S.Storage.view c.pass_used.new.file (c.search.first + (c.in_ok-taken.taken + 1)) c.in_ok-first.first c.args.n (let behind = c.in_ok-first.ensures.behind in omega (arith, behind)) some (λ k low high. passed.1 k (omega (arith, low)) high)
       (lowest_stays g.S.Storage.view c.take_run.new.file c.pass_used.new.file (c.search.first + (c.in_ok-taken.taken + 1)) c.args.n (λ k used. used_stays g.S.Storage.view r r c.take_run.new.file c.pass_used.new.file c.pass_used.new.self k passed.0 (omega arith) used)
@@ -136,7 +134,7 @@ returns-in_err-first-clause-hint g c = λ p d sound may hint.
     let mid = then_none g.S.Storage.view p c.args.file.now c.search.file c.take_run.new.file c.search.self c.take_run.new.self c.search.invariant.list c.take_run.ensures.list before ((c.in_ok-taken.ensures.sound q false now tt).1 c.if-taken-n.false) in
     let r : Pending = pending_then p c.args.file.now.free_list c.take_run.new.file.free_list in
     let there = is_sound_on g.S.Storage.view p r c.args.file.now c.take_run.new.file c.take_run.new.self mid in
-    let may_now = may_still d c.args.file.now c.search.file c.search.invariant.order may in
+    let may_now = may_still d c.args.file.now c.search.file c.search.invariant.marks.order may in
     handed_on (KeepsNoFreeBelowHint g.S.Storage.view c.pass_used.new.self c.pass_used.new.file) c.from_residual-in_err-first.result c.in_err-first.field-0.0 c.from_residual-in_err-first.ensures
     (c.in_err-first.ensures.hint r there (c.in_ok-taken.ensures.hint q d now may_now (c.search.invariant.hint p d sound may hint)))
 
@@ -164,10 +162,7 @@ returns-in_err-first-clause-former g c =
     (former_then c.args.self.now.reftable c.search.self.reftable c.take_run.new.self.reftable c.args.file.now.free_list c.search.file.free_list c.take_run.new.file.free_list c.search.invariant.former c.take_run.ensures.former) (ap (λ (t : Allocator). t.reftable) c.pass_used.ensures.moves) c.pass_used.ensures.list
 
 pub returns-in_err-first-clause-marks : goal.returns-in_err-first-clause-marks
-returns-in_err-first-clause-marks g c = marks_then _ _ _ (marks_then _ _ _ c.search.invariant.marks c.take_run.ensures.marks) c.pass_used.ensures.marks
-
-pub returns-in_err-first-clause-order : goal.returns-in_err-first-clause-order
-returns-in_err-first-clause-order g c = c.pass_used.ensures.order ∙ c.take_run.ensures.order ∙ c.search.invariant.order
+returns-in_err-first-clause-marks g c = kept_marks_then (kept_marks_then c.search.invariant.marks c.take_run.ensures.marks) c.pass_used.ensures.marks
 
 pub returns-in_err-first-clause-cause : goal.returns-in_err-first-clause-cause
 returns-in_err-first-clause-cause g c = handed_cause c.from_residual-in_err-first.result c.in_err-first.field-0.0 c.from_residual-in_err-first.ensures c.in_err-first.ensures.cause
@@ -196,7 +191,7 @@ returns-in_err-taken-clause-hint g c = λ p d sound may hint.
     let before = c.search.invariant.sound p sound in
     let q : Pending = pending_then p c.args.file.now.free_list c.search.file.free_list in
     let now = is_sound_on g.S.Storage.view p q c.args.file.now c.search.file c.search.self before in
-    let may_now = may_still d c.args.file.now c.search.file c.search.invariant.order may in
+    let may_now = may_still d c.args.file.now c.search.file c.search.invariant.marks.order may in
     handed_on (KeepsNoFreeBelowHint g.S.Storage.view c.take_run.new.self c.take_run.new.file) c.from_residual.result c.in_err-taken.field-0.0 c.from_residual.ensures (c.in_err-taken.ensures.hint q d now may_now (c.search.invariant.hint p d sound may hint))
 
 pub returns-then-taken-n-clause-lowest : goal.returns-then-taken-n-clause-lowest
@@ -204,7 +199,7 @@ returns-then-taken-n-clause-lowest g c = λ p d sound may hint.
     let before = c.search.invariant.sound p sound in
     let q : Pending = pending_then p c.args.file.now.free_list c.search.file.free_list in
     let now = is_sound_on g.S.Storage.view p q c.args.file.now c.search.file c.search.self before in
-    let may_now = may_still d c.args.file.now c.search.file c.search.invariant.order may in
+    let may_now = may_still d c.args.file.now c.search.file c.search.invariant.marks.order may in
     lowest_stays g.S.Storage.view c.search.file c.take_run.new.file c.search.first c.args.n (c.in_ok-taken.ensures.uses q d now may_now) (c.search.invariant.lowest p d sound may hint c.search-test.true)
 
 pub returns-then-taken-n-clause-hint : goal.returns-then-taken-n-clause-hint
@@ -212,7 +207,7 @@ returns-then-taken-n-clause-hint g c = λ p d sound may hint.
     let before = c.search.invariant.sound p sound in
     let q : Pending = pending_then p c.args.file.now.free_list c.search.file.free_list in
     let now = is_sound_on g.S.Storage.view p q c.args.file.now c.search.file c.search.self before in
-    let may_now = may_still d c.args.file.now c.search.file c.search.invariant.order may in
+    let may_now = may_still d c.args.file.now c.search.file c.search.invariant.marks.order may in
     c.in_ok-taken.ensures.hint q d now may_now (c.search.invariant.hint p d sound may hint)
 
 pub returns-clause-hint : goal.returns-clause-hint
@@ -229,7 +224,7 @@ returns-in_err-taken-clause-limit g c = λ p d sound may hint some.
     let before = c.search.invariant.sound p sound in
     let q : Pending = pending_then p c.args.file.now.free_list c.search.file.free_list in
     let now = is_sound_on g.S.Storage.view p q c.args.file.now c.search.file c.search.self before in
-    let may_now = may_still d c.args.file.now c.search.file c.search.invariant.order may in
+    let may_now = may_still d c.args.file.now c.search.file c.search.invariant.marks.order may in
     let bits = header_bits c.args.file.now.header c.search.file.header c.search.invariant.header in
     let within : c.search.first + c.args.n ≤ nameable_clusters c.search.file.header.fields =
     let few = c.if-n-limit.true in let below = c.if-first-limit.true in let limit = c.search.invariant.limit in let now = ap (λ n. greatest_offset / 2 ^ n + 1) bits in omega (arith, few, below, limit, now) in
@@ -261,10 +256,7 @@ pub returns-then-taken-n-clause-former : goal.returns-then-taken-n-clause-former
 returns-then-taken-n-clause-former g c = former_then c.args.self.now.reftable c.search.self.reftable c.take_run.new.self.reftable c.args.file.now.free_list c.search.file.free_list c.take_run.new.file.free_list c.search.invariant.former c.take_run.ensures.former
 
 pub returns-in_err-taken-clause-marks : goal.returns-in_err-taken-clause-marks
-returns-in_err-taken-clause-marks g c = marks_then _ _ _ c.search.invariant.marks c.take_run.ensures.marks
-
-pub returns-in_err-taken-clause-order : goal.returns-in_err-taken-clause-order
-returns-in_err-taken-clause-order g c = c.take_run.ensures.order ∙ c.search.invariant.order
+returns-in_err-taken-clause-marks g c = kept_marks_then c.search.invariant.marks c.take_run.ensures.marks
 
 pub returns-in_err-taken-clause-cause : goal.returns-in_err-taken-clause-cause
 returns-in_err-taken-clause-cause g c = handed_cause c.from_residual.result c.in_err-taken.field-0.0 c.from_residual.ensures c.in_err-taken.ensures.cause
@@ -290,11 +282,8 @@ returns-in_err-taken-clause-header g c = header_then c.args.file.now.header c.se
 pub returns-then-taken-n-clause-header : goal.returns-then-taken-n-clause-header
 returns-then-taken-n-clause-header g c = header_then c.args.file.now.header c.search.file.header c.take_run.new.file.header c.search.invariant.header c.take_run.ensures.header
 
-pub returns-then-taken-n-clause-order : goal.returns-then-taken-n-clause-order
-returns-then-taken-n-clause-order g c = c.take_run.ensures.order ∙ c.search.invariant.order
-
 pub returns-then-taken-n-clause-marks : goal.returns-then-taken-n-clause-marks
-returns-then-taken-n-clause-marks g c = marks_then _ _ _ c.search.invariant.marks c.take_run.ensures.marks
+returns-then-taken-n-clause-marks g c = kept_marks_then c.search.invariant.marks c.take_run.ensures.marks
 
 pub returns-then-taken-n-clause-cause : goal.returns-then-taken-n-clause-cause
 returns-then-taken-n-clause-cause g c = tt
@@ -307,9 +296,6 @@ returns-then-taken-n-clause-elsewhere g c = c.search.invariant.above
 
 pub returns-clause-marks : goal.returns-clause-marks
 returns-clause-marks g c = c.search.invariant.marks
-
-pub returns-clause-order : goal.returns-clause-order
-returns-clause-order g c = c.search.invariant.order
 
 pub returns-clause-header : goal.returns-clause-header
 returns-clause-header g c = c.search.invariant.header

@@ -4,7 +4,6 @@ use Rattle.qcow2_alloc.specs.ImageError.{of_storage, of_metadata}
 use Rattle.qcow2_alloc.specs.ImageStorage.{storage_of}
 use Rattle.qcow2_alloc.proofs.AllocationSteps.{handed_on, fault_of_storage}
 use Rattle.qcow2_alloc.proofs.NamedReftables.{within_limit, interrupted_named, allocator_step_named, keeps_used}
-use Rattle.qcow2_alloc.proofs.CachePins.{marks_none}
 use Rattle.qcow2_alloc.proofs.ListedAfter.{header_same}
 use Rattle.qcow2_alloc.proofs.Outcomes.{told_limit, on_no_ok, handed_cause, on_err}
 use Rattle.std.proofs.Math.Nat.{le_refl}
@@ -12,6 +11,7 @@ use Rattle.qcow2_alloc.proofs.TableErrors.{storage_of_tables, metadata_of_tables
 use Rattle.qcow2_alloc.proofs.SparedHeaders.{spares_none, spares_pointer, noted_keeps, placed_above}
 use Rattle.qcow2_alloc.specs.SparedHeaders.{SparesHeaderButPointer}
 use Rattle.qcow2_metadata.specs.Header.{HeaderView}
+use Rattle.qcow2_alloc.proofs.KeptMarks.{kept_marks_none, kept_marks_then, marks_of_caches, told_kept, marks_of_storage}
 use Rattle.qcow2_alloc.proofs.allocation.Allocator.name_reftable.Goals as goal
 
 pub returns-in_err-set_reftable-clause-names : goal.returns-in_err-set_reftable-clause-names
@@ -48,10 +48,7 @@ returns-clause-uses g c = λ p first blocks clusters sound ready.
     c.in_ok-write_reftable_pointer.field-0 c.in_ok-write_reftable_pointer.was
 
 pub returns-in_default-clause-marks : goal.returns-in_default-clause-marks
-returns-in_default-clause-marks g c = marks_none _
-
-pub returns-in_default-clause-order : goal.returns-in_default-clause-order
-returns-in_default-clause-order g c = refl
+returns-in_default-clause-marks g c = kept_marks_none
 
 pub returns-in_default-clause-header : goal.returns-in_default-clause-header
 returns-in_default-clause-header g c = header_same c.args.file.now.header c.args.file.now.header refl
@@ -72,10 +69,7 @@ pub returns-in_default-clause-storage_faults : goal.returns-in_default-clause-st
 returns-in_default-clause-storage_faults g c = told_limit _ _ (le_refl _)
 
 pub returns-in_err-set_reftable-clause-marks : goal.returns-in_err-set_reftable-clause-marks
-returns-in_err-set_reftable-clause-marks g c = marks_none _
-
-pub returns-in_err-set_reftable-clause-order : goal.returns-in_err-set_reftable-clause-order
-returns-in_err-set_reftable-clause-order g c = refl
+returns-in_err-set_reftable-clause-marks g c = kept_marks_none
 
 pub returns-in_err-set_reftable-clause-header : goal.returns-in_err-set_reftable-clause-header
 returns-in_err-set_reftable-clause-header g c = header_same c.args.file.now.header c.set_reftable.new.self c.in_err-set_reftable.ensures.same
@@ -99,10 +93,9 @@ pub returns-in_err-set_reftable-clause-cause : goal.returns-in_err-set_reftable-
 returns-in_err-set_reftable-clause-cause g c = handed_cause c.from_residual.result (of_metadata c.in_err-set_reftable.field-0.0) c.from_residual.ensures (metadata_of_tables c.in_err-set_reftable.field-0.0)
 
 pub returns-in_err-write_reftable_pointer-clause-marks : goal.returns-in_err-write_reftable_pointer-clause-marks
-returns-in_err-write_reftable_pointer-clause-marks g c = c.note_change.ensures.marks
-
-pub returns-in_err-write_reftable_pointer-clause-order : goal.returns-in_err-write_reftable_pointer-clause-order
-returns-in_err-write_reftable_pointer-clause-order g c = c.note_change.ensures.tables.order
+returns-in_err-write_reftable_pointer-clause-marks g c = 
+    kept_marks_then (marks_of_caches c.note_change.ensures.marks c.note_change.ensures.tables.order)
+    (marks_of_storage refl (told_kept c.args.file.now.storage c.will_write.new.self c.write_reftable_pointer.new.self c.write_reftable_pointer.result c.will_write.ensures.storage c.will_write.ensures.changed _ c.write_reftable_pointer.ensures.written c.write_reftable_pointer.ensures.calls c.write_reftable_pointer.ensures.noted))
 
 pub returns-in_err-write_reftable_pointer-clause-list : goal.returns-in_err-write_reftable_pointer-clause-list
 returns-in_err-write_reftable_pointer-clause-list g c = refl
@@ -123,10 +116,9 @@ pub returns-in_err-write_reftable_pointer-clause-cause : goal.returns-in_err-wri
 returns-in_err-write_reftable_pointer-clause-cause g c = handed_cause c.from_residual-in_err-write_reftable_pointer.result (of_storage c.in_err-write_reftable_pointer.field-0.0) c.from_residual-in_err-write_reftable_pointer.ensures (storage_of_tables c.in_err-write_reftable_pointer.field-0.0)
 
 pub returns-clause-marks : goal.returns-clause-marks
-returns-clause-marks g c = c.note_change.ensures.marks
-
-pub returns-clause-order : goal.returns-clause-order
-returns-clause-order g c = c.note_change.ensures.tables.order
+returns-clause-marks g c = 
+    kept_marks_then (marks_of_caches c.note_change.ensures.marks c.note_change.ensures.tables.order)
+    (marks_of_storage refl (told_kept c.args.file.now.storage c.will_write.new.self c.write_reftable_pointer.new.self c.write_reftable_pointer.result c.will_write.ensures.storage c.will_write.ensures.changed _ c.write_reftable_pointer.ensures.written c.write_reftable_pointer.ensures.calls c.write_reftable_pointer.ensures.noted))
 
 pub returns-clause-list : goal.returns-clause-list
 returns-clause-list g c = refl

@@ -28,11 +28,11 @@ use Rattle.qcow2_alloc.specs.TableCaches.{cleared_rb, IsBlockOf}
 use Rattle.qcow2_alloc.proofs.FileSteps.{file_step_then, interrupted_then}
 use Rattle.qcow2_alloc.proofs.AllocationSteps.{handed_on, entries_entered, fault_of_storage, allocator_step_then, allocator_step_marked, is_sound_now, stands}
 use Rattle.qcow2_alloc.proofs.NamedBlocks.{entry_write_as, real, safe_throughout_named, named_so}
-use Rattle.qcow2_alloc.proofs.CachePins.{marks_then}
 use Rattle.qcow2_alloc.proofs.Faults.{told_on}
 use Rattle.qcow2_alloc.proofs.Outcomes.{on_no_ok, handed_cause, entries_none}
 use Rattle.qcow2_alloc.proofs.TableErrors.{storage_of_tables}
 use Rattle.qcow2_alloc.proofs.SparedHeaders.{spares_then, spares_entry, noted_keeps}
+use Rattle.qcow2_alloc.proofs.KeptMarks.{kept_marks_then, marks_of_caches, placed_kept, marks_of_storage}
 use Rattle.qcow2_alloc.proofs.allocation.Allocator.place_block.Goals as goal
 
 pub returns-in_err-write_block-clause-sound : goal.returns-in_err-write_block-clause-sound
@@ -139,9 +139,6 @@ returns-clause-sound g c = λ p sound place.
 pub returns-in_err-write_block-clause-marks : goal.returns-in_err-write_block-clause-marks
 returns-in_err-write_block-clause-marks g c = c.write_block.ensures.marks
 
-pub returns-in_err-write_block-clause-order : goal.returns-in_err-write_block-clause-order
-returns-in_err-write_block-clause-order g c = c.write_block.ensures.order
-
 pub returns-in_err-write_block-clause-cause : goal.returns-in_err-write_block-clause-cause
 returns-in_err-write_block-clause-cause g c = handed_cause c.from_residual-in_err-write_block.result c.in_err-write_block.field-0.0 c.from_residual-in_err-write_block.ensures c.in_err-write_block.ensures.cause
 
@@ -164,10 +161,10 @@ pub returns-in_err-write_block-clause-entries : goal.returns-in_err-write_block-
 returns-in_err-write_block-clause-entries g c = entries_none _ c.args.self.now.reftable
 
 pub returns-in_err-write_reftable_entry-clause-marks : goal.returns-in_err-write_reftable_entry-clause-marks
-returns-in_err-write_reftable_entry-clause-marks g c = marks_then _ _ _ c.write_block.ensures.marks c.note_change.ensures.marks
-
-pub returns-in_err-write_reftable_entry-clause-order : goal.returns-in_err-write_reftable_entry-clause-order
-returns-in_err-write_reftable_entry-clause-order g c = c.note_change.ensures.tables.order ∙ c.write_block.ensures.order
+returns-in_err-write_reftable_entry-clause-marks g c = 
+    kept_marks_then (kept_marks_then c.write_block.ensures.marks (marks_of_caches c.note_change.ensures.marks c.note_change.ensures.tables.order))
+    (marks_of_storage refl (placed_kept c.write_block.new.file.storage c.will_write.new.self c.write_reftable_entry.new.self c.write_reftable_entry.result c.will_write.ensures.storage c.will_write.ensures.changed c.enter_refblock.new.self.cluster _
+    (subst (λ (x : EntryTableView). IsSome x.cluster) (sym c.enter_refblock.ensures.rest) c.requires.placed) c.write_reftable_entry.ensures.written c.write_reftable_entry.ensures.calls c.write_reftable_entry.ensures.noted))
 
 pub returns-in_err-write_reftable_entry-clause-header : goal.returns-in_err-write_reftable_entry-clause-header
 returns-in_err-write_reftable_entry-clause-header g c = c.write_block.ensures.header
@@ -179,10 +176,10 @@ pub returns-in_err-write_reftable_entry-clause-first : goal.returns-in_err-write
 returns-in_err-write_reftable_entry-clause-first g c = refl
 
 pub returns-clause-marks : goal.returns-clause-marks
-returns-clause-marks g c = marks_then _ _ _ c.write_block.ensures.marks c.note_change.ensures.marks
-
-pub returns-clause-order : goal.returns-clause-order
-returns-clause-order g c = c.note_change.ensures.tables.order ∙ c.write_block.ensures.order
+returns-clause-marks g c = 
+    kept_marks_then (kept_marks_then c.write_block.ensures.marks (marks_of_caches c.note_change.ensures.marks c.note_change.ensures.tables.order))
+    (marks_of_storage refl (placed_kept c.write_block.new.file.storage c.will_write.new.self c.write_reftable_entry.new.self c.write_reftable_entry.result c.will_write.ensures.storage c.will_write.ensures.changed c.enter_refblock.new.self.cluster _
+    (subst (λ (x : EntryTableView). IsSome x.cluster) (sym c.enter_refblock.ensures.rest) c.requires.placed) c.write_reftable_entry.ensures.written c.write_reftable_entry.ensures.calls c.write_reftable_entry.ensures.noted))
 
 pub returns-clause-header : goal.returns-clause-header
 returns-clause-header g c = c.write_block.ensures.header

@@ -10,14 +10,12 @@ use Rattle.qcow2_laws.specs.Tops.{IsSameOutside}
 use Rattle.qcow2_metadata.specs.Bytes.{one_if}
 use Rattle.qcow2_metadata.specs.TableBytes.{ChangesEntry}
 use Rattle.qcow2_alloc.specs.Allocation.{run_at, NamesBehindHeader, StandAt, UnseenAllocatorStep}
-use Rattle.qcow2_alloc.specs.CachePins.{KeepsPinsAndNotes}
 use Rattle.qcow2_alloc.specs.GrownTables.{with_run}
 use Rattle.qcow2_alloc.specs.HeaderClusters.{KeepsHeaderCluster}
 use Rattle.qcow2_alloc.specs.ImageFile.{view_in, contents_in}
-use Rattle.qcow2_alloc.specs.MetadataCaches.{order_of, l2_tables, refblocks, rb_at}
+use Rattle.qcow2_alloc.specs.MetadataCaches.{l2_tables, refblocks, rb_at}
 use Rattle.qcow2_alloc.specs.Rooms.{opens, opened, room_length, PlacesBlocks}
 use Rattle.qcow2_alloc.specs.TableCaches.{IsBlockOf}
-use Rattle.qcow2_alloc.proofs.CachePins.{marks_none, marks_then}
 use Rattle.qcow2_alloc.proofs.AllocationSteps.{handed_on, behind_none, behind_then, entries_entered, allocator_step_none, allocator_step_then, is_sound_now}
 use Rattle.qcow2_alloc.proofs.FileSteps.{leaves_then}
 use Rattle.qcow2_alloc.proofs.Rooms.{opened_none, empty_run}
@@ -25,6 +23,8 @@ use Rattle.qcow2_alloc.proofs.Runs.{run_in}
 use Rattle.qcow2_alloc.proofs.PlacedRooms.{EntersSo, Counting, enters_none, enters_first, counting_first}
 use Rattle.qcow2_alloc.proofs.RoomSteps.{entries_aligned, wrote_err, wrote_ok, may_go, of_three, rest_then, placed_more, range_within, run_within, counts_as, room_enters, room_counts, room_uncached}
 use Rattle.qcow2_alloc.proofs.PlacedBlocks.{file_sizes}
+use Rattle.qcow2_alloc.proofs.KeptMarks.{kept_marks_none, kept_marks_then}
+use Rattle.qcow2_alloc.specs.KeptMarks.{KeepsMarks}
 use Rattle.qcow2_alloc.proofs.allocation.Allocator.place_blocks.Goals.{then-opens_range+in_ok-block+in_ok-write_new_block, else-opens_range}
 use Rattle.qcow2_alloc.specs.Faults.{faults_of}
 use Rattle.qcow2_alloc.proofs.HeaderClusters.{header_cluster_none, header_cluster_then}
@@ -41,10 +41,9 @@ placing-init g c =
     record {
       header = refl;
       list = refl;
-      marks = marks_none c.args.file.now.caches;
+      marks = kept_marks_none;
       faults = omega arith;
       header_cluster = header_cluster_none c.args.file.now.header.fields.cluster_bits (view_in g.S.Storage.view c.args.file.now);
-      order = refl;
       spared = λ n are. are;
       tables = refl;
       clean = λ all. all;
@@ -83,7 +82,7 @@ returns-in_err-write_new_block-clause-sound g c = λ p sound may longer.
     let first = c.args.room.first in
     let q = with_run p c.args.file.now.header.fields c.args.self.now.reftable c.args.room.first (room_length c.args.room) in
     let before = c.placing.invariant.sound p sound may longer in
-    let may_now = may_go c.args.file.now c.placing.file c.placing.invariant.order c.placing.invariant.tables may in
+    let may_now = may_go c.args.file.now c.placing.file c.placing.invariant.marks.order c.placing.invariant.tables may in
     let at_in : 0 < run_at first n c.new-place.result =
     (let is = c.new-place.ensures in let low = c.placing.invariant.low in let high = c.placing.invariant.high in let lt = c.placing-test.true in let end = c.placing.invariant.end_is in
     let one = run_in first n c.new-place.result (omega (arith, is, low)) (omega (arith, is, high, lt, end)) in omega (arith, one)) in
@@ -108,11 +107,10 @@ placing-preserved g c =
       | then-opens_range+in_ok-block+in_ok-write_new_block w ↦ record {
         header = ap (λ f. f.header) w.file-is ∙ w.write_new_block.ensures.header ∙ inv.header;
         list = ap (λ f. f.free_list) w.file-is ∙ w.write_new_block.ensures.list ∙ inv.list;
-        marks = subst (λ f. KeepsPinsAndNotes old.caches f.caches) (sym w.file-is) (marks_then old.caches c.placing.file.caches w.write_new_block.new.file.caches inv.marks w.write_new_block.ensures.marks);
+        marks = subst (λ f. KeepsMarks g.S.Storage.view old f) (sym w.file-is) (kept_marks_then inv.marks w.write_new_block.ensures.marks);
         faults = subst (λ f. faults_of g.S.Storage.view old.storage ≤ faults_of g.S.Storage.view f.storage) (sym w.file-is) (omega (arith, inv.faults, w.write_new_block.ensures.storage_faults.no_fewer));
         header_cluster = subst (λ f. KeepsHeaderCluster h.cluster_bits (view_in view old) (view_in view f)) (sym w.file-is) (header_cluster_then h.cluster_bits (view_in view old) (view_in view c.placing.file) (view_in view w.write_new_block.new.file) inv.header_cluster
             (subst (λ n. KeepsHeaderCluster n (view_in view c.placing.file) (view_in view w.write_new_block.new.file)) (w.in_ok-block.ensures.format.bits ∙ ap (λ x. x.fields.cluster_bits) inv.header) w.write_new_block.ensures.header_cluster));
-        order = ap (λ f. order_of f.caches) w.file-is ∙ w.write_new_block.ensures.order ∙ inv.order;
         spared = subst (λ f. KeepBehindHeader old.caches f.caches) (sym w.file-is) (λ n are. w.write_new_block.ensures.behind_header n (inv.spared n are));
         tables = ap (λ f. l2_tables f.caches) w.file-is ∙ w.write_new_block.ensures.tables ∙ inv.tables;
         clean = λ all. subst (λ f. AreClean (refblocks f.caches)) (sym w.file-is) (w.write_new_block.ensures.clean (inv.clean all));
@@ -130,7 +128,7 @@ placing-preserved g c =
         sound = λ p sound may longer.
             let q = with_run p c.args.file.now.header.fields c.args.self.now.reftable c.args.room.first (room_length c.args.room) in
             let before = inv.sound p sound may longer in
-            let may_now = may_go old c.placing.file inv.order inv.tables may in
+            let may_now = may_go old c.placing.file inv.marks.order inv.tables may in
             let at_same : w.new-place.result ≡ c.placing.at = w.new-place.ensures in
             let at_in : 0 < run_at first n w.new-place.result =
             (let low = inv.low in let high = inv.high in let lt = c.placing-test.true in let end = inv.end_is in
@@ -169,10 +167,9 @@ placing-preserved g c =
       | else-opens_range w ↦ record {
         header = ap (λ f. f.header) w.file-is ∙ inv.header;
         list = ap (λ f. f.free_list) w.file-is ∙ inv.list;
-        marks = subst (λ f. KeepsPinsAndNotes old.caches f.caches) (sym w.file-is) inv.marks;
+        marks = subst (λ f. KeepsMarks g.S.Storage.view old f) (sym w.file-is) inv.marks;
         faults = subst (λ f. faults_of g.S.Storage.view old.storage ≤ faults_of g.S.Storage.view f.storage) (sym w.file-is) inv.faults;
         header_cluster = subst (λ f. KeepsHeaderCluster h.cluster_bits (view_in view old) (view_in view f)) (sym w.file-is) inv.header_cluster;
-        order = ap (λ f. order_of f.caches) w.file-is ∙ inv.order;
         spared = subst (λ f. KeepBehindHeader old.caches f.caches) (sym w.file-is) inv.spared;
         tables = ap (λ f. l2_tables f.caches) w.file-is ∙ inv.tables;
         clean = λ all. subst (λ f. AreClean (refblocks f.caches)) (sym w.file-is) (inv.clean all);
@@ -245,3 +242,12 @@ returns-in_err-write_new_block-clause-behind_header g c = λ n are. c.write_new_
 
 pub returns-clause-behind_header : goal.returns-clause-behind_header
 returns-clause-behind_header g c = c.placing.invariant.spared
+
+pub returns-in_err-block-clause-marks : goal.returns-in_err-block-clause-marks
+returns-in_err-block-clause-marks g c = c.placing.invariant.marks
+
+pub returns-in_err-write_new_block-clause-marks : goal.returns-in_err-write_new_block-clause-marks
+returns-in_err-write_new_block-clause-marks g c = kept_marks_then c.placing.invariant.marks c.write_new_block.ensures.marks
+
+pub returns-clause-marks : goal.returns-clause-marks
+returns-clause-marks g c = c.placing.invariant.marks

@@ -3,7 +3,7 @@ use Rattle.qcow2_metadata.specs.Header.{counts_per_block}
 use Rattle.qcow2_laws.specs.Caches.{AreClean, BlocksMayGo}
 use Rattle.qcow2_laws.specs.CrashInvariant.{Pending}
 use Rattle.qcow2_alloc.specs.Allocation.{run_at, NamesBehindHeader, UnseenAllocatorStep}
-use Rattle.qcow2_alloc.specs.CachePins.{KeepsPinsAndNotes}
+use Rattle.qcow2_alloc.specs.KeptMarks.{KeepsMarks}
 use Rattle.qcow2_alloc.specs.Faults.{faults_of}
 use Rattle.qcow2_alloc.specs.GrownTables.{with_run}
 use Rattle.qcow2_alloc.specs.HeaderClusters.{KeepsHeaderCluster}
@@ -19,9 +19,8 @@ abbrev pub invariant-placing : goal.invariant-placing
 invariant-placing g l = record {
   header : l.file.header ≡ l.fn.file.header;
   list : l.file.free_list ≡ l.fn.file.free_list;
-  marks : KeepsPinsAndNotes l.fn.file.caches l.file.caches;
+  marks : KeepsMarks g.S.Storage.view l.fn.file l.file;
   faults : faults_of g.S.Storage.view l.fn.file.storage ≤ faults_of g.S.Storage.view l.file.storage;
-  order : order_of l.file.caches ≡ order_of l.fn.file.caches;
   spared : KeepBehindHeader l.fn.file.caches l.file.caches;
   tables : l2_tables l.file.caches ≡ l2_tables l.fn.file.caches;
   clean : AreClean (refblocks l.fn.file.caches) → AreClean (refblocks l.file.caches);

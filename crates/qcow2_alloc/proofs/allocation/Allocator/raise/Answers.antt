@@ -9,6 +9,8 @@ use Rattle.qcow2_alloc.specs.ImageFile.{IsFault, known_in, contents_in}
 use Rattle.qcow2_alloc.proofs.AllocationSteps.{handed_on, of_equal, counted_at, none_in_memory, taken_one}
 use Rattle.qcow2_alloc.proofs.Hints.{is_zero, used_stays}
 use Rattle.qcow2_alloc.specs.LowestRuns.{IsUsed}
+use Rattle.qcow2_alloc.proofs.KeptMarks.{kept_marks_then, marks_of_caches}
+use Rattle.qcow2_alloc.specs.KeptMarks.{KeepsMarks}
 use Rattle.qcow2_alloc.proofs.allocation.Allocator.raise.Goals.{then-rb_is_zero, else-rb_is_zero}
 use Rattle.qcow2_alloc.proofs.SparedHeaders.{spares_then, spares_tables}
 use Rattle.qcow2_alloc.specs.SparedHeaders.{SparesHeader}
@@ -40,7 +42,7 @@ returns-clause-sound g c = λ p is_data sound may.
           let raised = w.rb_increment.ensures.made c.load_block.new.file.header.fields p (contents_in g.S.Storage.view c.load_block.new.file) c.args.cluster l.0.file_step.sound.caches at l.1.2 zero in
           of_equal (λ f r. TakesOne g.S.Storage.view p c.args.file.now c.args.self.now f is_data c.args.cluster (Ok r)) c.if-rb_is_zero.file (record c.load_block.new.file { caches = w.rb_increment.new.self }) c.if-rb_is_zero.result true w.file-is (w.result-is ∙ raised)
           (taken_one g.S.Storage.view p c.args.file.now c.load_block.new.file c.args.self.now l.0 c.args.cluster c.in-Some.block c.rb_index-index.result at w.rb_increment.new.self w.rb_increment.ensures.order w.rb_increment.ensures.marks
-          is_data may c.load_block.ensures.order zero (w.rb_increment.ensures.counted raised))
+          is_data may c.load_block.ensures.marks.order zero (w.rb_increment.ensures.counted raised))
       | else-rb_is_zero w ↦ of_equal (λ f r. TakesOne g.S.Storage.view p c.args.file.now c.args.self.now f is_data c.args.cluster (Ok r)) c.if-rb_is_zero.file c.load_block.new.file c.if-rb_is_zero.result false w.file-is (w.result-is ∙ w.if-rb_is_zero.false) l.0
     ]
 
@@ -92,4 +94,10 @@ returns-clause-header_cluster g c = elim c.if-rb_is_zero.branch [
       subst (λ (f : ImageFile g.row.S.Denot). SparesHeader g.S.Storage.view c.args.self.now.reftable c.args.file.now c.args.self.now.reftable f) (sym w.file-is)
       (spares_then c.load_block.ensures.header_cluster (spares_tables c.args.self.now.reftable c.load_block.new.file w.rb_increment.new.self w.rb_increment.ensures.header_cluster))
   | else-rb_is_zero w ↦ subst (λ (f : ImageFile g.row.S.Denot). SparesHeader g.S.Storage.view c.args.self.now.reftable c.args.file.now c.args.self.now.reftable f) (sym w.file-is) c.load_block.ensures.header_cluster
+]
+
+pub returns-clause-marks : goal.returns-clause-marks
+returns-clause-marks g c = elim c.if-rb_is_zero.branch [
+  | then-rb_is_zero w ↦ subst (λ (f : ImageFile g.row.S.Denot). KeepsMarks g.S.Storage.view c.args.file.now f) (sym w.file-is) (kept_marks_then c.load_block.ensures.marks (marks_of_caches w.rb_increment.ensures.marks w.rb_increment.ensures.order))
+  | else-rb_is_zero w ↦ subst (λ (f : ImageFile g.row.S.Denot). KeepsMarks g.S.Storage.view c.args.file.now f) (sym w.file-is) c.load_block.ensures.marks
 ]

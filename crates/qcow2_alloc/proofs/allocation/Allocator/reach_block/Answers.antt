@@ -14,10 +14,10 @@ use Rattle.qcow2_metadata.specs.L2Mapping.{IsHostCluster}
 use Rattle.qcow2_metadata.specs.EntryTable.{entry_count}
 use Rattle.qcow2_alloc.specs.declared.error.ImageError.{ImageError}
 use Rattle.qcow2_alloc.proofs.FormerReftables.{former_same, former_then}
-use Rattle.qcow2_alloc.proofs.CachePins.{marks_then}
 use Rattle.qcow2_alloc.proofs.Faults.{told_on, told_since}
 use Rattle.qcow2_alloc.proofs.Outcomes.{on_no_ok, handed_cause}
 use Rattle.qcow2_alloc.proofs.SparedHeaders.{spares_then, spares_less}
+use Rattle.qcow2_alloc.proofs.KeptMarks.{kept_marks_then}
 use Rattle.qcow2_alloc.proofs.allocation.Allocator.reach_block.Goals as goal
 
 pub returns-then-in_bounds-clause-sound : goal.returns-then-in_bounds-clause-sound
@@ -102,9 +102,6 @@ returns-clause-former g c = former_then c.args.self.now.reftable c.grow_reftable
 pub returns-then-in_bounds-clause-marks : goal.returns-then-in_bounds-clause-marks
 returns-then-in_bounds-clause-marks g c = c.ensure_block.ensures.marks
 
-pub returns-then-in_bounds-clause-order : goal.returns-then-in_bounds-clause-order
-returns-then-in_bounds-clause-order g c = c.ensure_block.ensures.order
-
 pub returns-then-in_bounds-clause-cause : goal.returns-then-in_bounds-clause-cause
 returns-then-in_bounds-clause-cause g c = c.ensure_block.ensures.cause
 
@@ -129,9 +126,6 @@ returns-then-in_bounds-clause-list g c = lists_same _ _ c.ensure_block.ensures.l
 pub returns-in_err-grow_reftable-clause-marks : goal.returns-in_err-grow_reftable-clause-marks
 returns-in_err-grow_reftable-clause-marks g c = c.grow_reftable.ensures.marks
 
-pub returns-in_err-grow_reftable-clause-order : goal.returns-in_err-grow_reftable-clause-order
-returns-in_err-grow_reftable-clause-order g c = c.grow_reftable.ensures.order
-
 pub returns-in_err-grow_reftable-clause-cause : goal.returns-in_err-grow_reftable-clause-cause
 returns-in_err-grow_reftable-clause-cause g c = handed_cause c.from_residual.result c.in_err-grow_reftable.field-0.0 c.from_residual.ensures c.in_err-grow_reftable.ensures.cause
 
@@ -151,10 +145,7 @@ pub returns-in_err-grow_reftable-clause-former : goal.returns-in_err-grow_reftab
 returns-in_err-grow_reftable-clause-former g c = c.grow_reftable.ensures.former
 
 pub returns-clause-marks : goal.returns-clause-marks
-returns-clause-marks g c = marks_then _ _ _ c.grow_reftable.ensures.marks c.ensure_block-2.ensures.marks
-
-pub returns-clause-order : goal.returns-clause-order
-returns-clause-order g c = c.ensure_block-2.ensures.order ∙ c.grow_reftable.ensures.order
+returns-clause-marks g c = kept_marks_then c.grow_reftable.ensures.marks c.ensure_block-2.ensures.marks
 
 pub returns-clause-header : goal.returns-clause-header
 returns-clause-header g c = header_then c.args.file.now.header c.grow_reftable.new.file.header c.ensure_block-2.new.file.header c.grow_reftable.ensures.header (header_same c.grow_reftable.new.file.header c.ensure_block-2.new.file.header c.ensure_block-2.ensures.header)

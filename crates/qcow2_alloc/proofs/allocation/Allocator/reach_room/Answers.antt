@@ -4,9 +4,9 @@ use Rattle.qcow2_laws.specs.CrashInvariant.{Pending}
 use Rattle.qcow2_alloc.specs.Allocation.{UnseenAllocatorStep}
 use Rattle.qcow2_alloc.specs.GrownTables.{with_run}
 use Rattle.qcow2_alloc.specs.Rooms.{lacks, opens, ReachesRoom}
-use Rattle.qcow2_alloc.proofs.CachePins.{marks_none, marks_then}
 use Rattle.qcow2_alloc.proofs.AllocationSteps.{handed_on, allocator_step_none, is_sound_now}
 use Rattle.qcow2_alloc.proofs.Rooms.{counted_few, run_none, run_taken, run_not_taken, ends_room, opened_none, opened_more, more_short, is_flag, flag_few, noted_more, still_noted}
+use Rattle.qcow2_alloc.proofs.KeptMarks.{kept_marks_none, kept_marks_then}
 use Rattle.qcow2_alloc.proofs.allocation.Allocator.reach_room.Goals.{then-reaching-test+else-taken-end, else-reaching-test}
 use Rattle.qcow2_alloc.proofs.Faults.{told_ok}
 use Rattle.qcow2_alloc.proofs.Outcomes.{told_after, if_no_ok, handed_cause}
@@ -18,9 +18,8 @@ pub reaching-init : goal.reaching-init
 reaching-init g c = record {
   header = refl;
   list = refl;
-  marks = marks_none c.args.file.now.caches;
+  marks = kept_marks_none;
   faults = omega arith;
-  order = refl;
   spared = spares_none;
   same = refl;
   counts = c.rb_bits-bits.ensures.counts;
@@ -45,7 +44,7 @@ returns-in_err-take_if_free-clause-sound g c = λ p sound.
     handed_on (ReachesRoom g.S.Storage.view p c.args.file.now c.take_if_free.new.self c.take_if_free.new.file c.args.self.now.reftable c.args.first) c.from_residual.result c.in_err-take_if_free.field-0.0 c.from_residual.ensures (
       back.0,
       ends_room g.S.Storage.view p c.args.self.now.reftable c.args.first c.reaching.taken c.args.file.now c.reaching.file c.take_if_free.new.file c.reaching.self c.take_if_free.new.self c.in_err-take_if_free.field-0.0 before
-          (still_noted c.args.file.now.header.fields c.args.self.now.reftable c.args.first c.reaching.taken c.reaching.file.caches.is_changed c.take_if_free.new.file.caches.is_changed c.take_if_free.ensures.marks.changed c.reaching.invariant.noted) back.0 back.1,
+          (still_noted c.args.file.now.header.fields c.args.self.now.reftable c.args.first c.reaching.taken c.reaching.file.caches.is_changed c.take_if_free.new.file.caches.is_changed c.take_if_free.ensures.marks.pins.changed c.reaching.invariant.noted) back.0 back.1,
     )
 
 pub returns-then-not-branch-clause-sound : goal.returns-then-not-branch-clause-sound
@@ -66,9 +65,8 @@ reaching-preserved g c =
     record {
       header = c.take_if_free.ensures.header ∙ c.reaching.invariant.header;
       list = c.take_if_free.ensures.list ∙ c.reaching.invariant.list;
-      marks = marks_then c.args.file.now.caches c.reaching.file.caches c.take_if_free.new.file.caches c.reaching.invariant.marks c.take_if_free.ensures.marks;
+      marks = kept_marks_then c.reaching.invariant.marks c.take_if_free.ensures.marks;
       faults = le_trans c.reaching.invariant.faults c.take_if_free.ensures.storage_faults.no_fewer;
-      order = c.take_if_free.ensures.order ∙ c.reaching.invariant.order;
       spared = spares_then c.reaching.invariant.spared c.take_if_free.ensures.header_cluster;
       same = c.take_if_free.ensures.same ∙ c.reaching.invariant.same;
       counts = c.reaching.invariant.counts;
@@ -78,7 +76,7 @@ reaching-preserved g c =
           let q : Pending = with_run p h t c.args.first c.reaching.taken in
           run_taken g.S.Storage.view p t c.reaching.self.reftable c.args.first c.reaching.taken c.args.file.now c.reaching.file c.take_if_free.new.file c.reaching.self c.take_if_free.new.self c.in_ok-take_if_free.field-0
           (ap (λ x. x.fields) c.reaching.invariant.header) same before c.if-not-branch.false (c.in_ok-take_if_free.ensures.sound q (is_sound_now g.S.Storage.view p q c.args.file.now c.reaching.file c.reaching.self before));
-      noted = noted_more h t c.args.first c.reaching.taken c.reaching.file.caches.is_changed c.take_if_free.new.file.caches.is_changed c.take_if_free.ensures.marks.changed c.reaching.invariant.noted
+      noted = noted_more h t c.args.first c.reaching.taken c.reaching.file.caches.is_changed c.take_if_free.new.file.caches.is_changed c.take_if_free.ensures.marks.pins.changed c.reaching.invariant.noted
           (λ has. c.in_ok-take_if_free.ensures.noted c.if-not-branch.false
           (ap (λ x. lacks x ((c.args.first + c.reaching.taken) / 2 ^ c.rb_bits-bits.result)) same ∙ ap (λ n. lacks t ((c.args.first + c.reaching.taken) / n)) (sym c.reaching.invariant.counts) ∙ has));
       blocks = opened_more t (counts_per_block h) c.args.first c.reaching.taken c.reaching.blocks c.from.result c.opens_range.result opens_now (c.from.ensures ∙ is_flag c.opens_range.result) c.reaching.invariant.blocks;
@@ -112,10 +110,7 @@ returns-clause-stopped g c = λ p sound some within. elim c.reaching-test.branch
 ]
 
 pub returns-in_err-take_if_free-clause-marks : goal.returns-in_err-take_if_free-clause-marks
-returns-in_err-take_if_free-clause-marks g c = marks_then _ _ _ c.reaching.invariant.marks c.take_if_free.ensures.marks
-
-pub returns-in_err-take_if_free-clause-order : goal.returns-in_err-take_if_free-clause-order
-returns-in_err-take_if_free-clause-order g c = c.take_if_free.ensures.order ∙ c.reaching.invariant.order
+returns-in_err-take_if_free-clause-marks g c = kept_marks_then c.reaching.invariant.marks c.take_if_free.ensures.marks
 
 pub returns-in_err-take_if_free-clause-cause : goal.returns-in_err-take_if_free-clause-cause
 returns-in_err-take_if_free-clause-cause g c = handed_cause c.from_residual.result c.in_err-take_if_free.field-0.0 c.from_residual.ensures c.in_err-take_if_free.ensures.cause
@@ -159,11 +154,8 @@ returns-then-not-branch-clause-list g c = c.take_if_free.ensures.list ∙ c.reac
 pub returns-then-not-branch-clause-same : goal.returns-then-not-branch-clause-same
 returns-then-not-branch-clause-same g c = c.take_if_free.ensures.same ∙ c.reaching.invariant.same
 
-pub returns-then-not-branch-clause-order : goal.returns-then-not-branch-clause-order
-returns-then-not-branch-clause-order g c = c.take_if_free.ensures.order ∙ c.reaching.invariant.order
-
 pub returns-then-not-branch-clause-marks : goal.returns-then-not-branch-clause-marks
-returns-then-not-branch-clause-marks g c = marks_then _ _ _ c.reaching.invariant.marks c.take_if_free.ensures.marks
+returns-then-not-branch-clause-marks g c = kept_marks_then c.reaching.invariant.marks c.take_if_free.ensures.marks
 
 pub returns-then-not-branch-clause-cause : goal.returns-then-not-branch-clause-cause
 returns-then-not-branch-clause-cause g c = tt
@@ -191,9 +183,6 @@ returns-clause-few g c = c.reaching.invariant.few
 
 pub returns-clause-marks : goal.returns-clause-marks
 returns-clause-marks g c = c.reaching.invariant.marks
-
-pub returns-clause-order : goal.returns-clause-order
-returns-clause-order g c = c.reaching.invariant.order
 
 pub returns-clause-header : goal.returns-clause-header
 returns-clause-header g c = c.reaching.invariant.header

@@ -8,12 +8,12 @@ use Rattle.qcow2_alloc.specs.LowestRuns.{NoFreeBelowHint, KeepsNoFreeBelowHint, 
 use Rattle.qcow2_alloc.proofs.Hints.{hint_more, hint_raised, hint_refused, raised_used, range_as, uses_raised, uses_refused}
 use Rattle.qcow2_alloc.proofs.AllocationSteps.{handed_on, leaves_as, leaves_on, may_still, is_sound_on, takes_on}
 use Rattle.qcow2_alloc.proofs.ListedAfter.{header_counts, header_then, header_same, lists_then, lists_same}
+use Rattle.qcow2_alloc.proofs.KeptMarks.{kept_marks_then}
 use Rattle.qcow2_alloc.proofs.allocation.Allocator.take.Goals.{then-cluster-self, else-cluster-self}
 use Rattle.std.specs.Prelude.{IfErr}
 use Rattle.qcow2_alloc.specs.declared.error.ImageError.{ImageError}
 use Rattle.qcow2_alloc.specs.Limits.{CantCount, IsFaultOr}
 use Rattle.qcow2_alloc.proofs.FormerReftables.{former_still}
-use Rattle.qcow2_alloc.proofs.CachePins.{marks_then}
 use Rattle.qcow2_alloc.proofs.Faults.{told_on, told_ok}
 use Rattle.qcow2_alloc.proofs.Outcomes.{ok_no_err, told_after, if_no_ok, handed_cause, handed_unaligned}
 use Rattle.std.proofs.Math.Nat.{le_trans}
@@ -34,13 +34,13 @@ returns-in_err-taken-clause-sound g c = λ p d sound may.
     c.from_residual-in_err-taken.result c.in_err-taken.field-0.0 c.from_residual-in_err-taken.ensures
     (subst (λ (r : Pending). RefusedGrowth g.S.Storage.view p c.args.file.now c.raise.new.self c.raise.new.file r c.in_err-taken.field-0.0) (ap (pending_then p c.args.file.now.free_list) (sym c.raise.ensures.list))
     (leaves_on g.S.Storage.view p q q c.args.file.now c.reach_block.new.file c.raise.new.file c.reach_block.new.self c.raise.new.self c.in_err-taken.field-0.0 (λ k some. some) one
-    (leaves_as g.S.Storage.view q c.reach_block.new.file c.raise.new.file c.raise.new.self c.in_err-taken.field-0.0 (c.in_err-taken.ensures.sound q d (is_sound_on g.S.Storage.view p q c.args.file.now c.reach_block.new.file c.reach_block.new.self one) (may_still d c.args.file.now c.reach_block.new.file c.reach_block.ensures.order may)))))
+    (leaves_as g.S.Storage.view q c.reach_block.new.file c.raise.new.file c.raise.new.self c.in_err-taken.field-0.0 (c.in_err-taken.ensures.sound q d (is_sound_on g.S.Storage.view p q c.args.file.now c.reach_block.new.file c.reach_block.new.self one) (may_still d c.args.file.now c.reach_block.new.file c.reach_block.ensures.marks.order may)))))
 
 pub returns-clause-sound : goal.returns-clause-sound
 returns-clause-sound g c = λ p d sound may.
     let q : Pending = pending_then p c.args.file.now.free_list c.reach_block.new.file.free_list in
     let one = c.in_ok-reach_block.ensures.sound p sound in
-    let two = c.in_ok-taken.ensures.sound q d (is_sound_on g.S.Storage.view p q c.args.file.now c.reach_block.new.file c.reach_block.new.self one) (may_still d c.args.file.now c.reach_block.new.file c.reach_block.ensures.order may) in
+    let two = c.in_ok-taken.ensures.sound q d (is_sound_on g.S.Storage.view p q c.args.file.now c.reach_block.new.file c.reach_block.new.self one) (may_still d c.args.file.now c.reach_block.new.file c.reach_block.ensures.marks.order may) in
     let same : c.if-cluster-self.self.reftable ≡ c.raise.new.self.reftable = elim c.if-cluster-self.branch [
       | then-cluster-self w ↦ ap (λ (t : Allocator). t.reftable) w.self-is
       | else-cluster-self w ↦ ap (λ (t : Allocator). t.reftable) w.self-is
@@ -58,7 +58,7 @@ returns-in_err-taken-clause-hint g c = λ p d sound may hint.
     let now = is_sound_on g.S.Storage.view p q c.args.file.now c.reach_block.new.file c.reach_block.new.self (c.in_ok-reach_block.ensures.sound p sound) in
     handed_on (KeepsNoFreeBelowHint g.S.Storage.view c.raise.new.self c.raise.new.file) c.from_residual-in_err-taken.result c.in_err-taken.field-0.0 c.from_residual-in_err-taken.ensures
     (hint_refused g.S.Storage.view q c.reach_block.new.file c.raise.new.file c.reach_block.new.self c.raise.new.self c.in_err-taken.field-0.0 (ap (λ (t : Allocator). t.first_free_cluster) c.raise.ensures.same)
-    (c.in_err-taken.ensures.sound q d now (may_still d c.args.file.now c.reach_block.new.file c.reach_block.ensures.order may)) (c.in_ok-reach_block.ensures.hint p sound hint))
+    (c.in_err-taken.ensures.sound q d now (may_still d c.args.file.now c.reach_block.new.file c.reach_block.ensures.marks.order may)) (c.in_ok-reach_block.ensures.hint p sound hint))
 
 pub returns-clause-used : goal.returns-clause-used
 returns-clause-used g c = λ p d sound may.
@@ -71,7 +71,7 @@ pub returns-clause-hint : goal.returns-clause-hint
 returns-clause-hint g c = λ p d sound may hint.
     let q : Pending = pending_then p c.args.file.now.free_list c.reach_block.new.file.free_list in
     let now = is_sound_on g.S.Storage.view p q c.args.file.now c.reach_block.new.file c.reach_block.new.self (c.in_ok-reach_block.ensures.sound p sound) in
-    let two = c.in_ok-taken.ensures.sound q d now (may_still d c.args.file.now c.reach_block.new.file c.reach_block.ensures.order may) in
+    let two = c.in_ok-taken.ensures.sound q d now (may_still d c.args.file.now c.reach_block.new.file c.reach_block.ensures.marks.order may) in
     let same = ap (λ (t : Allocator). t.first_free_cluster) c.raise.ensures.same in
     let raised = hint_raised g.S.Storage.view q d c.args.cluster c.reach_block.new.file c.raise.new.file c.reach_block.new.self c.raise.new.self c.in_ok-taken.taken same two (c.in_ok-reach_block.ensures.hint p sound hint) in
     let used = raised_used g.S.Storage.view q d c.args.cluster c.reach_block.new.file c.raise.new.file c.raise.new.self c.in_ok-taken.taken two (returns-clause-used g c p d sound may) in
@@ -92,7 +92,7 @@ returns-in_err-taken-clause-uses g c = λ p d sound may.
     let now = is_sound_on g.S.Storage.view p q c.args.file.now c.reach_block.new.file c.reach_block.new.self (c.in_ok-reach_block.ensures.sound p sound) in
     handed_on (KeepsUsed g.S.Storage.view c.args.file.now c.raise.new.file) c.from_residual-in_err-taken.result c.in_err-taken.field-0.0 c.from_residual-in_err-taken.ensures
     (elim (uses_refused g.S.Storage.view q c.reach_block.new.file c.raise.new.file c.raise.new.self c.in_err-taken.field-0.0
-    (c.in_err-taken.ensures.sound q d now (may_still d c.args.file.now c.reach_block.new.file c.reach_block.ensures.order may)))
+    (c.in_err-taken.ensures.sound q d now (may_still d c.args.file.now c.reach_block.new.file c.reach_block.ensures.marks.order may)))
     [ inl kept ↦ inl (λ k used. kept k (c.in_ok-reach_block.ensures.uses p sound k used)) | inr interruption ↦ inr interruption ])
 
 pub returns-clause-uses : goal.returns-clause-uses
@@ -100,7 +100,7 @@ returns-clause-uses g c = λ p d sound may k used.
     let q : Pending = pending_then p c.args.file.now.free_list c.reach_block.new.file.free_list in
     let now = is_sound_on g.S.Storage.view p q c.args.file.now c.reach_block.new.file c.reach_block.new.self (c.in_ok-reach_block.ensures.sound p sound) in
     uses_raised g.S.Storage.view q d c.args.cluster c.reach_block.new.file c.raise.new.file c.raise.new.self c.in_ok-taken.taken
-    (c.in_ok-taken.ensures.sound q d now (may_still d c.args.file.now c.reach_block.new.file c.reach_block.ensures.order may)) k (c.in_ok-reach_block.ensures.uses p sound k used)
+    (c.in_ok-taken.ensures.sound q d now (may_still d c.args.file.now c.reach_block.new.file c.reach_block.ensures.marks.order may)) k (c.in_ok-reach_block.ensures.uses p sound k used)
 
 pub returns-clause-free : goal.returns-clause-free
 returns-clause-free g c = λ p sound taken used.
@@ -131,9 +131,6 @@ returns-clause-former g c =
 pub returns-in_err-reach_block-clause-marks : goal.returns-in_err-reach_block-clause-marks
 returns-in_err-reach_block-clause-marks g c = c.reach_block.ensures.marks
 
-pub returns-in_err-reach_block-clause-order : goal.returns-in_err-reach_block-clause-order
-returns-in_err-reach_block-clause-order g c = c.reach_block.ensures.order
-
 pub returns-in_err-reach_block-clause-cause : goal.returns-in_err-reach_block-clause-cause
 returns-in_err-reach_block-clause-cause g c = handed_cause c.from_residual.result c.in_err-reach_block.field-0.0 c.from_residual.ensures c.in_err-reach_block.ensures.cause
 
@@ -162,10 +159,7 @@ pub returns-in_err-reach_block-clause-former : goal.returns-in_err-reach_block-c
 returns-in_err-reach_block-clause-former g c = c.reach_block.ensures.former
 
 pub returns-in_err-taken-clause-marks : goal.returns-in_err-taken-clause-marks
-returns-in_err-taken-clause-marks g c = marks_then _ _ _ c.reach_block.ensures.marks c.raise.ensures.marks
-
-pub returns-in_err-taken-clause-order : goal.returns-in_err-taken-clause-order
-returns-in_err-taken-clause-order g c = c.raise.ensures.order ∙ c.reach_block.ensures.order
+returns-in_err-taken-clause-marks g c = kept_marks_then c.reach_block.ensures.marks c.raise.ensures.marks
 
 pub returns-in_err-taken-clause-cause : goal.returns-in_err-taken-clause-cause
 returns-in_err-taken-clause-cause g c = handed_cause c.from_residual-in_err-taken.result c.in_err-taken.field-0.0 c.from_residual-in_err-taken.ensures c.in_err-taken.ensures.cause
@@ -192,10 +186,7 @@ pub returns-in_err-taken-clause-unaligned : goal.returns-in_err-taken-clause-una
 returns-in_err-taken-clause-unaligned g c = λ u. ok_no_err _ I.UnalignedTable (c.in_ok-reach_block.ensures.unaligned u)
 
 pub returns-clause-marks : goal.returns-clause-marks
-returns-clause-marks g c = marks_then _ _ _ c.reach_block.ensures.marks c.raise.ensures.marks
-
-pub returns-clause-order : goal.returns-clause-order
-returns-clause-order g c = c.raise.ensures.order ∙ c.reach_block.ensures.order
+returns-clause-marks g c = kept_marks_then c.reach_block.ensures.marks c.raise.ensures.marks
 
 pub returns-clause-header : goal.returns-clause-header
 returns-clause-header g c = header_then c.args.file.now.header c.reach_block.new.file.header c.raise.new.file.header c.reach_block.ensures.header (header_same c.reach_block.new.file.header c.raise.new.file.header c.raise.ensures.header)

@@ -8,11 +8,11 @@ use Rattle.qcow2_alloc.specs.Allocation.{UnseenAllocatorStep}
 use Rattle.qcow2_alloc.specs.Rooms.{lacks}
 use Rattle.qcow2_alloc.proofs.AllocationSteps.{allocator_step_none, still_sound}
 use Rattle.qcow2_alloc.proofs.Rooms.{one_none, free_taken}
-use Rattle.qcow2_alloc.proofs.CachePins.{marks_none}
 use Rattle.qcow2_alloc.proofs.Faults.{told_ok}
 use Rattle.std.proofs.Math.Nat.{le_refl}
 use Rattle.qcow2_alloc.proofs.Outcomes.{not_both}
 use Rattle.qcow2_alloc.proofs.SparedHeaders.{spares_none}
+use Rattle.qcow2_alloc.proofs.KeptMarks.{kept_marks_none}
 use Rattle.qcow2_alloc.proofs.allocation.Allocator.take_if_free.Goals as goal
 
 pub returns-then-lacks_block-clause-sound : goal.returns-then-lacks_block-clause-sound
@@ -49,9 +49,6 @@ returns-else-is_fault-clause-used g c = λ p sound. not_both c.is_fault.result (
 pub returns-in-Ok-clause-marks : goal.returns-in-Ok-clause-marks
 returns-in-Ok-clause-marks g c = c.raise.ensures.marks
 
-pub returns-in-Ok-clause-order : goal.returns-in-Ok-clause-order
-returns-in-Ok-clause-order g c = c.raise.ensures.order
-
 pub returns-in-Ok-clause-same : goal.returns-in-Ok-clause-same
 returns-in-Ok-clause-same g c = c.raise.ensures.same
 
@@ -63,9 +60,6 @@ returns-in-Ok-clause-list g c = c.raise.ensures.list
 
 pub returns-then-is_fault-clause-marks : goal.returns-then-is_fault-clause-marks
 returns-then-is_fault-clause-marks g c = c.raise.ensures.marks
-
-pub returns-then-is_fault-clause-order : goal.returns-then-is_fault-clause-order
-returns-then-is_fault-clause-order g c = c.raise.ensures.order
 
 pub returns-then-is_fault-clause-same : goal.returns-then-is_fault-clause-same
 returns-then-is_fault-clause-same g c = c.raise.ensures.same
@@ -79,9 +73,6 @@ returns-then-is_fault-clause-list g c = c.raise.ensures.list
 pub returns-else-is_fault-clause-marks : goal.returns-else-is_fault-clause-marks
 returns-else-is_fault-clause-marks g c = c.raise.ensures.marks
 
-pub returns-else-is_fault-clause-order : goal.returns-else-is_fault-clause-order
-returns-else-is_fault-clause-order g c = c.raise.ensures.order
-
 pub returns-else-is_fault-clause-same : goal.returns-else-is_fault-clause-same
 returns-else-is_fault-clause-same g c = c.raise.ensures.same
 
@@ -92,10 +83,7 @@ pub returns-else-is_fault-clause-list : goal.returns-else-is_fault-clause-list
 returns-else-is_fault-clause-list g c = c.raise.ensures.list
 
 pub returns-then-lacks_block-clause-marks : goal.returns-then-lacks_block-clause-marks
-returns-then-lacks_block-clause-marks g c = marks_none _
-
-pub returns-then-lacks_block-clause-order : goal.returns-then-lacks_block-clause-order
-returns-then-lacks_block-clause-order g c = refl
+returns-then-lacks_block-clause-marks g c = kept_marks_none
 
 pub returns-then-lacks_block-clause-same : goal.returns-then-lacks_block-clause-same
 returns-then-lacks_block-clause-same g c = refl

@@ -3,7 +3,6 @@ use Rattle.qcow2_metadata.specs.Header.{counts_per_block}
 use Rattle.qcow2_laws.specs.Changes.{one_at}
 use Rattle.qcow2_alloc.specs.Allocation.{taken_as, KeepsEntries, TakesLowest}
 use Rattle.qcow2_alloc.specs.declared.allocation.Allocator.{Allocator}
-use Rattle.qcow2_alloc.proofs.CachePins.{marks_none, marks_then}
 use Rattle.qcow2_alloc.specs.LowestRuns.{KeepsNoFreeBelowHint}
 use Rattle.qcow2_alloc.proofs.FileSteps.{one_here, leaves_then}
 use Rattle.qcow2_alloc.proofs.Hints.{hint_header, hint_stays, hint_taken, hint_more, hint_passed, hint_refused, range_as, taken_used}
@@ -14,6 +13,7 @@ use Rattle.std.proofs.Math.Nat.{le_trans}
 use Rattle.std.specs.Prelude.{◌≢◌}
 use Rattle.qcow2_metadata.specs.EntryTable.{EntryTableView}
 use Rattle.qcow2_alloc.proofs.SparedHeaders.{spares_none, spares_then}
+use Rattle.qcow2_alloc.proofs.KeptMarks.{kept_marks_none, kept_marks_then}
 use Rattle.qcow2_alloc.proofs.allocation.Allocator.take_lowest_below.Goals as goal
 
 -- the entries from an end on stay while the range of a cluster below it gets its refblock
@@ -46,9 +46,8 @@ pub search-init : goal.search-init
 search-init g c = record {
   header = refl;
   list = refl;
-  marks = marks_none c.args.file.now.caches;
+  marks = kept_marks_none;
   faults = omega arith;
-  order = refl;
   spared = spares_none;
   above = let first = c.max-self.ensures in omega (arith, first);
   entries = record { cluster = refl; bits = refl; count = refl; others = λ k past. refl; behind = behind_none c.args.self.now.reftable };
@@ -61,11 +60,8 @@ pub search-preserved : goal.search-preserved
 search-preserved g c = record {
   header = c.behind_used.ensures.header ∙ c.raise.ensures.header ∙ c.cover_range.ensures.header ∙ c.search.invariant.header;
   list = c.behind_used.ensures.list ∙ c.raise.ensures.list ∙ c.cover_range.ensures.list ∙ c.search.invariant.list;
-  marks =
-      marks_then c.args.file.now.caches c.raise.new.file.caches c.behind_used.new.file.caches
-      (marks_then c.args.file.now.caches c.cover_range.new.file.caches c.raise.new.file.caches (marks_then c.args.file.now.caches c.search.file.caches c.cover_range.new.file.caches c.search.invariant.marks c.cover_range.ensures.marks) c.raise.ensures.marks) c.behind_used.ensures.marks;
+  marks = kept_marks_then (kept_marks_then (kept_marks_then c.search.invariant.marks c.cover_range.ensures.marks) c.raise.ensures.marks) c.behind_used.ensures.marks;
   faults = le_trans (le_trans (le_trans c.search.invariant.faults c.cover_range.ensures.storage_faults.no_fewer) c.raise.ensures.storage_faults.no_fewer) c.behind_used.ensures.storage_faults.no_fewer;
-  order = c.behind_used.ensures.order ∙ c.raise.ensures.order ∙ c.cover_range.ensures.order ∙ c.search.invariant.order;
   spared = spares_then (spares_then (spares_then c.search.invariant.spared c.cover_range.ensures.header_cluster) (c.raise.ensures.header_cluster)) (c.behind_used.ensures.header_cluster);
   entries =
       subst (λ (t : Allocator). KeepsEntries (λ k. c.args.end ≤ k * counts_per_block c.args.file.now.header.fields) c.args.self.now.reftable t.reftable) (sym c.raise.ensures.same)
@@ -130,10 +126,7 @@ returns-in_err-self-clause-hint g c = λ p sound hint.
     (hint_refused g.S.Storage.view p c.raise.new.file c.behind_used.new.file marked marked c.in_err-self.field-0.0 refl (c.in_err-self.ensures.sound p there).1 three)
 
 pub returns-in_err-self-clause-marks : goal.returns-in_err-self-clause-marks
-returns-in_err-self-clause-marks g c = marks_then _ _ _ (marks_then _ _ _ (marks_then _ _ _ c.search.invariant.marks c.cover_range.ensures.marks) c.raise.ensures.marks) c.behind_used.ensures.marks
-
-pub returns-in_err-self-clause-order : goal.returns-in_err-self-clause-order
-returns-in_err-self-clause-order g c = c.behind_used.ensures.order ∙ c.raise.ensures.order ∙ c.cover_range.ensures.order ∙ c.search.invariant.order
+returns-in_err-self-clause-marks g c = kept_marks_then (kept_marks_then (kept_marks_then c.search.invariant.marks c.cover_range.ensures.marks) c.raise.ensures.marks) c.behind_used.ensures.marks
 
 pub returns-in_err-self-clause-cause : goal.returns-in_err-self-clause-cause
 returns-in_err-self-clause-cause g c = handed_cause c.from_residual-in_err-self.result c.in_err-self.field-0.0 c.from_residual-in_err-self.ensures c.in_err-self.ensures.cause
@@ -191,10 +184,7 @@ pub returns-clause-hint : goal.returns-clause-hint
 returns-clause-hint g c = λ p sound hint. c.search.invariant.hint p sound hint
 
 pub returns-in_err-cover_range-clause-marks : goal.returns-in_err-cover_range-clause-marks
-returns-in_err-cover_range-clause-marks g c = marks_then _ _ _ c.search.invariant.marks c.cover_range.ensures.marks
-
-pub returns-in_err-cover_range-clause-order : goal.returns-in_err-cover_range-clause-order
-returns-in_err-cover_range-clause-order g c = c.cover_range.ensures.order ∙ c.search.invariant.order
+returns-in_err-cover_range-clause-marks g c = kept_marks_then c.search.invariant.marks c.cover_range.ensures.marks
 
 pub returns-in_err-cover_range-clause-cause : goal.returns-in_err-cover_range-clause-cause
 returns-in_err-cover_range-clause-cause g c = handed_cause c.from_residual.result c.in_err-cover_range.field-0.0 c.from_residual.ensures c.in_err-cover_range.ensures.cause
@@ -215,10 +205,7 @@ pub returns-in_err-cover_range-clause-list : goal.returns-in_err-cover_range-cla
 returns-in_err-cover_range-clause-list g c = c.cover_range.ensures.list ∙ c.search.invariant.list
 
 pub returns-in_err-taken-clause-marks : goal.returns-in_err-taken-clause-marks
-returns-in_err-taken-clause-marks g c = marks_then _ _ _ (marks_then _ _ _ c.search.invariant.marks c.cover_range.ensures.marks) c.raise.ensures.marks
-
-pub returns-in_err-taken-clause-order : goal.returns-in_err-taken-clause-order
-returns-in_err-taken-clause-order g c = c.raise.ensures.order ∙ c.cover_range.ensures.order ∙ c.search.invariant.order
+returns-in_err-taken-clause-marks g c = kept_marks_then (kept_marks_then c.search.invariant.marks c.cover_range.ensures.marks) c.raise.ensures.marks
 
 pub returns-in_err-taken-clause-cause : goal.returns-in_err-taken-clause-cause
 returns-in_err-taken-clause-cause g c = handed_cause c.from_residual-in_err-taken.result c.in_err-taken.field-0.0 c.from_residual-in_err-taken.ensures c.in_err-taken.ensures.cause
@@ -244,11 +231,8 @@ returns-then-taken-clause-header g c = c.raise.ensures.header ∙ c.cover_range.
 pub returns-then-taken-clause-list : goal.returns-then-taken-clause-list
 returns-then-taken-clause-list g c = c.raise.ensures.list ∙ c.cover_range.ensures.list ∙ c.search.invariant.list
 
-pub returns-then-taken-clause-order : goal.returns-then-taken-clause-order
-returns-then-taken-clause-order g c = c.raise.ensures.order ∙ c.cover_range.ensures.order ∙ c.search.invariant.order
-
 pub returns-then-taken-clause-marks : goal.returns-then-taken-clause-marks
-returns-then-taken-clause-marks g c = marks_then _ _ _ (marks_then _ _ _ c.search.invariant.marks c.cover_range.ensures.marks) c.raise.ensures.marks
+returns-then-taken-clause-marks g c = kept_marks_then (kept_marks_then c.search.invariant.marks c.cover_range.ensures.marks) c.raise.ensures.marks
 
 pub returns-then-taken-clause-noted : goal.returns-then-taken-clause-noted
 returns-then-taken-clause-noted g c = λ some. c.in_ok-taken.ensures.noted c.if-taken.true
@@ -264,9 +248,6 @@ returns-then-taken-clause-storage_faults g c = told_ok _ _ _ (le_trans (le_trans
 
 pub returns-clause-marks : goal.returns-clause-marks
 returns-clause-marks g c = c.search.invariant.marks
-
-pub returns-clause-order : goal.returns-clause-order
-returns-clause-order g c = c.search.invariant.order
 
 pub returns-clause-header : goal.returns-clause-header
 returns-clause-header g c = c.search.invariant.header

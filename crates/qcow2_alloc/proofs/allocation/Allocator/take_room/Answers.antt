@@ -9,7 +9,6 @@ use Rattle.qcow2_alloc.specs.declared.error.ImageError.{ImageError}
 use Rattle.qcow2_alloc.specs.declared.free_room.Room.{Room}
 use Rattle.qcow2_alloc.specs.Limits.{IsFaultOr, HasNoRoomBelow}
 use Rattle.qcow2_alloc.specs.Rooms.{opened, TakesRoom}
-use Rattle.qcow2_alloc.proofs.CachePins.{marks_none, marks_then}
 use Rattle.qcow2_alloc.proofs.FileSteps.{leaves_then}
 use Rattle.qcow2_alloc.proofs.AllocationSteps.{handed_on, allocator_step_none, allocator_step_then, is_sound_now}
 use Rattle.qcow2_alloc.proofs.Runs.{run_after}
@@ -21,15 +20,15 @@ use Rattle.qcow2_alloc.proofs.Outcomes.{told_limit, told_after, if_no_ok, handed
 use Rattle.std.proofs.Math.Nat.{le_trans}
 use Rattle.qcow2_alloc.specs.declared.allocation.Allocator.{Allocator}
 use Rattle.qcow2_alloc.proofs.SparedHeaders.{spares_none, spares_then}
+use Rattle.qcow2_alloc.proofs.KeptMarks.{kept_marks_none, kept_marks_then}
 use Rattle.qcow2_alloc.proofs.allocation.Allocator.take_room.Goals as goal
 
 pub search-init : goal.search-init
 search-init g c = record {
   header = refl;
   list = refl;
-  marks = marks_none c.args.file.now.caches;
+  marks = kept_marks_none;
   faults = omega arith;
-  order = refl;
   spared = spares_none;
   reftable = refl;
   first_free = refl;
@@ -78,11 +77,8 @@ pub search-preserved : goal.search-preserved
 search-preserved g c = record {
   header = c.behind_used.ensures.header ∙ c.leave_run.ensures.header ∙ c.reach_room.ensures.header ∙ c.search.invariant.header;
   list = c.behind_used.ensures.list ∙ c.leave_run.ensures.list ∙ c.reach_room.ensures.list ∙ c.search.invariant.list;
-  marks =
-      marks_then c.args.file.now.caches c.leave_run.new.file.caches c.behind_used.new.file.caches
-      (marks_then c.args.file.now.caches c.reach_room.new.file.caches c.leave_run.new.file.caches (marks_then c.args.file.now.caches c.search.file.caches c.reach_room.new.file.caches c.search.invariant.marks c.reach_room.ensures.marks) c.leave_run.ensures.marks) c.behind_used.ensures.marks;
+  marks = kept_marks_then (kept_marks_then (kept_marks_then c.search.invariant.marks c.reach_room.ensures.marks) c.leave_run.ensures.marks) c.behind_used.ensures.marks;
   faults = le_trans (le_trans (le_trans c.search.invariant.faults c.reach_room.ensures.storage_faults.no_fewer) c.leave_run.ensures.storage_faults.no_fewer) c.behind_used.ensures.storage_faults.no_fewer;
-  order = c.behind_used.ensures.order ∙ c.leave_run.ensures.order ∙ c.reach_room.ensures.order ∙ c.search.invariant.order;
   spared = spares_then (spares_then (spares_then c.search.invariant.spared c.reach_room.ensures.header_cluster) (c.leave_run.ensures.header_cluster)) (c.behind_used.ensures.header_cluster);
   reftable = c.leave_run.ensures.reftable ∙ ap (λ a. a.reftable) c.reach_room.ensures.same ∙ c.search.invariant.reftable;
   first_free = c.leave_run.ensures.first ∙ ap (λ a. a.first_free_cluster) c.reach_room.ensures.same ∙ c.search.invariant.first_free;
@@ -163,10 +159,7 @@ returns-in_err-first-clause-room g c = λ p sound hint.
     (inl (c.in_err-first.ensures.sound p there).0)
 
 pub returns-in_err-first-clause-marks : goal.returns-in_err-first-clause-marks
-returns-in_err-first-clause-marks g c = marks_then _ _ _ (marks_then _ _ _ (marks_then _ _ _ c.search.invariant.marks c.reach_room.ensures.marks) c.leave_run.ensures.marks) c.behind_used.ensures.marks
-
-pub returns-in_err-first-clause-order : goal.returns-in_err-first-clause-order
-returns-in_err-first-clause-order g c = c.behind_used.ensures.order ∙ c.leave_run.ensures.order ∙ c.reach_room.ensures.order ∙ c.search.invariant.order
+returns-in_err-first-clause-marks g c = kept_marks_then (kept_marks_then (kept_marks_then c.search.invariant.marks c.reach_room.ensures.marks) c.leave_run.ensures.marks) c.behind_used.ensures.marks
 
 pub returns-in_err-first-clause-cause : goal.returns-in_err-first-clause-cause
 returns-in_err-first-clause-cause g c = handed_cause c.from_residual-in_err-first.result c.in_err-first.field-0.0 c.from_residual-in_err-first.ensures c.in_err-first.ensures.cause
@@ -251,10 +244,7 @@ returns-then-reach-clusters-clause-lowest g c = λ p sound hint.
     subst (λ n. IsFullBelow view c.reach_room.new.file t n c.args.clusters c.args.end c.search.first) (sym per) full
 
 pub returns-in_err-reach-clause-marks : goal.returns-in_err-reach-clause-marks
-returns-in_err-reach-clause-marks g c = marks_then _ _ _ c.search.invariant.marks c.reach_room.ensures.marks
-
-pub returns-in_err-reach-clause-order : goal.returns-in_err-reach-clause-order
-returns-in_err-reach-clause-order g c = c.reach_room.ensures.order ∙ c.search.invariant.order
+returns-in_err-reach-clause-marks g c = kept_marks_then c.search.invariant.marks c.reach_room.ensures.marks
 
 pub returns-in_err-reach-clause-cause : goal.returns-in_err-reach-clause-cause
 returns-in_err-reach-clause-cause g c = handed_cause c.from_residual.result c.in_err-reach.field-0.0 c.from_residual.ensures c.in_err-reach.ensures.cause
@@ -278,10 +268,7 @@ pub returns-in_err-reach-clause-lowest : goal.returns-in_err-reach-clause-lowest
 returns-in_err-reach-clause-lowest g c = λ _ _ _. if_no_ok _ c.from_residual.result c.in_err-reach.field-0.0 c.from_residual.ensures
 
 pub returns-in_err-leave_run-clause-marks : goal.returns-in_err-leave_run-clause-marks
-returns-in_err-leave_run-clause-marks g c = marks_then _ _ _ (marks_then _ _ _ c.search.invariant.marks c.reach_room.ensures.marks) c.leave_run.ensures.marks
-
-pub returns-in_err-leave_run-clause-order : goal.returns-in_err-leave_run-clause-order
-returns-in_err-leave_run-clause-order g c = c.leave_run.ensures.order ∙ c.reach_room.ensures.order ∙ c.search.invariant.order
+returns-in_err-leave_run-clause-marks g c = kept_marks_then (kept_marks_then c.search.invariant.marks c.reach_room.ensures.marks) c.leave_run.ensures.marks
 
 pub returns-in_err-leave_run-clause-cause : goal.returns-in_err-leave_run-clause-cause
 returns-in_err-leave_run-clause-cause g c = handed_cause c.from_residual-in_err-leave_run.result c.in_err-leave_run.field-0.0 c.from_residual-in_err-leave_run.ensures c.in_err-leave_run.ensures.cause
@@ -322,9 +309,6 @@ returns-then-reach-clusters-clause-header g c = c.reach_room.ensures.header ∙ 
 pub returns-then-reach-clusters-clause-list : goal.returns-then-reach-clusters-clause-list
 returns-then-reach-clusters-clause-list g c = c.reach_room.ensures.list ∙ c.search.invariant.list
 
-pub returns-then-reach-clusters-clause-order : goal.returns-then-reach-clusters-clause-order
-returns-then-reach-clusters-clause-order g c = c.reach_room.ensures.order ∙ c.search.invariant.order
-
 pub returns-then-reach-clusters-clause-reftable : goal.returns-then-reach-clusters-clause-reftable
 returns-then-reach-clusters-clause-reftable g c = ap (λ (a : Allocator). a.reftable) c.reach_room.ensures.same ∙ c.search.invariant.reftable
 
@@ -344,7 +328,7 @@ pub returns-in_err-leave_run-clause-first : goal.returns-in_err-leave_run-clause
 returns-in_err-leave_run-clause-first g c = c.leave_run.ensures.first ∙ ap (λ (a : Allocator). a.first_free_cluster) c.reach_room.ensures.same ∙ c.search.invariant.first_free
 
 pub returns-then-reach-clusters-clause-marks : goal.returns-then-reach-clusters-clause-marks
-returns-then-reach-clusters-clause-marks g c = marks_then _ _ _ c.search.invariant.marks c.reach_room.ensures.marks
+returns-then-reach-clusters-clause-marks g c = kept_marks_then c.search.invariant.marks c.reach_room.ensures.marks
 
 pub returns-then-reach-clusters-clause-cause : goal.returns-then-reach-clusters-clause-cause
 returns-then-reach-clusters-clause-cause g c = tt
@@ -357,9 +341,6 @@ returns-then-reach-clusters-clause-above g c = c.search.invariant.some
 
 pub returns-clause-marks : goal.returns-clause-marks
 returns-clause-marks g c = c.search.invariant.marks
-
-pub returns-clause-order : goal.returns-clause-order
-returns-clause-order g c = c.search.invariant.order
 
 pub returns-clause-header : goal.returns-clause-header
 returns-clause-header g c = c.search.invariant.header

@@ -8,12 +8,13 @@ use Rattle.qcow2_alloc.specs.declared.image_file.ImageFile.{ImageFile}
 use Rattle.qcow2_alloc.specs.Allocation.{run_at, taken_as, UnseenAllocatorGrowth, RefusedGrowth, TakesRun}
 use Rattle.qcow2_alloc.specs.FreeList.{pending_then, ListsTables}
 use Rattle.qcow2_alloc.specs.ImageFile.{IsFault, KeepsHeader}
-use Rattle.qcow2_alloc.proofs.CachePins.{marks_none, marks_then}
 use Rattle.qcow2_alloc.proofs.AllocationSteps.{handed_on, of_equal, may_still, on_none, is_sound_on, still_as}
 use Rattle.qcow2_alloc.proofs.ListedAfter.{header_same, header_then, lists_none, lists_then, listed_after_same, still_taken, more_taken, ends_taken, then_leaves, header_bits}
 use Rattle.qcow2_alloc.specs.LowestRuns.{NoFreeBelowHint, IsUsed, KeepsNoFreeBelowHint, KeepsUsed, BrokeOff}
 use Rattle.qcow2_alloc.proofs.Hints.{kept_then, not_broken}
 use Rattle.qcow2_alloc.proofs.Runs.{none_there, run_after, run_last, run_none, taken_none}
+use Rattle.qcow2_alloc.proofs.KeptMarks.{kept_marks_none, kept_marks_then}
+use Rattle.qcow2_alloc.specs.KeptMarks.{KeepsMarks}
 use Rattle.qcow2_alloc.proofs.allocation.Allocator.take_run.Goals.{then-not-is_fault+in_ok-give_back-in-Err, else-not-is_fault}
 use Rattle.std.specs.Prelude.{IfErr}
 use Rattle.qcow2_metadata.specs.L2Mapping.{IsHostCluster}
@@ -23,8 +24,6 @@ use Rattle.qcow2_alloc.proofs.FormerReftables.{former_none, former_then, former_
 use Rattle.qcow2_alloc.proofs.Faults.{told_ok, told_since}
 use Rattle.qcow2_alloc.proofs.Outcomes.{told_after, if_no_ok, handed_cause, told_err, told_still, not_both}
 use Rattle.std.proofs.Math.Nat.{le_trans}
-use Rattle.qcow2_alloc.specs.CachePins.{KeepsPinsAndNotes}
-use Rattle.qcow2_alloc.specs.MetadataCaches.{order_of}
 use Rattle.qcow2_alloc.specs.Faults.{FaultsTold, faults_of}
 use Rattle.qcow2_alloc.proofs.SparedHeaders.{spares_none, spares_then, spares_less}
 use Rattle.qcow2_alloc.specs.SparedHeaders.{SparesHeaderButPointer}
@@ -51,9 +50,8 @@ taking-init g c = record {
   header = header_same c.args.file.now.header c.args.file.now.header refl;
   list = lists_none c.args.file.now.free_list;
   former = former_none c.args.self.now.reftable c.args.file.now.free_list;
-  marks = marks_none c.args.file.now.caches;
+  marks = kept_marks_none;
   faults = omega arith;
-  order = refl;
   spared = spares_none;
   noted = λ some. absurd (omega (arith, some));
   leaks = λ p sound. refl;
@@ -70,25 +68,25 @@ returns-in_err-give_back-in-Ok-false-clause-sound g c = λ p d sound may.
     let before = c.taking.invariant.sound p d sound may in
     let q : Pending = taken_as d (pending_then p c.args.file.now.free_list c.taking.file.free_list) (run_at c.args.first c.taking.taken) in
     let now = is_sound_on g.S.Storage.view p q c.args.file.now c.taking.file c.taking.self before in
-    let may_now = may_still d c.args.file.now c.taking.file c.taking.invariant.order may in
+    let may_now = may_still d c.args.file.now c.taking.file c.taking.invariant.marks.order may in
     let two = rw c.in-Ok-false.field-0-test at (c.in-Ok-false.ensures.sound q d now may_now) in
     let taken = still_taken g.S.Storage.view d p (run_at c.args.first c.taking.taken) c.args.file.now c.taking.file c.take.new.file c.taking.self c.take.new.self c.taking.invariant.list c.take.ensures.list before two in
     handed_on (TakesRun g.S.Storage.view p c.args.file.now c.give_back.new.self c.give_back.new.file (pending_then p c.args.file.now.free_list c.give_back.new.file.free_list) d c.args.first c.args.n)
     c.from_residual.result c.in_err-give_back-in-Ok-false.field-0.0 c.from_residual.ensures
     (subst (λ (r : Pending). RefusedGrowth g.S.Storage.view p c.args.file.now c.give_back.new.self c.give_back.new.file r c.in_err-give_back-in-Ok-false.field-0.0) (ap (pending_then p c.args.file.now.free_list) (sym c.give_back.ensures.list))
-    (c.in_err-give_back-in-Ok-false.ensures.sound p (pending_then p c.args.file.now.free_list c.take.new.file.free_list) d c.args.file.now (λ k some. some) taken (λ some. c.take.ensures.marks.changed (c.taking.invariant.noted some))).1)
+    (c.in_err-give_back-in-Ok-false.ensures.sound p (pending_then p c.args.file.now.free_list c.take.new.file.free_list) d c.args.file.now (λ k some. some) taken (λ some. c.take.ensures.marks.pins.changed (c.taking.invariant.noted some))).1)
 
 pub returns-in-Ok-false-clause-sound : goal.returns-in-Ok-false-clause-sound
 returns-in-Ok-false-clause-sound g c = λ p d sound may.
     let before = c.taking.invariant.sound p d sound may in
     let q : Pending = taken_as d (pending_then p c.args.file.now.free_list c.taking.file.free_list) (run_at c.args.first c.taking.taken) in
     let now = is_sound_on g.S.Storage.view p q c.args.file.now c.taking.file c.taking.self before in
-    let may_now = may_still d c.args.file.now c.taking.file c.taking.invariant.order may in
+    let may_now = may_still d c.args.file.now c.taking.file c.taking.invariant.marks.order may in
     let two = rw c.in-Ok-false.field-0-test at (c.in-Ok-false.ensures.sound q d now may_now) in
     let taken = still_taken g.S.Storage.view d p (run_at c.args.first c.taking.taken) c.args.file.now c.taking.file c.take.new.file c.taking.self c.take.new.self c.taking.invariant.list c.take.ensures.list before two in (
       (λ all. absurd (let lt = c.taking-test.true in omega arith)),
       (λ _. subst (λ (r : Pending). UnseenAllocatorGrowth g.S.Storage.view p c.args.file.now c.give_back.new.self c.give_back.new.file r) (ap (pending_then p c.args.file.now.free_list) (sym c.give_back.ensures.list))
-          (c.in_ok-give_back-in-Ok-false.ensures.sound p (pending_then p c.args.file.now.free_list c.take.new.file.free_list) d c.args.file.now (λ k some. some) taken (λ some. c.take.ensures.marks.changed (c.taking.invariant.noted some)))),
+          (c.in_ok-give_back-in-Ok-false.ensures.sound p (pending_then p c.args.file.now.free_list c.take.new.file.free_list) d c.args.file.now (λ k some. some) taken (λ some. c.take.ensures.marks.pins.changed (c.taking.invariant.noted some)))),
     )
 
 pub returns-in_err-give_back-in-Err-clause-sound : goal.returns-in_err-give_back-in-Err-clause-sound
@@ -96,23 +94,23 @@ returns-in_err-give_back-in-Err-clause-sound g c = λ p d sound may.
     let before = c.taking.invariant.sound p d sound may in
     let q : Pending = taken_as d (pending_then p c.args.file.now.free_list c.taking.file.free_list) (run_at c.args.first c.taking.taken) in
     let now = is_sound_on g.S.Storage.view p q c.args.file.now c.taking.file c.taking.self before in
-    let may_now = may_still d c.args.file.now c.taking.file c.taking.invariant.order may in
+    let may_now = may_still d c.args.file.now c.taking.file c.taking.invariant.marks.order may in
     let two = still_as g.S.Storage.view q (pending_then q c.taking.file.free_list c.take.new.file.free_list) c.taking.file c.take.new.file c.take.new.self c.in-Err.refusal (λ fault. not_both c.is_fault.result (c.is_fault.ensures.1 fault) c.if-not-is_fault.true) (c.in-Err.ensures.sound q d now may_now) in
     let taken = still_taken g.S.Storage.view d p (run_at c.args.first c.taking.taken) c.args.file.now c.taking.file c.take.new.file c.taking.self c.take.new.self c.taking.invariant.list c.take.ensures.list before two in
     handed_on (TakesRun g.S.Storage.view p c.args.file.now c.give_back-then-not-is_fault.new.self c.give_back-then-not-is_fault.new.file (pending_then p c.args.file.now.free_list c.give_back-then-not-is_fault.new.file.free_list) d c.args.first c.args.n)
     c.from_residual-in_err-give_back-in-Err.result c.in_err-give_back-in-Err.field-0.0 c.from_residual-in_err-give_back-in-Err.ensures
     (subst (λ (r : Pending). RefusedGrowth g.S.Storage.view p c.args.file.now c.give_back-then-not-is_fault.new.self c.give_back-then-not-is_fault.new.file r c.in_err-give_back-in-Err.field-0.0)
     (ap (pending_then p c.args.file.now.free_list) (sym c.give_back-then-not-is_fault.ensures.list))
-    (c.in_err-give_back-in-Err.ensures.sound p (pending_then p c.args.file.now.free_list c.take.new.file.free_list) d c.args.file.now (λ k some. some) taken (λ some. c.take.ensures.marks.changed (c.taking.invariant.noted some))).1)
+    (c.in_err-give_back-in-Err.ensures.sound p (pending_then p c.args.file.now.free_list c.take.new.file.free_list) d c.args.file.now (λ k some. some) taken (λ some. c.take.ensures.marks.pins.changed (c.taking.invariant.noted some))).1)
 
 pub returns-in-Err-clause-sound : goal.returns-in-Err-clause-sound
 returns-in-Err-clause-sound g c = λ p d sound may.
     let before = c.taking.invariant.sound p d sound may in
     let q : Pending = taken_as d (pending_then p c.args.file.now.free_list c.taking.file.free_list) (run_at c.args.first c.taking.taken) in
     let now = is_sound_on g.S.Storage.view p q c.args.file.now c.taking.file c.taking.self before in
-    let may_now = may_still d c.args.file.now c.taking.file c.taking.invariant.order may in
+    let may_now = may_still d c.args.file.now c.taking.file c.taking.invariant.marks.order may in
     let leaves = c.in-Err.ensures.sound q d now may_now in
-    let noted : 0 < c.taking.taken → IsTrue c.take.new.file.caches.is_changed = (λ some. c.take.ensures.marks.changed (c.taking.invariant.noted some)) in
+    let noted : 0 < c.taking.taken → IsTrue c.take.new.file.caches.is_changed = (λ some. c.take.ensures.marks.pins.changed (c.taking.invariant.noted some)) in
     elim c.if-not-is_fault.branch [
       | then-not-is_fault+in_ok-give_back-in-Err w ↦
           let two = still_as g.S.Storage.view q (pending_then q c.taking.file.free_list c.take.new.file.free_list) c.taking.file c.take.new.file c.take.new.self c.in-Err.refusal
@@ -132,16 +130,15 @@ taking-preserved g c = record {
   header = header_then c.args.file.now.header c.taking.file.header c.take.new.file.header c.taking.invariant.header c.take.ensures.header;
   list = lists_then c.args.file.now.free_list c.taking.file.free_list c.take.new.file.free_list c.taking.invariant.list c.take.ensures.list;
   former = former_then c.args.self.now.reftable c.taking.self.reftable c.take.new.self.reftable c.args.file.now.free_list c.taking.file.free_list c.take.new.file.free_list c.taking.invariant.former c.take.ensures.former;
-  marks = marks_then c.args.file.now.caches c.taking.file.caches c.take.new.file.caches c.taking.invariant.marks c.take.ensures.marks;
+  marks = kept_marks_then c.taking.invariant.marks c.take.ensures.marks;
   faults = le_trans c.taking.invariant.faults c.take.ensures.storage_faults.no_fewer;
-  order = c.take.ensures.order ∙ c.taking.invariant.order;
   spared = spares_then c.taking.invariant.spared c.take.ensures.header_cluster;
   noted = λ _. rw c.in-Ok-true.field-0-test at c.in-Ok-true.ensures.noted refl;
   sound = λ p d sound may.
       let before = c.taking.invariant.sound p d sound may in
       let q : Pending = taken_as d (pending_then p c.args.file.now.free_list c.taking.file.free_list) (run_at c.args.first c.taking.taken) in
       let now = is_sound_on g.S.Storage.view p q c.args.file.now c.taking.file c.taking.self before in
-      let may_now = may_still d c.args.file.now c.taking.file c.taking.invariant.order may in
+      let may_now = may_still d c.args.file.now c.taking.file c.taking.invariant.marks.order may in
       let two = rw c.in-Ok-true.field-0-test at (c.in-Ok-true.ensures.sound q d now may_now) in
       more_taken g.S.Storage.view d p (run_at c.args.first c.taking.taken) c.args.file.now c.taking.file c.take.new.file c.taking.self c.take.new.self c.taking.invariant.list c.take.ensures.list c.args.first c.taking.taken refl before two;
   leaks = λ p sound.
@@ -152,11 +149,11 @@ taking-preserved g c = record {
   hint = λ p d sound may hint.
       let q : Pending = taken_as d (pending_then p c.args.file.now.free_list c.taking.file.free_list) (run_at c.args.first c.taking.taken) in
       (c.in-Ok-true.ensures.hint q d (is_sound_on g.S.Storage.view p q c.args.file.now c.taking.file c.taking.self (c.taking.invariant.sound p d sound may))
-      (may_still d c.args.file.now c.taking.file c.taking.invariant.order may) (c.taking.invariant.hint p d sound may hint));
+      (may_still d c.args.file.now c.taking.file c.taking.invariant.marks.order may) (c.taking.invariant.hint p d sound may hint));
   uses = λ p d sound may k used.
       let q : Pending = taken_as d (pending_then p c.args.file.now.free_list c.taking.file.free_list) (run_at c.args.first c.taking.taken) in
       c.in-Ok-true.ensures.uses q d (is_sound_on g.S.Storage.view p q c.args.file.now c.taking.file c.taking.self (c.taking.invariant.sound p d sound may))
-      (may_still d c.args.file.now c.taking.file c.taking.invariant.order may) k (c.taking.invariant.uses p d sound may k used);
+      (may_still d c.args.file.now c.taking.file c.taking.invariant.marks.order may) k (c.taking.invariant.uses p d sound may k used);
   free = λ p d sound may k some used.
       let q : Pending = taken_as d (pending_then p c.args.file.now.free_list c.taking.file.free_list) (run_at c.args.first c.taking.taken) in
       let now = is_sound_on g.S.Storage.view p q c.args.file.now c.taking.file c.taking.self (c.taking.invariant.sound p d sound may) in
@@ -178,7 +175,7 @@ returns-in_err-give_back-in-Ok-false-clause-hint g c = λ p d sound may hint.
     let before = c.taking.invariant.sound p d sound may in
     let q : Pending = taken_as d (pending_then p c.args.file.now.free_list c.taking.file.free_list) (run_at c.args.first c.taking.taken) in
     let now = is_sound_on g.S.Storage.view p q c.args.file.now c.taking.file c.taking.self before in
-    let may_now = may_still d c.args.file.now c.taking.file c.taking.invariant.order may in
+    let may_now = may_still d c.args.file.now c.taking.file c.taking.invariant.marks.order may in
     let two = rw c.in-Ok-false.field-0-test at (c.in-Ok-false.ensures.sound q d now may_now) in
     let taken = still_taken g.S.Storage.view d p (run_at c.args.first c.taking.taken) c.args.file.now c.taking.file c.take.new.file c.taking.self c.take.new.self c.taking.invariant.list c.take.ensures.list before two in
     handed_on (KeepsNoFreeBelowHint g.S.Storage.view c.give_back.new.self c.give_back.new.file) c.from_residual.result c.in_err-give_back-in-Ok-false.field-0.0 c.from_residual.ensures
@@ -190,7 +187,7 @@ returns-in-Ok-false-clause-used g c = λ p d sound may.
     let before = c.taking.invariant.sound p d sound may in
     let q : Pending = taken_as d (pending_then p c.args.file.now.free_list c.taking.file.free_list) (run_at c.args.first c.taking.taken) in
     let now = is_sound_on g.S.Storage.view p q c.args.file.now c.taking.file c.taking.self before in
-    let may_now = may_still d c.args.file.now c.taking.file c.taking.invariant.order may in
+    let may_now = may_still d c.args.file.now c.taking.file c.taking.invariant.marks.order may in
     let two = rw c.in-Ok-false.field-0-test at (c.in-Ok-false.ensures.sound q d now may_now) in
     let taken = still_taken g.S.Storage.view d p (run_at c.args.first c.taking.taken) c.args.file.now c.taking.file c.take.new.file c.taking.self c.take.new.self c.taking.invariant.list c.take.ensures.list before two in
     let used = c.in-Ok-false.ensures.used q d now may_now c.in-Ok-false.field-0-test in
@@ -202,7 +199,7 @@ returns-in-Ok-false-clause-hint g c = λ p d sound may hint.
     let before = c.taking.invariant.sound p d sound may in
     let q : Pending = taken_as d (pending_then p c.args.file.now.free_list c.taking.file.free_list) (run_at c.args.first c.taking.taken) in
     let now = is_sound_on g.S.Storage.view p q c.args.file.now c.taking.file c.taking.self before in
-    let may_now = may_still d c.args.file.now c.taking.file c.taking.invariant.order may in
+    let may_now = may_still d c.args.file.now c.taking.file c.taking.invariant.marks.order may in
     let two = rw c.in-Ok-false.field-0-test at (c.in-Ok-false.ensures.sound q d now may_now) in
     let taken = still_taken g.S.Storage.view d p (run_at c.args.first c.taking.taken) c.args.file.now c.taking.file c.take.new.file c.taking.self c.take.new.self c.taking.invariant.list c.take.ensures.list before two in
     c.in_ok-give_back-in-Ok-false.ensures.hint (pending_then p c.args.file.now.free_list c.take.new.file.free_list) d (is_sound_on g.S.Storage.view p (taken_as d (pending_then p c.args.file.now.free_list c.take.new.file.free_list) (run_at c.args.first c.taking.taken)) c.args.file.now c.take.new.file c.take.new.self taken)
@@ -213,7 +210,7 @@ returns-in_err-give_back-in-Err-clause-hint g c = λ p d sound may hint.
     let before = c.taking.invariant.sound p d sound may in
     let q : Pending = taken_as d (pending_then p c.args.file.now.free_list c.taking.file.free_list) (run_at c.args.first c.taking.taken) in
     let now = is_sound_on g.S.Storage.view p q c.args.file.now c.taking.file c.taking.self before in
-    let may_now = may_still d c.args.file.now c.taking.file c.taking.invariant.order may in
+    let may_now = may_still d c.args.file.now c.taking.file c.taking.invariant.marks.order may in
     let two = still_as g.S.Storage.view q (pending_then q c.taking.file.free_list c.take.new.file.free_list) c.taking.file c.take.new.file c.take.new.self c.in-Err.refusal (λ fault. not_both c.is_fault.result (c.is_fault.ensures.1 fault) c.if-not-is_fault.true) (c.in-Err.ensures.sound q d now may_now) in
     let taken = still_taken g.S.Storage.view d p (run_at c.args.first c.taking.taken) c.args.file.now c.taking.file c.take.new.file c.taking.self c.take.new.self c.taking.invariant.list c.take.ensures.list before two in
     let here = not_broken c.take.new.file c.in-Err.refusal (λ fault. not_both c.is_fault.result (c.is_fault.ensures.1 fault) c.if-not-is_fault.true) (c.in-Err.ensures.hint q d now may_now (c.taking.invariant.hint p d sound may hint)) in
@@ -225,7 +222,7 @@ returns-in-Err-clause-hint g c = λ p d sound may hint.
     let before = c.taking.invariant.sound p d sound may in
     let q : Pending = taken_as d (pending_then p c.args.file.now.free_list c.taking.file.free_list) (run_at c.args.first c.taking.taken) in
     let now = is_sound_on g.S.Storage.view p q c.args.file.now c.taking.file c.taking.self before in
-    let may_now = may_still d c.args.file.now c.taking.file c.taking.invariant.order may in
+    let may_now = may_still d c.args.file.now c.taking.file c.taking.invariant.marks.order may in
     let here = c.in-Err.ensures.hint q d now may_now (c.taking.invariant.hint p d sound may hint) in
     elim c.if-not-is_fault.branch [
       | then-not-is_fault+in_ok-give_back-in-Err w ↦
@@ -258,7 +255,7 @@ returns-in_err-give_back-in-Ok-false-clause-uses g c = λ p d sound may.
     let before = c.taking.invariant.sound p d sound may in
     let q : Pending = taken_as d (pending_then p c.args.file.now.free_list c.taking.file.free_list) (run_at c.args.first c.taking.taken) in
     let now = is_sound_on g.S.Storage.view p q c.args.file.now c.taking.file c.taking.self before in
-    let may_now = may_still d c.args.file.now c.taking.file c.taking.invariant.order may in
+    let may_now = may_still d c.args.file.now c.taking.file c.taking.invariant.marks.order may in
     let two = rw c.in-Ok-false.field-0-test at (c.in-Ok-false.ensures.sound q d now may_now) in
     let taken = still_taken g.S.Storage.view d p (run_at c.args.first c.taking.taken) c.args.file.now c.taking.file c.take.new.file c.taking.self c.take.new.self c.taking.invariant.list c.take.ensures.list before two in
     let kept = c.in_err-give_back-in-Ok-false.ensures.kept (pending_then p c.args.file.now.free_list c.take.new.file.free_list) d (is_sound_on g.S.Storage.view p (taken_as d (pending_then p c.args.file.now.free_list c.take.new.file.free_list) (run_at c.args.first c.taking.taken)) c.args.file.now c.take.new.file c.take.new.self taken) in
@@ -272,7 +269,7 @@ returns-in-Ok-false-clause-uses g c = λ p d sound may k used.
     let before = c.taking.invariant.sound p d sound may in
     let q : Pending = taken_as d (pending_then p c.args.file.now.free_list c.taking.file.free_list) (run_at c.args.first c.taking.taken) in
     let now = is_sound_on g.S.Storage.view p q c.args.file.now c.taking.file c.taking.self before in
-    let may_now = may_still d c.args.file.now c.taking.file c.taking.invariant.order may in
+    let may_now = may_still d c.args.file.now c.taking.file c.taking.invariant.marks.order may in
     let two = rw c.in-Ok-false.field-0-test at (c.in-Ok-false.ensures.sound q d now may_now) in
     let taken = still_taken g.S.Storage.view d p (run_at c.args.first c.taking.taken) c.args.file.now c.taking.file c.take.new.file c.taking.self c.take.new.self c.taking.invariant.list c.take.ensures.list before two in
     c.in_ok-give_back-in-Ok-false.ensures.kept (pending_then p c.args.file.now.free_list c.take.new.file.free_list) d (is_sound_on g.S.Storage.view p (taken_as d (pending_then p c.args.file.now.free_list c.take.new.file.free_list) (run_at c.args.first c.taking.taken)) c.args.file.now c.take.new.file c.take.new.self taken) k
@@ -283,7 +280,7 @@ returns-in_err-give_back-in-Err-clause-uses g c = λ p d sound may.
     let before = c.taking.invariant.sound p d sound may in
     let q : Pending = taken_as d (pending_then p c.args.file.now.free_list c.taking.file.free_list) (run_at c.args.first c.taking.taken) in
     let now = is_sound_on g.S.Storage.view p q c.args.file.now c.taking.file c.taking.self before in
-    let may_now = may_still d c.args.file.now c.taking.file c.taking.invariant.order may in
+    let may_now = may_still d c.args.file.now c.taking.file c.taking.invariant.marks.order may in
     let two = still_as g.S.Storage.view q (pending_then q c.taking.file.free_list c.take.new.file.free_list) c.taking.file c.take.new.file c.take.new.self c.in-Err.refusal (λ fault. not_both c.is_fault.result (c.is_fault.ensures.1 fault) c.if-not-is_fault.true) (c.in-Err.ensures.sound q d now may_now) in
     let taken = still_taken g.S.Storage.view d p (run_at c.args.first c.taking.taken) c.args.file.now c.taking.file c.take.new.file c.taking.self c.take.new.self c.taking.invariant.list c.take.ensures.list before two in
     let kept = c.in_err-give_back-in-Err.ensures.kept (pending_then p c.args.file.now.free_list c.take.new.file.free_list) d (is_sound_on g.S.Storage.view p (taken_as d (pending_then p c.args.file.now.free_list c.take.new.file.free_list) (run_at c.args.first c.taking.taken)) c.args.file.now c.take.new.file c.take.new.self taken) in
@@ -297,7 +294,7 @@ returns-in-Err-clause-uses g c = λ p d sound may.
     let before = c.taking.invariant.sound p d sound may in
     let q : Pending = taken_as d (pending_then p c.args.file.now.free_list c.taking.file.free_list) (run_at c.args.first c.taking.taken) in
     let now = is_sound_on g.S.Storage.view p q c.args.file.now c.taking.file c.taking.self before in
-    let may_now = may_still d c.args.file.now c.taking.file c.taking.invariant.order may in
+    let may_now = may_still d c.args.file.now c.taking.file c.taking.invariant.marks.order may in
     let here : ((k : ℕ) → IsUsed g.S.Storage.view c.args.file.now k → IsUsed g.S.Storage.view c.take.new.file k) ⊎ BrokeOff c.take.new.file c.in-Err.refusal =
     elim (c.in-Err.ensures.uses q d now may_now) [ inl kept ↦ inl (λ k used. kept k (c.taking.invariant.uses p d sound may k used)) | inr interruption ↦ inr interruption ] in
     elim c.if-not-is_fault.branch [
@@ -321,10 +318,10 @@ returns-in_err-give_back-in-Ok-false-clause-limit g c = λ p d sound may hint ne
     let before = c.taking.invariant.sound p d sound may in
     let q : Pending = taken_as d (pending_then p c.args.file.now.free_list c.taking.file.free_list) (run_at c.args.first c.taking.taken) in
     let now = is_sound_on g.S.Storage.view p q c.args.file.now c.taking.file c.taking.self before in
-    let may_now = may_still d c.args.file.now c.taking.file c.taking.invariant.order may in
+    let may_now = may_still d c.args.file.now c.taking.file c.taking.invariant.marks.order may in
     let two = rw c.in-Ok-false.field-0-test at (c.in-Ok-false.ensures.sound q d now may_now) in
     let taken = still_taken g.S.Storage.view d p (run_at c.args.first c.taking.taken) c.args.file.now c.taking.file c.take.new.file c.taking.self c.take.new.self c.taking.invariant.list c.take.ensures.list before two in
-    let back = c.in_err-give_back-in-Ok-false.ensures.sound p (pending_then p c.args.file.now.free_list c.take.new.file.free_list) d c.args.file.now (λ k some. some) taken (λ some. c.take.ensures.marks.changed (c.taking.invariant.noted some)) in
+    let back = c.in_err-give_back-in-Ok-false.ensures.sound p (pending_then p c.args.file.now.free_list c.take.new.file.free_list) d c.args.file.now (λ k some. some) taken (λ some. c.take.ensures.marks.pins.changed (c.taking.invariant.noted some)) in
     handed_on (λ (r : Result ℕ ImageError). IfErr r (IsFaultOr (CantCountRun g.S.Storage.view c.give_back.new.file c.give_back.new.self c.args.first c.args.n))) c.from_residual.result c.in_err-give_back-in-Ok-false.field-0.0 c.from_residual.ensures (inl back.0)
 
 pub returns-in_err-give_back-in-Err-clause-limit : goal.returns-in_err-give_back-in-Err-clause-limit
@@ -332,10 +329,10 @@ returns-in_err-give_back-in-Err-clause-limit g c = λ p d sound may hint near.
     let before = c.taking.invariant.sound p d sound may in
     let q : Pending = taken_as d (pending_then p c.args.file.now.free_list c.taking.file.free_list) (run_at c.args.first c.taking.taken) in
     let now = is_sound_on g.S.Storage.view p q c.args.file.now c.taking.file c.taking.self before in
-    let may_now = may_still d c.args.file.now c.taking.file c.taking.invariant.order may in
+    let may_now = may_still d c.args.file.now c.taking.file c.taking.invariant.marks.order may in
     let two = still_as g.S.Storage.view q (pending_then q c.taking.file.free_list c.take.new.file.free_list) c.taking.file c.take.new.file c.take.new.self c.in-Err.refusal (λ fault. not_both c.is_fault.result (c.is_fault.ensures.1 fault) c.if-not-is_fault.true) (c.in-Err.ensures.sound q d now may_now) in
     let taken = still_taken g.S.Storage.view d p (run_at c.args.first c.taking.taken) c.args.file.now c.taking.file c.take.new.file c.taking.self c.take.new.self c.taking.invariant.list c.take.ensures.list before two in
-    let back = c.in_err-give_back-in-Err.ensures.sound p (pending_then p c.args.file.now.free_list c.take.new.file.free_list) d c.args.file.now (λ k some. some) taken (λ some. c.take.ensures.marks.changed (c.taking.invariant.noted some)) in
+    let back = c.in_err-give_back-in-Err.ensures.sound p (pending_then p c.args.file.now.free_list c.take.new.file.free_list) d c.args.file.now (λ k some. some) taken (λ some. c.take.ensures.marks.pins.changed (c.taking.invariant.noted some)) in
     handed_on (λ (r : Result ℕ ImageError). IfErr r (IsFaultOr (CantCountRun g.S.Storage.view c.give_back-then-not-is_fault.new.file c.give_back-then-not-is_fault.new.self c.args.first c.args.n)))
     c.from_residual-in_err-give_back-in-Err.result c.in_err-give_back-in-Err.field-0.0 c.from_residual-in_err-give_back-in-Err.ensures (inl back.0)
 
@@ -344,7 +341,7 @@ returns-in-Err-clause-limit g c = λ p d sound may hint near.
     let before = c.taking.invariant.sound p d sound may in
     let q : Pending = taken_as d (pending_then p c.args.file.now.free_list c.taking.file.free_list) (run_at c.args.first c.taking.taken) in
     let now = is_sound_on g.S.Storage.view p q c.args.file.now c.taking.file c.taking.self before in
-    let may_now = may_still d c.args.file.now c.taking.file c.taking.invariant.order may in
+    let may_now = may_still d c.args.file.now c.taking.file c.taking.invariant.marks.order may in
     let lt = c.taking-test.true in
     let here = subst (λ n. IsHostCluster n (c.args.first + c.taking.taken)) (sym (header_bits c.args.file.now.header c.taking.file.header c.taking.invariant.header))
     (host_of_few c.args.file.now.header.fields (c.args.first + c.taking.taken) (omega (arith, lt, near))) in
@@ -384,10 +381,7 @@ returns-in-Err-clause-former g c = elim c.if-not-is_fault.branch [
 ]
 
 pub returns-in_err-give_back-in-Ok-false-clause-marks : goal.returns-in_err-give_back-in-Ok-false-clause-marks
-returns-in_err-give_back-in-Ok-false-clause-marks g c = marks_then _ _ _ (marks_then _ _ _ c.taking.invariant.marks c.take.ensures.marks) c.give_back.ensures.marks
-
-pub returns-in_err-give_back-in-Ok-false-clause-order : goal.returns-in_err-give_back-in-Ok-false-clause-order
-returns-in_err-give_back-in-Ok-false-clause-order g c = c.give_back.ensures.order ∙ c.take.ensures.order ∙ c.taking.invariant.order
+returns-in_err-give_back-in-Ok-false-clause-marks g c = kept_marks_then (kept_marks_then c.taking.invariant.marks c.take.ensures.marks) c.give_back.ensures.marks
 
 pub returns-in_err-give_back-in-Ok-false-clause-cause : goal.returns-in_err-give_back-in-Ok-false-clause-cause
 returns-in_err-give_back-in-Ok-false-clause-cause g c = handed_cause c.from_residual.result c.in_err-give_back-in-Ok-false.field-0.0 c.from_residual.ensures c.in_err-give_back-in-Ok-false.ensures.cause
@@ -408,10 +402,7 @@ pub returns-in_err-give_back-in-Ok-false-clause-header : goal.returns-in_err-giv
 returns-in_err-give_back-in-Ok-false-clause-header g c = header_then c.args.file.now.header c.take.new.file.header c.give_back.new.file.header (header_then c.args.file.now.header c.taking.file.header c.take.new.file.header c.taking.invariant.header c.take.ensures.header) (header_same c.take.new.file.header c.give_back.new.file.header c.give_back.ensures.header)
 
 pub returns-in_err-give_back-in-Err-clause-marks : goal.returns-in_err-give_back-in-Err-clause-marks
-returns-in_err-give_back-in-Err-clause-marks g c = marks_then _ _ _ (marks_then _ _ _ c.taking.invariant.marks c.take.ensures.marks) c.give_back-then-not-is_fault.ensures.marks
-
-pub returns-in_err-give_back-in-Err-clause-order : goal.returns-in_err-give_back-in-Err-clause-order
-returns-in_err-give_back-in-Err-clause-order g c = c.give_back-then-not-is_fault.ensures.order ∙ c.take.ensures.order ∙ c.taking.invariant.order
+returns-in_err-give_back-in-Err-clause-marks g c = kept_marks_then (kept_marks_then c.taking.invariant.marks c.take.ensures.marks) c.give_back-then-not-is_fault.ensures.marks
 
 pub returns-in_err-give_back-in-Err-clause-cause : goal.returns-in_err-give_back-in-Err-clause-cause
 returns-in_err-give_back-in-Err-clause-cause g c = handed_cause c.from_residual-in_err-give_back-in-Err.result c.in_err-give_back-in-Err.field-0.0 c.from_residual-in_err-give_back-in-Err.ensures c.in_err-give_back-in-Err.ensures.cause
@@ -432,10 +423,7 @@ pub returns-in_err-give_back-in-Err-clause-header : goal.returns-in_err-give_bac
 returns-in_err-give_back-in-Err-clause-header g c = header_then c.args.file.now.header c.take.new.file.header c.give_back-then-not-is_fault.new.file.header (header_then c.args.file.now.header c.taking.file.header c.take.new.file.header c.taking.invariant.header c.take.ensures.header) (header_same c.take.new.file.header c.give_back-then-not-is_fault.new.file.header c.give_back-then-not-is_fault.ensures.header)
 
 pub returns-in-Ok-false-clause-marks : goal.returns-in-Ok-false-clause-marks
-returns-in-Ok-false-clause-marks g c = marks_then _ _ _ (marks_then _ _ _ c.taking.invariant.marks c.take.ensures.marks) c.give_back.ensures.marks
-
-pub returns-in-Ok-false-clause-order : goal.returns-in-Ok-false-clause-order
-returns-in-Ok-false-clause-order g c = c.give_back.ensures.order ∙ c.take.ensures.order ∙ c.taking.invariant.order
+returns-in-Ok-false-clause-marks g c = kept_marks_then (kept_marks_then c.taking.invariant.marks c.take.ensures.marks) c.give_back.ensures.marks
 
 pub returns-in-Ok-false-clause-header : goal.returns-in-Ok-false-clause-header
 returns-in-Ok-false-clause-header g c = header_then c.args.file.now.header c.take.new.file.header c.give_back.new.file.header (header_then c.args.file.now.header c.taking.file.header c.take.new.file.header c.taking.invariant.header c.take.ensures.header) (header_same c.take.new.file.header c.give_back.new.file.header c.give_back.ensures.header)
@@ -448,9 +436,6 @@ returns-in-Ok-false-clause-storage_faults g c = told_ok _ _ _ (le_trans (le_tran
 
 pub returns-clause-marks : goal.returns-clause-marks
 returns-clause-marks g c = c.taking.invariant.marks
-
-pub returns-clause-order : goal.returns-clause-order
-returns-clause-order g c = c.taking.invariant.order
 
 pub returns-clause-header : goal.returns-clause-header
 returns-clause-header g c = c.taking.invariant.header
@@ -472,20 +457,14 @@ returns-in-Err-clause-cause g c = c.in-Err.ensures.cause
 
 pub returns-in-Err-clause-marks : goal.returns-in-Err-clause-marks
 returns-in-Err-clause-marks g c = elim c.if-not-is_fault.branch [
-  | then-not-is_fault+in_ok-give_back-in-Err w ↦ subst (λ (f : ImageFile g.row.S.Denot). KeepsPinsAndNotes c.args.file.now.caches f.caches) (sym w.file-is) (marks_then _ _ _ (marks_then _ _ _ c.taking.invariant.marks c.take.ensures.marks) w.give_back-then-not-is_fault.ensures.marks)
-  | else-not-is_fault w ↦ subst (λ (f : ImageFile g.row.S.Denot). KeepsPinsAndNotes c.args.file.now.caches f.caches) (sym w.file-is) (marks_then _ _ _ c.taking.invariant.marks c.take.ensures.marks)
+  | then-not-is_fault+in_ok-give_back-in-Err w ↦ subst (λ (f : ImageFile g.row.S.Denot). KeepsMarks g.S.Storage.view c.args.file.now f) (sym w.file-is) (kept_marks_then (kept_marks_then c.taking.invariant.marks c.take.ensures.marks) w.give_back-then-not-is_fault.ensures.marks)
+  | else-not-is_fault w ↦ subst (λ (f : ImageFile g.row.S.Denot). KeepsMarks g.S.Storage.view c.args.file.now f) (sym w.file-is) (kept_marks_then c.taking.invariant.marks c.take.ensures.marks)
 ]
 
 pub returns-in-Err-clause-header : goal.returns-in-Err-clause-header
 returns-in-Err-clause-header g c = elim c.if-not-is_fault.branch [
   | then-not-is_fault+in_ok-give_back-in-Err w ↦ subst (λ (f : ImageFile g.row.S.Denot). KeepsHeader c.args.file.now.header f.header) (sym w.file-is) (header_then c.args.file.now.header c.take.new.file.header w.give_back-then-not-is_fault.new.file.header (header_then c.args.file.now.header c.taking.file.header c.take.new.file.header c.taking.invariant.header c.take.ensures.header) (header_same c.take.new.file.header w.give_back-then-not-is_fault.new.file.header w.give_back-then-not-is_fault.ensures.header))
   | else-not-is_fault w ↦ subst (λ (f : ImageFile g.row.S.Denot). KeepsHeader c.args.file.now.header f.header) (sym w.file-is) (header_then c.args.file.now.header c.taking.file.header c.take.new.file.header c.taking.invariant.header c.take.ensures.header)
-]
-
-pub returns-in-Err-clause-order : goal.returns-in-Err-clause-order
-returns-in-Err-clause-order g c = elim c.if-not-is_fault.branch [
-  | then-not-is_fault+in_ok-give_back-in-Err w ↦ ap (λ (f : ImageFile g.row.S.Denot). order_of f.caches) w.file-is ∙ w.give_back-then-not-is_fault.ensures.order ∙ c.take.ensures.order ∙ c.taking.invariant.order
-  | else-not-is_fault w ↦ ap (λ (f : ImageFile g.row.S.Denot). order_of f.caches) w.file-is ∙ c.take.ensures.order ∙ c.taking.invariant.order
 ]
 
 pub returns-in-Err-clause-storage_faults : goal.returns-in-Err-clause-storage_faults

@@ -1,12 +1,11 @@
 use Rattle.std.proofs.Common.{◌≤◌, ◌≡◌, ℕ, ◌<◌, Bool, IsTrue}
 use Rattle.qcow2_laws.specs.CrashInvariant.{Pending}
 use Rattle.qcow2_alloc.specs.Allocation.{run_at, taken_as, MayTake, SameLeaks, UnseenAllocatorGrowth}
-use Rattle.qcow2_alloc.specs.CachePins.{KeepsPinsAndNotes}
+use Rattle.qcow2_alloc.specs.KeptMarks.{KeepsMarks}
 use Rattle.qcow2_alloc.specs.Faults.{faults_of}
 use Rattle.qcow2_alloc.specs.ImageFile.{AllocatorInvariant, KeepsHeader}
 use Rattle.qcow2_alloc.specs.FreeList.{pending_then, ListsTables, ListsReftables}
 use Rattle.qcow2_alloc.specs.LowestRuns.{NoFreeBelowHint, IsUsed}
-use Rattle.qcow2_alloc.specs.MetadataCaches.{order_of}
 use Rattle.qcow2_alloc.specs.SparedHeaders.{SparesHeaderButPointer}
 use Rattle.qcow2_alloc.proofs.allocation.Allocator.take_run.Given as goal
 
@@ -16,9 +15,8 @@ invariant-taking g l = record {
   header : KeepsHeader l.fn.file.header l.file.header;
   list : ListsTables l.fn.file.free_list l.file.free_list;
   former : ListsReftables l.fn.self.reftable l.self.reftable l.fn.file.free_list l.file.free_list;
-  marks : KeepsPinsAndNotes l.fn.file.caches l.file.caches;
+  marks : KeepsMarks g.S.Storage.view l.fn.file l.file;
   faults : faults_of g.S.Storage.view l.fn.file.storage ≤ faults_of g.S.Storage.view l.file.storage;
-  order : order_of l.file.caches ≡ order_of l.fn.file.caches;
   spared : SparesHeaderButPointer g.S.Storage.view l.fn.self.reftable l.fn.file l.self.reftable l.file;
   noted : 0 < l.taken → IsTrue l.file.caches.is_changed;
   sound : (p : Pending) (d : Bool) → AllocatorInvariant g.S.Storage.view l.fn.self p l.fn.file → MayTake d l.fn.file → UnseenAllocatorGrowth g.S.Storage.view p l.fn.file l.self l.file (taken_as d (pending_then p l.fn.file.free_list l.file.free_list) (run_at l.fn.first l.taken));

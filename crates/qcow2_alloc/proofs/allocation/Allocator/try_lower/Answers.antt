@@ -10,6 +10,7 @@ use Rattle.std.proofs.Common.{sym}
 use Rattle.qcow2_metadata.specs.Header.{counts_per_block}
 use Rattle.qcow2_alloc.proofs.Leaks.{tried}
 use Rattle.qcow2_alloc.proofs.SparedHeaders.{spares_then, spares_tables, spares_as}
+use Rattle.qcow2_alloc.proofs.KeptMarks.{kept_marks_then, marks_of_caches}
 use Rattle.qcow2_alloc.proofs.allocation.Allocator.try_lower.Goals as goal
 
 pub returns-in_err-block-clause-sound : goal.returns-in_err-block-clause-sound
@@ -32,7 +33,7 @@ returns-clause-sound g c = λ p owed sound may.
     of_equal (λ f r. LowersOne g.S.Storage.view (owed_as owed p (one_at c.args.cluster)) c.args.file.now c.note_lowered.new.self f p (Ok r)) (record c.load_block.new.file { caches = c.rb_decrement-lowered.new.self }) (record c.load_block.new.file { caches = c.rb_decrement-lowered.new.self }) c.rb_decrement-lowered.result true refl lowered
     (allocator_step_as g.S.Storage.view (owed_as owed p (one_at c.args.cluster)) p c.args.file.now (record c.load_block.new.file { caches = c.rb_decrement-lowered.new.self }) c.args.self.now c.note_lowered.new.self c.note_lowered.ensures.reftable
     (given_one g.S.Storage.view (owed_as owed p (one_at c.args.cluster)) c.args.file.now c.load_block.new.file c.args.self.now l.0 c.args.cluster c.in-Some.block c.rb_index-index.result at c.rb_decrement-lowered.new.self c.rb_decrement-lowered.ensures.order c.rb_decrement-lowered.ensures.marks
-    owed p (may_lower_still owed c.args.file.now c.load_block.new.file c.load_block.ensures.order may) refl (c.rb_decrement-lowered.ensures.counted lowered)))
+    owed p (may_lower_still owed c.args.file.now c.load_block.new.file c.load_block.ensures.marks.order may) refl (c.rb_decrement-lowered.ensures.counted lowered)))
 
 pub returns-in_err-block-clause-hint : goal.returns-in_err-block-clause-hint
 returns-in_err-block-clause-hint g c = λ p owed sound may hint.
@@ -70,3 +71,6 @@ returns-in_default-clause-header_cluster g c = c.load_block.ensures.header_clust
 
 pub returns-clause-header_cluster : goal.returns-clause-header_cluster
 returns-clause-header_cluster g c = spares_as c.note_lowered.ensures.reftable (spares_then c.load_block.ensures.header_cluster (spares_tables c.args.self.now.reftable c.load_block.new.file c.rb_decrement-lowered.new.self c.rb_decrement-lowered.ensures.header_cluster))
+
+pub returns-clause-marks : goal.returns-clause-marks
+returns-clause-marks g c = kept_marks_then c.load_block.ensures.marks (marks_of_caches c.rb_decrement-lowered.ensures.marks c.rb_decrement-lowered.ensures.order)

@@ -17,16 +17,15 @@ use Rattle.qcow2_alloc.proofs.PlacedRooms.{Counting}
 use Rattle.qcow2_alloc.proofs.RoomSteps.{may_go}
 use Rattle.qcow2_alloc.proofs.RoomTables.{counting_beside, table_err, table_ok, stands_ready, names_then, uses_after}
 use Rattle.qcow2_alloc.proofs.Hints.{ok_as}
-use Rattle.qcow2_alloc.proofs.CachePins.{marks_then}
 use Rattle.qcow2_alloc.proofs.ListedAfter.{header_then, header_same}
 use Rattle.qcow2_alloc.proofs.Faults.{told_on, told_since}
 use Rattle.qcow2_alloc.proofs.Outcomes.{told_after, on_no_ok, handed_cause, on_err}
 use Rattle.std.proofs.Math.Nat.{le_trans}
-use Rattle.qcow2_alloc.specs.CachePins.{KeepsPinsAndNotes}
 use Rattle.qcow2_alloc.proofs.SparedHeaders.{spares_cached, spares_then, spares_parts, spares_less}
 use Rattle.qcow2_alloc.specs.SparedHeaders.{AreBehindHeader}
 use Rattle.qcow2_alloc.specs.HeaderClusters.{KeepsHeaderCluster}
 use Rattle.std.specs.Prelude.{IfSome}
+use Rattle.qcow2_alloc.proofs.KeptMarks.{kept_marks_then, marks_of_storage, marks_of_both}
 use Rattle.qcow2_alloc.proofs.allocation.Allocator.write_reftable.Goals as goal
 
 pub returns-in_err-flush_rb-clause-sound : goal.returns-in_err-flush_rb-clause-sound
@@ -71,7 +70,7 @@ returns-in_err-place_blocks-clause-sound g c = λ p sound longer.
     let q = with_run p c.args.file.now.header.fields c.args.self.now.reftable c.args.room.first (room_length c.args.room) in
     let one = allocator_step_cached view q old a c.flush_rb.new.storage c.flush_rb.new.self sound (c.flush_rb.ensures.keeps h q sound.sound.honest sound.sound.caches) c.flush_rb.ensures.marks in
     let f1 = record old { storage = c.flush_rb.new.storage; caches = c.flush_rb.new.self } in
-    let noted = c.place_blocks.ensures.marks.changed (c.flush_rb.ensures.marks.changed c.requires.noted) in
+    let noted = c.place_blocks.ensures.marks.pins.changed (c.flush_rb.ensures.marks.changed c.requires.noted) in
     let refused = c.in_err-place_blocks.ensures.sound p (is_sound_now view q q old f1 a one) c.in_ok-flush_rb.ensures.first longer in
     handed_on (NamesReftable view q p old a c.place_blocks.new.file) c.from_residual-in_err-place_blocks.result c.in_err-place_blocks.field-0.0 c.from_residual-in_err-place_blocks.ensures
     (interrupted_after view q q old f1 c.place_blocks.new.file a c.in_err-place_blocks.field-0.0 one.file_step refused.0 noted refused.1)
@@ -89,7 +88,7 @@ returns-in_err-place_blocks-clause-uses g c = λ p sound longer.
     let f1 = record old { storage = c.flush_rb.new.storage; caches = c.flush_rb.new.self } in
     let refused = c.in_err-place_blocks.ensures.sound p (is_sound_now view q q old f1 a one) c.in_ok-flush_rb.ensures.first longer in
     handed_on (KeepsUsed view old c.place_blocks.new.file) c.from_residual-in_err-place_blocks.result c.in_err-place_blocks.field-0.0 c.from_residual-in_err-place_blocks.ensures
-    (inr (refused.0, λ _. c.place_blocks.ensures.marks.changed (c.flush_rb.ensures.marks.changed c.requires.noted)))
+    (inr (refused.0, λ _. c.place_blocks.ensures.marks.pins.changed (c.flush_rb.ensures.marks.changed c.requires.noted)))
 
 pub returns-in_err-place_table-clause-sound : goal.returns-in_err-place_table-clause-sound
 returns-in_err-place_table-clause-sound g c = λ p sound longer.
@@ -102,12 +101,12 @@ returns-in_err-place_table-clause-sound g c = λ p sound longer.
     let q = with_run p c.args.file.now.header.fields c.args.self.now.reftable c.args.room.first (room_length c.args.room) in
     let one = allocator_step_cached view q old a c.flush_rb.new.storage c.flush_rb.new.self sound (c.flush_rb.ensures.keeps h q sound.sound.honest sound.sound.caches) c.flush_rb.ensures.marks in
     let f1 = record old { storage = c.flush_rb.new.storage; caches = c.flush_rb.new.self } in
-    let noted = c.place_blocks.ensures.marks.changed (c.flush_rb.ensures.marks.changed c.requires.noted) in
+    let noted = c.place_blocks.ensures.marks.pins.changed (c.flush_rb.ensures.marks.changed c.requires.noted) in
     let placed = c.in_ok-place_blocks.ensures.sound p (is_sound_now view q q old f1 a one) c.in_ok-flush_rb.ensures.first longer in
     let f2 = c.place_blocks.new.file in
     let two = allocator_step_then view q q old f1 f2 a a one placed.allocator_step in
     let header_two = ap (λ x. x.fields) c.place_blocks.ensures.header in
-    let may_two = may_go f1 f2 c.place_blocks.ensures.order c.place_blocks.ensures.tables c.in_ok-flush_rb.ensures.first in
+    let may_two = may_go f1 f2 c.place_blocks.ensures.marks.order c.place_blocks.ensures.tables c.in_ok-flush_rb.ensures.first in
     let at_is = c.new.ensures in
     let low : c.args.room.first ≤ c.new.result = omega (arith, at_is) in
     let high : c.new.result + c.args.room.clusters ≤ c.args.room.first + room_length c.args.room = omega (arith, at_is) in
@@ -134,7 +133,7 @@ returns-in_err-place_table-clause-uses g c = λ p sound longer.
     let f2 = c.place_blocks.new.file in
     let two = allocator_step_then view q q old f1 f2 a a one placed.allocator_step in
     let header_two = ap (λ x. x.fields) c.place_blocks.ensures.header in
-    let may_two = may_go f1 f2 c.place_blocks.ensures.order c.place_blocks.ensures.tables c.in_ok-flush_rb.ensures.first in
+    let may_two = may_go f1 f2 c.place_blocks.ensures.marks.order c.place_blocks.ensures.tables c.in_ok-flush_rb.ensures.first in
     let at_is = c.new.ensures in
     let low : c.args.room.first ≤ c.new.result = omega (arith, at_is) in
     let high : c.new.result + c.args.room.clusters ≤ c.args.room.first + room_length c.args.room = omega (arith, at_is) in
@@ -143,7 +142,7 @@ returns-in_err-place_table-clause-uses g c = λ p sound longer.
     let refused = table_err view p first n a f2 c.place_table.new.file c.new.result c.args.room.clusters c.place_blocks.new.table.bytes h header_two c.in_err-place_table.field-0.0
     (λ s. c.in_err-place_table.ensures.sound p first n c.args.room.clusters a s may_two low high bits long) (is_sound_now view q q old f2 a two) in
     handed_on (KeepsUsed view old c.place_table.new.file) c.from_residual-in_err-place_table.result c.in_err-place_table.field-0.0 c.from_residual-in_err-place_table.ensures
-    (inr (refused.0, λ _. subst (λ (x : MetadataCaches _). IsTrue x.is_changed) (sym c.place_table.ensures.caches) (c.place_blocks.ensures.marks.changed (c.flush_rb.ensures.marks.changed c.requires.noted))))
+    (inr (refused.0, λ _. subst (λ (x : MetadataCaches _). IsTrue x.is_changed) (sym c.place_table.ensures.caches) (c.place_blocks.ensures.marks.pins.changed (c.flush_rb.ensures.marks.changed c.requires.noted))))
 
 pub returns-clause-sound : goal.returns-clause-sound
 returns-clause-sound g c = λ p sound longer.
@@ -160,7 +159,7 @@ returns-clause-sound g c = λ p sound longer.
     let f2 = c.place_blocks.new.file in
     let two = allocator_step_then view q q old f1 f2 a a one placed.allocator_step in
     let header_two = ap (λ x. x.fields) c.place_blocks.ensures.header in
-    let may_two = may_go f1 f2 c.place_blocks.ensures.order c.place_blocks.ensures.tables c.in_ok-flush_rb.ensures.first in
+    let may_two = may_go f1 f2 c.place_blocks.ensures.marks.order c.place_blocks.ensures.tables c.in_ok-flush_rb.ensures.first in
     let at_is = c.new.ensures in
     let low : c.args.room.first ≤ c.new.result = omega (arith, at_is) in
     let high : c.new.result + c.args.room.clusters ≤ c.args.room.first + room_length c.args.room = omega (arith, at_is) in
@@ -202,7 +201,7 @@ returns-clause-uses g c = λ p sound longer.
     let f2 = c.place_blocks.new.file in
     let two = allocator_step_then view q q old f1 f2 a a one placed.allocator_step in
     let header_two = ap (λ x. x.fields) c.place_blocks.ensures.header in
-    let may_two = may_go f1 f2 c.place_blocks.ensures.order c.place_blocks.ensures.tables c.in_ok-flush_rb.ensures.first in
+    let may_two = may_go f1 f2 c.place_blocks.ensures.marks.order c.place_blocks.ensures.tables c.in_ok-flush_rb.ensures.first in
     let at_is = c.new.ensures in
     let low : c.args.room.first ≤ c.new.result = omega (arith, at_is) in
     let high : c.new.result + c.args.room.clusters ≤ c.args.room.first + room_length c.args.room = omega (arith, at_is) in
@@ -234,10 +233,7 @@ returns-clause-place g c =
     (λ is. ap (λ (x : EntryTableView). x.cluster) (is ∙ c.place_table.ensures.table) ∙ ap Some c.new.ensures) c.name_reftable.ensures.table
 
 pub returns-in_err-flush_rb-clause-marks : goal.returns-in_err-flush_rb-clause-marks
-returns-in_err-flush_rb-clause-marks g c = c.flush_rb.ensures.marks
-
-pub returns-in_err-flush_rb-clause-order : goal.returns-in_err-flush_rb-clause-order
-returns-in_err-flush_rb-clause-order g c = c.flush_rb.ensures.order
+returns-in_err-flush_rb-clause-marks g c = marks_of_both c.flush_rb.ensures.marks c.flush_rb.ensures.order c.flush_rb.ensures.notes
 
 pub returns-in_err-flush_rb-clause-cause : goal.returns-in_err-flush_rb-clause-cause
 returns-in_err-flush_rb-clause-cause g c = handed_cause c.from_residual.result c.in_err-flush_rb.field-0.0 c.from_residual.ensures c.in_err-flush_rb.ensures.cause
@@ -264,10 +260,7 @@ pub returns-in_err-flush_rb-clause-place : goal.returns-in_err-flush_rb-clause-p
 returns-in_err-flush_rb-clause-place g c = on_no_ok _ c.from_residual.result c.in_err-flush_rb.field-0.0 c.from_residual.ensures
 
 pub returns-in_err-place_blocks-clause-marks : goal.returns-in_err-place_blocks-clause-marks
-returns-in_err-place_blocks-clause-marks g c = marks_then _ _ _ c.flush_rb.ensures.marks c.place_blocks.ensures.marks
-
-pub returns-in_err-place_blocks-clause-order : goal.returns-in_err-place_blocks-clause-order
-returns-in_err-place_blocks-clause-order g c = c.place_blocks.ensures.order ∙ c.flush_rb.ensures.order
+returns-in_err-place_blocks-clause-marks g c = kept_marks_then (marks_of_both c.flush_rb.ensures.marks c.flush_rb.ensures.order c.flush_rb.ensures.notes) c.place_blocks.ensures.marks
 
 pub returns-in_err-place_blocks-clause-cause : goal.returns-in_err-place_blocks-clause-cause
 returns-in_err-place_blocks-clause-cause g c = handed_cause c.from_residual-in_err-place_blocks.result c.in_err-place_blocks.field-0.0 c.from_residual-in_err-place_blocks.ensures c.in_err-place_blocks.ensures.cause
@@ -294,10 +287,8 @@ pub returns-in_err-place_blocks-clause-kept : goal.returns-in_err-place_blocks-c
 returns-in_err-place_blocks-clause-kept g c = on_err _ c.from_residual-in_err-place_blocks.result refl
 
 pub returns-in_err-place_table-clause-marks : goal.returns-in_err-place_table-clause-marks
-returns-in_err-place_table-clause-marks g c = subst (λ (x : MetadataCaches g.row.S.Denot). KeepsPinsAndNotes c.args.file.now.caches x) (sym c.place_table.ensures.caches) (marks_then _ _ _ c.flush_rb.ensures.marks c.place_blocks.ensures.marks)
-
-pub returns-in_err-place_table-clause-order : goal.returns-in_err-place_table-clause-order
-returns-in_err-place_table-clause-order g c = ap (λ (x : MetadataCaches g.row.S.Denot). order_of x) c.place_table.ensures.caches ∙ c.place_blocks.ensures.order ∙ c.flush_rb.ensures.order
+returns-in_err-place_table-clause-marks g c = 
+    kept_marks_then (kept_marks_then (marks_of_both c.flush_rb.ensures.marks c.flush_rb.ensures.order c.flush_rb.ensures.notes) c.place_blocks.ensures.marks) (marks_of_storage c.place_table.ensures.caches c.place_table.ensures.notes)
 
 pub returns-in_err-place_table-clause-cause : goal.returns-in_err-place_table-clause-cause
 returns-in_err-place_table-clause-cause g c = handed_cause c.from_residual-in_err-place_table.result c.in_err-place_table.field-0.0 c.from_residual-in_err-place_table.ensures c.in_err-place_table.ensures.cause
@@ -324,10 +315,8 @@ pub returns-in_err-place_table-clause-place : goal.returns-in_err-place_table-cl
 returns-in_err-place_table-clause-place g c = on_no_ok _ c.from_residual-in_err-place_table.result c.in_err-place_table.field-0.0 c.from_residual-in_err-place_table.ensures
 
 pub returns-clause-marks : goal.returns-clause-marks
-returns-clause-marks g c = marks_then _ _ _ (subst (λ (x : MetadataCaches g.row.S.Denot). KeepsPinsAndNotes c.args.file.now.caches x) (sym c.place_table.ensures.caches) (marks_then _ _ _ c.flush_rb.ensures.marks c.place_blocks.ensures.marks)) c.name_reftable.ensures.marks
-
-pub returns-clause-order : goal.returns-clause-order
-returns-clause-order g c = c.name_reftable.ensures.order ∙ ap (λ (x : MetadataCaches g.row.S.Denot). order_of x) c.place_table.ensures.caches ∙ c.place_blocks.ensures.order ∙ c.flush_rb.ensures.order
+returns-clause-marks g c = 
+    kept_marks_then (kept_marks_then (kept_marks_then (marks_of_both c.flush_rb.ensures.marks c.flush_rb.ensures.order c.flush_rb.ensures.notes) c.place_blocks.ensures.marks) (marks_of_storage c.place_table.ensures.caches c.place_table.ensures.notes)) c.name_reftable.ensures.marks
 
 pub returns-clause-header : goal.returns-clause-header
 returns-clause-header g c = header_then c.args.file.now.header c.place_table.new.file.header c.name_reftable.new.file.header (header_same c.args.file.now.header c.place_table.new.file.header (c.place_table.ensures.header ∙ c.place_blocks.ensures.header)) c.name_reftable.ensures.header

@@ -11,6 +11,7 @@ use Rattle.qcow2_alloc.proofs.KeptTables.Quiet.{quiet_then}
 use Rattle.qcow2_alloc.specs.Faults.{faults_of}
 use Rattle.qcow2_alloc.proofs.Faults.{told_on, told_since}
 use Rattle.qcow2_alloc.proofs.KeptTables.BehindHeader.{caches_then}
+use Rattle.qcow2_alloc.specs.KeptNotes.{kept_then}
 use Rattle.qcow2_alloc.proofs.cache.MetadataCaches.flush_all.Goals as goal
 
 pub returns-in_err-write_blocks-in-L2DependsOnRb-clause-keeps : goal.returns-in_err-write_blocks-in-L2DependsOnRb-clause-keeps
@@ -20,6 +21,7 @@ pub returns-in_err-write_tables-in-None : goal.returns-in_err-write_tables-in-No
 returns-in_err-write_tables-in-None g c = record {
   cause = search rules;
   storage_faults = told_on (faults_of g.S.Storage.view c.args.storage.now) (faults_of g.S.Storage.view c.write_tables.new.storage) c.write_tables.result c.in_err-write_tables-in-None.field-0.0 c.from_residual.result c.write_tables.ensures.storage_faults c.in_err-write_tables-in-None.was c.from_residual.ensures;
+  notes = c.write_tables.ensures.notes;
   order = search rules;
   written = search rules;
   marks = search rules;
@@ -40,6 +42,7 @@ pub returns-in_ok-write_tables-in-None : goal.returns-in_ok-write_tables-in-None
 returns-in_ok-write_tables-in-None g c = record {
   cause = search rules;
   storage_faults = told_since (faults_of g.S.Storage.view c.args.storage.now) (faults_of g.S.Storage.view c.write_tables.new.storage) (faults_of g.S.Storage.view c.write_blocks.new.storage) c.write_tables.ensures.storage_faults.no_fewer c.write_blocks.ensures.storage_faults;
+  notes = kept_then _ _ _ c.write_tables.ensures.notes c.write_blocks.ensures.notes;
   order = search rules;
   written = both_written c.write_tables.new.self c.write_blocks.new.self c.write_blocks.result c.write_blocks.ensures.tables c.in_ok-write_tables-in-None.ensures.written c.write_blocks.ensures.written;
   marks = marks_then c.args.self.now c.write_tables.new.self c.write_blocks.new.self c.write_tables.ensures.marks c.write_blocks.ensures.marks;
@@ -89,3 +92,6 @@ returns-in_err-write_blocks-in-L2DependsOnRb-clause-header_cluster g c = c.write
 
 pub returns-in_ok-write_blocks-in-L2DependsOnRb-clause-header_cluster : goal.returns-in_ok-write_blocks-in-L2DependsOnRb-clause-header_cluster
 returns-in_ok-write_blocks-in-L2DependsOnRb-clause-header_cluster g c = caches_then c.write_blocks-in-L2DependsOnRb.ensures.header_cluster c.write_tables-in-L2DependsOnRb.ensures.header_cluster
+
+pub returns-in_ok-write_blocks-in-L2DependsOnRb-clause-notes : goal.returns-in_ok-write_blocks-in-L2DependsOnRb-clause-notes
+returns-in_ok-write_blocks-in-L2DependsOnRb-clause-notes g c = kept_then _ _ _ c.write_blocks-in-L2DependsOnRb.ensures.notes c.write_tables-in-L2DependsOnRb.ensures.notes

@@ -12,6 +12,7 @@ use Rattle.qcow2_alloc.specs.ImageStorage.{storage_of}
 use Rattle.qcow2_alloc.proofs.KeptTables.Clean.{blocks_as}
 use Rattle.qcow2_alloc.proofs.KeptTables.Quiet.{quiet_then}
 use Rattle.qcow2_alloc.proofs.KeptTables.BehindHeader.{caches_then}
+use Rattle.qcow2_alloc.specs.KeptNotes.{kept_then}
 use Rattle.qcow2_alloc.proofs.cache.MetadataCaches.flush_rb.Goals as goal
 
 pub returns-in_err-write_tables-in-RbDependsOnL2-clause-keeps : goal.returns-in_err-write_tables-in-RbDependsOnL2-clause-keeps
@@ -27,6 +28,7 @@ pub returns-in-None : goal.returns-in-None
 returns-in-None g c = record {
   cause = search rules;
   storage_faults = c.write_blocks-in-None.ensures.storage_faults;
+  notes = c.write_blocks-in-None.ensures.notes;
   order = search rules;
   written = search rules;
   marks = search rules;
@@ -71,3 +73,6 @@ returns-in_err-write_tables-in-RbDependsOnL2-clause-header_cluster g c = c.write
 
 pub returns-in_ok-write_tables-in-RbDependsOnL2-clause-header_cluster : goal.returns-in_ok-write_tables-in-RbDependsOnL2-clause-header_cluster
 returns-in_ok-write_tables-in-RbDependsOnL2-clause-header_cluster g c = caches_then c.write_tables.ensures.header_cluster c.write_blocks.ensures.header_cluster
+
+pub returns-in_ok-write_tables-in-RbDependsOnL2-clause-notes : goal.returns-in_ok-write_tables-in-RbDependsOnL2-clause-notes
+returns-in_ok-write_tables-in-RbDependsOnL2-clause-notes g c = kept_then _ _ _ c.write_tables.ensures.notes c.write_blocks.ensures.notes

@@ -6,6 +6,7 @@ use Rattle.qcow2_alloc.specs.ImageError.{IsFault}
 use Rattle.qcow2_alloc.proofs.KeptTables.Causes.{given_err}
 use Rattle.qcow2_alloc.proofs.KeptTables.InOrder.{order_none}
 use Rattle.qcow2_alloc.proofs.KeptTables.BehindHeader.{caches_none, turned_behind}
+use Rattle.qcow2_alloc.specs.KeptNotes.{kept_same}
 use Rattle.qcow2_alloc.proofs.cache.MetadataCaches.rb_depends_on_l2.Goals as goal
 use Rattle.qcow2_alloc.proofs.cache.MetadataCaches.rb_depends_on_l2.Goals.{in-RbDependsOnL2, in-None, in-L2DependsOnRb+in_ok-write_blocks-in-L2DependsOnRb}
 
@@ -43,4 +44,11 @@ returns-clause-header_cluster g c = elim c.match-self.branch [
   | in-RbDependsOnL2 w ↦ rw (w.self-is, w.storage-is) caches_none
   | in-None w ↦ rw (w.self-is, w.storage-is) (turned_behind D.RbDependsOnL2 caches_none)
   | in-L2DependsOnRb+in_ok-write_blocks-in-L2DependsOnRb w ↦ rw (w.self-is, w.storage-is) (turned_behind D.RbDependsOnL2 w.write_blocks.ensures.header_cluster)
+]
+
+pub returns-clause-notes : goal.returns-clause-notes
+returns-clause-notes g c = elim c.match-self.branch [
+  | in-RbDependsOnL2 w ↦ rw w.storage-is (kept_same c.args.storage.now)
+  | in-None w ↦ rw w.storage-is (kept_same c.args.storage.now)
+  | in-L2DependsOnRb+in_ok-write_blocks-in-L2DependsOnRb w ↦ rw w.storage-is w.write_blocks.ensures.notes
 ]

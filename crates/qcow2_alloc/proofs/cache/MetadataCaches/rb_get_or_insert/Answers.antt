@@ -14,6 +14,7 @@ use Rattle.qcow2_alloc.specs.Faults.{faults_of}
 use Rattle.qcow2_alloc.proofs.Faults.{told_ok, told_on, told_since, cache_told, rb_get_tells}
 use Rattle.qcow2_alloc.proofs.Outcomes.{never}
 use Rattle.qcow2_alloc.proofs.KeptTables.BehindHeader.{block_got_behind, caches_then}
+use Rattle.qcow2_alloc.specs.KeptNotes.{kept_then}
 use Rattle.qcow2_alloc.proofs.cache.MetadataCaches.rb_get_or_insert.Goals as goal
 
 pub returns-in_err-get_or_insert-clause-keeps : goal.returns-in_err-get_or_insert-clause-keeps
@@ -185,3 +186,18 @@ returns-in_err-get_or_insert-2-clause-header_cluster g c = λ above. caches_then
 
 pub returns-clause-header_cluster : goal.returns-clause-header_cluster
 returns-clause-header_cluster g c = λ above. caches_then (caches_then (block_got_behind g.S.Storage.view c.args.storage.now c.get_or_insert.new.store c.args.self.now false c.args.cluster above c.get_or_insert.new.self c.get_or_insert.result c.get_or_insert.ensures.others c.get_or_insert.ensures.stays c.get_or_insert.ensures.hit c.get_or_insert.ensures.miss) c.before_rb.ensures.header_cluster) (block_got_behind g.S.Storage.view c.before_rb.new.storage c.get_or_insert-2.new.store c.before_rb.new.self true c.args.cluster above c.get_or_insert-2.new.self c.get_or_insert-2.result c.get_or_insert-2.ensures.others c.get_or_insert-2.ensures.stays c.get_or_insert-2.ensures.hit c.get_or_insert-2.ensures.miss)
+
+pub returns-in_err-get_or_insert-clause-notes : goal.returns-in_err-get_or_insert-clause-notes
+returns-in_err-get_or_insert-clause-notes g c = c.get_or_insert.ensures.keeps
+
+pub returns-then-branch-clause-notes : goal.returns-then-branch-clause-notes
+returns-then-branch-clause-notes g c = c.get_or_insert.ensures.keeps
+
+pub returns-in_err-before_rb-clause-notes : goal.returns-in_err-before_rb-clause-notes
+returns-in_err-before_rb-clause-notes g c = kept_then _ _ _ c.get_or_insert.ensures.keeps c.before_rb.ensures.notes
+
+pub returns-in_err-get_or_insert-2-clause-notes : goal.returns-in_err-get_or_insert-2-clause-notes
+returns-in_err-get_or_insert-2-clause-notes g c = kept_then _ _ _ (kept_then _ _ _ c.get_or_insert.ensures.keeps c.before_rb.ensures.notes) c.get_or_insert-2.ensures.keeps
+
+pub returns-clause-notes : goal.returns-clause-notes
+returns-clause-notes g c = kept_then _ _ _ (kept_then _ _ _ c.get_or_insert.ensures.keeps c.before_rb.ensures.notes) c.get_or_insert-2.ensures.keeps

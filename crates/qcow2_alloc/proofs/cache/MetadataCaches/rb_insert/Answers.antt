@@ -25,6 +25,7 @@ use Rattle.qcow2_alloc.specs.Faults.{faults_of}
 use Rattle.qcow2_alloc.proofs.Faults.{told_ok, told_on, told_since, cache_told, rb_put_tells}
 use Rattle.qcow2_alloc.proofs.Outcomes.{never}
 use Rattle.qcow2_alloc.proofs.KeptTables.BehindHeader.{block_put_behind, caches_then}
+use Rattle.qcow2_alloc.specs.KeptNotes.{kept_then}
 use Rattle.qcow2_alloc.proofs.cache.MetadataCaches.rb_insert.Goals as goal
 
 pub returns-in_err-insert-clause-keeps : goal.returns-in_err-insert-clause-keeps
@@ -260,3 +261,18 @@ returns-in_err-insert-2-clause-header_cluster g c = if_some _ c.args.block.clust
 
 pub returns-clause-header_cluster : goal.returns-clause-header_cluster
 returns-clause-header_cluster g c = if_some _ c.args.block.cluster c.in-Some.cluster (sym c.get_cluster.ensures.value ∙ c.in-Some.is) (λ above. caches_then (caches_then (block_put_behind g.S.Storage.view c.args.storage.now c.insert.new.store c.args.self.now false c.in-Some.cluster above c.insert.new.self c.args.block (Some c.args.block) c.insert.new.value c.insert.result refl c.insert.ensures.others c.insert.ensures.stays c.insert.ensures.there c.insert.ensures.missing) c.before_rb.ensures.header_cluster) (block_put_behind g.S.Storage.view c.before_rb.new.storage c.insert-2.new.store c.before_rb.new.self true c.in-Some.cluster above c.insert-2.new.self c.args.block c.insert.new.value c.insert-2.new.value c.insert-2.result ((rb_taken g.S.Storage.view c.args.storage.now c.insert.new.store c.args.self.now false c.in-Some.cluster c.insert.new.self c.insert.ensures.others c.args.block (Some c.args.block) c.insert.new.value refl c.insert.result c.insert.ensures.there c.insert.ensures.missing).kept (c.in_ok-insert.was ∙ ap Ok c.if-branch.false)) c.insert-2.ensures.others c.insert-2.ensures.stays c.insert-2.ensures.there c.insert-2.ensures.missing))
+
+pub returns-in_err-insert-clause-notes : goal.returns-in_err-insert-clause-notes
+returns-in_err-insert-clause-notes g c = c.insert.ensures.keeps
+
+pub returns-then-branch-clause-notes : goal.returns-then-branch-clause-notes
+returns-then-branch-clause-notes g c = c.insert.ensures.keeps
+
+pub returns-in_err-before_rb-clause-notes : goal.returns-in_err-before_rb-clause-notes
+returns-in_err-before_rb-clause-notes g c = kept_then _ _ _ c.insert.ensures.keeps c.before_rb.ensures.notes
+
+pub returns-in_err-insert-2-clause-notes : goal.returns-in_err-insert-2-clause-notes
+returns-in_err-insert-2-clause-notes g c = kept_then _ _ _ (kept_then _ _ _ c.insert.ensures.keeps c.before_rb.ensures.notes) c.insert-2.ensures.keeps
+
+pub returns-clause-notes : goal.returns-clause-notes
+returns-clause-notes g c = kept_then _ _ _ (kept_then _ _ _ c.insert.ensures.keeps c.before_rb.ensures.notes) c.insert-2.ensures.keeps

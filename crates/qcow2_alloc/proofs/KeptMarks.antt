@@ -1,0 +1,42 @@
+-- One step after another keeps the marks of an image's file.
+use Rattle.std.proofs.Common.{◌≡◌, ℕ, List, Option, Some, None, IsSome, IsTrue, Result, refl, sym, ◌∙◌, subst}
+use Rattle.std.specs.Option.{IfSome}
+use Rattle.image_access.specs.Moments.{StorageView, Calls, Changes}
+use Rattle.image_access.specs.declared.error.StorageError.{StorageError}
+use Rattle.qcow2_alloc.specs.CachePins.{KeepsPinsAndNotes}
+use Rattle.qcow2_alloc.specs.ImageStorage.{storage_of, is_changed_of, NotesWrite}
+use Rattle.qcow2_alloc.specs.KeptMarks.{KeepMarks}
+use Rattle.qcow2_alloc.specs.KeptNotes.{KeepsNotes, kept_same, kept_then}
+use Rattle.qcow2_alloc.specs.MetadataCaches.{order_of}
+use Rattle.qcow2_alloc.specs.declared.cache.MetadataCaches.{MetadataCaches}
+use Rattle.qcow2_alloc.specs.declared.image_storage.ImageStorage.{ImageStorage}
+use Rattle.qcow2_alloc.proofs.CachePins.{marks_none, marks_then}
+use Rattle.qcow2_alloc.proofs.KeptNotes.{kept_told, write_kept}
+
+module _ {S : Type 0} {view : S → StorageView} where
+  pub kept_marks_none : {s : ImageStorage S} {a : MetadataCaches S} → KeepMarks view s a s a
+  kept_marks_none {s} {a} = record { pins = marks_none a; order = refl; notes = kept_same s }
+
+  pub kept_marks_then : {r s t : ImageStorage S} {a b c : MetadataCaches S} → KeepMarks view r a s b → KeepMarks view s b t c → KeepMarks view r a t c
+  kept_marks_then {r} {s} {t} {a} {b} {c} first then = record { pins = marks_then a b c first.pins then.pins; order = then.order ∙ first.order; notes = kept_then r s t first.notes then.notes }
+
+  -- a call of the caches that leaves the storage alone, one that leaves the caches alone, and one of both
+  pub marks_of_caches : {s : ImageStorage S} {a b : MetadataCaches S} → KeepsPinsAndNotes a b → order_of b ≡ order_of a → KeepMarks view s a s b
+  marks_of_caches {s} pins order = record { pins = pins; order = order; notes = kept_same s }
+
+  pub marks_of_storage : {r s : ImageStorage S} {a b : MetadataCaches S} → b ≡ a → KeepsNotes view r s → KeepMarks view r a s b
+  marks_of_storage {r} {s} {a} same notes = subst (λ (x : MetadataCaches S). KeepMarks view r a s x) (sym same) (record { pins = marks_none a; order = refl; notes = notes })
+
+  pub marks_of_both : {r s : ImageStorage S} {a b : MetadataCaches S} → KeepsPinsAndNotes a b → order_of b ≡ order_of a → KeepsNotes view r s → KeepMarks view r a s b
+  marks_of_both pins order notes = record { pins = pins; order = order; notes = notes }
+
+  -- a write that the storage was told of before
+  module _ (before mid now : ImageStorage S) (r : Result (Unit {0}) StorageError) (same : storage_of mid ≡ storage_of before) (noted : is_changed_of mid ≡ is_changed_of before) where
+    pub told_kept : (changed : List ℕ) → Changes (view (storage_of mid)) (view (storage_of now)) r changed → Calls (view (storage_of mid)) (view (storage_of now)) r → NotesWrite mid now r → KeepsNotes view before now
+    told_kept changed changes calls notes = kept_told before mid now same noted (write_kept mid now r changed changes calls notes)
+
+    -- of a table that has a place
+    pub placed_kept : (place : Option ℕ) (changed : ℕ → List ℕ) → IsSome place → IfSome place (λ k. Changes (view (storage_of mid)) (view (storage_of now)) r (changed k)) → Calls (view (storage_of mid)) (view (storage_of now)) r
+        → NotesWrite mid now r → KeepsNotes view before now
+    placed_kept None changed placed changes calls notes = absurd cc
+    placed_kept (Some k) changed placed changes calls notes = told_kept (changed k) changes calls notes
