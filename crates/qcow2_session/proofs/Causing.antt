@@ -19,6 +19,7 @@ use Rattle.qcow2_image.specs.declared.prepared.CommitRefused.{CommitRefused}
 use Rattle.qcow2_image.specs.declared.prepared.CommitRefused.TheVariants.{Kept}
 use Rattle.qcow2_image.specs.declared.prepared.Prepared.{Prepared}
 use Rattle.qcow2_image.specs.Preallocation.{IsUnderMappingIn}
+use Rattle.qcow2_image.specs.Prepared.{IsHandedBackBy}
 use Rattle.qcow2_image.specs.Refusals.{IsMet, IsMetPreparing, passes, refuse_if, refuses_mapping, refuses_to_prepare, refuses_to_read, unusable}
 use Rattle.qcow2_session.specs.Causes.{HasNothingToDo, HeedsPrepared, IsRightlyRefused, IsUntouchedUnder, MayMeet, TellsMisuse, first_cause, refuses_clearing}
 use Rattle.qcow2_session.specs.Commands.{reply_of_clearing}
@@ -213,6 +214,15 @@ not_free out slot at is = let both = sym is ∙ at in cc
 -- a refused commit
 pub kept_error : {A : Type 0} {e f : ImageError} {p q : Prepared} {r : CommitRefused} → r ≡ Kept e q → (◌≡◌ {A = Result A CommitRefused} (Err r) (Err (Kept f p))) → e ≡ f
 kept_error {e = e} {f = f} {p = p} {q = q} {r = r} kept is = let same : Kept e q ≡ Kept f p = cc in cc
+
+-- a mapping that is handed back is the one that was to be committed
+pub kept_same : {e : ImageError} {q : Prepared} {r : CommitRefused} (p : Prepared) → r ≡ Kept e q → IsHandedBackBy p r → q ≡ p
+kept_same p kept back = subst (λ (x : CommitRefused). IsHandedBackBy p x) kept back
+
+-- what an image that works comes to alone
+pub where_works : (X : Type 0) (b : Bool) → (IsTrue b → ⊥) → (b ≡ false → X) → X
+where_works X true never works = absurd (never refl)
+where_works X false never works = works refl
 
 pub none_of : (o : Option ℕ) → (IsSome o → ⊥) → o ≡ None
 none_of None never = refl

@@ -27,6 +27,10 @@ get_set_same (x ∷ xs) (suc k) a v e = get_set_same xs k a v e
 pub set_back : {X : Type 0} (xs : List X) (k : ℕ) (a b : X) → slice_get xs k ≡ Some b → slice_set (slice_set xs k a) k b ≡ xs
 set_back xs k a b e = set_twice xs k a b ∙ set_found xs k b e
 
+-- what stood there, put back
+pub set_again : {X : Type 0} (xs : List X) (k : ℕ) (a b v : X) → slice_get xs k ≡ Some v → b ≡ v → slice_set (slice_set xs k a) k b ≡ xs
+set_again xs k a b v e same = set_back xs k a b (e ∙ ap Some (sym same))
+
 pub get_front : {X : Type 0} (xs ys : List X) (k : ℕ) (y : X) → slice_get xs k ≡ Some y → slice_get (xs ++ ys) k ≡ Some y
 get_front [] ys k y e = cc
 get_front (x ∷ xs) ys zero y e = e

@@ -1,15 +1,16 @@
 -- What the replies of a run tell of the image itself, beside what they mean in words of a guest's disk.
-use Rattle.std.specs.Prelude.{ℕ, ◌<◌, ◌≡◌, ◌⊎◌, false, IsTrue, IsNone, List, [], ◌∷◌, Option, Some, None, replicate, slice_get}
+use Rattle.std.specs.Prelude.{ℕ, ◌<◌, ◌≡◌, ◌⊎◌, false, IsTrue, IsNone, List, [], ◌∷◌, Option, Some, None, is_none, replicate, slice_get, slice_set}
 use Rattle.image_access.specs.Backing.{BackingView}
 use Rattle.image_access.specs.Moments.{StorageView}
 use Rattle.qcow2_disk.specs.AbstractImages.{AbstractImage, Setting, IsOpened}
 use Rattle.qcow2_disk.specs.Runs.{Found, State, RefinesState, RefinesCommand, begun, found_after}
+use Rattle.qcow2_alloc.specs.ImageError.{IsOfTables}
 use Rattle.qcow2_alloc.specs.ImageFile.{known_in}
 use Rattle.qcow2_image.specs.declared.image.Qcow2.{Qcow2}
 use Rattle.qcow2_image.specs.declared.prepared.Prepared.{Prepared}
 use Rattle.qcow2_image.specs.Image.{is_external, is_failed, is_writable, number_of, size_of, storage_of_image}
 use Rattle.qcow2_image.specs.ImageInvariant.{abstract_of, meaning}
-use Rattle.qcow2_image.specs.Prepared.{table_of}
+use Rattle.qcow2_image.specs.Prepared.{length_of, offset_of, table_of}
 use Rattle.qcow2_image.specs.Preparing.{IsAnswered, IsOfNothing}
 use Rattle.qcow2_image.specs.Unwritten.{HoldsSame, IsOnlyRead, IsUnmodified}
 use Rattle.qcow2_session.specs.Causes.{IsRightlyRefused}
@@ -28,6 +29,23 @@ free_slots = replicate 256 None
 -- no mapping is prepared but existing ones
 abbrev pub AreExisting : List (Option Prepared) → Type 0
 AreExisting out = (k : ℕ) (p : Prepared) → slice_get out k ≡ Some (Some p) → IsNone (table_of p)
+
+-- a slot that was empty holds a mapping, and the others are as before
+abbrev pub IsFilled : (before : List (Option Prepared)) (slot : ℕ) (p : Prepared) (after : List (Option Prepared)) → Type 0
+IsFilled before slot p after = (slice_get before slot ≡ Some None) × (after ≡ slice_set before slot (Some p))
+
+-- a slot that held a mapping is empty, and the others are as before
+abbrev pub IsEmptied : (before : List (Option Prepared)) (slot : ℕ) (after : List (Option Prepared)) → Type 0
+IsEmptied before slot after = (p : Prepared) × (slice_get before slot ≡ Some (Some p)) × (after ≡ slice_set before slot None)
+
+-- What a command leaves in the slots, whatever the image. What is prepared fills its slot, with the mapping that is told of. What is committed or dropped empties it, and so may a commit that its work has refused. All other slots are as before, and so are all after any other command or refusal.
+abbrev pub SlotsAfter : (before : List (Option Prepared)) → Command → Reply → (after : List (Option Prepared)) → Type 0
+SlotsAfter before (C.PrepareDataMapping slot offset n overwrite) (R.Prepared host count existing) after =
+    (p : Prepared) × IsFilled before slot p after × (host ≡ offset_of p) × (count ≡ length_of p) × (existing ≡ is_none (table_of p))
+SlotsAfter before (C.CommitDataMapping slot) R.Done after = IsEmptied before slot after
+SlotsAfter before (C.CommitDataMapping slot) (R.Refused e) after = (after ≡ before) ⊎ (IsOfTables e × IsEmptied before slot after)
+SlotsAfter before (C.DiscardDataMapping slot) R.Done after = IsEmptied before slot after
+SlotsAfter before command reply after = after ≡ before
 
 -- an image keeps its number, whether it is to be written, and whether its data stand in another file
 pub record KeepsItself {S F : Type 0} (old new : Qcow2 S F) : Type 0 where
@@ -73,10 +91,11 @@ module _ {S F : Type 0} (view : S → StorageView) (backing : F → BackingView)
   abbrev pub LeavesUnwritten : (old : Qcow2 S F) (before : List (Option Prepared)) (new : Qcow2 S F) (after : List (Option Prepared)) → Type 0
   LeavesUnwritten old before new after = is_writable old ≡ false → (abstract_of view backing old before).is_sound → IsUnmodified view old → AreExisting before → IsLeftUnwritten old new after
 
-  -- One command, whatever the image, from a point of a run to the next. What it tells of the image is so. It is refused for its causes alone, and as a fault only where one was counted. The size of a failed image stays, and one that was opened for reading is left unwritten.
+  -- One command, whatever the image, from a point of a run to the next. What it tells of the image is so, and the slots are those that it leaves. It is refused for its causes alone, and as a fault only where one was counted. The size of a failed image stays, and one that was opened for reading is left unwritten.
   pub record IsToldStep (from to : RunPoint S F) (command : Command) (reply : Reply) : Type 0 where
     pub keeps : KeepsItself from.image to.image
     pub tells : TellsOfImage from.image to.image from.prepared to.prepared command reply
+    pub slots : SlotsAfter from.prepared command reply to.prepared
     pub causes : IsRightlyRefused view backing from.image to.image from.prepared from.found command reply
     pub finds : (slot : ℕ) → to.found slot ≡ found_after from.found (command_of command) (reply_of reply) slot
     pub counts : CommandCounts view backing from.image to.image reply

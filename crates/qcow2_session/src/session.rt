@@ -15,7 +15,7 @@ ghost use Rattle.qcow2_session.specs.Sessions.{IsRightlyBeyond, IsOfReading, IsO
 ghost use Rattle.qcow2_disk.specs.Runs.{Found};
 ghost use Rattle.qcow2_image.specs.Ranges.{ReleasesOneMapping};
 ghost use Rattle.qcow2_image.specs.Unwritten.{IsOnlyRead, IsUnmodified};
-ghost use Rattle.qcow2_session.specs.Told.{IsNeverWritten, KeepsItself, LeavesUnwritten, StaysUnwritten, TellsOfImage, TellsThrough};
+ghost use Rattle.qcow2_session.specs.Told.{IsNeverWritten, KeepsItself, LeavesUnwritten, SlotsAfter, StaysUnwritten, TellsOfImage, TellsThrough};
 ghost use Rattle.qcow2_image.specs.declared.prepared.Prepared.{Prepared};
 
 use crate::clearing::{discard_to_any, discard_to_backing, discard_to_zero, ensure_zero};
@@ -381,6 +381,7 @@ fn step<S: Storage, F: WrappedFormat<S>>(
     ensures command_step { CommandSteps S.view F.backing image.old image.new slots.old slots.new command.now result }
     ensures finds { Finds slots.old slots.new command.now result }
     ensures tells { TellsOfImage S.view F.backing image.old image.new slots.old.prepared.items slots.new.prepared.items command.now result }
+    ensures after { SlotsAfter slots.old.prepared.items command.now result slots.new.prepared.items }
     ensures size { IsTrue (is_failed image.old) → size_of image.new ≡ size_of image.old }
     ensures causes { IsRightlyRefused S.view F.backing image.old image.new slots.old.prepared.items (found_in slots.old.mappings.items) command.now result }
     ensures unwritten { LeavesUnwritten S.view F.backing image.old slots.old.prepared.items image.new slots.new.prepared.items }
@@ -438,6 +439,7 @@ fn get_mapping<S: Storage, F: WrappedFormat<S>>(
     ensures slots { slots.new.image ≡ slots.old.image }
     ensures command_step { CommandSteps S.view F.backing image.old image.new slots.old slots.new (Command.GetMapping slot offset max) result }
     ensures finds { Finds slots.old slots.new (Command.GetMapping slot offset max) result }
+    ensures after { SlotsAfter slots.old.prepared.items (Command.GetMapping slot offset max) result slots.new.prepared.items }
     ensures unwritten { LeavesUnwritten S.view F.backing image.old slots.old.prepared.items image.new slots.new.prepared.items }
     ensures tells { TellsOfImage S.view F.backing image.old image.new slots.old.prepared.items slots.new.prepared.items (Command.GetMapping slot offset max) result }
 {
@@ -515,6 +517,7 @@ fn prepare<S: Storage, F: WrappedFormat<S>>(
     ensures slots { slots.new.image ≡ slots.old.image }
     ensures command_step { CommandSteps S.view F.backing image.old image.new slots.old slots.new (Command.PrepareDataMapping slot offset length overwrite) result }
     ensures finds { Finds slots.old slots.new (Command.PrepareDataMapping slot offset length overwrite) result }
+    ensures after { SlotsAfter slots.old.prepared.items (Command.PrepareDataMapping slot offset length overwrite) result slots.new.prepared.items }
     ensures unwritten { LeavesUnwritten S.view F.backing image.old slots.old.prepared.items image.new slots.new.prepared.items }
     ensures tells { TellsOfImage S.view F.backing image.old image.new slots.old.prepared.items slots.new.prepared.items (Command.PrepareDataMapping slot offset length overwrite) result }
 {
@@ -575,6 +578,7 @@ fn commit<S: Storage, F: WrappedFormat<S>>(
     ensures slots { slots.new.image ≡ slots.old.image }
     ensures command_step { CommandSteps S.view F.backing image.old image.new slots.old slots.new (Command.CommitDataMapping slot) result }
     ensures finds { Finds slots.old slots.new (Command.CommitDataMapping slot) result }
+    ensures after { SlotsAfter slots.old.prepared.items (Command.CommitDataMapping slot) result slots.new.prepared.items }
     ensures unwritten { LeavesUnwritten S.view F.backing image.old slots.old.prepared.items image.new slots.new.prepared.items }
 {
     let Some(prepared) = slots.put(slot, None) else {
@@ -602,6 +606,7 @@ fn discard<S: Storage, F: WrappedFormat<S>>(
     ensures slots { slots.new.image ≡ slots.old.image }
     ensures command_step { CommandSteps S.view F.backing image.old image.new slots.old slots.new (Command.DiscardDataMapping slot) result }
     ensures finds { Finds slots.old slots.new (Command.DiscardDataMapping slot) result }
+    ensures after { SlotsAfter slots.old.prepared.items (Command.DiscardDataMapping slot) result slots.new.prepared.items }
     ensures unwritten { LeavesUnwritten S.view F.backing image.old slots.old.prepared.items image.new slots.new.prepared.items }
 {
     match slots.put(slot, None) {

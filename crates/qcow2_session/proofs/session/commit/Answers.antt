@@ -1,9 +1,9 @@
-use Rattle.std.proofs.Common.{◌≡◌, refl, sym, ap, subst, ◌∙◌, List, Option, Some, None, Err}
+use Rattle.std.proofs.Common.{◌≡◌, inl, inr, refl, sym, ap, subst, ◌∙◌, List, Option, Some, None, Err}
 use Rattle.std.specs.Prelude.{slice_get, slice_set}
 use Rattle.qcow2_disk.specs.Runs.{RefinesCommand}
 use Rattle.qcow2_disk.proofs.RunSteps.{done_as, refused_as, none_as}
 use Rattle.qcow2_image.specs.ImageInvariant.{image_abstraction}
-use Rattle.qcow2_session.proofs.Places.{set_found, set_twice, get_set_same}
+use Rattle.qcow2_session.proofs.Places.{set_found, set_twice, get_set_same, set_again}
 use Rattle.qcow2_session.proofs.Meanings.{found_at, none_at, does_commit, refuses_commit}
 use Rattle.qcow2_session.proofs.Answering.{not_both, not_old_tables, kept_is}
 use Rattle.qcow2_disk.specs.Runs.{commit, done, misuse, refused}
@@ -20,7 +20,7 @@ use Rattle.qcow2_image.specs.Calls.{reason_of}
 use Rattle.qcow2_image.specs.Prepared.{table_of}
 use Rattle.qcow2_alloc.specs.ImageError.{IsOfTables}
 use Rattle.std.specs.Prelude.{IsNone}
-use Rattle.qcow2_session.proofs.Causing.{is_done, is_misused, is_refused, kept_error, not_failed, not_free, same_mapping, where_failed}
+use Rattle.qcow2_session.proofs.Causing.{is_done, is_misused, is_refused, kept_error, kept_same, not_failed, not_free, same_mapping, where_failed, where_works}
 use Rattle.qcow2_session.proofs.session.commit.Goals as goal
 
 pub returns-in_default-clause-command_step : goal.returns-in_default-clause-command_step
@@ -102,3 +102,25 @@ returns-in-Err-Kept-clause-causes g c =
     (where_failed _ (is_failed c.args.image.now) (λ f. (kept_error c.in-Err-Kept.field-0-is (c.in-Err-Kept.ensures.failed own f).0, (c.in-Err-Kept.ensures.failed own f).1)))
     (λ none. subst (λ r. IsOfTables (reason_of r)) c.in-Err-Kept.field-0-is (c.in-Err-Kept.ensures.late own (not_failed (is_failed c.args.image.now) none)))
     (λ none idle. let no = (c.in-Err-Kept.ensures.existing own (not_failed (is_failed c.args.image.now) none) (subst (λ p. IsNone (table_of p)) (same_mapping c.args.slots.now.prepared.items c.args.slot c.in-Some.ensures.was idle.1) idle.2)).0 in absurd cc) (λ _ sound. fault_of c.in-Err-Kept.refusal ((subst (λ r. Commits g.S.Storage.view g.F.BackingDisk.backing c.args.image.now c.commit_data_mapping.new.self c.in-Some.prepared (Err r)) c.in-Err-Kept.field-0-is c.in-Err-Kept.ensures.sees c.args.slots.now.prepared.items c.args.slot c.in-Some.ensures.was).0 sound))
+
+pub returns-in_default-clause-after : goal.returns-in_default-clause-after
+returns-in_default-clause-after g c = c.put.ensures.is ∙ set_found c.args.slots.now.prepared.items c.args.slot None c.in_default.ensures.was
+
+pub returns-in-Ok-clause-after : goal.returns-in-Ok-clause-after
+returns-in-Ok-clause-after g c = (c.in-Some.prepared, c.in-Some.ensures.was, c.put.ensures.is)
+
+pub returns-in-Err-Spent-clause-after : goal.returns-in-Err-Spent-clause-after
+returns-in-Err-Spent-clause-after g c =
+    let own = c.in-Some.ensures.own ∙ c.put.ensures.image ∙ c.requires in
+    inr (
+      where_works (IsOfTables c.in-Err-Spent.refusal) (is_failed c.args.image.now) (λ f. not_old_tables c.in-Err-Spent.field-0-is (c.in-Err-Spent.ensures.failed own f))
+          (λ works. subst (λ r. IsOfTables (reason_of r)) c.in-Err-Spent.field-0-is (c.in-Err-Spent.ensures.late own works)),
+      (c.in-Some.prepared, c.in-Some.ensures.was, c.put.ensures.is),
+    )
+
+pub returns-in-Err-Kept-clause-after : goal.returns-in-Err-Kept-clause-after
+returns-in-Err-Kept-clause-after g c =
+    let out = c.args.slots.now.prepared.items in
+    let q = c.in-Err-Kept.prepared in
+    inl (c.fill.ensures.is ∙ ap (λ (o : List (Option _)). slice_set o c.args.slot (Some q)) c.put.ensures.is
+    ∙ set_again out c.args.slot None (Some q) (Some c.in-Some.prepared) c.in-Some.ensures.was (ap Some (kept_same c.in-Some.prepared c.in-Err-Kept.field-0-is c.in-Err-Kept.ensures.kept)))

@@ -45,3 +45,9 @@ returns-in-None-clause-causes g c = is_misused g.S.Storage.view g.F.BackingDisk.
 pub returns-in-Some-clause-causes : goal.returns-in-Some-clause-causes
 returns-in-Some-clause-causes g c =
     is_done g.S.Storage.view g.F.BackingDisk.backing c.args.image.now c.release.new.image c.args.slots.now.prepared.items (C.DiscardDataMapping c.args.slot) R.Done (λ is. absurd cc) (λ is. absurd cc, λ free. absurd (not_free c.args.slots.now.prepared.items c.args.slot c.in-Some.ensures.was free)) refl tt (λ _ _. tt)
+
+pub returns-in-None-clause-after : goal.returns-in-None-clause-after
+returns-in-None-clause-after g c = c.put.ensures.is ∙ set_found c.args.slots.now.prepared.items c.args.slot None c.in-None.ensures.was
+
+pub returns-in-Some-clause-after : goal.returns-in-Some-clause-after
+returns-in-Some-clause-after g c = (c.in-Some.prepared, c.in-Some.ensures.was, c.put.ensures.is)

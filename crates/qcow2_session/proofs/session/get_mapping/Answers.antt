@@ -65,3 +65,9 @@ invariant_of-slots-clause-looked_up g c = λ k m at.
 
 pub invariant_of-slots-clause-all_mappings : goal.invariant_of-slots-clause-all_mappings
 invariant_of-slots-clause-all_mappings g c = length_set c.args.slots.now.mappings.items c.from.result (Some c.in-Ok.mapping) ∙ c.args.slots.now.all_mappings
+
+pub returns-in-Ok-clause-after : goal.returns-in-Ok-clause-after
+returns-in-Ok-clause-after g c = refl
+
+pub returns-in-Err-clause-after : goal.returns-in-Err-clause-after
+returns-in-Err-clause-after g c = refl

@@ -120,3 +120,14 @@ returns-in-Ok-clause-causes g c =
     let sees = c.in-Ok.ensures.sees out c.args.slot free in
     prepared_untaken view below old.file.header.fields (known_in view old.file) new out c.args.slot p (meaning view below new p) c.args.offset c.args.length free (sees.answer sound).0
     (ap (λ (x : Setting). x.cluster_size) (sees.acts.works sound).setting) (sees.answer sound).1.0.from (λ some. c.in-Ok.ensures.maps some out sound))
+
+pub returns-then-is_some-clause-after : goal.returns-then-is_some-clause-after
+returns-then-is_some-clause-after g c = refl
+
+pub returns-in-Err-clause-after : goal.returns-in-Err-clause-after
+returns-in-Err-clause-after g c = refl
+
+pub returns-in-Ok-clause-after : goal.returns-in-Ok-clause-after
+returns-in-Ok-clause-after g c =
+    let free = untaken (image_abstraction g.S.Storage.view g.F.BackingDisk.backing) c.args.image.now c.args.slots.now.prepared.items c.args.slot c.get.result c.get.ensures (sym c.is_some.ensures ∙ c.if-is_some.false) in
+    (c.in-Ok.prepared, (free, c.fill.ensures.is), c.offset.ensures, c.length.ensures, c.is_nonblocking.ensures)

@@ -66,7 +66,7 @@ loop-command-preserved g c = record {
       subst (λ l. IsToldSoFar view below c.args.image.now now (take (done + 1) commands) l) (sym c.push_reserved.ensures.items)
       (subst (λ l. IsToldSoFar view below c.args.image.now now l (c.loop-command.replies.items ++ c.step-reply.result ∷ [])) (sym split)
       (told_more view below c.args.image.now before now (take done commands) c.loop-command.replies.items c.command-item.result c.step-reply.result c.loop-command.invariant.told
-      (record { keeps = c.step-reply.ensures.keeps; tells = c.step-reply.ensures.tells; causes = c.step-reply.ensures.causes; finds = c.step-reply.ensures.finds; counts = c.step-reply.ensures.faults; size = c.step-reply.ensures.size; unwritten = c.step-reply.ensures.unwritten })
+      (record { keeps = c.step-reply.ensures.keeps; tells = c.step-reply.ensures.tells; slots = c.step-reply.ensures.after; causes = c.step-reply.ensures.causes; finds = c.step-reply.ensures.finds; counts = c.step-reply.ensures.faults; size = c.step-reply.ensures.size; unwritten = c.step-reply.ensures.unwritten })
       c.step-reply.ensures.command_step));
 }
 

@@ -3,7 +3,7 @@ use Rattle.qcow2_disk.proofs.RunSteps.{done_as, refused_as, none_as}
 use Rattle.qcow2_session.specs.Commands.{command_of}
 use Rattle.qcow2_session.specs.Sessions.{CommandSteps, found_in}
 use Rattle.qcow2_session.proofs.Answering.{reading_first, error_is, write_error_is, not_both, reads_answer, writes_answer, write_refused_answer}
-use Rattle.qcow2_session.specs.Told.{TellsOfImage}
+use Rattle.qcow2_session.specs.Told.{SlotsAfter, TellsOfImage}
 use Rattle.qcow2_session.specs.declared.session.Reply.TheVariants.{Bytes, Done, Refused, Size, WriteRefused}
 use Rattle.qcow2_image.proofs.Map.Unmodified.{read_none}
 use Rattle.qcow2_session.proofs.Unwritten.{left_same}
@@ -251,3 +251,63 @@ returns-in-ResizeGrow-clause-causes g c = subst (λ q. IsRightlyRefused g.S.Stor
 
 pub returns-in-ResizeShrink-clause-causes : goal.returns-in-ResizeShrink-clause-causes
 returns-in-ResizeShrink-clause-causes g c = subst (λ q. IsRightlyRefused g.S.Storage.view g.F.BackingDisk.backing c.args.image.now c.shrink.new.image c.args.slots.now.prepared.items (found_in c.args.slots.now.mappings.items) q c.shrink.result) (sym c.in-ResizeShrink.is) (c.shrink.ensures.causes c.args.slots.now.prepared.items (found_in c.args.slots.now.mappings.items))
+
+pub returns-in-Ok-clause-after : goal.returns-in-Ok-clause-after
+returns-in-Ok-clause-after g c = subst (λ q. SlotsAfter c.args.slots.now.prepared.items q (Bytes c.in-Ok.bytes) c.args.slots.now.prepared.items) (sym c.in-Read.is) refl
+
+pub returns-in-Err-clause-after : goal.returns-in-Err-clause-after
+returns-in-Err-clause-after g c = subst (λ q. SlotsAfter c.args.slots.now.prepared.items q (Refused c.in-Err.refusal) c.args.slots.now.prepared.items) (sym c.in-Read.is) refl
+
+pub returns-in-Ok-write-clause-after : goal.returns-in-Ok-write-clause-after
+returns-in-Ok-write-clause-after g c = subst (λ q. SlotsAfter c.args.slots.now.prepared.items q Done c.args.slots.now.prepared.items) (sym c.in-Write.is) refl
+
+pub returns-in-Err-write-clause-after : goal.returns-in-Err-write-clause-after
+returns-in-Err-write-clause-after g c = subst (λ q. SlotsAfter c.args.slots.now.prepared.items q (WriteRefused c.in-Err-write.refusal c.in-Err-write.done) c.args.slots.now.prepared.items) (sym c.in-Write.is) refl
+
+pub returns-in-Flush-clause-after : goal.returns-in-Flush-clause-after
+returns-in-Flush-clause-after g c = subst (λ q. SlotsAfter c.args.slots.now.prepared.items q c.flush.result c.args.slots.now.prepared.items) (sym c.in-Flush.is) refl
+
+pub returns-in-Size-clause-after : goal.returns-in-Size-clause-after
+returns-in-Size-clause-after g c = subst (λ q. SlotsAfter c.args.slots.now.prepared.items q (Size c.size.result) c.args.slots.now.prepared.items) (sym c.in-Size.is) refl
+
+pub returns-in-GetMapping-clause-after : goal.returns-in-GetMapping-clause-after
+returns-in-GetMapping-clause-after g c = subst (λ q. SlotsAfter c.args.slots.now.prepared.items q c.get_mapping.result c.get_mapping.new.slots.prepared.items) (sym c.in-GetMapping.is) c.get_mapping.ensures.after
+
+pub returns-in-PrepareDataMapping-clause-after : goal.returns-in-PrepareDataMapping-clause-after
+returns-in-PrepareDataMapping-clause-after g c = subst (λ q. SlotsAfter c.args.slots.now.prepared.items q c.prepare.result c.prepare.new.slots.prepared.items) (sym c.in-PrepareDataMapping.is) c.prepare.ensures.after
+
+pub returns-in-CommitDataMapping-clause-after : goal.returns-in-CommitDataMapping-clause-after
+returns-in-CommitDataMapping-clause-after g c = subst (λ q. SlotsAfter c.args.slots.now.prepared.items q c.commit.result c.commit.new.slots.prepared.items) (sym c.in-CommitDataMapping.is) c.commit.ensures.after
+
+pub returns-in-DiscardDataMapping-clause-after : goal.returns-in-DiscardDataMapping-clause-after
+returns-in-DiscardDataMapping-clause-after g c = subst (λ q. SlotsAfter c.args.slots.now.prepared.items q c.discard.result c.discard.new.slots.prepared.items) (sym c.in-DiscardDataMapping.is) c.discard.ensures.after
+
+pub returns-in-ReadMapped-clause-after : goal.returns-in-ReadMapped-clause-after
+returns-in-ReadMapped-clause-after g c = subst (λ q. SlotsAfter c.args.slots.now.prepared.items q c.read_mapped.result c.args.slots.now.prepared.items) (sym c.in-ReadMapped.is) refl
+
+pub returns-in-WriteMapped-clause-after : goal.returns-in-WriteMapped-clause-after
+returns-in-WriteMapped-clause-after g c = subst (λ q. SlotsAfter c.args.slots.now.prepared.items q c.write_mapped.result c.args.slots.now.prepared.items) (sym c.in-WriteMapped.is) refl
+
+pub returns-in-EnsureZeroMapping-clause-after : goal.returns-in-EnsureZeroMapping-clause-after
+returns-in-EnsureZeroMapping-clause-after g c = subst (λ q. SlotsAfter c.args.slots.now.prepared.items q c.ensure_zero.result c.args.slots.now.prepared.items) (sym c.in-EnsureZeroMapping.is) refl
+
+pub returns-in-DiscardToZero-clause-after : goal.returns-in-DiscardToZero-clause-after
+returns-in-DiscardToZero-clause-after g c = subst (λ q. SlotsAfter c.args.slots.now.prepared.items q c.discard_to_zero.result c.args.slots.now.prepared.items) (sym c.in-DiscardToZero.is) refl
+
+pub returns-in-DiscardToAny-clause-after : goal.returns-in-DiscardToAny-clause-after
+returns-in-DiscardToAny-clause-after g c = subst (λ q. SlotsAfter c.args.slots.now.prepared.items q c.discard_to_any.result c.args.slots.now.prepared.items) (sym c.in-DiscardToAny.is) refl
+
+pub returns-in-DiscardToBacking-clause-after : goal.returns-in-DiscardToBacking-clause-after
+returns-in-DiscardToBacking-clause-after g c = subst (λ q. SlotsAfter c.args.slots.now.prepared.items q c.discard_to_backing.result c.args.slots.now.prepared.items) (sym c.in-DiscardToBacking.is) refl
+
+pub returns-in-ReadvSpecial-clause-after : goal.returns-in-ReadvSpecial-clause-after
+returns-in-ReadvSpecial-clause-after g c = subst (λ q. SlotsAfter c.args.slots.now.prepared.items q c.readv_special.result c.args.slots.now.prepared.items) (sym c.in-ReadvSpecial.is) refl
+
+pub returns-in-TryReadvSpecial-clause-after : goal.returns-in-TryReadvSpecial-clause-after
+returns-in-TryReadvSpecial-clause-after g c = subst (λ q. SlotsAfter c.args.slots.now.prepared.items q c.try_readv_special.result c.args.slots.now.prepared.items) (sym c.in-TryReadvSpecial.is) refl
+
+pub returns-in-ResizeGrow-clause-after : goal.returns-in-ResizeGrow-clause-after
+returns-in-ResizeGrow-clause-after g c = subst (λ q. SlotsAfter c.args.slots.now.prepared.items q c.grow.result c.args.slots.now.prepared.items) (sym c.in-ResizeGrow.is) refl
+
+pub returns-in-ResizeShrink-clause-after : goal.returns-in-ResizeShrink-clause-after
+returns-in-ResizeShrink-clause-after g c = subst (λ q. SlotsAfter c.args.slots.now.prepared.items q c.shrink.result c.args.slots.now.prepared.items) (sym c.in-ResizeShrink.is) refl
