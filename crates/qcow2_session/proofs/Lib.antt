@@ -11,6 +11,7 @@ mod Runs
 mod LookingUp
 mod Converting
 mod Exporting
+mod Differing
 mod Reasons
 mod Cleared
 mod Resized

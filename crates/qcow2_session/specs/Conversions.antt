@@ -1,7 +1,7 @@
 -- What converting does: an image's disk is made as a raw disk is, or a raw disk as an image's disk is.
 use Rattle.std.specs.Prelude.{ℕ, false, ◌%◌, ◌≡◌, ◌⊎◌, ◌≤◌, ◌<◌, IsTrue, List, [], ◌∷◌, length, Option, Some, Result, Ok, Err}
 use Rattle.image_access.specs.Backing.{BackingView}
-use Rattle.image_access.specs.Moments.{StorageView}
+use Rattle.image_access.specs.Moments.{StorageView, Rose}
 use Rattle.qcow2_metadata.specs.Bytes.{byte_at}
 use Rattle.qcow2_metadata.specs.Guest.{known_byte}
 use Rattle.qcow2_disk.specs.Disk.{Disk}
@@ -9,9 +9,8 @@ use Rattle.qcow2_disk.specs.Stops.{GivenBytes}
 use Rattle.qcow2_disk.specs.Mappings.{given_of}
 use Rattle.qcow2_disk.specs.AbstractImages.{Guest, AbstractImage, guest_of, stored_bytes}
 use Rattle.qcow2_disk.specs.Calls.{Refusal, IsRefusalByFault, CallEffect, AnsweredEffect, IsSame, Shows, MayWrite}
-use Rattle.qcow2_alloc.specs.ImageError.{IsFault as IsOfFault}
 use Rattle.qcow2_alloc.specs.declared.error.ImageError.{ImageError}
-use Rattle.qcow2_alloc.specs.declared.error.ImageError.TheVariants.{InvalidOption, ReadOnly, TablePrepared}
+use Rattle.qcow2_alloc.specs.declared.error.ImageError.TheVariants.{InvalidOption, Memory, ReadOnly, Storage, TablePrepared}
 use Rattle.qcow2_image.specs.declared.image.Qcow2.{Qcow2}
 use Rattle.qcow2_image.specs.declared.prepared.Prepared.{Prepared}
 use Rattle.qcow2_image.specs.Calls.{refusal_of}
@@ -29,10 +28,10 @@ IsRawOf d bytes = (length bytes ≡ d.size) × Shows d 0 bytes
 abbrev pub IsLeft : StorageView → StorageView → Type 0
 IsLeft old new = old.is_honest → new.is_honest × (new.contents ≡ old.contents)
 
--- sizes that differ are refused as a wrong option, where nothing is refused before and the raw disk tells its size
-abbrev pub IsRefusedUnequal : Option ImageError → Result ℕ ImageError → Type 0
-IsRefusedUnequal early (Ok n) = ⊥
-IsRefusedUnequal early (Err e) = (early ≡ Some e) ⊎ ((e ≡ InvalidOption) ⊎ IsOfFault e)
+-- Sizes that differ are refused as a wrong option, where nothing is refused before and the raw disk tells its size. It doesn't for want of memory, and where it failed, which it counted: these are its numbers of faults.
+abbrev pub IsRefusedUnequal : Option ImageError → (before now : ℕ) → Result ℕ ImageError → Type 0
+IsRefusedUnequal early before now (Ok n) = ⊥
+IsRefusedUnequal early before now (Err e) = (early ≡ Some e) ⊎ ((e ≡ InvalidOption) ⊎ ((e ≡ Memory) ⊎ ((e ≡ Storage) × Rose before now)))
 
 -- what an import may be refused for: what a write is, and sizes that differ
 abbrev pub IsOfImporting : ImageError → Type 0
@@ -41,6 +40,10 @@ IsOfImporting e = IsOfWriting e ⊎ (e ≡ InvalidOption)
 -- why a range isn't written that may be read: what the work meets, that the image isn't to be written, or that an L2 table of the range is kept for a mapping
 abbrev pub IsReasonNotToWrite : {S F : Type 0} → Qcow2 S F → (from to : ℕ) → List (Option Prepared) → ImageError → Type 0
 IsReasonNotToWrite image from to out e = IsMet e ⊎ (((e ≡ ReadOnly) × (is_writable image ≡ false)) ⊎ ((e ≡ TablePrepared) × IsUnderMappingIn image.file.header.fields from to out))
+
+-- refused as not to be written, or as in an L2 table that is kept for a mapping
+abbrev pub IsKeptFromWriting : ImageError → Type 0
+IsKeptFromWriting e = (e ≡ ReadOnly) ⊎ (e ≡ TablePrepared)
 
 -- It was refused, by the image or by the raw disk: the image is sound, and this is so; or it failed, by a fault or want of memory.
 pub record RefusedConversion (old new : AbstractImage) (given : List GivenBytes) (e : Refusal) (still : Type 0) : Type 0 where
@@ -100,6 +103,10 @@ module _ {S F : Type 0} (view : S → StorageView) (backing : F → BackingView)
   abbrev pub Fills : ℕ → ℕ → List ℕ → List ℕ → Type 0
   Fills from to bytes bytes' = (out : List (Option Prepared)) → let v = abstract_of view backing old out in
       v.is_sound → (size : ℕ) → to ≤ size → IsFilledUpTo (guest_of v).disk size from bytes → IsFilledUpTo (guest_of v).disk size to bytes'
+
+  -- bytes are refused so, on a sound image, only where the disk doesn't have them there
+  abbrev pub DiffersWhereKept : (at : ℕ) → List ℕ → ImageError → Type 0
+  DiffersWhereKept at bytes e = (out : List (Option Prepared)) → let v = abstract_of view backing old out in v.is_sound → IsKeptFromWriting e → ¬ Shows (guest_of v).disk at bytes
 
   -- a raw disk has all bytes of the disk
   abbrev pub Exports : List ℕ → ℕ → Type 0

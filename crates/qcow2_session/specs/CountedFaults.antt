@@ -1,10 +1,11 @@
--- What the replies to commands tell of failures of the storage and of the disk below.
-use Rattle.std.specs.Prelude.{List, [], ◌∷◌, Option, Some, None, IfSome}
+-- What the replies to commands, and the answers of conversions, tell of failures of the storage and of the disk below.
+use Rattle.std.specs.Prelude.{ℕ, ◌≡◌, ◌⊎◌, ◌≤◌, List, [], ◌∷◌, Option, Some, None, IfSome, Result, IfErr}
 use Rattle.image_access.specs.Backing.{BackingView}
-use Rattle.image_access.specs.Moments.{StorageView}
+use Rattle.image_access.specs.Moments.{StorageView, Rose}
 use Rattle.qcow2_alloc.specs.declared.error.ImageError.{ImageError}
+use Rattle.qcow2_alloc.specs.declared.error.ImageError.TheVariants.{Storage}
 use Rattle.qcow2_image.specs.declared.image.Qcow2.{Qcow2}
-use Rattle.qcow2_image.specs.Faults.{NoFewerFaults, TellsFault}
+use Rattle.qcow2_image.specs.Faults.{NoFewerFaults, OneRose, TellsFault}
 use Rattle.qcow2_session.specs.declared.session.Reply.{Reply}
 use Rattle.qcow2_session.specs.declared.session.Reply.TheVariants as R
 
@@ -24,3 +25,15 @@ module _ {S F : Type 0} (view : S → StorageView) (backing : F → BackingView)
   abbrev pub RunCounts : Qcow2 S F → Qcow2 S F → List Reply → Type 0
   RunCounts old new [] = NoFewerFaults view backing old new
   RunCounts old new (reply ∷ replies) = (mid : Qcow2 S F) × CommandCounts old mid reply × RunCounts mid new replies
+
+  -- ---- conversions, with the numbers of a raw disk's faults
+
+  -- a refusal says that a storage failed only where one of the image's two did, or the raw disk
+  abbrev pub TellsConversion : (old new : Qcow2 S F) (before now : ℕ) → ImageError → Type 0
+  TellsConversion old new before now e = e ≡ Storage → OneRose view backing old new ⊎ Rose before now
+
+  -- A conversion lowers none of the numbers of faults. Where it is refused as a storage's failure, one of the three rose, or stood at the greatest u64.
+  pub record ConversionCounts {T : Type 0} (old new : Qcow2 S F) (before now : ℕ) (result : Result T ImageError) : Type 0 where
+    pub no_fewer : NoFewerFaults view backing old new
+    pub raw : before ≤ now
+    pub rose : IfErr result (TellsConversion old new before now)

@@ -1,5 +1,5 @@
 //! Images of raw disks, and raw disks of images.
-ghost use Rattle.std.specs.Prelude.{◌≡◌, ◌≢◌, ◌⊎◌, ◌+◌, ◌<◌, List, Option, None, Err, length, replicate, IfSome, IfErr, IfOk, OnOk, IsTrue};
+ghost use Rattle.std.specs.Prelude.{◌≡◌, ◌≢◌, ◌⊎◌, ◌↔◌, ◌+◌, ◌<◌, List, Option, None, Err, length, replicate, IfSome, IfErr, IfOk, OnOk, IsTrue};
 ghost use Rattle.image_access.specs.Contents.{bytes_at};
 ghost use Rattle.qcow2_image.specs.Image.{HasNothingToFree, IsSameImage, is_writable, size_of};
 ghost use Rattle.qcow2_image.specs.ImageInvariant.{abstract_of};
@@ -7,7 +7,8 @@ ghost use Rattle.qcow2_image.specs.declared.prepared.Prepared.{Prepared};
 ghost use Rattle.qcow2_image.specs.Refusals.{IsMet, refuses_to_read};
 ghost use Rattle.qcow2_alloc.specs.declared.error.ImageError.TheVariants.{InvalidOption};
 ghost use Rattle.qcow2_session.specs.Sessions.{IsOfReading, IsOfWriting, cluster_size_of};
-ghost use Rattle.qcow2_session.specs.Conversions.{IsOfImporting, IsReasonNotToWrite, IsRefusedUnequal, IsLeft, IsUnchanged, Imports, ImportsAll, ImportsAt, ImportsAny, ImportsAnyAt, ImportsAnyOf, Fills, Exports};
+ghost use Rattle.qcow2_session.specs.CountedFaults.{ConversionCounts};
+ghost use Rattle.qcow2_session.specs.Conversions.{DiffersWhereKept, IsOfImporting, IsReasonNotToWrite, IsRefusedUnequal, IsLeft, IsUnchanged, Imports, ImportsAll, ImportsAt, ImportsAny, ImportsAnyAt, ImportsAnyOf, Fills, Exports};
 ghost use Rattle.qcow2_session.specs.Told.{StaysUnwritten};
 
 use crate::session::{read_into, write};
@@ -28,7 +29,7 @@ pub fn to_qcow2<R: Storage, S: Storage, F: WrappedFormat<S>>(
 ) -> Result<u64, ImageError>
     ensures image { IsSameImage image.old image.new }
     ensures early { IfSome (refuses_to_read image.old 0 0) (λ e. (result ≡ Err e) × (image.new ≡ image.old) × (raw.new ≡ raw.old)) }
-    ensures unequal { (R.view raw.old).is_honest → length (R.view raw.old).contents ≢ size_of image.old → IsRefusedUnequal (refuses_to_read image.old 0 0) result × (image.new ≡ image.old) }
+    ensures unequal { (R.view raw.old).is_honest → length (R.view raw.old).contents ≢ size_of image.old → IsRefusedUnequal (refuses_to_read image.old 0 0) (R.view raw.old).faults (R.view raw.new).faults result × (image.new ≡ image.old) }
     ensures option { (R.view raw.old).is_honest → IfErr result (λ e. e ≡ InvalidOption → length (R.view raw.old).contents ≢ size_of image.old) }
     ensures raw { IsLeft (R.view raw.old) (R.view raw.new) }
     ensures sees { (R.view raw.old).is_honest → Imports S.view F.backing image.old image.new (R.view raw.old).contents result }
@@ -37,6 +38,8 @@ pub fn to_qcow2<R: Storage, S: Storage, F: WrappedFormat<S>>(
     ensures late { refuses_to_read image.old 0 0 ≡ None → (out : List (Option Prepared)) → (abstract_of S.view F.backing image.old out).is_sound
         → IfErr result (λ e. (e ≡ InvalidOption) ⊎ IsReasonNotToWrite image.old 0 (size_of image.old) out e) }
     ensures emptied { IsTrue (is_writable image.old) → IfOk result (λ n. HasNothingToFree image.new) }
+    ensures faults { ConversionCounts S.view F.backing image.old image.new (R.view raw.old).faults (R.view raw.new).faults result }
+    ensures differs { (R.view raw.old).is_honest → IfErr result (DiffersWhereKept S.view F.backing image.old 0 (R.view raw.old).contents) }
 {
     image.check_read(0, 0)?;
     let size = raw.size()?;
@@ -68,6 +71,8 @@ fn import_all<R: Storage, S: Storage, F: WrappedFormat<S>>(
     ensures sees { (R.view raw.old).is_honest → size ≡ length (R.view raw.old).contents → ImportsAll S.view F.backing image.old image.new (R.view raw.old).contents result }
     ensures any { ImportsAnyOf S.view F.backing image.old image.new size result }
     ensures late { refuses_to_read image.old 0 0 ≡ None → size ≡ size_of image.old → (out : List (Option Prepared)) → (abstract_of S.view F.backing image.old out).is_sound → IfErr result (IsReasonNotToWrite image.old 0 size out) }
+    ensures faults { ConversionCounts S.view F.backing image.old image.new (R.view raw.old).faults (R.view raw.new).faults result }
+    ensures differs { (R.view raw.old).is_honest → size ≡ length (R.view raw.old).contents → IfErr result (DiffersWhereKept S.view F.backing image.old 0 (R.view raw.old).contents) }
 {
     let mut at = 0;
     while at < size {
@@ -93,6 +98,8 @@ fn import_at<R: Storage, S: Storage, F: WrappedFormat<S>>(
     ensures sees { (R.view raw.old).is_honest → ImportsAt S.view F.backing image.old image.new at (bytes_at (R.view raw.old).contents at (length wanted.old)) result }
     ensures any { ImportsAnyAt S.view F.backing image.old image.new at (length wanted.old) result }
     ensures late { refuses_to_read image.old at (length wanted.old) ≡ None → (out : List (Option Prepared)) → (abstract_of S.view F.backing image.old out).is_sound → IfErr result (IsReasonNotToWrite image.old at (at + length wanted.old) out) }
+    ensures faults { ConversionCounts S.view F.backing image.old image.new (R.view raw.old).faults (R.view raw.new).faults result }
+    ensures differs { (R.view raw.old).is_honest → IfErr result (DiffersWhereKept S.view F.backing image.old at (bytes_at (R.view raw.old).contents at (length wanted.old))) }
 {
     raw.read(at, wanted)?;
     read_into(image, at, present)?;
@@ -123,6 +130,7 @@ pub fn to_raw<S: Storage, F: WrappedFormat<S>, R: Storage>(
     ensures sees { (R.view raw.old).is_honest → IfOk result (λ n. Exports S.view F.backing image.old (R.view raw.new).contents n) }
     ensures cause { IfErr result IsOfReading }
     ensures late { refuses_to_read image.old 0 0 ≡ None → (out : List (Option Prepared)) → (abstract_of S.view F.backing image.old out).is_sound → IfErr result IsMet }
+    ensures faults { ConversionCounts S.view F.backing image.old image.new (R.view raw.old).faults (R.view raw.new).faults result }
 {
     image.check_read(0, 0)?;
     let size = image.size();
@@ -152,6 +160,7 @@ fn export_all<S: Storage, F: WrappedFormat<S>, R: Storage>(
     ensures sees { (R.view raw.old).is_honest → OnOk result (Fills S.view F.backing image.old 0 size (R.view raw.old).contents (R.view raw.new).contents) }
     ensures cause { IfErr result IsOfReading }
     ensures late { refuses_to_read image.old 0 0 ≡ None → size ≡ size_of image.old → (out : List (Option Prepared)) → (abstract_of S.view F.backing image.old out).is_sound → IfErr result IsMet }
+    ensures faults { ConversionCounts S.view F.backing image.old image.new (R.view raw.old).faults (R.view raw.new).faults result }
 {
     let mut at = 0;
     while at < size {
@@ -178,6 +187,7 @@ fn export_at<S: Storage, F: WrappedFormat<S>, R: Storage>(
     ensures sees { (R.view raw.old).is_honest → OnOk result (Fills S.view F.backing image.old at (at + length bytes.old) (R.view raw.old).contents (R.view raw.new).contents) }
     ensures cause { IfErr result IsOfReading }
     ensures late { refuses_to_read image.old at (length bytes.old) ≡ None → IfErr result IsMet }
+    ensures faults { ConversionCounts S.view F.backing image.old image.new (R.view raw.old).faults (R.view raw.new).faults result }
 {
     read_into(image, at, bytes)?;
     if is_same(bytes, zeros) {
@@ -188,7 +198,7 @@ fn export_at<S: Storage, F: WrappedFormat<S>, R: Storage>(
 }
 
 fn is_same(left: &[u8], right: &[u8]) -> bool
-    ensures { IsTrue result → left.now ≡ right.now }
+    ensures { IsTrue result ↔ (left.now ≡ right.now) }
 {
     left == right
 }

@@ -1,13 +1,16 @@
-use Rattle.std.proofs.Common.{◌≡◌, ◌∙◌, ◌+◌, ◌≤◌, sym, [], length, take, subst, arith}
+use Rattle.std.proofs.Common.{◌≡◌, ◌∙◌, ◌+◌, ◌≤◌, refl, sym, [], length, take, subst, arith}
+use Rattle.std.proofs.Math.Nat.{le_refl, le_trans}
 use Rattle.std.proofs.lemmas.Grind.{common_steps}
 use Rattle.qcow2_image.specs.ImageInvariant.{abstract_of}
 use Rattle.qcow2_session.specs.Conversions.{Fills}
-use Rattle.qcow2_session.proofs.Converting.{interrupted_if, interrupted_then}
+use Rattle.qcow2_session.proofs.Counting.{converting_part, none_counted}
+use Rattle.qcow2_session.proofs.Converting.{does_nothing, interrupted_if, interrupted_then}
 use Rattle.std.specs.Prelude.{IfErr}
 use Rattle.qcow2_image.specs.Image.{size_of}
 use Rattle.qcow2_image.specs.Refusals.{IsMet}
 use Rattle.qcow2_session.proofs.Exporting.{part_of_disk, unchanged_refused, fills_more}
-use Rattle.qcow2_image.proofs.Map.Unmodified.{read_then}
+use Rattle.qcow2_image.proofs.Call.FaultCounts.{fewer_then}
+use Rattle.qcow2_image.proofs.Map.Unmodified.{read_none, read_then}
 use Rattle.qcow2_session.proofs.Told.{same_then}
 use Rattle.qcow2_session.proofs.Turns.{refused_is, none_within, does_if, does_then}
 use Rattle.qcow2_session.proofs.convert.export_all.Goals as goal
@@ -24,11 +27,25 @@ returns-in_err-export_at-clause-unwritten g c = λ reading out sound clean.
     let so_far = c.loop-at.invariant.unwritten reading out sound clean in
     read_then g.S.Storage.view so_far (c.export_at.ensures.unwritten (c.loop-at.invariant.image.writable ∙ reading) out ((c.loop-at.invariant.same out).answer sound).0 so_far.unmodified)
 
+pub loop-at-init : goal.loop-at-init
+loop-at-init g c = record {
+  faults = none_counted g.S.Storage.view g.F.BackingDisk.backing c.args.image.now;
+  counted = le_refl (g.R.Storage.view c.args.raw.now).faults;
+  within = omega arith;
+  image = record { number = refl; size = refl; writable = refl; external = refl };
+  unwritten = λ reading out sound clean. read_none g.S.Storage.view c.args.image.now clean;
+  honest = λ h. h;
+  same = λ out. does_nothing (abstract_of g.S.Storage.view g.F.BackingDisk.backing c.args.image.now out);
+  filled = λ h out sound size le filled. filled;
+}
+
 pub loop-at-preserved : goal.loop-at-preserved
 loop-at-preserved g c =
     let view = g.S.Storage.view in
     let below = g.F.BackingDisk.backing in
     record {
+      faults = fewer_then g.S.Storage.view g.F.BackingDisk.backing c.args.image.now c.loop-at.image c.export_at.new.image c.loop-at.invariant.faults c.export_at.ensures.faults.no_fewer;
+      counted = le_trans c.loop-at.invariant.counted c.export_at.ensures.faults.raw;
       within = grind (arith, common_steps);
       image = same_then c.loop-at.invariant.image c.export_at.ensures.image;
       unwritten = λ reading out sound clean.
@@ -53,3 +70,11 @@ returns-in_err-export_at-clause-late g c = λ none size out sound.
     let fits : c.loop-at.at + length (take c.min-count.result c.loop-at.bytes) ≤ size_of c.args.image.now = omega (arith, c.min-count.ensures, c.loop-at-test.true, size, long) in
     subst (λ r. IfErr r IsMet) (sym (refused_is _ c.in_err-export_at.field-0.0 c.from_residual.ensures))
     (c.in_err-export_at.ensures.late (part_of_disk c.args.image.now c.loop-at.image c.loop-at.invariant.image c.loop-at.at (length (take c.min-count.result c.loop-at.bytes)) fits ((c.loop-at.invariant.same out).answer sound).0.works none))
+
+pub returns-in_err-export_at-clause-faults : goal.returns-in_err-export_at-clause-faults
+returns-in_err-export_at-clause-faults g c =
+    converting_part g.S.Storage.view g.F.BackingDisk.backing c.args.image.now c.loop-at.image c.export_at.new.image (g.R.Storage.view c.args.raw.now).faults (g.R.Storage.view c.loop-at.raw).faults (g.R.Storage.view c.export_at.new.raw).faults c.loop-at.invariant.faults c.loop-at.invariant.counted
+    c.export_at.result c.in_err-export_at.field-0.0 _ c.export_at.ensures.faults c.in_err-export_at.was (refused_is _ c.in_err-export_at.field-0.0 c.from_residual.ensures)
+
+pub returns-clause-faults : goal.returns-clause-faults
+returns-clause-faults g c = record { no_fewer = c.loop-at.invariant.faults; raw = c.loop-at.invariant.counted; rose = tt }

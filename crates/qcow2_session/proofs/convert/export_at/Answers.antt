@@ -1,4 +1,5 @@
 use Rattle.std.proofs.Common.{◌≡◌, ◌+◌, ◌∙◌, length, sym, subst, arith}
+use Rattle.std.proofs.Math.Nat.{le_refl}
 use Rattle.std.proofs.lemmas.Grind.{common_steps}
 use Rattle.image_access.specs.Contents.{overwritten}
 use Rattle.qcow2_alloc.specs.ImageError.{of_storage}
@@ -10,6 +11,7 @@ use Rattle.qcow2_image.specs.Refusals.{IsMet}
 use Rattle.qcow2_image.proofs.Call.MetErrors.{storage_met}
 use Rattle.qcow2_session.specs.Conversions.{IsFilledUpTo}
 use Rattle.qcow2_session.proofs.Converting.{interrupted, interrupted_here}
+use Rattle.qcow2_session.proofs.Counting.{converting_image, converting_raw, none_counted}
 use Rattle.qcow2_session.proofs.Exporting.{filled_same, filled_more, unchanged_refused}
 use Rattle.qcow2_session.proofs.Turns.{refused_is, does_if}
 use Rattle.qcow2_session.proofs.convert.export_at.Goals as goal
@@ -24,7 +26,7 @@ returns-then-is_same-clause-same g c = λ out. does_if (λ h. h.1) (c.in_ok-read
 pub returns-then-is_same-clause-sees : goal.returns-then-is_same-clause-sees
 returns-then-is_same-clause-sees g c = λ honest out sound size le filled.
     let shows = (c.in_ok-read_into.ensures.sees out).answer sound in
-    filled_same (guest_of (abstract_of g.S.Storage.view g.F.BackingDisk.backing c.args.image.now out)).disk size c.args.at (length c.args.bytes.now) (g.R.Storage.view c.args.raw.now).contents c.read_into.new.bytes filled shows.1.0 (c.is_same.ensures c.if-is_same.true ∙ c.requires)
+    filled_same (guest_of (abstract_of g.S.Storage.view g.F.BackingDisk.backing c.args.image.now out)).disk size c.args.at (length c.args.bytes.now) (g.R.Storage.view c.args.raw.now).contents c.read_into.new.bytes filled shows.1.0 (c.is_same.ensures.0 c.if-is_same.true ∙ c.requires)
 
 pub returns-in_err-write-clause-same : goal.returns-in_err-write-clause-same
 returns-in_err-write-clause-same g c =
@@ -49,3 +51,19 @@ returns-in_err-read_into-clause-late g c = λ none. subst (λ r. IfErr r IsMet) 
 
 pub returns-in_err-write-clause-late : goal.returns-in_err-write-clause-late
 returns-in_err-write-clause-late g c = λ none. subst (λ r. IfErr r IsMet) (sym (refused_is _ (of_storage c.in_err-write.field-0.0) c.from_residual-in_err-write.ensures)) (storage_met c.in_err-write.field-0.0)
+
+pub returns-in_err-read_into-clause-faults : goal.returns-in_err-read_into-clause-faults
+returns-in_err-read_into-clause-faults g c =
+    converting_image g.S.Storage.view g.F.BackingDisk.backing c.args.image.now c.args.image.now c.read_into.new.image (g.R.Storage.view c.args.raw.now).faults (g.R.Storage.view c.args.raw.now).faults (none_counted g.S.Storage.view g.F.BackingDisk.backing c.args.image.now) (le_refl (g.R.Storage.view c.args.raw.now).faults)
+    c.read_into.result c.in_err-read_into.field-0.0 _ c.read_into.ensures.faults c.in_err-read_into.was (refused_is _ c.in_err-read_into.field-0.0 c.from_residual.ensures)
+
+pub returns-then-is_same-clause-faults : goal.returns-then-is_same-clause-faults
+returns-then-is_same-clause-faults g c = record { no_fewer = c.read_into.ensures.faults.no_fewer; raw = le_refl (g.R.Storage.view c.args.raw.now).faults; rose = tt }
+
+pub returns-in_err-write-clause-faults : goal.returns-in_err-write-clause-faults
+returns-in_err-write-clause-faults g c =
+    converting_raw g.S.Storage.view g.F.BackingDisk.backing c.args.image.now c.read_into.new.image (g.R.Storage.view c.args.raw.now).faults (g.R.Storage.view c.args.raw.now).faults (g.R.Storage.view c.write.new.self).faults c.read_into.ensures.faults.no_fewer (le_refl (g.R.Storage.view c.args.raw.now).faults)
+    c.write.result c.in_err-write.field-0.0 _ c.write.ensures.calls.cause c.in_err-write.was (refused_is _ (of_storage c.in_err-write.field-0.0) c.from_residual-in_err-write.ensures)
+
+pub returns-clause-faults : goal.returns-clause-faults
+returns-clause-faults g c = record { no_fewer = c.read_into.ensures.faults.no_fewer; raw = c.write.ensures.calls.cause.no_fewer; rose = tt }

@@ -1,5 +1,5 @@
 use Rattle.std.proofs.Common.{sym, ◌≡◌, ◌+◌, ◌-◌, ◌%◌, ◌<◌, ◌++◌, drop, length, take, refl, ap, ◌∙◌, subst, arith, min, ℕ}
-use Rattle.std.proofs.Math.Nat.{zero-mod, add-mod_right}
+use Rattle.std.proofs.Math.Nat.{zero-mod, add-mod_right, le_refl, le_trans}
 use Rattle.std.proofs.lemmas.Grind.{common_steps}
 use Rattle.image_access.specs.Contents.{bytes_at}
 use Rattle.qcow2_disk.specs.Calls.{with_disk}
@@ -9,6 +9,9 @@ use Rattle.qcow2_image.specs.ImageInvariant.{abstract_of}
 use Rattle.std.specs.Prelude.{IfErr, Ok}
 use Rattle.qcow2_disk.specs.AbstractImages.{Setting}
 use Rattle.qcow2_session.specs.Conversions.{ImportsAnyOf, IsReasonNotToWrite}
+use Rattle.qcow2_image.proofs.Call.FaultCounts.{fewer_then}
+use Rattle.qcow2_session.proofs.Counting.{converting_part, none_counted}
+use Rattle.qcow2_session.proofs.Differing.{part_kept}
 use Rattle.qcow2_session.proofs.Exporting.{part_of_disk}
 use Rattle.qcow2_session.proofs.Reasons.{reason_within}
 use Rattle.qcow2_session.proofs.Converting.{any_more, any_none, any_refused, imports_none, all_more, all_refused, same_range}
@@ -18,6 +21,8 @@ use Rattle.qcow2_session.proofs.convert.import_all.Goals as goal
 
 pub loop-at-init : goal.loop-at-init
 loop-at-init g c = record {
+  faults = none_counted g.S.Storage.view g.F.BackingDisk.backing c.args.image.now;
+  counted = le_refl (g.R.Storage.view c.args.raw.now).faults;
   within = omega arith;
   aligned = λ lt. zero-mod (length c.args.wanted.now);
   image = record { number = refl; size = refl; writable = refl; external = refl };
@@ -37,6 +42,8 @@ loop-at-preserved g c =
     let kept : length c.import_at.new.wanted ≡ c.min-count.result = grind (arith, common_steps) in
     let whole : length c.loop-at.wanted ≡ length (c.import_at.new.wanted ++ drop c.min-count.result c.loop-at.wanted) = grind (arith, common_steps) in
     record {
+      faults = fewer_then g.S.Storage.view g.F.BackingDisk.backing c.args.image.now c.loop-at.image c.import_at.new.image c.loop-at.invariant.faults c.import_at.ensures.faults.no_fewer;
+      counted = le_trans c.loop-at.invariant.counted c.import_at.ensures.faults.raw;
       within = grind (arith, common_steps);
       aligned = λ more. subst (λ k. (c.loop-at.at + c.min-count.result) % k ≡ 0) whole
           (next_aligned c.loop-at.at c.min-count.result (length c.loop-at.wanted) c.args.size c.min-count.ensures (c.loop-at.invariant.aligned c.loop-at-test.true) more);
@@ -96,3 +103,21 @@ returns-in_err-import_at-clause-late g c = λ none size out sound.
     (reason_within c.args.image.now c.loop-at.image c.loop-at.invariant.image (ap (λ (x : Setting). x.cluster_size) (first.acts.works sound).setting) 0 c.args.size c.loop-at.at (c.loop-at.at + count)
     (omega arith) (omega (arith, c.min-count.ensures, c.loop-at-test.true, long)) out c.in_err-import_at.field-0.0
     (c.in_err-import_at.ensures.late (part_of_disk c.args.image.now c.loop-at.image c.loop-at.invariant.image c.loop-at.at count (omega (arith, c.min-count.ensures, c.loop-at-test.true, long, size)) now.works none) out now))
+
+pub returns-in_err-import_at-clause-faults : goal.returns-in_err-import_at-clause-faults
+returns-in_err-import_at-clause-faults g c =
+    converting_part g.S.Storage.view g.F.BackingDisk.backing c.args.image.now c.loop-at.image c.import_at.new.image (g.R.Storage.view c.args.raw.now).faults (g.R.Storage.view c.loop-at.raw).faults (g.R.Storage.view c.import_at.new.raw).faults c.loop-at.invariant.faults c.loop-at.invariant.counted
+    c.import_at.result c.in_err-import_at.field-0.0 _ c.import_at.ensures.faults c.in_err-import_at.was (refused_is _ c.in_err-import_at.field-0.0 c.from_residual.ensures)
+
+pub returns-clause-faults : goal.returns-clause-faults
+returns-clause-faults g c = record { no_fewer = c.loop-at.invariant.faults; raw = c.loop-at.invariant.counted; rose = tt }
+
+pub returns-in_err-import_at-clause-differs : goal.returns-in_err-import_at-clause-differs
+returns-in_err-import_at-clause-differs g c = λ honest size.
+    let before = c.loop-at.invariant.raw honest in
+    let long : length (take c.min-count.result c.loop-at.wanted) ≡ c.min-count.result = grind (arith, common_steps) in
+    part_kept g.S.Storage.view g.F.BackingDisk.backing c.args.image.now c.loop-at.image (g.R.Storage.view c.args.raw.now).contents c.loop-at.at c.min-count.result
+    (omega (arith, c.min-count.ensures, c.loop-at-test.true, size))
+    (bytes_at (g.R.Storage.view c.loop-at.raw).contents c.loop-at.at (length (take c.min-count.result c.loop-at.wanted)))
+    (same_range (g.R.Storage.view c.loop-at.raw).contents (g.R.Storage.view c.args.raw.now).contents c.loop-at.at (length (take c.min-count.result c.loop-at.wanted)) c.min-count.result before.1 long)
+    (c.loop-at.invariant.written honest size) c.in_err-import_at.field-0.0 _ (refused_is _ c.in_err-import_at.field-0.0 c.from_residual.ensures) (c.in_err-import_at.ensures.differs before.0)

@@ -1,13 +1,18 @@
-use Rattle.std.proofs.Common.{◌≡◌, ◌+◌, inl, length, None, refl, sym, ap, subst, arith}
+use Rattle.std.proofs.Common.{◌≡◌, ◌+◌, ◌∙◌, inl, length, None, true, false, refl, sym, ap, subst, arith}
+use Rattle.std.proofs.Math.Nat.{le_refl}
 use Rattle.std.specs.Prelude.{IfErr}
+use Rattle.image_access.specs.Contents.{bytes_at}
 use Rattle.qcow2_disk.specs.AbstractImages.{Setting}
 use Rattle.qcow2_image.specs.Refusals.{refuses_to_read}
+use Rattle.qcow2_image.proofs.Call.FaultCounts.{fewer_then}
 use Rattle.qcow2_image.proofs.Call.MetErrors.{storage_met}
 use Rattle.qcow2_session.specs.Conversions.{IsReasonNotToWrite}
 use Rattle.qcow2_session.proofs.Reasons.{write_reason}
 use Rattle.std.proofs.lemmas.Grind.{common_steps}
 use Rattle.qcow2_alloc.specs.ImageError.{of_storage}
 use Rattle.qcow2_image.specs.ImageInvariant.{abstract_of}
+use Rattle.qcow2_session.proofs.Counting.{converting_image, converting_raw, image_tells, none_counted}
+use Rattle.qcow2_session.proofs.Differing.{other_bytes, reading_differs}
 use Rattle.qcow2_session.proofs.Converting.{does_nothing, interrupted, interrupted_here, at_refused, at_shown, at_written, at_unwritten}
 use Rattle.qcow2_session.proofs.Turns.{refused_is}
 use Rattle.qcow2_session.proofs.convert.import_at.Goals as goal
@@ -24,7 +29,7 @@ returns-in_err-read_into-clause-sees g c = λ honest.
 
 pub returns-then-is_same-clause-sees : goal.returns-then-is_same-clause-sees
 returns-then-is_same-clause-sees g c = λ honest.
-    at_shown g.S.Storage.view g.F.BackingDisk.backing c.args.image.now c.read_into.new.image c.args.at _ c.read_into.new.bytes c.read.new.buf (c.is_same.ensures c.if-is_same.true) (c.in_ok-read.ensures.read honest) c.in_ok-read_into.ensures.sees
+    at_shown g.S.Storage.view g.F.BackingDisk.backing c.args.image.now c.read_into.new.image c.args.at _ c.read_into.new.bytes c.read.new.buf (c.is_same.ensures.0 c.if-is_same.true) (c.in_ok-read.ensures.read honest) c.in_ok-read_into.ensures.sees
 
 pub returns-in-Ok-clause-sees : goal.returns-in-Ok-clause-sees
 returns-in-Ok-clause-sees g c = λ honest.
@@ -55,7 +60,7 @@ pub returns-then-is_same-clause-any : goal.returns-then-is_same-clause-any
 returns-then-is_same-clause-any g c = (
   c.read.new.buf,
   grind (arith, common_steps),
-  at_shown g.S.Storage.view g.F.BackingDisk.backing c.args.image.now c.read_into.new.image c.args.at _ c.read_into.new.bytes c.read.new.buf (c.is_same.ensures c.if-is_same.true) refl c.in_ok-read_into.ensures.sees,
+  at_shown g.S.Storage.view g.F.BackingDisk.backing c.args.image.now c.read_into.new.image c.args.at _ c.read_into.new.bytes c.read.new.buf (c.is_same.ensures.0 c.if-is_same.true) refl c.in_ok-read_into.ensures.sees,
 )
 
 pub returns-in-Ok-clause-any : goal.returns-in-Ok-clause-any
@@ -90,3 +95,43 @@ returns-in-Err-clause-late g c = λ none out sound.
     subst (λ n. IsReasonNotToWrite c.args.image.now c.args.at (c.args.at + n) out c.in-Err.refusal) long
     (write_reason c.args.image.now c.read_into.new.image c.in_ok-read_into.ensures.image (ap (λ (x : Setting). x.cluster_size) (first.acts.works sound).setting) c.args.at (length c.read.new.buf) now.works
     (subst (λ n. refuses_to_read c.args.image.now c.args.at n ≡ None) (sym long) none) out c.in-Err.refusal _ _ c.in-Err.ensures.early c.in-Err.ensures.late (λ free t. c.in-Err.ensures.taken free out now t))
+
+pub returns-in_err-read-clause-faults : goal.returns-in_err-read-clause-faults
+returns-in_err-read-clause-faults g c =
+    converting_raw g.S.Storage.view g.F.BackingDisk.backing c.args.image.now c.args.image.now (g.R.Storage.view c.args.raw.now).faults (g.R.Storage.view c.args.raw.now).faults (g.R.Storage.view c.read.new.self).faults (none_counted g.S.Storage.view g.F.BackingDisk.backing c.args.image.now) (le_refl (g.R.Storage.view c.args.raw.now).faults)
+    c.read.result c.in_err-read.field-0.0 _ c.read.ensures.calls.cause c.in_err-read.was (refused_is _ (of_storage c.in_err-read.field-0.0) c.from_residual.ensures)
+
+pub returns-in_err-read_into-clause-faults : goal.returns-in_err-read_into-clause-faults
+returns-in_err-read_into-clause-faults g c =
+    converting_image g.S.Storage.view g.F.BackingDisk.backing c.args.image.now c.args.image.now c.read_into.new.image (g.R.Storage.view c.args.raw.now).faults (g.R.Storage.view c.read.new.self).faults (none_counted g.S.Storage.view g.F.BackingDisk.backing c.args.image.now) c.read.ensures.calls.cause.no_fewer
+    c.read_into.result c.in_err-read_into.field-0.0 _ c.read_into.ensures.faults c.in_err-read_into.was (refused_is _ c.in_err-read_into.field-0.0 c.from_residual-in_err-read_into.ensures)
+
+pub returns-then-is_same-clause-faults : goal.returns-then-is_same-clause-faults
+returns-then-is_same-clause-faults g c = record { no_fewer = c.read_into.ensures.faults.no_fewer; raw = c.read.ensures.calls.cause.no_fewer; rose = tt }
+
+pub returns-in-Ok-clause-faults : goal.returns-in-Ok-clause-faults
+returns-in-Ok-clause-faults g c =
+    record { no_fewer = fewer_then g.S.Storage.view g.F.BackingDisk.backing c.args.image.now c.read_into.new.image c.write.new.image c.read_into.ensures.faults.no_fewer c.write.ensures.faults.0; raw = c.read.ensures.calls.cause.no_fewer; rose = tt }
+
+pub returns-in-Err-clause-faults : goal.returns-in-Err-clause-faults
+returns-in-Err-clause-faults g c =
+    record {
+      no_fewer = fewer_then g.S.Storage.view g.F.BackingDisk.backing c.args.image.now c.read_into.new.image c.write.new.image c.read_into.ensures.faults.no_fewer c.write.ensures.faults.0;
+      raw = c.read.ensures.calls.cause.no_fewer;
+      rose = image_tells g.S.Storage.view g.F.BackingDisk.backing c.args.image.now c.read_into.new.image c.write.new.image (g.R.Storage.view c.args.raw.now).faults (g.R.Storage.view c.read.new.self).faults c.in-Err.refusal c.read_into.ensures.faults.no_fewer c.in-Err.ensures.faults.1;
+    }
+
+pub returns-in_err-read-clause-differs : goal.returns-in_err-read-clause-differs
+returns-in_err-read-clause-differs g c = λ honest.
+    reading_differs g.S.Storage.view g.F.BackingDisk.backing c.args.image.now c.args.at (bytes_at (g.R.Storage.view c.args.raw.now).contents c.args.at (length c.args.wanted.now)) (of_storage c.in_err-read.field-0.0) _ (refused_is _ (of_storage c.in_err-read.field-0.0) c.from_residual.ensures) (inl (storage_met c.in_err-read.field-0.0))
+
+pub returns-in_err-read_into-clause-differs : goal.returns-in_err-read_into-clause-differs
+returns-in_err-read_into-clause-differs g c = λ honest.
+    reading_differs g.S.Storage.view g.F.BackingDisk.backing c.args.image.now c.args.at (bytes_at (g.R.Storage.view c.args.raw.now).contents c.args.at (length c.args.wanted.now)) c.in_err-read_into.field-0.0 _ (refused_is _ c.in_err-read_into.field-0.0 c.from_residual-in_err-read_into.ensures) c.in_err-read_into.ensures.cause
+
+pub returns-in-Err-clause-differs : goal.returns-in-Err-clause-differs
+returns-in-Err-clause-differs g c = λ honest.
+    let wanted : length c.read.new.buf ≡ length c.args.wanted.now = grind (arith, common_steps) in
+    let present : length c.read_into.new.bytes ≡ length c.args.present.now = grind (arith, common_steps) in
+    other_bytes g.S.Storage.view g.F.BackingDisk.backing c.args.image.now c.args.at (bytes_at (g.R.Storage.view c.args.raw.now).contents c.args.at (length c.args.wanted.now)) c.read_into.new.image c.read_into.new.bytes c.read.new.buf c.in_ok-read_into.ensures.sees (wanted ∙ sym c.requires ∙ sym present) (c.in_ok-read.ensures.read honest)
+    (λ same. let no : true ≡ false = sym (c.is_same.ensures.1 same) ∙ c.if-is_same.false in cc) c.in-Err.refusal

@@ -1,10 +1,17 @@
 use Rattle.std.specs.Prelude.{IfErr}
+use Rattle.std.proofs.Math.Nat.{le_refl, le_trans}
+use Rattle.image_access.specs.Moments.{HasCause}
 use Rattle.qcow2_image.specs.Image.{size_of}
+use Rattle.qcow2_image.specs.Refusals.{refuses_to_read}
+use Rattle.qcow2_image.proofs.Call.FaultCounts.{fewer_then}
 use Rattle.qcow2_image.proofs.Call.MetErrors.{storage_met, tables_met}
 use Rattle.std.proofs.Common.{◌≡◌, ◌⊎◌, inl, inr, refl, sym, ap, ◌∙◌, subst, length, Ok, Err}
 use Rattle.qcow2_alloc.specs.ImageError.{of_storage}
 use Rattle.qcow2_alloc.specs.declared.error.ImageError.TheVariants.{InvalidOption, Memory}
-use Rattle.qcow2_session.specs.Conversions.{Imports, ImportsAll, IsReasonNotToWrite}
+use Rattle.qcow2_session.specs.Conversions.{DiffersWhereKept, Imports, ImportsAll, IsReasonNotToWrite, IsRefusedUnequal}
+use Rattle.qcow2_session.specs.Sessions.{IsOfReading}
+use Rattle.qcow2_session.proofs.Counting.{converting_else, converting_image, converting_part, converting_raw, none_counted}
+use Rattle.qcow2_session.proofs.Differing.{early_reading, option_other, reading_differs, reading_other, size_untold}
 use Rattle.qcow2_session.proofs.Converting.{any_nothing, imports_nothing, imports_unflushed, imports_flushed}
 use Rattle.qcow2_session.proofs.Turns.{refused_is}
 use Rattle.qcow2_session.proofs.convert.to_qcow2.Goals as goal
@@ -118,3 +125,85 @@ pub returns-in_err-flush-clause-late : goal.returns-in_err-flush-clause-late
 returns-in_err-flush-clause-late g c = λ none out sound.
     let now = ((c.in_ok-import_all.ensures.any.2 out).answer sound).0 in
     subst (λ r. IfErr r (λ e. (e ≡ InvalidOption) ⊎ IsReasonNotToWrite c.args.image.now 0 (size_of c.args.image.now) out e)) (sym (refused_is _ c.in_err-flush.field-0.0 c.from_residual-in_err-flush.ensures)) (inr (inl (tables_met c.in_err-flush.field-0.0 (c.in_err-flush.ensures.late now.works))))
+
+pub returns-in_err-size-clause-unequal : goal.returns-in_err-size-clause-unequal
+returns-in_err-size-clause-unequal g c = λ honest differ.
+    let before = (g.R.Storage.view c.args.raw.now).faults in
+    let now = (g.R.Storage.view c.size.new.self).faults in (
+      subst (λ r. IsRefusedUnequal (refuses_to_read c.args.image.now 0 0) before now r) (sym (refused_is _ (of_storage c.in_err-size.field-0.0) c.from_residual-in_err-size.ensures))
+          (size_untold (refuses_to_read c.args.image.now 0 0) c.in_err-size.field-0.0 before now (subst (λ r. HasCause before now r) c.in_err-size.was c.size.ensures.calls.cause)),
+      refl,
+    )
+
+pub returns-in_err-check_read-clause-faults : goal.returns-in_err-check_read-clause-faults
+returns-in_err-check_read-clause-faults g c =
+    converting_else g.S.Storage.view g.F.BackingDisk.backing c.args.image.now c.args.image.now (g.R.Storage.view c.args.raw.now).faults (g.R.Storage.view c.args.raw.now).faults (none_counted g.S.Storage.view g.F.BackingDisk.backing c.args.image.now) (le_refl (g.R.Storage.view c.args.raw.now).faults) c.in_err-check_read.field-0.0 _ c.in_err-check_read.ensures.faults (refused_is _ c.in_err-check_read.field-0.0 c.from_residual.ensures)
+
+pub returns-in_err-size-clause-faults : goal.returns-in_err-size-clause-faults
+returns-in_err-size-clause-faults g c =
+    converting_raw g.S.Storage.view g.F.BackingDisk.backing c.args.image.now c.args.image.now (g.R.Storage.view c.args.raw.now).faults (g.R.Storage.view c.args.raw.now).faults (g.R.Storage.view c.size.new.self).faults (none_counted g.S.Storage.view g.F.BackingDisk.backing c.args.image.now) (le_refl (g.R.Storage.view c.args.raw.now).faults)
+    c.size.result c.in_err-size.field-0.0 _ c.size.ensures.calls.cause c.in_err-size.was (refused_is _ (of_storage c.in_err-size.field-0.0) c.from_residual-in_err-size.ensures)
+
+pub returns-then-size-clause-faults : goal.returns-then-size-clause-faults
+returns-then-size-clause-faults g c = record { no_fewer = none_counted g.S.Storage.view g.F.BackingDisk.backing c.args.image.now; raw = c.size.ensures.calls.cause.no_fewer; rose = λ is. absurd cc }
+
+pub returns-in_err-wanted-clause-faults : goal.returns-in_err-wanted-clause-faults
+returns-in_err-wanted-clause-faults g c =
+    converting_else g.S.Storage.view g.F.BackingDisk.backing c.args.image.now c.args.image.now (g.R.Storage.view c.args.raw.now).faults (g.R.Storage.view c.size.new.self).faults (none_counted g.S.Storage.view g.F.BackingDisk.backing c.args.image.now) c.size.ensures.calls.cause.no_fewer Memory _ (λ is. absurd cc) (refused_is _ Memory c.from_residual-in_err-wanted.ensures)
+
+pub returns-in_err-present-clause-faults : goal.returns-in_err-present-clause-faults
+returns-in_err-present-clause-faults g c =
+    converting_else g.S.Storage.view g.F.BackingDisk.backing c.args.image.now c.args.image.now (g.R.Storage.view c.args.raw.now).faults (g.R.Storage.view c.size.new.self).faults (none_counted g.S.Storage.view g.F.BackingDisk.backing c.args.image.now) c.size.ensures.calls.cause.no_fewer Memory _ (λ is. absurd cc) (refused_is _ Memory c.from_residual-in_err-present.ensures)
+
+pub returns-in_err-import_all-clause-faults : goal.returns-in_err-import_all-clause-faults
+returns-in_err-import_all-clause-faults g c =
+    converting_part g.S.Storage.view g.F.BackingDisk.backing c.args.image.now c.args.image.now c.import_all.new.image (g.R.Storage.view c.args.raw.now).faults (g.R.Storage.view c.size.new.self).faults (g.R.Storage.view c.import_all.new.raw).faults (none_counted g.S.Storage.view g.F.BackingDisk.backing c.args.image.now) c.size.ensures.calls.cause.no_fewer
+    c.import_all.result c.in_err-import_all.field-0.0 _ c.import_all.ensures.faults c.in_err-import_all.was (refused_is _ c.in_err-import_all.field-0.0 c.from_residual-in_err-import_all.ensures)
+
+pub returns-in_err-flush-clause-faults : goal.returns-in_err-flush-clause-faults
+returns-in_err-flush-clause-faults g c =
+    converting_image g.S.Storage.view g.F.BackingDisk.backing c.args.image.now c.import_all.new.image c.flush.new.self (g.R.Storage.view c.args.raw.now).faults (g.R.Storage.view c.import_all.new.raw).faults c.import_all.ensures.faults.no_fewer (le_trans c.size.ensures.calls.cause.no_fewer c.import_all.ensures.faults.raw)
+    c.flush.result c.in_err-flush.field-0.0 _ c.flush.ensures.faults c.in_err-flush.was (refused_is _ c.in_err-flush.field-0.0 c.from_residual-in_err-flush.ensures)
+
+pub returns-clause-faults : goal.returns-clause-faults
+returns-clause-faults g c =
+    record {
+      no_fewer = fewer_then g.S.Storage.view g.F.BackingDisk.backing c.args.image.now c.import_all.new.image c.flush.new.self c.import_all.ensures.faults.no_fewer c.flush.ensures.faults.no_fewer;
+      raw = le_trans c.size.ensures.calls.cause.no_fewer c.import_all.ensures.faults.raw;
+      rose = tt;
+    }
+
+pub returns-in_err-check_read-clause-differs : goal.returns-in_err-check_read-clause-differs
+returns-in_err-check_read-clause-differs g c = λ honest.
+    reading_differs g.S.Storage.view g.F.BackingDisk.backing c.args.image.now 0 (g.R.Storage.view c.args.raw.now).contents c.in_err-check_read.field-0.0 _ (refused_is _ c.in_err-check_read.field-0.0 c.from_residual.ensures) (subst (λ r. IfErr r IsOfReading) c.in_err-check_read.was (early_reading c.args.image.now 0 0 c.check_read.result c.check_read.ensures.refusal))
+
+pub returns-in_err-size-clause-differs : goal.returns-in_err-size-clause-differs
+returns-in_err-size-clause-differs g c = λ honest.
+    reading_differs g.S.Storage.view g.F.BackingDisk.backing c.args.image.now 0 (g.R.Storage.view c.args.raw.now).contents (of_storage c.in_err-size.field-0.0) _ (refused_is _ (of_storage c.in_err-size.field-0.0) c.from_residual-in_err-size.ensures) (inl (storage_met c.in_err-size.field-0.0))
+
+pub returns-then-size-clause-differs : goal.returns-then-size-clause-differs
+returns-then-size-clause-differs g c = λ honest out sound kept shows. option_other kept
+
+pub returns-in_err-wanted-clause-differs : goal.returns-in_err-wanted-clause-differs
+returns-in_err-wanted-clause-differs g c = λ honest.
+    reading_differs g.S.Storage.view g.F.BackingDisk.backing c.args.image.now 0 (g.R.Storage.view c.args.raw.now).contents Memory _ (refused_is _ Memory c.from_residual-in_err-wanted.ensures) (inl tt)
+
+pub returns-in_err-present-clause-differs : goal.returns-in_err-present-clause-differs
+returns-in_err-present-clause-differs g c = λ honest.
+    reading_differs g.S.Storage.view g.F.BackingDisk.backing c.args.image.now 0 (g.R.Storage.view c.args.raw.now).contents Memory _ (refused_is _ Memory c.from_residual-in_err-present.ensures) (inl tt)
+
+pub returns-in_err-import_all-clause-differs : goal.returns-in_err-import_all-clause-differs
+returns-in_err-import_all-clause-differs g c = λ honest.
+    let e = c.in_err-import_all.field-0.0 in
+    let left = c.size.ensures.same honest in
+    subst (λ r. IfErr r (DiffersWhereKept g.S.Storage.view g.F.BackingDisk.backing c.args.image.now 0 (g.R.Storage.view c.args.raw.now).contents)) (sym (refused_is _ e c.from_residual-in_err-import_all.ensures))
+    (subst (λ b. DiffersWhereKept g.S.Storage.view g.F.BackingDisk.backing c.args.image.now 0 b e) left
+    (c.in_err-import_all.ensures.differs (c.size.ensures.calls.honest honest) (c.in_ok-size.ensures.size honest ∙ ap length (sym left))))
+
+pub returns-in_err-flush-clause-differs : goal.returns-in_err-flush-clause-differs
+returns-in_err-flush-clause-differs g c = λ honest.
+    let e = c.in_err-flush.field-0.0 in
+    subst (λ r. IfErr r (DiffersWhereKept g.S.Storage.view g.F.BackingDisk.backing c.args.image.now 0 (g.R.Storage.view c.args.raw.now).contents)) (sym (refused_is _ e c.from_residual-in_err-flush.ensures))
+    (λ out sound kept shows.
+    let now = ((c.in_ok-import_all.ensures.any.2 out).answer sound).0 in
+    reading_other e (inl (tables_met e (c.in_err-flush.ensures.late now.works))) kept)
