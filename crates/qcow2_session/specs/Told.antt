@@ -31,20 +31,20 @@ abbrev pub AreExisting : List (Option Prepared) → Type 0
 AreExisting out = (k : ℕ) (p : Prepared) → slice_get out k ≡ Some (Some p) → IsNone (table_of p)
 
 -- a slot that was empty holds a mapping, and the others are as before
-abbrev pub IsFilled : (before : List (Option Prepared)) (slot : ℕ) (p : Prepared) (after : List (Option Prepared)) → Type 0
-IsFilled before slot p after = (slice_get before slot ≡ Some None) × (after ≡ slice_set before slot (Some p))
+abbrev pub FillsSlot : (before : List (Option Prepared)) (slot : ℕ) (p : Prepared) (after : List (Option Prepared)) → Type 0
+FillsSlot before slot p after = (slice_get before slot ≡ Some None) × (after ≡ slice_set before slot (Some p))
 
 -- a slot that held a mapping is empty, and the others are as before
-abbrev pub IsEmptied : (before : List (Option Prepared)) (slot : ℕ) (after : List (Option Prepared)) → Type 0
-IsEmptied before slot after = (p : Prepared) × (slice_get before slot ≡ Some (Some p)) × (after ≡ slice_set before slot None)
+abbrev pub EmptiesSlot : (before : List (Option Prepared)) (slot : ℕ) (after : List (Option Prepared)) → Type 0
+EmptiesSlot before slot after = (p : Prepared) × (slice_get before slot ≡ Some (Some p)) × (after ≡ slice_set before slot None)
 
 -- What a command leaves in the slots, whatever the image. What is prepared fills its slot, with the mapping that is told of. What is committed or dropped empties it, and so may a commit that its work has refused. All other slots are as before, and so are all after any other command or refusal.
 abbrev pub SlotsAfter : (before : List (Option Prepared)) → Command → Reply → (after : List (Option Prepared)) → Type 0
 SlotsAfter before (C.PrepareDataMapping slot offset n overwrite) (R.Prepared host count existing) after =
-    (p : Prepared) × IsFilled before slot p after × (host ≡ offset_of p) × (count ≡ length_of p) × (existing ≡ is_none (table_of p))
-SlotsAfter before (C.CommitDataMapping slot) R.Done after = IsEmptied before slot after
-SlotsAfter before (C.CommitDataMapping slot) (R.Refused e) after = (after ≡ before) ⊎ (IsOfTables e × IsEmptied before slot after)
-SlotsAfter before (C.DiscardDataMapping slot) R.Done after = IsEmptied before slot after
+    (p : Prepared) × FillsSlot before slot p after × (host ≡ offset_of p) × (count ≡ length_of p) × (existing ≡ is_none (table_of p))
+SlotsAfter before (C.CommitDataMapping slot) R.Done after = EmptiesSlot before slot after
+SlotsAfter before (C.CommitDataMapping slot) (R.Refused e) after = (after ≡ before) ⊎ (IsOfTables e × EmptiesSlot before slot after)
+SlotsAfter before (C.DiscardDataMapping slot) R.Done after = EmptiesSlot before slot after
 SlotsAfter before command reply after = after ≡ before
 
 -- an image keeps its number, whether it is to be written, and whether its data stand in another file
