@@ -1,5 +1,6 @@
 """Wrong bodies as they are listed, and the files of a crate with some of them: each in a copy of its function, under another name and behind it, or in the function's place where it can't be
-copied. A copy has the function's attributes, contract and answers, so what refuses it is the same contract; and nothing stands on it, so one check takes many."""
+copied. A copy has the function's attributes, contract and answers, or of these one clause with its answers where the body names it
+(tests/clauses.py), so what refuses it is the same contract; and nothing stands on it, so one check takes many."""
 
 import os
 import re

@@ -1,4 +1,4 @@
-"""Cuts a function's contract to one of its clauses, and its proof to what is said of that clause: what refuses a body then is that clause."""
+"""Cuts a function's contract to one of its clauses beside an empty one, and its proof to what is said of that clause: what refuses a body then is that clause."""
 
 import re
 
