@@ -11,6 +11,7 @@ use Rattle.qcow2_image.proofs.Flush.Freeing.{all_listed, beside, flushes_with_ou
 use Rattle.qcow2_image.proofs.Call.FaultCounts.{counted_marked}
 use Rattle.qcow2_image.proofs.Map.Unmodified.{read_call}
 use Rattle.qcow2_image.proofs.Call.Marked.{marks_memory, may_mark}
+use Rattle.qcow2_image.proofs.Call.OnceWritten.{once_written}
 use Rattle.qcow2_image.proofs.image.Qcow2.flush.Goals as goal
 
 pub returns-clause-sees : goal.returns-clause-sees
@@ -52,3 +53,6 @@ pub returns-clause-unwritten : goal.returns-clause-unwritten
 returns-clause-unwritten g c = λ reading.
     read_call g.S.Storage.view g.F.BackingDisk.backing c.args.self.now c.begin.new.self c.write_back-done.new.self c.mark_failure.new.self (is_failed c.mark_failure.new.self) c.begin.ensures.storage c.begin.ensures.keeps c.begin.ensures.known
     (c.write_back-done.ensures.unwritten (c.begin.ensures.stays.image.writable ∙ reading)) c.mark_failure.ensures.rest
+
+pub returns-clause-once_written : goal.returns-clause-once_written
+returns-clause-once_written g c = λ memory. once_written g.S.Storage.view c.args.self.now c.begin.new.self c.write_back-done.new.self c.mark_failure.new.self c.write_back-done.result c.begin.ensures.storage c.write_back-done.ensures.notes c.mark_failure.ensures.marks c.mark_failure.ensures.rest (sym c.mark_failure.ensures.answer ∙ memory)

@@ -5,6 +5,7 @@ use Rattle.qcow2_alloc.specs.KeptAllocators.{IsAllocatorOf}
 use Rattle.qcow2_image.proofs.Call.Answered.{freeing_step_kept}
 use Rattle.qcow2_image.proofs.Flush.Freeing.{frees_listed, frees_fault}
 use Rattle.qcow2_image.proofs.Prepare.Entering.{keeps_none}
+use Rattle.qcow2_alloc.specs.KeptNotes.{kept_same}
 use Rattle.qcow2_image.proofs.image.Qcow2.free_listed.Goals as goal
 
 pub returns-then-is_empty-clause-frees : goal.returns-then-is_empty-clause-frees
@@ -28,3 +29,12 @@ returns-clause-faults g c = λ p out sound.
     let own = subst (λ x. IfSome x (IsAllocatorOf view c.args.self.now.file)) c.in-Some.is sound.reftable in
     frees_fault view g.F.BackingDisk.backing out (with_listed p c.args.self.now.file.free_list) (with_listed p c.free.new.file.free_list) c.args.self.now.file c.free.new.file c.free.new.self c.free.result
     (c.free.ensures.sound p (record { sound = sound.file; reftable = own.reftable }))
+
+pub returns-then-is_empty-clause-notes : goal.returns-then-is_empty-clause-notes
+returns-then-is_empty-clause-notes g c = kept_same c.args.self.now.file.storage
+
+pub returns-in_default-clause-notes : goal.returns-in_default-clause-notes
+returns-in_default-clause-notes g c = kept_same c.args.self.now.file.storage
+
+pub returns-clause-notes : goal.returns-clause-notes
+returns-clause-notes g c = c.free.ensures.notes

@@ -11,6 +11,8 @@ use Rattle.qcow2_image.specs.declared.image.Qcow2.{Qcow2}
 use Rattle.qcow2_image.specs.ImageInvariant.{ImageInvariant}
 use Rattle.qcow2_image.specs.Unwritten.{IsOnlyRead, IsUnmodified}
 use Rattle.qcow2_image.proofs.Map.Unmodified.{read_bytes, read_caches, read_same, read_then}
+use Rattle.qcow2_alloc.specs.KeptNotes.{kept_then}
+use Rattle.qcow2_alloc.proofs.KeptNotes.{read_kept}
 use Rattle.qcow2_image.proofs.image.Qcow2.write_back.Goals as goal
 
 pub returns-in_err-free_listed-clause-frees : goal.returns-in_err-free_listed-clause-frees
@@ -101,3 +103,19 @@ returns-clause-unwritten g c = λ reading p out sound clean.
 
 pub returns-in_err-free_listed-clause-unwritten : goal.returns-in_err-free_listed-clause-unwritten
 returns-in_err-free_listed-clause-unwritten g c = λ reading p out sound clean. read_same g.S.Storage.view c.args.self.now c.free_listed.new.self (ap (λ (o : Qcow2 _ _). o.file) (c.free_listed.ensures.untouched reading)) clean
+
+pub returns-in_err-free_listed-clause-notes : goal.returns-in_err-free_listed-clause-notes
+returns-in_err-free_listed-clause-notes g c = c.free_listed.ensures.notes
+
+pub returns-in_err-flush_all-clause-notes : goal.returns-in_err-flush_all-clause-notes
+returns-in_err-flush_all-clause-notes g c = kept_then _ _ _ c.free_listed.ensures.notes c.flush_all.ensures.notes
+
+pub returns-in_err-flush-clause-notes : goal.returns-in_err-flush-clause-notes
+returns-in_err-flush-clause-notes g c = 
+    kept_then _ _ _ (kept_then _ _ _ c.free_listed.ensures.notes c.flush_all.ensures.notes)
+    (read_kept c.flush_all.new.storage c.flush.new.self c.flush.result c.flush.ensures.calls c.flush.ensures.same c.flush.ensures.unnoted)
+
+pub returns-clause-notes : goal.returns-clause-notes
+returns-clause-notes g c = 
+    kept_then _ _ _ (kept_then _ _ _ c.free_listed.ensures.notes c.flush_all.ensures.notes)
+    (read_kept c.flush_all.new.storage c.flush.new.self c.flush.result c.flush.ensures.calls c.flush.ensures.same c.flush.ensures.unnoted)
