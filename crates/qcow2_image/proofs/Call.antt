@@ -9,3 +9,4 @@ pub mod CallOutcomes
 pub mod Refused
 pub mod Slots
 pub mod OnceWritten
+pub mod Notes

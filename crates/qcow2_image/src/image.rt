@@ -447,6 +447,7 @@ impl<S: Storage, F: WrappedFormat<S>> Qcow2<S, F> {
     // Frees the clusters that are to be freed, at the end of a call that changed an entry. Where there are none, nothing is done.
     pub(crate) fn end_freeing(&mut self) -> Result<(), ImageError>
         ensures image { IsSameImage self.old self.new }
+        ensures notes { KeepsNotes S.view self.old.file.storage self.new.file.storage }
         ensures cause { IfErr result IsOfTables }
         ensures marks { MarksFailed self.old self.new result }
         ensures emptied { IsTrue (is_writable self.old) → OnOk result (HasNothingToFree self.new) }

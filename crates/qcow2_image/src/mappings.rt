@@ -368,6 +368,7 @@ impl<S: Storage, F: WrappedFormat<S>> Qcow2<S, F> {
         ensures maps { 0 < length → (out : List (Option Prepared)) → (abstract_of S.view F.backing self.old out).is_sound
             → IfOk result (λ p. IsAnswered self.old.file.header.fields (known_in S.view self.old.file) offset length self.new.file.header.fields (known_in S.view self.new.file) p (meaning S.view F.backing self.new p)) }
         ensures far { 0 < length → RefusesFarEntryFreeing S.view F.backing (refuses_to_prepare self.old offset length) offset self.old self.new result }
+        ensures once_written { FailsOnceWritten S.view self.old self.new result }
         ensures faults { CountsImageFaults S.view F.backing self.old self.new result }
     {
         self.check_prepare(offset, length)?;
@@ -422,6 +423,7 @@ impl<S: Storage, F: WrappedFormat<S>> Qcow2<S, F> {
     ) -> Result<Prepared, ImageError>
         requires writable { IsTrue (is_writable self.old) }
         ensures stays { ImageStays self.old self.new }
+        ensures notes { KeepsNotes S.view self.old.file.storage self.new.file.storage }
         ensures cause { IfErr result IsMetPreparing }
         ensures taken { 0 < length → (out : List (Option Prepared)) → ImageInvariant S.view F.backing (pending_in S.view F.backing self.old out) self.old out
             → IfErr result (λ e. e ≡ TablePrepared → IsTaken self.old.file.header.fields (known_in S.view self.old.file) offset length out) }
@@ -450,6 +452,7 @@ impl<S: Storage, F: WrappedFormat<S>> Qcow2<S, F> {
     ) -> Result<Prepared, ImageError>
         requires writable { IsTrue (is_writable self.old) }
         ensures stays { ImageStays self.old self.new }
+        ensures notes { KeepsNotes S.view self.old.file.storage self.new.file.storage }
         ensures cause { IfErr result IsMetPreparing }
         ensures taken { 0 < length → (out : List (Option Prepared)) → ImageInvariant S.view F.backing (pending_in S.view F.backing self.old out) self.old out
             → IfErr result (λ e. e ≡ TablePrepared → IsTaken self.old.file.header.fields (known_in S.view self.old.file) offset length out) }
@@ -473,6 +476,7 @@ impl<S: Storage, F: WrappedFormat<S>> Qcow2<S, F> {
     // Frees the clusters that are to be freed after a refusal; the refusal that is answered. Nothing is freed after a fault, nor where a table is under another mapping.
     pub(crate) fn free_after(&mut self, refusal: ImageError) -> ImageError
         ensures stays { ImageStays self.old self.new }
+        ensures notes { KeepsNotes S.view self.old.file.storage self.new.file.storage }
         ensures cause { IsMetPreparing refusal → IsMetPreparing result }
         ensures taken { IsMetPreparing refusal → result ≡ TablePrepared → refusal ≡ TablePrepared }
         ensures fault { IsFault refusal → (result ≡ refusal) × (self.new ≡ self.old) }
@@ -523,6 +527,7 @@ impl<S: Storage, F: WrappedFormat<S>> Qcow2<S, F> {
     ) -> Result<Prepared, ImageError>
         requires writable { IsTrue (is_writable self.old) }
         ensures stays { ImageStays self.old self.new }
+        ensures notes { KeepsNotes S.view self.old.file.storage self.new.file.storage }
         ensures cause { IfErr result IsMetPreparing }
         ensures taken { IfErr result (λ e. e ≡ TablePrepared → 0 < l2_pins self.old.file.caches table) }
         ensures own { IfOk result (λ p. image_of p ≡ number_of self.old) }

@@ -14,11 +14,15 @@ use Rattle.qcow2_image.specs.Image.{has_noted_change, is_failed}
 use Rattle.qcow2_image.specs.Refusals.{MarksFailed}
 
 module _ {S F : Type 0} (view : S → StorageView) where
+  -- from a beginning to an end that was marked, whatever was marked before
+  pub written_once : {A : Type 0} (old begun mid new : Qcow2 S F) (done : Result A ImageError) → storage_of begun.file.storage ≡ storage_of old.file.storage → KeepsNotes view begun.file.storage new.file.storage
+      → MarksFailed mid new done → done ≡ Err Memory → ¬ IsTrue (is_failed new) → ContentsStay (view_in view old.file) (view_in view new.file)
+  written_once {A} old begun mid new done begins kept marks is works =
+      let mark : is_failed new ≡ (is_failed mid || has_noted_change new) = subst (λ (r : Result A ImageError). MarksFailed mid new r) is marks in
+      let none : ¬ IsTrue (is_changed_of new.file.storage) = λ noted. works (mark ∙ or_right (is_failed mid) (has_noted_change new) (or_left (is_changed_of new.file.storage) new.file.caches.is_changed noted)) in
+      subst (λ (s : S). ContentsStay (view s) (view_in view new.file)) begins (kept.contents none)
+
   pub once_written : {A : Type 0} (old begun last new : Qcow2 S F) (done : Result A ImageError) → storage_of begun.file.storage ≡ storage_of old.file.storage → KeepsNotes view begun.file.storage last.file.storage
       → MarksFailed last new done → new ≡ record last { is_failed = new.is_failed } → done ≡ Err Memory → ¬ IsTrue (is_failed new) → ContentsStay (view_in view old.file) (view_in view new.file)
-  once_written {A} old begun last new done begins kept marks rest is works =
-      let same : new.file ≡ last.file = ap (λ (i : Qcow2 S F). i.file) rest in
-      let mark : is_failed new ≡ (is_failed last || has_noted_change new) = subst (λ (r : Result A ImageError). MarksFailed last new r) is marks in
-      let none : ¬ IsTrue (is_changed_of last.file.storage) = λ noted.
-      works (mark ∙ or_right (is_failed last) (has_noted_change new) (or_left (is_changed_of new.file.storage) new.file.caches.is_changed (ap (λ (f : ImageFile S). is_changed_of f.storage) same ∙ noted))) in
-      subst (λ (f : ImageFile S). ContentsStay (view_in view old.file) (view_in view f)) (sym same) (subst (λ (s : S). ContentsStay (view s) (view_in view last.file)) begins (kept.contents none))
+  once_written old begun last new done begins kept marks rest =
+      written_once old begun last new done begins (subst (λ (f : ImageFile S). KeepsNotes view begun.file.storage f.storage) (sym (ap (λ (i : Qcow2 S F). i.file) rest)) kept) marks

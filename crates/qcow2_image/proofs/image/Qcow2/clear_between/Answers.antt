@@ -13,6 +13,8 @@ use Rattle.qcow2_image.specs.ImageInvariant.{pending_in}
 use Rattle.qcow2_image.specs.NewTables.{IsFaultOrLacksTable}
 use Rattle.qcow2_image.proofs.Backings.{some_prepared}
 use Rattle.qcow2_image.proofs.Prepare.FarEntries.{far_handed_on, far_unanswered}
+use Rattle.qcow2_alloc.specs.KeptNotes.{kept_then}
+use Rattle.qcow2_image.proofs.Call.Notes.{same_kept}
 use Rattle.qcow2_image.proofs.image.Qcow2.clear_between.Goals as goal
 
 pub returns-in_err-table-clause-clears : goal.returns-in_err-table-clause-clears
@@ -106,3 +108,15 @@ returns-in_err-old_data-clause-far g c = λ needs. absurd (far_unanswered c.tabl
 
 pub returns-clause-far : goal.returns-clause-far
 returns-clause-far g c = λ needs. absurd (far_unanswered c.table_for.result c.in_ok-table.table c.in_ok-table.was (c.table_for.ensures.far needs).0)
+
+pub returns-in_err-table-clause-notes : goal.returns-in_err-table-clause-notes
+returns-in_err-table-clause-notes g c = c.table_for.ensures.notes
+
+pub returns-then-l2_is_pinned-clause-notes : goal.returns-then-l2_is_pinned-clause-notes
+returns-then-l2_is_pinned-clause-notes g c = c.table_for.ensures.notes
+
+pub returns-in_err-old_data-clause-notes : goal.returns-in_err-old_data-clause-notes
+returns-in_err-old_data-clause-notes g c = c.table_for.ensures.notes
+
+pub returns-clause-notes : goal.returns-clause-notes
+returns-clause-notes g c = kept_then _ _ _ c.table_for.ensures.notes (same_kept c.table_for.new.self c.clear_entries.new.self (ap (λ (i : Qcow2 _ _). i.file.storage) c.clear_entries.ensures.clears.rest))

@@ -17,6 +17,12 @@ use Rattle.qcow2_image.proofs.Sizing.Shrinking.{fault_of}
 use Rattle.qcow2_image.proofs.Clear.ClearCalls.{begins, clear_interruption, clear_covers, clear_done, clear_refused, clear_works, clears_early, clears_nothing, err_is, fault_interruption, if_some, not_refused, refused_for, under_after, under_before, ungiven_interruption, ungiven_early, ungiven_refused, whole_in}
 use Rattle.qcow2_image.proofs.Call.FaultCounts.{counted_marked, counted_ok, counted_on, fewer_then, untouched}
 use Rattle.qcow2_image.proofs.Prepare.FarEntries.{far_begun, far_handed_on, far_then_marked, far_unanswered}
+use Rattle.qcow2_alloc.specs.KeptNotes.{kept_then}
+use Rattle.qcow2_image.proofs.Call.Notes.{same_kept}
+use Rattle.qcow2_alloc.proofs.AllocationSteps.{handed_on}
+use Rattle.qcow2_alloc.proofs.Outcomes.{err_as}
+use Rattle.qcow2_image.specs.Noted.{FailsOnceWritten}
+use Rattle.qcow2_image.proofs.Call.OnceWritten.{once_written, written_once}
 use Rattle.qcow2_image.proofs.image.Qcow2.clear_range.Goals as goal
 
 pub returns-in_err-from-clause-early : goal.returns-in_err-from-clause-early
@@ -345,3 +351,16 @@ returns-clause-far g c = λ some none needs.
     let from : c.in_ok-from.from ≡ from_in c.args.self.now c.args.offset c.args.length = ap (λ (r : ℕ × ℕ). r.0) range.1 in
     let done : c.clear_between-cleared.result ≡ Ok c.in_ok-mark_failure.field-0 = sym c.mark_failure.ensures.answer ∙ c.in_ok-mark_failure.was in
     absurd (far_unanswered c.clear_between-cleared.result c.in_ok-mark_failure.field-0 done (c.clear_between-cleared.ensures.far (far_begun old c.begin.new.self (from_in old c.args.offset c.args.length) c.in_ok-from.from from c.begin.ensures.begun needs)).0)
+
+pub returns-in_err-from-clause-once_written : goal.returns-in_err-from-clause-once_written
+returns-in_err-from-clause-once_written g c = λ memory works honest. refl
+
+pub returns-in_err-mark_failure-clause-once_written : goal.returns-in_err-mark_failure-clause-once_written
+returns-in_err-mark_failure-clause-once_written g c = 
+    handed_on (λ r. FailsOnceWritten g.S.Storage.view c.args.self.now c.mark_failure.new.self r) c.from_residual-in_err-mark_failure.result c.in_err-mark_failure.field-0.0 c.from_residual-in_err-mark_failure.ensures
+    (λ memory. once_written g.S.Storage.view c.args.self.now c.begin.new.self c.clear_between-cleared.new.self c.mark_failure.new.self c.clear_between-cleared.result c.begin.ensures.storage c.clear_between-cleared.ensures.notes c.mark_failure.ensures.marks c.mark_failure.ensures.rest (sym c.mark_failure.ensures.answer ∙ c.in_err-mark_failure.was ∙ err_as c.in_err-mark_failure.field-0.0 Memory memory))
+
+pub returns-in_err-end_freeing-clause-once_written : goal.returns-in_err-end_freeing-clause-once_written
+returns-in_err-end_freeing-clause-once_written g c = 
+    handed_on (λ r. FailsOnceWritten g.S.Storage.view c.args.self.now c.end_freeing.new.self r) c.from_residual-in_err-end_freeing.result c.in_err-end_freeing.field-0.0 c.from_residual-in_err-end_freeing.ensures
+    (λ memory. written_once g.S.Storage.view c.args.self.now c.begin.new.self c.mark_failure.new.self c.end_freeing.new.self c.end_freeing.result c.begin.ensures.storage (kept_then _ _ _ (kept_then _ _ _ c.clear_between-cleared.ensures.notes (same_kept c.clear_between-cleared.new.self c.mark_failure.new.self (ap (λ (i : Qcow2 _ _). i.file.storage) c.mark_failure.ensures.rest))) c.end_freeing.ensures.notes) c.end_freeing.ensures.marks (c.in_err-end_freeing.was ∙ err_as c.in_err-end_freeing.field-0.0 Memory memory))

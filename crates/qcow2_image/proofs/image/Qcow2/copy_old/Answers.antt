@@ -10,6 +10,7 @@ use Rattle.qcow2_image.specs.ImageInvariant.{backing_bytes}
 use Rattle.qcow2_image.proofs.Map.Loading.{if_ok}
 use Rattle.qcow2_image.proofs.Map.Reading.{none_below, zero_shown}
 use Rattle.qcow2_image.proofs.Prepare.Filling.{disk_kept, image_step_data, image_step_kept, image_step_then, own_of, there_written}
+use Rattle.qcow2_alloc.specs.KeptNotes.{kept_then}
 use Rattle.qcow2_image.proofs.image.Qcow2.copy_old.Goals as goal
 
 pub returns-in-Zero-clause-image_step : goal.returns-in-Zero-clause-image_step
@@ -66,3 +67,12 @@ returns-clause-copies g c = λ p out sound mapped.
     if_ok c.write_data.result
     (λ done there i lt. ap known_byte (there i (omega (arith, still, lt))) ∙ sym (read i (omega (arith, still, lt))) ∙ ap (λ (d : Disk). d.value (c.args.guest + i)) (disk_kept view below old mid out p sound first))
     (there_written view mid c.write_data.new.self c.args.at bytes c.write_data.result c.write_data.ensures.written first.sound.file.honest)
+
+pub returns-in-Zero-clause-notes : goal.returns-in-Zero-clause-notes
+returns-in-Zero-clause-notes g c = c.write_zeros.ensures.notes
+
+pub returns-in_err-read_as-clause-notes : goal.returns-in_err-read_as-clause-notes
+returns-in_err-read_as-clause-notes g c = c.read_as.ensures.notes
+
+pub returns-clause-notes : goal.returns-clause-notes
+returns-clause-notes g c = kept_then _ _ _ c.read_as.ensures.notes c.write_data.ensures.notes

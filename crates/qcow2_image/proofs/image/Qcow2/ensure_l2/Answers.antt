@@ -9,6 +9,7 @@ use Rattle.qcow2_image.specs.NewTables.{IsFaultOrLacksTable}
 use Rattle.qcow2_alloc.specs.ImageFile.{contents_in}
 use Rattle.qcow2_image.specs.Found.{l1_index_of}
 use Rattle.qcow2_image.proofs.Prepare.Lacking.{fault_alone, named_place}
+use Rattle.qcow2_alloc.specs.KeptNotes.{kept_then}
 use Rattle.qcow2_image.proofs.image.Qcow2.ensure_l2.Goals as goal
 
 pub returns-in_err-cluster-clause-ready : goal.returns-in_err-cluster-clause-ready
@@ -64,3 +65,12 @@ returns-in_err-l2_get_or_insert-clause-quiet g c = λ own. let same = c.own_l2.e
 
 pub returns-clause-quiet : goal.returns-clause-quiet
 returns-clause-quiet g c = λ own. let same = c.own_l2.ensures.quiet own in record { allocator = ap (λ (i : Qcow2 _ _). i.allocator) same; list = ap (λ (i : Qcow2 _ _). i.file.free_list) same }
+
+pub returns-in_err-cluster-clause-notes : goal.returns-in_err-cluster-clause-notes
+returns-in_err-cluster-clause-notes g c = c.own_l2.ensures.notes
+
+pub returns-in_err-l2_get_or_insert-clause-notes : goal.returns-in_err-l2_get_or_insert-clause-notes
+returns-in_err-l2_get_or_insert-clause-notes g c = kept_then _ _ _ c.own_l2.ensures.notes c.l2_get_or_insert.ensures.notes
+
+pub returns-clause-notes : goal.returns-clause-notes
+returns-clause-notes g c = kept_then _ _ _ c.own_l2.ensures.notes c.l2_get_or_insert.ensures.notes

@@ -6,6 +6,7 @@ use Rattle.qcow2_alloc.specs.KeptAllocators.{IsAllocatorOf}
 use Rattle.qcow2_alloc.proofs.AllocationSteps.{handed_on}
 use Rattle.qcow2_image.specs.LongerTables.{TakesTable}
 use Rattle.qcow2_image.proofs.Grow.Lengthened.{none_taken_for_table, refused_none, table_named_blocks}
+use Rattle.qcow2_alloc.specs.KeptNotes.{kept_same, kept_then}
 use Rattle.qcow2_image.proofs.image.Qcow2.enter_l1_table.Goals as goal
 
 pub returns-in_default-clause-takes : goal.returns-in_default-clause-takes
@@ -29,3 +30,12 @@ returns-clause-takes g c = λ p out sound longer.
     c.args.table c.in_ok-pending.pending.first_cluster c.cluster_count.result c.cluster_count.ensures took.2
     (c.in_ok-pending.ensures.hint p (record { sound = record { sound = sound.file; reftable = own.reftable }; hint = own.hint })) longer c.in_ok-pending.pending c.write_taken.new.self c.write_taken.result refl (took.0 ∙ c.cluster_count.ensures) took.1
     (λ placed. c.write_taken.ensures.names (pending_then p old.file.free_list c.allocate_meta.new.file.free_list) out placed c.in_ok-pending.ensures.noted) c.write_taken.ensures.kept c.write_taken.ensures.listed
+
+pub returns-in_default-clause-notes : goal.returns-in_default-clause-notes
+returns-in_default-clause-notes g c = kept_same c.args.self.now.file.storage
+
+pub returns-in_err-pending-clause-notes : goal.returns-in_err-pending-clause-notes
+returns-in_err-pending-clause-notes g c = c.allocate_meta.ensures.marks.notes
+
+pub returns-clause-notes : goal.returns-clause-notes
+returns-clause-notes g c = kept_then _ _ _ c.allocate_meta.ensures.marks.notes c.write_taken.ensures.notes

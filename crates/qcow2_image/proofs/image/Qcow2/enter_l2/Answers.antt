@@ -6,6 +6,7 @@ use Rattle.qcow2_alloc.specs.KeptAllocators.{IsAllocatorOf}
 use Rattle.qcow2_alloc.proofs.AllocationSteps.{handed_on}
 use Rattle.qcow2_image.specs.NewTables.{EntersTable}
 use Rattle.qcow2_image.proofs.Prepare.Entering.{none_taken, table_entered, table_refused}
+use Rattle.qcow2_alloc.specs.KeptNotes.{kept_then}
 use Rattle.qcow2_image.proofs.image.Qcow2.enter_l2.Goals as goal
 
 pub returns-in_err-pending-clause-enters : goal.returns-in_err-pending-clause-enters
@@ -38,3 +39,12 @@ returns-in-Err-clause-enters g c = λ p out sound may says.
     (c.in_ok-pending.ensures.hint p (record { sound = record { sound = sound.file; reftable = own.reftable }; hint = own.hint }))
     c.write_l2.new.self c.args.index c.args.table may says c.write_l2.ensures.list c.write_l2.result
     (λ sound may says. c.write_l2.ensures.writes (pending_then p old.file.free_list c.allocate_meta.new.file.free_list) out sound may c.in_ok-pending.ensures.noted says) c.in-Err.refusal c.in_ok-pending.pending c.hand_back.new.list c.in-Err.is (sym c.cluster-cluster.ensures) (took.0 ∙ c.new.ensures) took.1 c.hand_back.ensures
+
+pub returns-in_err-pending-clause-notes : goal.returns-in_err-pending-clause-notes
+returns-in_err-pending-clause-notes g c = c.allocate_meta.ensures.marks.notes
+
+pub returns-in-Ok-clause-notes : goal.returns-in-Ok-clause-notes
+returns-in-Ok-clause-notes g c = kept_then _ _ _ c.allocate_meta.ensures.marks.notes c.write_l2.ensures.notes
+
+pub returns-in-Err-clause-notes : goal.returns-in-Err-clause-notes
+returns-in-Err-clause-notes g c = kept_then _ _ _ c.allocate_meta.ensures.marks.notes c.write_l2.ensures.notes

@@ -11,6 +11,7 @@ use Rattle.qcow2_disk.specs.Found.{kind_at}
 use Rattle.qcow2_image.proofs.Prepare.Copied.{none_has, some_has}
 use Rattle.qcow2_image.proofs.Prepare.Filling.{alike_within, image_step_none}
 use Rattle.qcow2_image.proofs.Map.Loading.{if_ok, if_ok_any}
+use Rattle.qcow2_alloc.specs.KeptNotes.{kept_same}
 use Rattle.qcow2_image.proofs.image.Qcow2.fill_cluster.Goals as goal
 
 pub returns-in_default-checked_add-clause-image_step : goal.returns-in_default-checked_add-clause-image_step
@@ -68,3 +69,12 @@ returns-clause-fills g c = λ p out sound holds some none covered.
           ∙ ap (disk_of g.S.Storage.view g.F.BackingDisk.backing c.args.self.now).value guest)
           (c.copy_old.ensures.copies p out sound mapped)
     ]
+
+pub returns-in_default-clause-notes : goal.returns-in_default-clause-notes
+returns-in_default-clause-notes g c = kept_same c.args.self.now.file.storage
+
+pub returns-in_default-checked_add-clause-notes : goal.returns-in_default-checked_add-clause-notes
+returns-in_default-checked_add-clause-notes g c = kept_same c.args.self.now.file.storage
+
+pub returns-clause-notes : goal.returns-clause-notes
+returns-clause-notes g c = c.copy_old.ensures.notes

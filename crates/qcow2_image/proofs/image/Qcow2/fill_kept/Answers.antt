@@ -2,6 +2,7 @@ use Rattle.std.proofs.Common.{◌-◌, arith}
 use Rattle.qcow2_image.proofs.Prepare.Copied.{none_has, some_has}
 use Rattle.qcow2_image.proofs.Prepare.Filling.{image_step_none}
 use Rattle.qcow2_image.proofs.Prepare.Keeping.{filled_by_none, filled_with_zeros, image_step_filled}
+use Rattle.qcow2_alloc.specs.KeptNotes.{kept_same}
 use Rattle.qcow2_image.proofs.image.Qcow2.fill_kept.Goals as goal
 
 pub returns-in-None-clause-image_step : goal.returns-in-None-clause-image_step
@@ -22,3 +23,9 @@ pub returns-in-Some-clause-fills : goal.returns-in-Some-clause-fills
 returns-in-Some-clause-fills g c = λ p out sound kept.
     filled_with_zeros g.S.Storage.view g.F.BackingDisk.backing out c.args.self.now c.write_zeros.new.self p sound c.args.offset c.args.host c.args.length c.args.overwrite kept c.in-Some.range
     (λ i lt none. some_has c.part_to_fill.result c.in-Some.range i c.in-Some.is (c.part_to_fill.ensures.all i lt none)) c.write_zeros.result c.write_zeros.ensures.written
+
+pub returns-in-None-clause-notes : goal.returns-in-None-clause-notes
+returns-in-None-clause-notes g c = kept_same c.args.self.now.file.storage
+
+pub returns-in-Some-clause-notes : goal.returns-in-Some-clause-notes
+returns-in-Some-clause-notes g c = c.write_zeros.ensures.notes

@@ -3,6 +3,7 @@ use Rattle.qcow2_laws.specs.CrashInvariant.{Pending}
 use Rattle.qcow2_image.specs.ImageInvariant.{ImageInvariant}
 use Rattle.qcow2_image.proofs.Flush.Freeing.{all_listed, beside, freed_refused, tidy_stays}
 use Rattle.qcow2_image.proofs.Call.FaultCounts.{counted_as, counted_still}
+use Rattle.qcow2_alloc.specs.KeptNotes.{kept_same}
 use Rattle.qcow2_image.proofs.image.Qcow2.free_after.Goals as goal
 
 pub returns-in-Ok-clause-frees : goal.returns-in-Ok-clause-frees
@@ -58,3 +59,12 @@ returns-in-Err-clause-told g c = λ out sound.
     let below = g.F.BackingDisk.backing in
     let old = c.args.self.now in
     inr (c.in-Err.ensures.faults (beside view below old out) out (subst (λ (x : Pending). ImageInvariant view below x old out) (all_listed view below old out) sound))
+
+pub returns-then-is_last-clause-notes : goal.returns-then-is_last-clause-notes
+returns-then-is_last-clause-notes g c = kept_same c.args.self.now.file.storage
+
+pub returns-in-Ok-clause-notes : goal.returns-in-Ok-clause-notes
+returns-in-Ok-clause-notes g c = c.free_listed.ensures.notes
+
+pub returns-in-Err-clause-notes : goal.returns-in-Err-clause-notes
+returns-in-Err-clause-notes g c = c.free_listed.ensures.notes

@@ -4,6 +4,7 @@ use Rattle.qcow2_alloc.proofs.AllocationSteps.{handed_on}
 use Rattle.qcow2_image.specs.LongerTables.{Lengthens}
 use Rattle.qcow2_image.proofs.Grow.Lengthened.{is_longer, lengthened, refused_none}
 use Rattle.qcow2_image.proofs.Prepare.Owning.{refused}
+use Rattle.qcow2_alloc.specs.KeptNotes.{kept_same}
 use Rattle.qcow2_image.proofs.image.Qcow2.grow_l1_table.Goals as goal
 
 pub returns-then-index-ge-MAX_L1_ENTRIES-clause-lengthens : goal.returns-then-index-ge-MAX_L1_ENTRIES-clause-lengthens
@@ -36,3 +37,18 @@ returns-in-Err-clause-lengthens g c = λ p out sound.
 
 pub returns-in-Ok-clause-length : goal.returns-in-Ok-clause-length
 returns-in-Ok-clause-length g c = omega (arith, c.in-Ok.ensures.entries, c.in_ok-table.ensures.length, c.max-entries.ensures, c.len.ensures.value)
+
+pub returns-then-index-ge-MAX_L1_ENTRIES-clause-notes : goal.returns-then-index-ge-MAX_L1_ENTRIES-clause-notes
+returns-then-index-ge-MAX_L1_ENTRIES-clause-notes g c = kept_same c.args.self.now.file.storage
+
+pub returns-in_err-table-clause-notes : goal.returns-in_err-table-clause-notes
+returns-in_err-table-clause-notes g c = kept_same c.args.self.now.file.storage
+
+pub returns-in_err-old-clause-notes : goal.returns-in_err-old-clause-notes
+returns-in_err-old-clause-notes g c = kept_same c.args.self.now.file.storage
+
+pub returns-in-Ok-clause-notes : goal.returns-in-Ok-clause-notes
+returns-in-Ok-clause-notes g c = c.enter_l1_table.ensures.notes
+
+pub returns-in-Err-clause-notes : goal.returns-in-Err-clause-notes
+returns-in-Err-clause-notes g c = c.enter_l1_table.ensures.notes

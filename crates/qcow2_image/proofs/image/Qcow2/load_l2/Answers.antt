@@ -12,3 +12,6 @@ returns-clause-contents g c = λ p out sound.
     same_new_data g.S.Storage.view g.F.BackingDisk.backing out c.args.self.now _ p sound
     (caches_moved g.S.Storage.view g.F.BackingDisk.backing c.args.self.now out p sound c.l2_get_or_insert.new.storage c.l2_get_or_insert.new.self
     (c.l2_get_or_insert.ensures.keeps c.args.self.now.file.header.fields p sound.file.honest sound.file.caches) c.l2_get_or_insert.ensures.marks.room c.l2_get_or_insert.ensures.marks.pins)
+
+pub returns-clause-notes : goal.returns-clause-notes
+returns-clause-notes g c = c.l2_get_or_insert.ensures.notes

@@ -5,6 +5,8 @@ use Rattle.qcow2_alloc.specs.ImageStorage.{storage_of}
 use Rattle.qcow2_alloc.proofs.AllocationSteps.{handed_on}
 use Rattle.qcow2_image.specs.LongerTables.{NamesTable}
 use Rattle.qcow2_image.proofs.Grow.NamedL1.{named_interruption, named_so}
+use Rattle.qcow2_alloc.specs.KeptNotes.{kept_same}
+use Rattle.qcow2_alloc.proofs.KeptMarks.{told_kept}
 use Rattle.qcow2_image.proofs.image.Qcow2.name_l1_table.Goals as goal
 
 pub returns-in_err-write_l1_table_pointer-clause-names : goal.returns-in_err-write_l1_table_pointer-clause-names
@@ -28,3 +30,12 @@ returns-clause-names g c = λ p out sound noted ready.
     let at = c.offset-offset.ensures ∙ ap (λ n. c.args.cluster * 2 ^ n) c.cluster_bits.ensures.value in
     named_so view g.F.BackingDisk.backing out p old t c.args.cluster sound ready c.requires few c.offset-offset.result c.len.result c.set_l1_table.new.self at c.len.ensures.value c.in_ok-set_l1_table.ensures.ok c.write_l1_table_pointer.result
     c.write_l1_table_pointer.new.self (storage_of c.will_write.new.self) c.will_write.ensures.storage c.write_l1_table_pointer.ensures.written c.write_l1_table_pointer.ensures.calls c.in_ok-write_l1_table_pointer.field-0 c.in_ok-write_l1_table_pointer.was
+
+pub returns-in_err-set_l1_table-clause-notes : goal.returns-in_err-set_l1_table-clause-notes
+returns-in_err-set_l1_table-clause-notes g c = kept_same c.args.self.now.file.storage
+
+pub returns-in_err-write_l1_table_pointer-clause-notes : goal.returns-in_err-write_l1_table_pointer-clause-notes
+returns-in_err-write_l1_table_pointer-clause-notes g c = told_kept c.args.self.now.file.storage c.will_write.new.self c.write_l1_table_pointer.new.self c.write_l1_table_pointer.result c.will_write.ensures.storage c.will_write.ensures.changed _ c.write_l1_table_pointer.ensures.written c.write_l1_table_pointer.ensures.calls c.write_l1_table_pointer.ensures.noted
+
+pub returns-clause-notes : goal.returns-clause-notes
+returns-clause-notes g c = told_kept c.args.self.now.file.storage c.will_write.new.self c.write_l1_table_pointer.new.self c.write_l1_table_pointer.result c.will_write.ensures.storage c.will_write.ensures.changed _ c.write_l1_table_pointer.ensures.written c.write_l1_table_pointer.ensures.calls c.write_l1_table_pointer.ensures.noted

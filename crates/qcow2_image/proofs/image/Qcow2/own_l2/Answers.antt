@@ -6,6 +6,7 @@ use Rattle.qcow2_image.proofs.Prepare.Owning.{refused, left_alone, may_none, say
 use Rattle.qcow2_metadata.specs.EntryTable.{entry_count}
 use Rattle.qcow2_metadata.specs.TableBytes.{entry_at}
 use Rattle.qcow2_image.proofs.Prepare.Lacking.{lacks_past, not_within, owns_or_lacks}
+use Rattle.qcow2_alloc.specs.KeptNotes.{kept_same}
 use Rattle.qcow2_image.proofs.image.Qcow2.own_l2.Goals as goal
 
 pub returns-then-not-in_bounds-clause-owns : goal.returns-then-not-in_bounds-clause-owns
@@ -95,3 +96,18 @@ returns-clause-quiet g c = λ own.
     let idx : c.l1_index-index.result ≡ l1_index_of old.file.header.fields c.args.offset =
     c.l1_index-index.ensures ∙ ap (λ n. n / 2 ^ c.cluster_bits-bits.result / (2 ^ c.cluster_bits-bits.result / 8)) c.new.ensures ∙ ap (λ b. c.args.offset / 2 ^ b / (2 ^ b / 8)) c.cluster_bits-bits.ensures.value in
     absurd (let is = sym own.1 ∙ ap (λ i. is_copied (entry_at old.l1_table.bytes i)) (sym idx) ∙ sym c.in-Some.ensures.copied ∙ c.if-entry.false in cc)
+
+pub returns-then-not-in_bounds-clause-notes : goal.returns-then-not-in_bounds-clause-notes
+returns-then-not-in_bounds-clause-notes g c = kept_same c.args.self.now.file.storage
+
+pub returns-in_err-table-clause-notes : goal.returns-in_err-table-clause-notes
+returns-in_err-table-clause-notes g c = kept_same c.args.self.now.file.storage
+
+pub returns-then-entry-clause-notes : goal.returns-then-entry-clause-notes
+returns-then-entry-clause-notes g c = kept_same c.args.self.now.file.storage
+
+pub returns-in_default-clause-notes : goal.returns-in_default-clause-notes
+returns-in_default-clause-notes g c = c.enter_l2.ensures.notes
+
+pub returns-clause-notes : goal.returns-clause-notes
+returns-clause-notes g c = c.replace_l2.ensures.notes

@@ -1,4 +1,4 @@
-use Rattle.std.proofs.Common.{◌≡◌, ◌^◌, false, length, refl, ap, ◌∙◌, subst}
+use Rattle.std.proofs.Common.{◌≡◌, ◌^◌, false, length, refl, ap, ◌∙◌, subst, sym, IsSome}
 use Rattle.std.specs.Prelude.{Some, IfSome, OnOk}
 use Rattle.qcow2_metadata.specs.L2Table.{L2TableView}
 use Rattle.qcow2_alloc.specs.ImageError.{of_storage}
@@ -10,6 +10,8 @@ use Rattle.qcow2_image.specs.NewTables.{PlacesNewTable}
 use Rattle.qcow2_image.proofs.Call.Called.{keeps_then}
 use Rattle.qcow2_image.proofs.Map.Loading.{if_ok}
 use Rattle.qcow2_image.proofs.Prepare.Placing.{holds, keeps_placed, keeps_put, keeps_stored, places_when, stands_ready, stands_there}
+use Rattle.qcow2_alloc.specs.KeptNotes.{kept_same, kept_then}
+use Rattle.qcow2_alloc.proofs.KeptMarks.{placed_kept}
 use Rattle.qcow2_image.proofs.image.Qcow2.place_l2.Goals as goal
 
 pub returns-in_err-write_new_l2_table-clause-places : goal.returns-in_err-write_new_l2_table-clause-places
@@ -50,3 +52,12 @@ returns-clause-places g c = λ p out sound some format stored.
     (if_ok c.l2_insert.result
     (λ x found. stands_ready view below mid out p wrote.sound still at some c.args.table.bytes long there c.l2_insert.new.storage c.l2_insert.new.self stays c.l2_insert.ensures.marks.room c.l2_insert.ensures.marks.pins c.l2_insert.ensures.blocks
     (λ may. c.l2_insert.ensures.first may unmodified) (record c.args.table { cluster = Some at; is_modified = false }) found refl) new_data)
+
+pub returns-then-not-is_nameable-clause-notes : goal.returns-then-not-is_nameable-clause-notes
+returns-then-not-is_nameable-clause-notes g c = kept_same c.args.self.now.file.storage
+
+pub returns-in_err-write_new_l2_table-clause-notes : goal.returns-in_err-write_new_l2_table-clause-notes
+returns-in_err-write_new_l2_table-clause-notes g c = placed_kept c.args.self.now.file.storage c.will_write.new.self c.write_new_l2_table.new.self c.write_new_l2_table.result c.will_write.ensures.storage c.will_write.ensures.changed c.set_cluster.new.self.cluster _ (subst (λ (x : L2TableView). IsSome x.cluster) (sym c.set_cluster.ensures) refl) c.write_new_l2_table.ensures.written c.write_new_l2_table.ensures.calls c.write_new_l2_table.ensures.noted
+
+pub returns-clause-notes : goal.returns-clause-notes
+returns-clause-notes g c = kept_then _ _ _ (placed_kept c.args.self.now.file.storage c.will_write.new.self c.write_new_l2_table.new.self c.write_new_l2_table.result c.will_write.ensures.storage c.will_write.ensures.changed c.set_cluster.new.self.cluster _ (subst (λ (x : L2TableView). IsSome x.cluster) (sym c.set_cluster.ensures) refl) c.write_new_l2_table.ensures.written c.write_new_l2_table.ensures.calls c.write_new_l2_table.ensures.noted) c.l2_insert.ensures.notes

@@ -4,6 +4,7 @@ use Rattle.qcow2_alloc.specs.ImageError.{IsFault}
 use Rattle.qcow2_image.proofs.Call.Refused.{back_then_freed}
 use Rattle.qcow2_image.proofs.Call.FaultCounts.{counted_as, counted_of, untouched}
 use Rattle.qcow2_image.proofs.Prepare.FarEntries.{far_refusal, far_then_freed, far_unanswered}
+use Rattle.qcow2_alloc.specs.KeptNotes.{kept_then}
 use Rattle.qcow2_image.proofs.image.Qcow2.prepare.Goals as goal
 
 pub returns-in-Ok-clause-readies : goal.returns-in-Ok-clause-readies
@@ -40,3 +41,9 @@ pub returns-in-Err-clause-far : goal.returns-in-Err-clause-far
 returns-in-Err-clause-far g c = λ needs.
     let far = c.prepare_range.ensures.far needs in
     far_then_freed g.S.Storage.view g.F.BackingDisk.backing c.args.self.now c.prepare_range.new.self c.free_after.new.self c.in-Err.refusal c.free_after.result (far_refusal c.prepare_range.result c.in-Err.refusal c.in-Err.is far.0) far.1 c.free_after.ensures.idle c.free_after.ensures.told
+
+pub returns-in-Ok-clause-notes : goal.returns-in-Ok-clause-notes
+returns-in-Ok-clause-notes g c = c.prepare_range.ensures.notes
+
+pub returns-in-Err-clause-notes : goal.returns-in-Err-clause-notes
+returns-in-Err-clause-notes g c = kept_then _ _ _ c.prepare_range.ensures.notes c.free_after.ensures.notes

@@ -1,4 +1,4 @@
-use Rattle.std.proofs.Common.{◌≡◌, ◌<◌, sym, ◌∙◌, subst, arith, ap}
+use Rattle.std.proofs.Common.{◌≡◌, ◌<◌, sym, ◌∙◌, subst, arith, ap, refl}
 use Rattle.std.specs.Prelude.{IfErr, IfOk, None, Result, Some}
 use Rattle.qcow2_alloc.specs.declared.error.ImageError.TheVariants.{TablePrepared}
 use Rattle.qcow2_alloc.specs.ImageFile.{known_in}
@@ -21,6 +21,7 @@ use Rattle.qcow2_image.proofs.Prepare.PrepareCalls.{lists_begun, prepares_nothin
 use Rattle.qcow2_image.proofs.Call.Refused.{prepares_after, stays_kept}
 use Rattle.qcow2_image.proofs.Call.FaultCounts.{counted_marked}
 use Rattle.qcow2_image.proofs.Call.Marked.{marks_memory, may_mark}
+use Rattle.qcow2_image.proofs.Call.OnceWritten.{once_written}
 use Rattle.qcow2_image.proofs.image.Qcow2.prepare_data_mapping.Goals as goal
 
 pub returns-then-length-eq0-clause-sees : goal.returns-then-length-eq0-clause-sees
@@ -111,3 +112,9 @@ returns-clause-far g c = λ some.
     far_prepared view below (refuses_to_prepare old c.args.offset c.args.length) c.args.offset old mid c.prepare-prepared.new.self c.mark_failure.new.self c.prepare-prepared.result c.mark_failure.result c.begin.ensures.begun
     (λ out sound. quiet_sound view below out old mid (λ s. record { keeps = c.begin.ensures.keeps (pending_in view below old out) out s; list = c.begin.ensures.list }) sound)
     c.prepare-prepared.ensures.far c.mark_failure.ensures.answer c.mark_failure.ensures.marks c.mark_failure.ensures.rest
+
+pub returns-in_err-check_prepare-clause-once_written : goal.returns-in_err-check_prepare-clause-once_written
+returns-in_err-check_prepare-clause-once_written g c = λ memory works honest. refl
+
+pub returns-clause-once_written : goal.returns-clause-once_written
+returns-clause-once_written g c = λ memory. once_written g.S.Storage.view c.args.self.now c.begin.new.self c.prepare-prepared.new.self c.mark_failure.new.self c.prepare-prepared.result c.begin.ensures.storage c.prepare-prepared.ensures.notes c.mark_failure.ensures.marks c.mark_failure.ensures.rest (sym c.mark_failure.ensures.answer ∙ memory)

@@ -17,6 +17,8 @@ use Rattle.qcow2_image.proofs.Prepare.Owning.{refused as any_refusal}
 use Rattle.qcow2_image.proofs.Prepare.ReadyingNew.{back_none, first_stands, not_pinned, readied_in_place}
 use Rattle.qcow2_image.proofs.Prepare.Listing.{lists_none, lists_still}
 use Rattle.qcow2_image.specs.declared.image.Qcow2.{Qcow2}
+use Rattle.qcow2_alloc.specs.KeptNotes.{kept_same}
+use Rattle.qcow2_image.proofs.Call.Notes.{same_kept}
 use Rattle.qcow2_image.proofs.image.Qcow2.prepare_first.Goals as goal
 
 pub returns-then-l2_is_pinned-clause-readies : goal.returns-then-l2_is_pinned-clause-readies
@@ -93,3 +95,18 @@ returns-in-Some-clause-former g c =
     let then = c.prepare_at.ensures.pins.rest in
     lists_still c.args.self.now c.args.self.now c.prepare_at.new.self (lists_none c.args.self.now c.requires.writable)
     (record { allocator = ap (λ (image : Qcow2 _ _). image.allocator) then; list = ap (λ (image : Qcow2 _ _). image.file.free_list) then })
+
+pub returns-then-l2_is_pinned-clause-notes : goal.returns-then-l2_is_pinned-clause-notes
+returns-then-l2_is_pinned-clause-notes g c = kept_same c.args.self.now.file.storage
+
+pub returns-in_err-room-clause-notes : goal.returns-in_err-room-clause-notes
+returns-in_err-room-clause-notes g c = kept_same c.args.self.now.file.storage
+
+pub returns-in_err-old-clause-notes : goal.returns-in_err-old-clause-notes
+returns-in_err-old-clause-notes g c = kept_same c.args.self.now.file.storage
+
+pub returns-in-Some-clause-notes : goal.returns-in-Some-clause-notes
+returns-in-Some-clause-notes g c = same_kept c.args.self.now c.prepare_at.new.self (ap (λ (i : Qcow2 _ _). i.file.storage) c.prepare_at.ensures.pins.rest)
+
+pub returns-in-None-clause-notes : goal.returns-in-None-clause-notes
+returns-in-None-clause-notes g c = c.prepare_private.ensures.notes

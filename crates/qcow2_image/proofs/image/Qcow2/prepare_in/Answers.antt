@@ -13,6 +13,8 @@ use Rattle.qcow2_image.proofs.Free.{free_places}
 use Rattle.qcow2_image.proofs.Prepare.Onward.{release_prepared_broken, refused_free}
 use Rattle.qcow2_image.proofs.Call.FaultCounts.{counted_as, counted_still}
 use Rattle.qcow2_image.proofs.Prepare.Listing.{lists_then}
+use Rattle.qcow2_alloc.specs.KeptNotes.{kept_then}
+use Rattle.qcow2_image.proofs.Call.Notes.{same_kept}
 use Rattle.qcow2_image.proofs.image.Qcow2.prepare_in.Goals as goal
 
 pub returns-in_err-prepared-clause-readies : goal.returns-in_err-prepared-clause-readies
@@ -99,3 +101,12 @@ returns-in-Err-clause-header g c =
 
 pub returns-in-Ok-clause-former : goal.returns-in-Ok-clause-former
 returns-in-Ok-clause-former g c = lists_then c.args.self.now c.prepare_first.new.self c.prepare_rest.new.self c.in_ok-prepared.ensures.former c.in-Ok.ensures.former
+
+pub returns-in_err-prepared-clause-notes : goal.returns-in_err-prepared-clause-notes
+returns-in_err-prepared-clause-notes g c = c.prepare_first.ensures.notes
+
+pub returns-in-Ok-clause-notes : goal.returns-in-Ok-clause-notes
+returns-in-Ok-clause-notes g c = kept_then _ _ _ c.prepare_first.ensures.notes c.prepare_rest.ensures.notes
+
+pub returns-in-Err-clause-notes : goal.returns-in-Err-clause-notes
+returns-in-Err-clause-notes g c = kept_then _ _ _ (kept_then _ _ _ c.prepare_first.ensures.notes c.prepare_rest.ensures.notes) (same_kept c.prepare_rest.new.self c.release_prepared.new.self (ap (λ (i : Qcow2 _ _). i.file.storage) c.release_prepared.ensures.rest.rest))

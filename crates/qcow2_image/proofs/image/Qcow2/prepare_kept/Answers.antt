@@ -10,6 +10,8 @@ use Rattle.qcow2_image.specs.Ranges.{IsFirst}
 use Rattle.qcow2_image.specs.UnseenSteps.{UnseenFillingStep}
 use Rattle.qcow2_image.proofs.Prepare.Gaining.{listed_after_same}
 use Rattle.qcow2_image.proofs.Prepare.KeptShares.{first_alone, readied_kept}
+use Rattle.qcow2_alloc.specs.KeptNotes.{kept_then}
+use Rattle.qcow2_image.proofs.Call.Notes.{same_kept}
 use Rattle.qcow2_image.proofs.image.Qcow2.prepare_kept.Goals as goal
 
 pub returns-in_err-fill_kept-clause-readies : goal.returns-in_err-fill_kept-clause-readies
@@ -54,3 +56,9 @@ returns-clause-list g c =
     let first = c.fill_kept.ensures.rest in
     let then = c.prepare_at.ensures.pins.rest in
     record { allocator = ap (λ (image : Qcow2 _ _). image.allocator) then ∙ ap (λ (image : Qcow2 _ _). image.allocator) first; list = ap (λ (image : Qcow2 _ _). image.file.free_list) then ∙ ap (λ (image : Qcow2 _ _). image.file.free_list) first }
+
+pub returns-in_err-fill_kept-clause-notes : goal.returns-in_err-fill_kept-clause-notes
+returns-in_err-fill_kept-clause-notes g c = c.fill_kept.ensures.notes
+
+pub returns-clause-notes : goal.returns-clause-notes
+returns-clause-notes g c = kept_then _ _ _ c.fill_kept.ensures.notes (same_kept c.fill_kept.new.self c.prepare_at.new.self (ap (λ (i : Qcow2 _ _). i.file.storage) c.prepare_at.ensures.pins.rest))

@@ -17,6 +17,8 @@ use Rattle.qcow2_image.proofs.Prepare.Filling.{image_step_kept, image_step_then}
 use Rattle.qcow2_image.proofs.Prepare.Owning.{refused as any_refusal}
 use Rattle.qcow2_image.proofs.Prepare.ReadyingNew.{back_none, readied_new}
 use Rattle.qcow2_image.proofs.Prepare.Listing.{lists_still}
+use Rattle.qcow2_alloc.specs.KeptNotes.{kept_same, kept_then}
+use Rattle.qcow2_image.proofs.Call.Notes.{same_kept}
 use Rattle.qcow2_image.proofs.image.Qcow2.prepare_new.Goals as goal
 
 pub returns-in_err-old_data-clause-readies : goal.returns-in_err-old_data-clause-readies
@@ -86,3 +88,15 @@ returns-in-Ok-clause-former g c =
     let then = c.prepare_at.ensures.pins.rest in
     lists_still c.args.self.now c.new_cluster.new.self c.prepare_at.new.self c.in_ok-pending.ensures.former
     (record { allocator = ap (λ (image : Qcow2 _ _). image.allocator) then ∙ c.load_l2.ensures.allocator; list = ap (λ (image : Qcow2 _ _). image.file.free_list) then ∙ c.load_l2.ensures.list })
+
+pub returns-in_err-old_data-clause-notes : goal.returns-in_err-old_data-clause-notes
+returns-in_err-old_data-clause-notes g c = kept_same c.args.self.now.file.storage
+
+pub returns-in_err-pending-clause-notes : goal.returns-in_err-pending-clause-notes
+returns-in_err-pending-clause-notes g c = c.new_cluster.ensures.notes
+
+pub returns-in-Ok-clause-notes : goal.returns-in-Ok-clause-notes
+returns-in-Ok-clause-notes g c = kept_then _ _ _ (kept_then _ _ _ c.new_cluster.ensures.notes c.load_l2.ensures.notes) (same_kept c.load_l2.new.self c.prepare_at.new.self (ap (λ (i : Qcow2 _ _). i.file.storage) c.prepare_at.ensures.pins.rest))
+
+pub returns-in-Err-clause-notes : goal.returns-in-Err-clause-notes
+returns-in-Err-clause-notes g c = kept_then _ _ _ (kept_then _ _ _ c.new_cluster.ensures.notes c.load_l2.ensures.notes) (same_kept c.load_l2.new.self c.hand_back-in-Err.new.self (ap (λ (i : Qcow2 _ _). i.file.storage) c.hand_back-in-Err.ensures))

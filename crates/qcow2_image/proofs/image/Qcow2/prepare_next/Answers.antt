@@ -27,3 +27,9 @@ returns-clause-image_step g c = λ out k at may sound.
     let like : Prepared = record p { shares = c.push_reserved.new.self } in
     subst (λ l. IsExtended view below old mid out k c.args.length c.args.overwrite p (record p { length = l; shares = c.push_reserved.new.self })) (sym longer)
     (extended view below old mid out k p at n c.args.table c.args.overwrite may c.in-Some.share found like c.push_reserved.ensures.items)
+
+pub returns-in_default-clause-notes : goal.returns-in_default-clause-notes
+returns-in_default-clause-notes g c = c.share_behind.ensures.notes
+
+pub returns-clause-notes : goal.returns-clause-notes
+returns-clause-notes g c = c.share_behind.ensures.notes

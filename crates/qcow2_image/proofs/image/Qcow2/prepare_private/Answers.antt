@@ -16,3 +16,9 @@ returns-in-None-clause-kept g c = if_ok_any c.prepare_new.result (λ p host at. 
 
 pub returns-in-Some-clause-former : goal.returns-in-Some-clause-former
 returns-in-Some-clause-former g c = always_ok c.prepare_kept.result (lists_still c.args.self.now c.args.self.now c.prepare_kept.new.self (lists_none c.args.self.now c.requires.writable) c.prepare_kept.ensures.list)
+
+pub returns-in-Some-clause-notes : goal.returns-in-Some-clause-notes
+returns-in-Some-clause-notes g c = c.prepare_kept.ensures.notes
+
+pub returns-in-None-clause-notes : goal.returns-in-None-clause-notes
+returns-in-None-clause-notes g c = c.prepare_new.ensures.notes

@@ -14,6 +14,7 @@ use Rattle.qcow2_image.proofs.Prepare.Taken.{if_err, taken_by}
 use Rattle.qcow2_image.proofs.Prepare.Listing.{lists_none}
 use Rattle.qcow2_image.proofs.Prepare.FarEntries.{far_handed_on, far_unanswered}
 use Rattle.std.specs.Prelude.{IsTrue}
+use Rattle.qcow2_alloc.specs.KeptNotes.{kept_then}
 use Rattle.qcow2_image.proofs.image.Qcow2.prepare_range.Goals as goal
 
 pub returns-in_err-table-clause-readies : goal.returns-in_err-table-clause-readies
@@ -118,3 +119,15 @@ returns-in-Some-clause-far g c = λ needs. absurd (far_unanswered c.table_for.re
 
 pub returns-in-None-clause-far : goal.returns-in-None-clause-far
 returns-in-None-clause-far g c = λ needs. absurd (far_unanswered c.table_for.result c.in_ok-table.table c.in_ok-table.was (c.table_for.ensures.far needs).0)
+
+pub returns-in_err-table-clause-notes : goal.returns-in_err-table-clause-notes
+returns-in_err-table-clause-notes g c = c.table_for.ensures.notes
+
+pub returns-in_err-host-clause-notes : goal.returns-in_err-host-clause-notes
+returns-in_err-host-clause-notes g c = c.table_for.ensures.notes
+
+pub returns-in-Some-clause-notes : goal.returns-in-Some-clause-notes
+returns-in-Some-clause-notes g c = c.table_for.ensures.notes
+
+pub returns-in-None-clause-notes : goal.returns-in-None-clause-notes
+returns-in-None-clause-notes g c = kept_then _ _ _ c.table_for.ensures.notes c.prepare_in.ensures.notes

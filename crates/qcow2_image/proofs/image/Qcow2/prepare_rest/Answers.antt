@@ -8,6 +8,7 @@ use Rattle.qcow2_image.proofs.Call.Slots.{get_set_same}
 use Rattle.qcow2_image.proofs.Prepare.Onward.{may_go_on, so_far_all, so_far_ends, so_far_next}
 use Rattle.qcow2_image.proofs.Call.FaultCounts.{counted_ok, counted_on, fewer_then}
 use Rattle.qcow2_image.proofs.Prepare.Listing.{lists_none, lists_then}
+use Rattle.qcow2_alloc.specs.KeptNotes.{kept_then}
 use Rattle.qcow2_image.proofs.image.Qcow2.prepare_rest.Goals as goal
 
 pub returns-in_err-prepare_next-clause-image_step : goal.returns-in_err-prepare_next-clause-image_step
@@ -71,6 +72,7 @@ loop-prepared-preserved g c =
           (λ out k at may sound. subst (λ b. GoesNext view below now new out k n c.args.overwrite q r (Ok b)) c.if-not-branch.false (c.in_ok-prepare_next.ensures.image_step out k at may sound));
       faults = fewer_then view below c.args.self.now now new c.loop-prepared.invariant.faults c.prepare_next.ensures.faults.no_fewer;
       former = lists_then c.args.self.now now new c.loop-prepared.invariant.former c.in_ok-prepare_next.ensures.former;
+      notes = kept_then _ _ _ c.loop-prepared.invariant.notes c.prepare_next.ensures.notes;
     }
 
 pub returns-clause-image_step : goal.returns-clause-image_step
@@ -94,3 +96,12 @@ returns-clause-faults g c = counted_ok g.S.Storage.view g.F.BackingDisk.backing 
 
 pub returns-then-not-branch-clause-former : goal.returns-then-not-branch-clause-former
 returns-then-not-branch-clause-former g c = lists_then c.args.self.now c.loop-prepared.self c.prepare_next.new.self c.loop-prepared.invariant.former c.in_ok-prepare_next.ensures.former
+
+pub returns-in_err-prepare_next-clause-notes : goal.returns-in_err-prepare_next-clause-notes
+returns-in_err-prepare_next-clause-notes g c = kept_then _ _ _ c.loop-prepared.invariant.notes c.prepare_next.ensures.notes
+
+pub returns-then-not-branch-clause-notes : goal.returns-then-not-branch-clause-notes
+returns-then-not-branch-clause-notes g c = kept_then _ _ _ c.loop-prepared.invariant.notes c.prepare_next.ensures.notes
+
+pub returns-clause-notes : goal.returns-clause-notes
+returns-clause-notes g c = c.loop-prepared.invariant.notes

@@ -1,4 +1,5 @@
 use Rattle.std.proofs.Common.{◌-◌}
+use Rattle.qcow2_alloc.specs.KeptNotes.{KeepsNotes}
 use Rattle.qcow2_image.specs.Faults.{NoFewerFaults}
 use Rattle.qcow2_image.specs.ListedClusters.{ListsFormer}
 use Rattle.qcow2_image.proofs.Prepare.Onward.{IsSoFar}
@@ -10,6 +11,7 @@ invariant-loop-prepared g l = record {
   turns : IsSoFar g.S.Storage.view g.F.BackingDisk.backing l.fn.self l.self l.fn.prepared l.prepared l.length l.end l.table l.overwrite;
   faults : NoFewerFaults g.S.Storage.view g.F.BackingDisk.backing l.fn.self l.self;
   former : ListsFormer l.fn.self l.self;
+  notes : KeepsNotes g.S.Storage.view l.fn.self.file.storage l.self.file.storage;
 }
 
 abbrev pub decreases-loop-prepared : goal.decreases-loop-prepared

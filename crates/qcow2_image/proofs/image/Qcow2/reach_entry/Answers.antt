@@ -11,6 +11,7 @@ use Rattle.qcow2_image.proofs.Grow.Lengthened.{freed_then, makes_none, refused_m
 use Rattle.std.specs.Prelude.{IfErr}
 use Rattle.qcow2_image.specs.NewTables.{IsFaultOrLacksTable}
 use Rattle.qcow2_image.proofs.Prepare.Lacking.{fault_or_lacking, not_within, short_lacking}
+use Rattle.qcow2_alloc.specs.KeptNotes.{kept_same, kept_then}
 use Rattle.qcow2_image.proofs.image.Qcow2.reach_entry.Goals as goal
 
 pub returns-then-in_bounds-clause-makes : goal.returns-then-in_bounds-clause-makes
@@ -73,3 +74,12 @@ returns-clause-lacks g c = λ out sound.
     let first = stays_moved view below out old mid sound (c.in_ok-grow_l1_table.ensures.lengthens (pending_in view below old out) out sound) in
     let listed = subst (λ (x : Pending). ImageInvariant view below x mid out) (all_listed view below mid out) first.sound in
     fault_or_lacking view below out c.free_listed.new.self c.args.offset c.free_listed.result (c.free_listed.ensures.faults (beside view below mid out) out listed)
+
+pub returns-then-in_bounds-clause-notes : goal.returns-then-in_bounds-clause-notes
+returns-then-in_bounds-clause-notes g c = kept_same c.args.self.now.file.storage
+
+pub returns-in_err-grow_l1_table-clause-notes : goal.returns-in_err-grow_l1_table-clause-notes
+returns-in_err-grow_l1_table-clause-notes g c = c.grow_l1_table.ensures.notes
+
+pub returns-clause-notes : goal.returns-clause-notes
+returns-clause-notes g c = kept_then _ _ _ c.grow_l1_table.ensures.notes c.free_listed.ensures.notes

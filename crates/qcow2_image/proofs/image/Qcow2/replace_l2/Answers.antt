@@ -3,6 +3,7 @@ use Rattle.qcow2_image.specs.NewTables.{OwnsTable}
 use Rattle.qcow2_image.proofs.Prepare.Entering.{as_listed_after}
 use Rattle.qcow2_image.proofs.Map.Loading.{caches_moved, with_caches}
 use Rattle.qcow2_image.proofs.Prepare.Owning.{refused, says_copy, shared_still, owned_then}
+use Rattle.qcow2_alloc.specs.KeptNotes.{kept_then}
 use Rattle.qcow2_image.proofs.image.Qcow2.replace_l2.Goals as goal
 
 pub returns-in_err-l2_get_or_insert-clause-owns : goal.returns-in_err-l2_get_or_insert-clause-owns
@@ -32,3 +33,12 @@ returns-clause-owns g c = λ p out sound shared.
     owned_then g.S.Storage.view g.F.BackingDisk.backing out p old sound c.args.index mid kept refl c.swap_l2.new.self c.swap_l2.result
     (c.swap_l2.ensures.owns p out kept.sound still
     (says_copy g.S.Storage.view g.F.BackingDisk.backing out p mid kept.sound c.args.index c.args.old still c.in-Some.held.now c.in_ok-table.table c.in-Some.ensures.shows c.in_ok-table.ensures.ok))
+
+pub returns-in_err-l2_get_or_insert-clause-notes : goal.returns-in_err-l2_get_or_insert-clause-notes
+returns-in_err-l2_get_or_insert-clause-notes g c = c.l2_get_or_insert.ensures.notes
+
+pub returns-in_err-table-clause-notes : goal.returns-in_err-table-clause-notes
+returns-in_err-table-clause-notes g c = c.l2_get_or_insert.ensures.notes
+
+pub returns-clause-notes : goal.returns-clause-notes
+returns-clause-notes g c = kept_then _ _ _ c.l2_get_or_insert.ensures.notes c.swap_l2.ensures.notes

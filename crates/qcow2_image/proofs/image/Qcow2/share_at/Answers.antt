@@ -10,6 +10,7 @@ use Rattle.qcow2_image.specs.declared.prepared.Share.TheVariants.{New}
 use Rattle.qcow2_image.specs.Ranges.{GainsAt, SharesAt}
 use Rattle.qcow2_image.proofs.Prepare.Owning.{refused as any_refusal}
 use Rattle.qcow2_image.proofs.Prepare.ReadyingNew.{back_none}
+use Rattle.qcow2_alloc.specs.KeptNotes.{kept_same}
 use Rattle.qcow2_image.proofs.image.Qcow2.share_at.Goals as goal
 
 pub returns-in_default-clause-shares : goal.returns-in_default-clause-shares
@@ -52,3 +53,15 @@ returns-clause-shares g c = λ p out sound holds.
       nameable = subst (IsHostCluster h.cluster_bits) (sym took.0) (c.in_ok-pending.ensures.nameable (ap is_some c.in-Some-2.is));
       gained = took.1;
     }
+
+pub returns-in_default-clause-notes : goal.returns-in_default-clause-notes
+returns-in_default-clause-notes g c = kept_same c.args.self.now.file.storage
+
+pub returns-in_err-old_data-clause-notes : goal.returns-in_err-old_data-clause-notes
+returns-in_err-old_data-clause-notes g c = kept_same c.args.self.now.file.storage
+
+pub returns-in_default-2-clause-notes : goal.returns-in_default-2-clause-notes
+returns-in_default-2-clause-notes g c = c.new_cluster_at.ensures.notes
+
+pub returns-clause-notes : goal.returns-clause-notes
+returns-clause-notes g c = c.new_cluster_at.ensures.notes

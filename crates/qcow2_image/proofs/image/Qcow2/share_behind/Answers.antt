@@ -14,6 +14,7 @@ use Rattle.qcow2_image.proofs.Prepare.Gaining.{listed_after_same}
 use Rattle.qcow2_image.proofs.Prepare.KeptShares.{behind_alone, behind_kept}
 use Rattle.qcow2_image.proofs.Prepare.Behind.{behind_in_place, ends_elsewhere, finds_shared, next_cluster, next_says}
 use Rattle.qcow2_image.proofs.Prepare.Listing.{lists_none, lists_still}
+use Rattle.qcow2_alloc.specs.KeptNotes.{kept_same}
 use Rattle.qcow2_image.proofs.image.Qcow2.share_behind.Goals as goal
 
 pub returns-in-Some-copied_place-clause-finds : goal.returns-in-Some-copied_place-clause-finds
@@ -112,3 +113,18 @@ returns-in_ok-fill_kept-in-None-clause-former g c =
     let rest = c.fill_kept.ensures.rest in
     lists_still c.args.self.now c.args.self.now c.fill_kept.new.self (lists_none c.args.self.now c.requires.writable)
     (record { allocator = ap (λ (image : Qcow2 _ _). image.allocator) rest; list = ap (λ (image : Qcow2 _ _). image.file.free_list) rest })
+
+pub returns-in-Some-copied_place-clause-notes : goal.returns-in-Some-copied_place-clause-notes
+returns-in-Some-copied_place-clause-notes g c = kept_same c.args.self.now.file.storage
+
+pub returns-in-Some-2-clause-notes : goal.returns-in-Some-2-clause-notes
+returns-in-Some-2-clause-notes g c = kept_same c.args.self.now.file.storage
+
+pub returns-in_err-fill_kept-in-None-clause-notes : goal.returns-in_err-fill_kept-in-None-clause-notes
+returns-in_err-fill_kept-in-None-clause-notes g c = c.fill_kept.ensures.notes
+
+pub returns-in_ok-fill_kept-in-None-clause-notes : goal.returns-in_ok-fill_kept-in-None-clause-notes
+returns-in_ok-fill_kept-in-None-clause-notes g c = c.fill_kept.ensures.notes
+
+pub returns-in-None-2-clause-notes : goal.returns-in-None-2-clause-notes
+returns-in-None-2-clause-notes g c = c.share_at.ensures.notes

@@ -9,3 +9,6 @@ returns-clause-stores g c = λ p out sound.
     stores_counts g.S.Storage.view g.F.BackingDisk.backing old (with_caches g.S.Storage.view g.F.BackingDisk.backing old out p sound c.flush_rb.new.storage c.flush_rb.new.self) out p
     (caches_moved g.S.Storage.view g.F.BackingDisk.backing old out p sound c.flush_rb.new.storage c.flush_rb.new.self stay c.flush_rb.ensures.marks.room c.flush_rb.ensures.marks.pins)
     c.flush_rb.result c.flush_rb.ensures.written c.flush_rb.ensures.first
+
+pub returns-clause-notes : goal.returns-clause-notes
+returns-clause-notes g c = c.flush_rb.ensures.notes

@@ -2,6 +2,7 @@ use Rattle.std.proofs.Common.{ap, ◌∙◌}
 use Rattle.qcow2_alloc.specs.ClustersToFree.{metadata_entry}
 use Rattle.qcow2_image.specs.NewTables.{OwnsTable}
 use Rattle.qcow2_image.proofs.Prepare.Owning.{refused, left_alone, swapped_owns}
+use Rattle.qcow2_alloc.specs.KeptNotes.{kept_same}
 use Rattle.qcow2_image.proofs.image.Qcow2.swap_l2.Goals as goal
 
 pub returns-in-Err-clause-owns : goal.returns-in-Err-clause-owns
@@ -15,3 +16,12 @@ returns-in-Ok-clause-owns g c = λ p out sound shared says.
 pub returns-in_err-dropped-clause-owns : goal.returns-in_err-dropped-clause-owns
 returns-in_err-dropped-clause-owns g c = λ p out sound shared says.
     refused (OwnsTable g.S.Storage.view g.F.BackingDisk.backing p c.args.self.now c.args.self.now out c.args.index) c.from_residual.result c.from_residual.ensures.0 (left_alone g.S.Storage.view g.F.BackingDisk.backing out p c.args.self.now sound c.args.index)
+
+pub returns-in_err-dropped-clause-notes : goal.returns-in_err-dropped-clause-notes
+returns-in_err-dropped-clause-notes g c = kept_same c.args.self.now.file.storage
+
+pub returns-in-Ok-clause-notes : goal.returns-in-Ok-clause-notes
+returns-in-Ok-clause-notes g c = c.enter_l2.ensures.notes
+
+pub returns-in-Err-clause-notes : goal.returns-in-Err-clause-notes
+returns-in-Err-clause-notes g c = c.enter_l2.ensures.notes

@@ -14,6 +14,7 @@ use Rattle.qcow2_image.specs.UnseenSteps.{NamesOwn, pending_with_listed}
 use Rattle.qcow2_image.proofs.Prepare.Owning.{left_alone}
 use Rattle.qcow2_image.proofs.Grow.Lengths.{kept_length, own_after, own_reached, reaches_told, same_length}
 use Rattle.qcow2_image.specs.NewTables.{IsFaultOrLacksTable}
+use Rattle.qcow2_alloc.specs.KeptNotes.{kept_same, kept_then}
 use Rattle.qcow2_image.proofs.image.Qcow2.table_for.Goals as goal
 
 pub returns-then-has_own_l2-clause-finds : goal.returns-then-has_own_l2-clause-finds
@@ -166,3 +167,21 @@ returns-clause-freed g c = λ out sound.
     let own = own_after view below out (pending_with_listed (pending_in view below long out) long mid) mid freed owned.0.sound c.args.offset (l1_index_of long.file.header.fields c.args.offset) at owned.1.own c.free_listed.ensures.table c.free_listed.ensures.keeps_rest.header in
     let writable = subst IsTrue (sym (c.own_l2.ensures.stays.image.writable ∙ c.reach_entry.ensures.stays.image.writable)) c.requires.writable in
     always_ok c.ensure_l2-2.result (inr ((c.ensure_l2-2.ensures.quiet own).list ∙ c.in_ok-free_listed.ensures.emptied writable))
+
+pub returns-then-has_own_l2-clause-notes : goal.returns-then-has_own_l2-clause-notes
+returns-then-has_own_l2-clause-notes g c = c.ensure_l2.ensures.notes
+
+pub returns-then-has_far_entry-clause-notes : goal.returns-then-has_far_entry-clause-notes
+returns-then-has_far_entry-clause-notes g c = kept_same c.args.self.now.file.storage
+
+pub returns-in_err-reach_entry-clause-notes : goal.returns-in_err-reach_entry-clause-notes
+returns-in_err-reach_entry-clause-notes g c = c.reach_entry.ensures.notes
+
+pub returns-in_err-own_l2-clause-notes : goal.returns-in_err-own_l2-clause-notes
+returns-in_err-own_l2-clause-notes g c = kept_then _ _ _ c.reach_entry.ensures.notes c.own_l2.ensures.notes
+
+pub returns-in_err-free_listed-clause-notes : goal.returns-in_err-free_listed-clause-notes
+returns-in_err-free_listed-clause-notes g c = kept_then _ _ _ (kept_then _ _ _ c.reach_entry.ensures.notes c.own_l2.ensures.notes) c.free_listed.ensures.notes
+
+pub returns-clause-notes : goal.returns-clause-notes
+returns-clause-notes g c = kept_then _ _ _ (kept_then _ _ _ (kept_then _ _ _ c.reach_entry.ensures.notes c.own_l2.ensures.notes) c.free_listed.ensures.notes) c.ensure_l2-2.ensures.notes

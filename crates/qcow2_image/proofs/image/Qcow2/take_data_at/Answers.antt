@@ -20,3 +20,6 @@ returns-clause-list g c = lists_grow c.args.self.now (record c.args.self.now { f
 
 pub returns-clause-former : goal.returns-clause-former
 returns-clause-former g c = record { before = c.in-Some.allocator; after = c.allocate_data_at.new.self; was = c.in-Some.is; is = refl; behind = c.allocate_data_at.ensures.former }
+
+pub returns-clause-notes : goal.returns-clause-notes
+returns-clause-notes g c = c.allocate_data_at.ensures.notes

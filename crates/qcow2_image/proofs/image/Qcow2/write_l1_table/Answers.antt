@@ -4,6 +4,7 @@ use Rattle.qcow2_metadata.specs.EntryTable.{entry_count}
 use Rattle.qcow2_alloc.proofs.AllocationSteps.{handed_on}
 use Rattle.qcow2_image.specs.LongerTables.{NamesTable}
 use Rattle.qcow2_image.proofs.Grow.Lengthened.{named_then}
+use Rattle.qcow2_alloc.specs.KeptNotes.{kept_then}
 use Rattle.qcow2_image.proofs.image.Qcow2.write_l1_table.Goals as goal
 
 pub returns-in_err-place_l1_table-clause-names : goal.returns-in_err-place_l1_table-clause-names
@@ -18,3 +19,9 @@ returns-clause-names g c = λ p out sound noted longer.
 
 pub returns-clause-entries : goal.returns-clause-entries
 returns-clause-entries g c = subst (λ n. OnOk c.name_l1_table.result (entry_count c.name_l1_table.new.self.l1_table ≡ n)) (ap entry_count c.in_ok-place_l1_table.ensures.table) c.name_l1_table.ensures.entries
+
+pub returns-in_err-place_l1_table-clause-notes : goal.returns-in_err-place_l1_table-clause-notes
+returns-in_err-place_l1_table-clause-notes g c = c.place_l1_table.ensures.notes
+
+pub returns-clause-notes : goal.returns-clause-notes
+returns-clause-notes g c = kept_then _ _ _ c.place_l1_table.ensures.notes c.name_l1_table.ensures.notes

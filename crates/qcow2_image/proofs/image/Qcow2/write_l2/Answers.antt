@@ -6,6 +6,7 @@ use Rattle.qcow2_image.specs.declared.image.Qcow2.{Qcow2}
 use Rattle.qcow2_image.specs.NewTables.{WritesNew}
 use Rattle.qcow2_image.proofs.Call.Called.{keeps_then}
 use Rattle.qcow2_image.proofs.Prepare.Entering.{may_still, says_still, written_so}
+use Rattle.qcow2_alloc.specs.KeptNotes.{kept_same, kept_then}
 use Rattle.qcow2_image.proofs.image.Qcow2.write_l2.Goals as goal
 
 pub returns-in_err-store_first-clause-writes : goal.returns-in_err-store_first-clause-writes
@@ -45,3 +46,15 @@ returns-clause-writes g c = λ p out sound may noted says.
     written_so view below out p old mid c.name_l2.new.self c.args.index c.args.cluster c.name_l2.result sound same kept
     (c.name_l2.ensures.names p out c.args.table kept.sound (may_still view below out q q old mid sound kept.sound same c.args.index may) (c.in_ok-place_l2.ensures.noted (c.in_ok-store_first.ensures.noted noted))
     (says_still view below out q q old mid c.args.index c.args.table kept says) c.in_ok-place_l2.ensures.long placed.1)
+
+pub returns-then-not-can_enter-clause-notes : goal.returns-then-not-can_enter-clause-notes
+returns-then-not-can_enter-clause-notes g c = kept_same c.args.self.now.file.storage
+
+pub returns-in_err-store_first-clause-notes : goal.returns-in_err-store_first-clause-notes
+returns-in_err-store_first-clause-notes g c = c.store_first.ensures.notes
+
+pub returns-in_err-place_l2-clause-notes : goal.returns-in_err-place_l2-clause-notes
+returns-in_err-place_l2-clause-notes g c = kept_then _ _ _ c.store_first.ensures.notes c.place_l2.ensures.notes
+
+pub returns-clause-notes : goal.returns-clause-notes
+returns-clause-notes g c = kept_then _ _ _ (kept_then _ _ _ c.store_first.ensures.notes c.place_l2.ensures.notes) c.name_l2.ensures.notes

@@ -16,3 +16,6 @@ returns-clause-names g c = λ p out sound noted longer.
           (subst (λ n. ImageInvariant view below (with_table p c.args.table n) old out → NamesTable view below p old named out c.args.table n c.write_l1_table-done.result) c.cluster.ensures
           (λ s. c.write_l1_table-done.ensures.names p out s noted longer) sound),
     )
+
+pub returns-clause-notes : goal.returns-clause-notes
+returns-clause-notes g c = c.write_l1_table-done.ensures.notes
