@@ -10,7 +10,7 @@ ghost use Rattle.qcow2_image.specs.Unwritten.{OnlyReadsImage};
 ghost use Rattle.qcow2_laws.specs.CrashInvariant.{Pending};
 ghost use Rattle.qcow2_alloc.specs.MetadataCaches.{IsEntryAt, l2_at};
 ghost use Rattle.qcow2_alloc.specs.KeptNotes.{KeepsNotes};
-ghost use Rattle.qcow2_image.specs.Noted.{FailsOnceWritten};
+ghost use Rattle.qcow2_image.specs.Noted.{CommitFailsOnceWritten, FailsOnceWritten};
 ghost use Rattle.qcow2_alloc.specs.ImageFile.{known_in, FileInvariant, KeepsHeader};
 ghost use Rattle.qcow2_image.specs.L1Entries.{IsRefusedAsFar, NeedsFarEntry, RefusesFarEntryFreeing};
 ghost use Rattle.qcow2_image.specs.ListedClusters.{ListsFormer, PreparesList, PreparesTable};
@@ -607,6 +607,7 @@ impl<S: Storage, F: WrappedFormat<S>> Qcow2<S, F> {
         ensures sees { Commits S.view F.backing self.old self.new prepared result }
         ensures emptied { image_of prepared ≡ number_of self.old → IsSome (table_of prepared) → IsTrue (is_writable self.old) → OnOk result (HasNothingToFree self.new) }
         ensures quiet { HasNothingToFree self.old → DropsNothing prepared → storage_of self.new.file.storage ≡ storage_of self.old.file.storage }
+        ensures once_written { CommitFailsOnceWritten S.view self.old self.new result }
         ensures faults { NoFewerFaults S.view F.backing self.old self.new × IfErr result (λ r. TellsFault S.view F.backing self.old self.new (reason_of r)) }
     {
         if prepared.image != self.number {

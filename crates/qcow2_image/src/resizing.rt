@@ -1,4 +1,6 @@
 //! A disk of another size: what lies behind a smaller one is dropped first, and the size is written last.
+ghost use Rattle.qcow2_image.specs.Noted.{FailsOnceWritten};
+ghost use Rattle.qcow2_alloc.specs.KeptNotes.{KeepsNotes};
 ghost use Rattle.std.specs.Prelude.{ℕ, List, Option, ◌≡◌, ◌⊎◌, ◌+◌, ◌-◌, ◌<◌, ◌≤◌, max, nat_lt, [], Some, None, Ok, Err, IfOk, IfErr, IfSome, OnOk, OnErr, IsTrue, MatchOption, false};
 ghost use Rattle.image_access.specs.Moments.{EachMomentSince};
 ghost use Rattle.qcow2_metadata.specs.EntryTable.{entry_count};
@@ -194,6 +196,7 @@ impl<S: Storage, F: WrappedFormat<S>> Qcow2<S, F> {
         ensures sees { GrowsTo S.view F.backing self.old self.new size mode result }
         ensures last { (out : List (Option Prepared)) → (abstract_of S.view F.backing self.old out).is_sound → WritesSizeLast S.view F.backing self.old self.new }
         ensures tables { refuses_to_resize self.old ≡ None → size_of self.old < size → (out : List (Option Prepared)) → (abstract_of S.view F.backing self.old out).is_sound → GrowsTables S.view F.backing self.old self.new size mode out result }
+        ensures once_written { FailsOnceWritten S.view self.old self.new result }
         ensures faults { CountsImageFaults S.view F.backing self.old self.new result }
     {
         self.check_resize()?;
@@ -229,6 +232,7 @@ impl<S: Storage, F: WrappedFormat<S>> Qcow2<S, F> {
         ensures sees { GrowsTo S.view F.backing self.old self.new size mode result }
         ensures last { (out : List (Option Prepared)) → (abstract_of S.view F.backing self.old out).is_sound → WritesSizeLast S.view F.backing self.old self.new }
         ensures tables { (out : List (Option Prepared)) → (abstract_of S.view F.backing self.old out).is_sound → GrowsTables S.view F.backing self.old self.new size mode out result }
+        ensures once_written { FailsOnceWritten S.view self.old self.new result }
         ensures faults { CountsImageFaults S.view F.backing self.old self.new result }
     {
         self.begin();
@@ -261,6 +265,7 @@ impl<S: Storage, F: WrappedFormat<S>> Qcow2<S, F> {
     fn renew_l1_table(&mut self, offset: u64) -> Result<(), ImageError>
         requires writable { IsTrue (is_writable self.old) }
         ensures stays { ImageStays self.old self.new }
+        ensures notes { KeepsNotes S.view self.old.file.storage self.new.file.storage }
         ensures cause { IfErr result IsMet }
         ensures length { OnOk result (entry_count self.new.l1_table ≡ max (entry_count self.old.l1_table) (l1_index_of self.old.file.header.fields offset + 1)) }
         ensures emptied { OnOk result (HasNothingToFree self.new) }

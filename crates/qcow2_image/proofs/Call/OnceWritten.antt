@@ -1,6 +1,8 @@
 -- A call begins with no note, does a part that keeps the notes of the storage, and marks a failure: want of memory once the contents changed fails the image.
-use Rattle.std.proofs.Common.{◌≡◌, Err, sym, ap, ◌∙◌, subst}
-use Rattle.std.specs.Prelude.{IsTrue, Result, ◌||◌}
+use Rattle.std.proofs.Common.{◌≡◌, Err, inr, refl, sym, ap, ◌∙◌, subst}
+use Rattle.std.specs.Prelude.{IsTrue, IfErr, Result, ◌||◌}
+use Rattle.qcow2_alloc.specs.ImageError.{IsFault}
+use Rattle.qcow2_image.specs.Noted.{FailsOnceWritten}
 use Rattle.std.proofs.lemmas.Bool.{or_left, or_right}
 use Rattle.image_access.specs.Moments.{StorageView, ContentsStay}
 use Rattle.qcow2_alloc.specs.declared.error.ImageError.{ImageError}
@@ -26,3 +28,7 @@ module _ {S F : Type 0} (view : S → StorageView) where
       → MarksFailed last new done → new ≡ record last { is_failed = new.is_failed } → done ≡ Err Memory → ¬ IsTrue (is_failed new) → ContentsStay (view_in view old.file) (view_in view new.file)
   once_written old begun last new done begins kept marks rest =
       written_once old begun last new done begins (subst (λ (f : ImageFile S). KeepsNotes view begun.file.storage f.storage) (sym (ap (λ (i : Qcow2 S F). i.file) rest)) kept) marks
+
+  -- where each want of memory fails the image
+  pub failed_once : {A : Type 0} (old new : Qcow2 S F) (done result : Result A ImageError) → result ≡ done → IfErr done (λ e. IsFault e → IsTrue (is_failed new)) → FailsOnceWritten view old new result
+  failed_once old new done result answer fails memory works = absurd (works (subst (λ r. IfErr r (λ e. IsFault e → IsTrue (is_failed new))) (sym answer ∙ memory) fails (inr refl)))

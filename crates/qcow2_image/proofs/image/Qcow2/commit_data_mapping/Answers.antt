@@ -13,6 +13,9 @@ use Rattle.qcow2_image.proofs.Call.CallOutcomes.{is_fault, outcome}
 use Rattle.qcow2_image.proofs.Commit.CommitCalls.{commit_interruption, commit_break_off, commit_done, commit_existing, commit_kept, refuses_unsound, true_or_false}
 use Rattle.qcow2_image.proofs.Call.FaultCounts.{counted_as, fewer_then}
 use Rattle.qcow2_image.specs.Faults.{CountsImageFaults}
+use Rattle.qcow2_alloc.specs.KeptNotes.{kept_then}
+use Rattle.qcow2_image.proofs.Call.Notes.{same_kept}
+use Rattle.qcow2_image.proofs.Call.OnceWritten.{written_once}
 use Rattle.qcow2_image.proofs.image.Qcow2.commit_data_mapping.Goals.{then-entered, else-entered}
 use Rattle.qcow2_image.proofs.image.Qcow2.commit_data_mapping.Goals as goal
 use Rattle.qcow2_disk.proofs.Compose.{rests_none}
@@ -105,3 +108,9 @@ returns-after-entered-clause-faults g c =
     let first = fewer_then view below old c.begin.new.self entered c.begin.ensures.faults c.enter_shares-entered.ensures.faults in
     let told : CountsImageFaults view below {T = Unit {0}} old c.end_freeing.new.self (Err c.in-Err.refusal) = counted_as view below old entered c.end_freeing.new.self c.end_freeing.result c.in-Err.refusal first c.end_freeing.ensures.faults c.in-Err.is in
     (told.no_fewer, λ is. told.rose (sym c.refused_commit.ensures.reason ∙ is))
+
+pub returns-then-prepared-self-clause-once_written : goal.returns-then-prepared-self-clause-once_written
+returns-then-prepared-self-clause-once_written g c = λ memory works honest. refl
+
+pub returns-after-entered-clause-once_written : goal.returns-after-entered-clause-once_written
+returns-after-entered-clause-once_written g c = λ memory works. written_once g.S.Storage.view c.args.self.now c.begin.new.self c.enter_shares-entered.new.self c.end_freeing.new.self c.end_freeing.result c.begin.ensures.storage (kept_then _ _ _ (same_kept c.begin.new.self c.enter_shares-entered.new.self c.enter_shares-entered.ensures.storage) c.end_freeing.ensures.notes) c.end_freeing.ensures.marks (c.in-Err.is ∙ ap Err (sym c.refused_commit.ensures.reason ∙ memory)) works

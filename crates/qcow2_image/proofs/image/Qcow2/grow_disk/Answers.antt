@@ -30,6 +30,10 @@ use Rattle.qcow2_image.proofs.Sizing.GrownTables.{leaves_sized, reaches_filled, 
 use Rattle.qcow2_image.proofs.Sizing.Noted.{counted_noted, grows_noted, tables_noted, unchanged_noted}
 use Rattle.qcow2_image.proofs.Sizing.Shrinking.{begun_call}
 use Rattle.qcow2_image.proofs.Call.FaultCounts.{counted_marked, counted_on, untouched}
+use Rattle.qcow2_alloc.proofs.AllocationSteps.{handed_on}
+use Rattle.qcow2_alloc.proofs.Outcomes.{err_as}
+use Rattle.qcow2_image.specs.Noted.{FailsOnceWritten}
+use Rattle.qcow2_image.proofs.Call.OnceWritten.{once_written, failed_once}
 use Rattle.qcow2_image.proofs.image.Qcow2.grow_disk.Goals as goal
 
 pub returns-in_err-mark_failure-clause-sees : goal.returns-in_err-mark_failure-clause-sees
@@ -297,3 +301,16 @@ returns-clause-faults g c =
     let longer = counted_marked view below old c.begin.new.self c.renew_l1_table-longer.new.self c.mark_failure.new.self c.renew_l1_table-longer.result c.mark_failure.result c.begin.ensures.faults c.renew_l1_table-longer.ensures.faults c.mark_failure.ensures.answer c.mark_failure.ensures.rest in
     let filled = counted_noted view below old c.mark_failure.new.self c.fill_grown-filled.new.self c.mark_fault.new.self c.fill_grown-filled.result c.mark_fault.result longer.no_fewer c.fill_grown-filled.ensures.faults c.mark_fault.ensures.answer c.mark_fault.ensures.rest in
     counted_noted view below old c.mark_fault.new.self c.write_size-written.new.self c.mark_fault-2.new.self c.write_size-written.result c.mark_fault-2.result filled.no_fewer c.write_size-written.ensures.faults c.mark_fault-2.ensures.answer c.mark_fault-2.ensures.rest
+
+pub returns-in_err-mark_failure-clause-once_written : goal.returns-in_err-mark_failure-clause-once_written
+returns-in_err-mark_failure-clause-once_written g c = 
+    handed_on (λ r. FailsOnceWritten g.S.Storage.view c.args.self.now c.mark_failure.new.self r) c.from_residual.result c.in_err-mark_failure.field-0.0 c.from_residual.ensures
+    (λ memory. once_written g.S.Storage.view c.args.self.now c.begin.new.self c.renew_l1_table-longer.new.self c.mark_failure.new.self c.renew_l1_table-longer.result c.begin.ensures.storage c.renew_l1_table-longer.ensures.notes c.mark_failure.ensures.marks c.mark_failure.ensures.rest (sym c.mark_failure.ensures.answer ∙ c.in_err-mark_failure.was ∙ err_as c.in_err-mark_failure.field-0.0 Memory memory))
+
+pub returns-in_err-mark_fault-clause-once_written : goal.returns-in_err-mark_fault-clause-once_written
+returns-in_err-mark_fault-clause-once_written g c = 
+    handed_on (λ r. FailsOnceWritten g.S.Storage.view c.args.self.now c.mark_fault.new.self r) c.from_residual-in_err-mark_fault.result c.in_err-mark_fault.field-0.0 c.from_residual-in_err-mark_fault.ensures
+    (failed_once g.S.Storage.view c.args.self.now c.mark_fault.new.self c.fill_grown-filled.result (Err c.in_err-mark_fault.field-0.0) (sym c.in_err-mark_fault.was ∙ c.mark_fault.ensures.answer) c.mark_fault.ensures.fault)
+
+pub returns-clause-once_written : goal.returns-clause-once_written
+returns-clause-once_written g c = failed_once g.S.Storage.view c.args.self.now c.mark_fault-2.new.self c.write_size-written.result c.mark_fault-2.result c.mark_fault-2.ensures.answer c.mark_fault-2.ensures.fault

@@ -9,6 +9,7 @@ use Rattle.qcow2_image.specs.ImageInvariant.{ImageInvariant, pending_in}
 use Rattle.qcow2_image.specs.LongerTables.{MakesEntry}
 use Rattle.qcow2_image.proofs.Flush.Freeing.{all_listed, beside}
 use Rattle.qcow2_image.proofs.Grow.Lengthened.{freed_then, refused_moved, stays_moved}
+use Rattle.qcow2_alloc.specs.KeptNotes.{kept_then}
 use Rattle.qcow2_image.proofs.image.Qcow2.renew_l1_table.Goals as goal
 
 pub returns-in_err-grow_l1_table-clause-makes : goal.returns-in_err-grow_l1_table-clause-makes
@@ -40,3 +41,9 @@ returns-clause-length g c =
 
 pub returns-clause-emptied : goal.returns-clause-emptied
 returns-clause-emptied g c = c.free_listed.ensures.emptied (subst IsTrue (sym c.grow_l1_table.ensures.stays.image.writable) c.requires.writable)
+
+pub returns-in_err-grow_l1_table-clause-notes : goal.returns-in_err-grow_l1_table-clause-notes
+returns-in_err-grow_l1_table-clause-notes g c = c.grow_l1_table.ensures.notes
+
+pub returns-clause-notes : goal.returns-clause-notes
+returns-clause-notes g c = kept_then _ _ _ c.grow_l1_table.ensures.notes c.free_listed.ensures.notes

@@ -1,4 +1,4 @@
-use Rattle.std.proofs.Common.{◌≡◌, ◌≤◌, ◌∙◌, true, false, sym, ap, subst}
+use Rattle.std.proofs.Common.{◌≡◌, ◌≤◌, ◌∙◌, true, false, sym, ap, subst, refl}
 use Rattle.std.specs.Prelude.{Result}
 use Rattle.qcow2_image.specs.Resizing.{GrowsTo, refuses_to_resize, takes_over}
 use Rattle.qcow2_image.proofs.Clear.ClearCalls.{err_is, not_refused, refused_for}
@@ -29,3 +29,9 @@ returns-then-takes_over-clause-tables g c = λ none larger out sound. record {
   taken = λ is. absurd cc;
   zeros = λ zero lacks. absurd (let no : true ≡ false = sym c.if-takes_over.true ∙ c.takes_over.ensures ∙ ap (takes_over c.args.self.now) zero in cc);
 }
+
+pub returns-in_err-check_resize-clause-once_written : goal.returns-in_err-check_resize-clause-once_written
+returns-in_err-check_resize-clause-once_written g c = λ memory works honest. refl
+
+pub returns-then-takes_over-clause-once_written : goal.returns-then-takes_over-clause-once_written
+returns-then-takes_over-clause-once_written g c = λ memory works honest. refl
