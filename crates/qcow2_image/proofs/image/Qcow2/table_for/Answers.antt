@@ -185,3 +185,6 @@ returns-in_err-free_listed-clause-notes g c = kept_then _ _ _ (kept_then _ _ _ c
 
 pub returns-clause-notes : goal.returns-clause-notes
 returns-clause-notes g c = kept_then _ _ _ (kept_then _ _ _ (kept_then _ _ _ c.reach_entry.ensures.notes c.own_l2.ensures.notes) c.free_listed.ensures.notes) c.ensure_l2-2.ensures.notes
+
+pub returns-then-has_far_entry-clause-far : goal.returns-then-has_far_entry-clause-far
+returns-then-has_far_entry-clause-far g c = λ needs. (refl, refl)

@@ -1,0 +1,4 @@
+use Rattle.qcow2_image.proofs.image.Qcow2.ensure_zero_mapping.Goals as goal
+
+pub returns-clause-far : goal.returns-clause-far
+returns-clause-far g c = c.clear_range.ensures.far
