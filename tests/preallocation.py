@@ -228,11 +228,12 @@ def a_layout_is_refused(mode):
 
 
 def a_size_past_the_limit_is_refused(mode):
-    """An image of no bytes is left."""
+    """What was there stays."""
     for size in (18446744073709551615, 18446744073709551104, 137438953473):
+        create("disk", 1024, 512)
+        before = contents("disk")
         equal(qimg("create", "disk", str(size), "512", "16", mode), (1, "refused 13 limit\n"), str(size))
-        answers("disk", [("size", "size 0")])
-        consistent("disk", 0)
+        equal(contents("disk") == before, True, "the bytes")
 
 
 def a_great_disk_of_zeros():

@@ -1,5 +1,5 @@
 -- What creating an image makes of a storage, and what a stop may leave of it.
-use Rattle.std.specs.Prelude.{ℕ, ◌≡◌, ◌==◌, ◌&&◌, ◌||◌, ◌⊎◌, ◌*◌, ◌^◌, ◌<◌, ◌≤◌, Bool, true, false, None, Some, Result, Ok, Err, [], length, nat_lt, if◌then◌else◌}
+use Rattle.std.specs.Prelude.{ℕ, ◌≡◌, ◌==◌, ◌&&◌, ◌||◌, ◌⊎◌, ◌*◌, ◌/◌, ◌^◌, ◌<◌, ◌≤◌, Bool, true, false, None, Some, Result, Ok, Err, [], length, nat_lt, if◌then◌else◌}
 use Rattle.image_access.specs.Backing.{BackingView}
 use Rattle.image_access.specs.Moments.{StorageView, EachMomentSince}
 use Rattle.image_access.specs.declared.storage.PreallocateMode.{PreallocateMode}
@@ -74,6 +74,10 @@ StopsCreating mode n old new = EachMomentSince old new (λ c. IsStopOfCreating m
 pub record StaysCreating (mode : PreallocateMode) (n : ℕ) (old new : StorageView) : Type 0 where
   pub honest : new.is_honest
   pub moments : StopsCreating mode n old new
+
+-- the bytes of the largest disk for which an L1 table of 4,194,304 entries is long enough, with clusters of a size
+abbrev pub longest_disk : ℕ → ℕ
+longest_disk size = 4194304 * (size / 8) * size
 
 module _ {S : Type 0} where
   -- clusters and counts that images may have

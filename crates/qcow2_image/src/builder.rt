@@ -1,5 +1,5 @@
 //! Making a new image.
-ghost use Rattle.std.specs.Prelude.{ℕ, ◌≡◌, ◌≢◌, ◌^◌, ◌<◌, [], None, IfSome, IfNone, IfOk, IfErr, OnOk, IsSome, IsTrue, is_some, false};
+ghost use Rattle.std.specs.Prelude.{ℕ, ◌≡◌, ◌≢◌, ◌↔◌, ◌^◌, ◌<◌, ◌≤◌, [], None, IfSome, IfNone, IfOk, IfErr, OnOk, IsSome, IsTrue, is_some, false};
 ghost use Rattle.image_access.specs.Moments.{EachMomentSince};
 ghost use Rattle.qcow2_metadata.specs.Bytes.{byte_at};
 ghost use Rattle.qcow2_alloc.specs.ImageStorage.{storage_of};
@@ -14,12 +14,12 @@ ghost use Rattle.qcow2_image.specs.Resizing.{refuses_to_resize};
 ghost use Rattle.qcow2_image.specs.ImageInvariant.{abstract_of};
 ghost use Rattle.qcow2_image.specs.Growing.{KeepsSurplus};
 ghost use Rattle.qcow2_laws.specs.Opened.{HasNoLeaks};
-ghost use Rattle.qcow2_image.specs.Created.{IsUnwritten, IsNewHeader, CountsThree, NamesOne, WritesThree, Enlarges, GrowsBy};
+ghost use Rattle.qcow2_image.specs.Created.{longest_disk, IsUnwritten, IsNewHeader, CountsThree, NamesOne, WritesThree, Enlarges, GrowsBy};
 
 use crate::Qcow2;
 use image_access::{BackingDisk, PreallocateMode, Storage, StorageError, WrappedFormat};
 use qcow2_alloc::{ImageError, ImageStorage, WriteKind};
-use qcow2_metadata::{Header, HostCluster, RefBlock, RefTable};
+use qcow2_metadata::{GuestOffset, Header, HostCluster, MAX_L1_ENTRIES, RefBlock, RefTable};
 use std::alloc::{AllocError, Global};
 
 /// What a new image is to be like. What it is told is refused by `create` and `create_open` alone.
@@ -74,9 +74,18 @@ fn power_of_two(number: u64) -> Option<u32>
     }
 }
 
+// Whether the longest L1 table has an entry for each cluster of a disk of this size.
+fn has_l1_entries(cluster_bits: u32, size: u64) -> bool
+    requires low { 9 ≤ cluster_bits }
+    requires high { cluster_bits ≤ 21 }
+    ensures { IsTrue result ↔ (size ≤ longest_disk (2 ^ cluster_bits)) }
+{
+    GuestOffset::new(size.saturating_sub(1)).l1_index(cluster_bits) < MAX_L1_ENTRIES
+}
+
 impl<S: Storage> Qcow2CreateBuilder<S> {
     ghost use Rattle.std.specs.Prelude.{Err};
-    ghost use Rattle.qcow2_alloc.specs.declared.error.ImageError.TheVariants.{InvalidOption};
+    ghost use Rattle.qcow2_alloc.specs.declared.error.ImageError.TheVariants.{InvalidOption, Limit};
     ghost use Rattle.qcow2_image.specs.Created.{StopsCreating, IsCreated, IsAllowed, IsNewDisk, IsReasonNotToCreate};
     ghost use Rattle.std.specs.Prelude.{true, false};
     ghost use Rattle.qcow2_image.specs.Image.{number_of, storage_of_image};
@@ -142,13 +151,14 @@ impl<S: Storage> Qcow2CreateBuilder<S> {
     }
 
     /// Writes the new image, and hands its storage back. Its disk shows zeros, and takes the place that was asked for. Refused
-    /// 5 (invalid option) for clusters or counts that images don't have, and then nothing was written. Where the work meets them:
-    /// 13 (limit), 14 (memory), 15 (storage). Of a storage that returns other bytes than were written, refusals of `open_image` and
-    /// `resize_grow` come too.
+    /// 5 (invalid option) for clusters or counts that images don't have, then 13 (limit) for a size past the longest L1 table, and then
+    /// nothing was written. Where the work meets them: 13, 14 (memory), 15 (storage). Of a storage that returns other bytes than were
+    /// written, refusals of `open_image` and `resize_grow` come too.
     pub fn create(self, alloc: Global) -> (S, Result<(), ImageError>)
         ensures stops { (S.view self.image).is_honest → StopsCreating self.preallocate self.size (S.view self.image) (S.view result.0) }
         ensures created { (S.view self.image).is_honest → IfOk result.1 (λ done. IsCreated self (S.view result.0)) }
         ensures refused { ¬ IsAllowed self → (result.1 ≡ Err InvalidOption) × (result.0 ≡ self.image) }
+        ensures limit { IsAllowed self → longest_disk self.cluster_size < self.size → (result.1 ≡ Err Limit) × (result.0 ≡ self.image) }
         ensures cause { (S.view self.image).is_honest → IfErr result.1 (IsReasonNotToCreate self) }
         ensures faults { FaultsTold (S.view self.image).faults (S.view result.0).faults result.1 }
     {
@@ -168,6 +178,9 @@ impl<S: Storage> Qcow2CreateBuilder<S> {
         if !Header::fits(cluster_bits, refcount_order, None, None, None) {
             return (image, Err(ImageError::InvalidOption));
         }
+        if !has_l1_entries(cluster_bits, size) {
+            return (image, Err(ImageError::Limit));
+        }
         let header = Header::new(cluster_bits, refcount_order, None, None, None);
         let mut storage = ImageStorage::new(image);
         if let Err(refusal) = write_new_image(alloc, &mut storage, &header) {
@@ -186,6 +199,7 @@ impl<S: Storage> Qcow2CreateBuilder<S> {
         ensures stops { (S.view self.image).is_honest → StopsCreating self.preallocate self.size (S.view self.image) (S.view (storage_after result)) }
         ensures created { (S.view self.image).is_honest → IfOk result (λ image. IsCreated self (S.view (storage_of_image image))) }
         ensures refused { ¬ IsAllowed self → result ≡ Err (self.image, InvalidOption) }
+        ensures limit { IsAllowed self → longest_disk self.cluster_size < self.size → result ≡ Err (self.image, Limit) }
         ensures opens { (S.view self.image).is_honest → IfOk result (λ image. IsOpened (abstract_of S.view F.backing image [])) }
         ensures surplus { (S.view self.image).is_honest → IfOk result (λ image. (c : ℕ) → (abstract_of S.view F.backing image []).surplus c ≡ 0) }
         ensures new_disk { (S.view self.image).is_honest → IfOk result (λ image. IsNewDisk self.preallocate self.size (abstract_of S.view F.backing image []).known) }

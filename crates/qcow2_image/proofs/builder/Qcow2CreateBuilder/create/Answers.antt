@@ -49,3 +49,8 @@ returns-clause-cause g c = λ honest.
     let mid = storage_of c.write_new_image.new.storage in
     let none = unwritten view builder bits order v c.new-header.ensures.value start mid c.grow_new_image.result.0 c.new-storage.ensures.storage there in
     reasons_met builder c.grow_new_image.result.1 (c.grow_new_image.ensures.cause there.0.honest none)
+
+pub returns-then-not-fits-clause-limit : goal.returns-then-not-fits-clause-limit
+returns-then-not-fits-clause-limit g c = λ allowed past.
+    absurd (no_such_header c.args.self c.in-Some.cluster_bits c.in-Some-power_of_two.refcount_order c.in-Some.ensures.some c.in-Some-power_of_two.ensures.some
+    (λ can. absurd (let so = c.fits.ensures.1 can in let bad : true ≡ false = sym so ∙ c.if-not-fits.true in cc)) allowed)
