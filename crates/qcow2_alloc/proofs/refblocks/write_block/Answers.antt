@@ -146,6 +146,6 @@ pub returns-in_err-place_refblock-clause-marks : goal.returns-in_err-place_refbl
 returns-in_err-place_refblock-clause-marks g c = kept_marks_then (marks_of_both c.flush_rb.ensures.marks c.flush_rb.ensures.order c.flush_rb.ensures.notes) (marks_of_storage refl (placed_kept c.flush_rb.new.storage c.will_write.new.self c.place_refblock.new.self c.place_refblock.result c.will_write.ensures.storage c.will_write.ensures.changed c.args.block.cluster _ c.requires.placed c.place_refblock.ensures.written c.place_refblock.ensures.calls c.place_refblock.ensures.noted))
 
 pub returns-clause-marks : goal.returns-clause-marks
-returns-clause-marks g c = 
+returns-clause-marks g c =
     kept_marks_then (kept_marks_then (marks_of_both c.flush_rb.ensures.marks c.flush_rb.ensures.order c.flush_rb.ensures.notes) (marks_of_storage refl (placed_kept c.flush_rb.new.storage c.will_write.new.self c.place_refblock.new.self c.place_refblock.result c.will_write.ensures.storage c.will_write.ensures.changed c.args.block.cluster _ c.requires.placed c.place_refblock.ensures.written c.place_refblock.ensures.calls c.place_refblock.ensures.noted)))
     (marks_of_both c.rb_insert.ensures.marks c.rb_insert.ensures.order c.rb_insert.ensures.notes)

@@ -93,7 +93,7 @@ pub returns-in_err-set_reftable-clause-cause : goal.returns-in_err-set_reftable-
 returns-in_err-set_reftable-clause-cause g c = handed_cause c.from_residual.result (of_metadata c.in_err-set_reftable.field-0.0) c.from_residual.ensures (metadata_of_tables c.in_err-set_reftable.field-0.0)
 
 pub returns-in_err-write_reftable_pointer-clause-marks : goal.returns-in_err-write_reftable_pointer-clause-marks
-returns-in_err-write_reftable_pointer-clause-marks g c = 
+returns-in_err-write_reftable_pointer-clause-marks g c =
     kept_marks_then (marks_of_caches c.note_change.ensures.marks c.note_change.ensures.tables.order)
     (marks_of_storage refl (told_kept c.args.file.now.storage c.will_write.new.self c.write_reftable_pointer.new.self c.write_reftable_pointer.result c.will_write.ensures.storage c.will_write.ensures.changed _ c.write_reftable_pointer.ensures.written c.write_reftable_pointer.ensures.calls c.write_reftable_pointer.ensures.noted))
 
@@ -116,7 +116,7 @@ pub returns-in_err-write_reftable_pointer-clause-cause : goal.returns-in_err-wri
 returns-in_err-write_reftable_pointer-clause-cause g c = handed_cause c.from_residual-in_err-write_reftable_pointer.result (of_storage c.in_err-write_reftable_pointer.field-0.0) c.from_residual-in_err-write_reftable_pointer.ensures (storage_of_tables c.in_err-write_reftable_pointer.field-0.0)
 
 pub returns-clause-marks : goal.returns-clause-marks
-returns-clause-marks g c = 
+returns-clause-marks g c =
     kept_marks_then (marks_of_caches c.note_change.ensures.marks c.note_change.ensures.tables.order)
     (marks_of_storage refl (told_kept c.args.file.now.storage c.will_write.new.self c.write_reftable_pointer.new.self c.write_reftable_pointer.result c.will_write.ensures.storage c.will_write.ensures.changed _ c.write_reftable_pointer.ensures.written c.write_reftable_pointer.ensures.calls c.write_reftable_pointer.ensures.noted))
 

@@ -287,7 +287,7 @@ pub returns-in_err-place_blocks-clause-kept : goal.returns-in_err-place_blocks-c
 returns-in_err-place_blocks-clause-kept g c = on_err _ c.from_residual-in_err-place_blocks.result refl
 
 pub returns-in_err-place_table-clause-marks : goal.returns-in_err-place_table-clause-marks
-returns-in_err-place_table-clause-marks g c = 
+returns-in_err-place_table-clause-marks g c =
     kept_marks_then (kept_marks_then (marks_of_both c.flush_rb.ensures.marks c.flush_rb.ensures.order c.flush_rb.ensures.notes) c.place_blocks.ensures.marks) (marks_of_storage c.place_table.ensures.caches c.place_table.ensures.notes)
 
 pub returns-in_err-place_table-clause-cause : goal.returns-in_err-place_table-clause-cause
@@ -315,7 +315,7 @@ pub returns-in_err-place_table-clause-place : goal.returns-in_err-place_table-cl
 returns-in_err-place_table-clause-place g c = on_no_ok _ c.from_residual-in_err-place_table.result c.in_err-place_table.field-0.0 c.from_residual-in_err-place_table.ensures
 
 pub returns-clause-marks : goal.returns-clause-marks
-returns-clause-marks g c = 
+returns-clause-marks g c =
     kept_marks_then (kept_marks_then (kept_marks_then (marks_of_both c.flush_rb.ensures.marks c.flush_rb.ensures.order c.flush_rb.ensures.notes) c.place_blocks.ensures.marks) (marks_of_storage c.place_table.ensures.caches c.place_table.ensures.notes)) c.name_reftable.ensures.marks
 
 pub returns-clause-header : goal.returns-clause-header

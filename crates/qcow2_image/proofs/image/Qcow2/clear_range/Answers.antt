@@ -356,11 +356,11 @@ pub returns-in_err-from-clause-once_written : goal.returns-in_err-from-clause-on
 returns-in_err-from-clause-once_written g c = λ memory works honest. refl
 
 pub returns-in_err-mark_failure-clause-once_written : goal.returns-in_err-mark_failure-clause-once_written
-returns-in_err-mark_failure-clause-once_written g c = 
+returns-in_err-mark_failure-clause-once_written g c =
     handed_on (λ r. FailsOnceWritten g.S.Storage.view c.args.self.now c.mark_failure.new.self r) c.from_residual-in_err-mark_failure.result c.in_err-mark_failure.field-0.0 c.from_residual-in_err-mark_failure.ensures
     (λ memory. once_written g.S.Storage.view c.args.self.now c.begin.new.self c.clear_between-cleared.new.self c.mark_failure.new.self c.clear_between-cleared.result c.begin.ensures.storage c.clear_between-cleared.ensures.notes c.mark_failure.ensures.marks c.mark_failure.ensures.rest (sym c.mark_failure.ensures.answer ∙ c.in_err-mark_failure.was ∙ err_as c.in_err-mark_failure.field-0.0 Memory memory))
 
 pub returns-in_err-end_freeing-clause-once_written : goal.returns-in_err-end_freeing-clause-once_written
-returns-in_err-end_freeing-clause-once_written g c = 
+returns-in_err-end_freeing-clause-once_written g c =
     handed_on (λ r. FailsOnceWritten g.S.Storage.view c.args.self.now c.end_freeing.new.self r) c.from_residual-in_err-end_freeing.result c.in_err-end_freeing.field-0.0 c.from_residual-in_err-end_freeing.ensures
     (λ memory. written_once g.S.Storage.view c.args.self.now c.begin.new.self c.mark_failure.new.self c.end_freeing.new.self c.end_freeing.result c.begin.ensures.storage (kept_then _ _ _ (kept_then _ _ _ c.clear_between-cleared.ensures.notes (same_kept c.clear_between-cleared.new.self c.mark_failure.new.self (ap (λ (i : Qcow2 _ _). i.file.storage) c.mark_failure.ensures.rest))) c.end_freeing.ensures.notes) c.end_freeing.ensures.marks (c.in_err-end_freeing.was ∙ err_as c.in_err-end_freeing.field-0.0 Memory memory))

@@ -303,12 +303,12 @@ returns-clause-faults g c =
     counted_noted view below old c.mark_fault.new.self c.write_size-written.new.self c.mark_fault-2.new.self c.write_size-written.result c.mark_fault-2.result filled.no_fewer c.write_size-written.ensures.faults c.mark_fault-2.ensures.answer c.mark_fault-2.ensures.rest
 
 pub returns-in_err-mark_failure-clause-once_written : goal.returns-in_err-mark_failure-clause-once_written
-returns-in_err-mark_failure-clause-once_written g c = 
+returns-in_err-mark_failure-clause-once_written g c =
     handed_on (λ r. FailsOnceWritten g.S.Storage.view c.args.self.now c.mark_failure.new.self r) c.from_residual.result c.in_err-mark_failure.field-0.0 c.from_residual.ensures
     (λ memory. once_written g.S.Storage.view c.args.self.now c.begin.new.self c.renew_l1_table-longer.new.self c.mark_failure.new.self c.renew_l1_table-longer.result c.begin.ensures.storage c.renew_l1_table-longer.ensures.notes c.mark_failure.ensures.marks c.mark_failure.ensures.rest (sym c.mark_failure.ensures.answer ∙ c.in_err-mark_failure.was ∙ err_as c.in_err-mark_failure.field-0.0 Memory memory))
 
 pub returns-in_err-mark_fault-clause-once_written : goal.returns-in_err-mark_fault-clause-once_written
-returns-in_err-mark_fault-clause-once_written g c = 
+returns-in_err-mark_fault-clause-once_written g c =
     handed_on (λ r. FailsOnceWritten g.S.Storage.view c.args.self.now c.mark_fault.new.self r) c.from_residual-in_err-mark_fault.result c.in_err-mark_fault.field-0.0 c.from_residual-in_err-mark_fault.ensures
     (failed_once g.S.Storage.view c.args.self.now c.mark_fault.new.self c.fill_grown-filled.result (Err c.in_err-mark_fault.field-0.0) (sym c.in_err-mark_fault.was ∙ c.mark_fault.ensures.answer) c.mark_fault.ensures.fault)
 

@@ -111,11 +111,11 @@ pub returns-in_err-flush_all-clause-notes : goal.returns-in_err-flush_all-clause
 returns-in_err-flush_all-clause-notes g c = kept_then _ _ _ c.free_listed.ensures.notes c.flush_all.ensures.notes
 
 pub returns-in_err-flush-clause-notes : goal.returns-in_err-flush-clause-notes
-returns-in_err-flush-clause-notes g c = 
+returns-in_err-flush-clause-notes g c =
     kept_then _ _ _ (kept_then _ _ _ c.free_listed.ensures.notes c.flush_all.ensures.notes)
     (read_kept c.flush_all.new.storage c.flush.new.self c.flush.result c.flush.ensures.calls c.flush.ensures.same c.flush.ensures.unnoted)
 
 pub returns-clause-notes : goal.returns-clause-notes
-returns-clause-notes g c = 
+returns-clause-notes g c =
     kept_then _ _ _ (kept_then _ _ _ c.free_listed.ensures.notes c.flush_all.ensures.notes)
     (read_kept c.flush_all.new.storage c.flush.new.self c.flush.result c.flush.ensures.calls c.flush.ensures.same c.flush.ensures.unnoted)
