@@ -34,7 +34,7 @@ pub struct Prepared {
 pub enum CommitRefused {
     /// Nothing was changed: the refusal, and the mapping as it was.
     Kept(ImageError, Prepared),
-    /// The refusal. The mapping is visible, and the image is failed.
+    /// The refusal. The mapping is visible, and an image that was sound is failed.
     Spent(ImageError),
 }
 

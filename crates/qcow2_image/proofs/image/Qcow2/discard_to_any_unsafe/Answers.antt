@@ -2,3 +2,36 @@ use Rattle.qcow2_image.proofs.image.Qcow2.discard_to_any_unsafe.Goals as goal
 
 pub returns-clause-far : goal.returns-clause-far
 returns-clause-far g c = c.discard_to_zero_unsafe.ensures.far
+
+pub returns-clause-early : goal.returns-clause-early
+returns-clause-early g c = c.discard_to_zero_unsafe.ensures.early
+
+pub returns-clause-late : goal.returns-clause-late
+returns-clause-late g c = c.discard_to_zero_unsafe.ensures.late
+
+pub returns-clause-nothing : goal.returns-clause-nothing
+returns-clause-nothing g c = c.discard_to_zero_unsafe.ensures.nothing
+
+pub returns-clause-marks : goal.returns-clause-marks
+returns-clause-marks g c = c.discard_to_zero_unsafe.ensures.marks
+
+pub returns-clause-image : goal.returns-clause-image
+returns-clause-image g c = c.discard_to_zero_unsafe.ensures.image
+
+pub returns-clause-under : goal.returns-clause-under
+returns-clause-under g c = c.discard_to_zero_unsafe.ensures.under
+
+pub returns-clause-sees : goal.returns-clause-sees
+returns-clause-sees g c = c.discard_to_zero_unsafe.ensures.sees
+
+pub returns-clause-covers : goal.returns-clause-covers
+returns-clause-covers g c = c.discard_to_zero_unsafe.ensures.covers
+
+pub returns-clause-emptied : goal.returns-clause-emptied
+returns-clause-emptied g c = c.discard_to_zero_unsafe.ensures.emptied
+
+pub returns-clause-reaches : goal.returns-clause-reaches
+returns-clause-reaches g c = c.discard_to_zero_unsafe.ensures.reaches
+
+pub returns-clause-faults : goal.returns-clause-faults
+returns-clause-faults g c = c.discard_to_zero_unsafe.ensures.faults

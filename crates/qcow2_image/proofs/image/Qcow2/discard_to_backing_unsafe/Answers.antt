@@ -2,3 +2,36 @@ use Rattle.qcow2_image.proofs.image.Qcow2.discard_to_backing_unsafe.Goals as goa
 
 pub returns-clause-far : goal.returns-clause-far
 returns-clause-far g c = c.clear_range.ensures.far
+
+pub returns-clause-early : goal.returns-clause-early
+returns-clause-early g c = c.clear_range.ensures.early
+
+pub returns-clause-late : goal.returns-clause-late
+returns-clause-late g c = c.clear_range.ensures.late
+
+pub returns-clause-nothing : goal.returns-clause-nothing
+returns-clause-nothing g c = c.clear_range.ensures.nothing
+
+pub returns-clause-marks : goal.returns-clause-marks
+returns-clause-marks g c = c.clear_range.ensures.image.1
+
+pub returns-clause-image : goal.returns-clause-image
+returns-clause-image g c = c.clear_range.ensures.image.0
+
+pub returns-clause-under : goal.returns-clause-under
+returns-clause-under g c = c.clear_range.ensures.under
+
+pub returns-clause-sees : goal.returns-clause-sees
+returns-clause-sees g c = c.clear_range.ensures.sees
+
+pub returns-clause-covers : goal.returns-clause-covers
+returns-clause-covers g c = c.clear_range.ensures.covers
+
+pub returns-clause-emptied : goal.returns-clause-emptied
+returns-clause-emptied g c = c.clear_range.ensures.emptied
+
+pub returns-clause-reaches : goal.returns-clause-reaches
+returns-clause-reaches g c = c.clear_range.ensures.reaches
+
+pub returns-clause-faults : goal.returns-clause-faults
+returns-clause-faults g c = c.clear_range.ensures.faults
