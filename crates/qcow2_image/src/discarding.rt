@@ -1,5 +1,5 @@
 //! Clearing the whole clusters of a range: to zeros, or to what the disk below shows.
-ghost use Rattle.qcow2_image.specs.Noted.{FailsOnceWritten};
+ghost use Rattle.qcow2_image.specs.Noted.{FailsOnceWritten, NotesChanges};
 ghost use Rattle.qcow2_alloc.specs.KeptNotes.{KeepsNotes};
 ghost use Rattle.std.specs.Prelude.{ℕ, List, Option, ◌≡◌, ◌+◌, ◌-◌, ◌*◌, ◌/◌, ◌%◌, ◌^◌, ◌<◌, ◌≤◌, ◌≢◌, ◌++◌, true, false, not, Some, None, Ok, Err, IfOk, IfErr, IfSome, OnOk, IsOk, IsSome, IsTrue, MatchOption, nat_le, nat_lt, if◌then◌else◌};
 ghost use Rattle.qcow2_metadata.specs.Header.{cluster_size, entries_per_cluster, rounded_up as rounded_up_to};
@@ -7,7 +7,7 @@ ghost use Rattle.qcow2_metadata.specs.Cover.{cover};
 ghost use Rattle.qcow2_metadata.specs.L2Mapping.{IsInReach, old_data_run};
 ghost use Rattle.qcow2_metadata.specs.L2Table.{copied_host};
 ghost use Rattle.qcow2_laws.specs.CrashInvariant.{Pending};
-ghost use Rattle.qcow2_disk.specs.Rules.{touched_from, touched_to};
+ghost use Rattle.qcow2_disk.specs.Rules.{answered, touched_from, touched_to};
 ghost use Rattle.qcow2_alloc.specs.CachePins.{l2_pins};
 ghost use Rattle.qcow2_alloc.specs.ImageError.{IsFault};
 ghost use Rattle.qcow2_alloc.specs.ImageFile.{known_in, FileInvariant};
@@ -253,8 +253,9 @@ impl<S: Storage, F: WrappedFormat<S>> Qcow2<S, F> {
         ensures reaches { from_in self.old offset length < to_in self.old offset length → (out : List (Option Prepared)) → (abstract_of S.view F.backing self.old out).is_sound
             → OnOk result (ReachesOffset (from_in self.old offset length) self.old.file.header.fields self.new.file.header.fields) }
         ensures far { from_in self.old offset length < to_in self.old offset length → RefusesFarEntry (refuses_to_clear self.old offset length how) (from_in self.old offset length) self.old self.new result }
+        ensures range { IfOk result (λ range. range ≡ answered (cluster_size self.old.file.header.fields) (size_of self.old) offset length) }
         ensures refused { IfErr result (RefusesClearing S.view F.backing how self.old self.new offset length) }
-        ensures once_written { FailsOnceWritten S.view self.old self.new result }
+        ensures since { NotesChanges S.view self.old self.new }
         ensures faults { CountsImageFaults S.view F.backing self.old self.new result }
     {
         let (from, to) = self.check_clear(offset, length, how)?;

@@ -1,5 +1,5 @@
 //! A disk of another size: what lies behind a smaller one is dropped first, and the size is written last.
-ghost use Rattle.qcow2_image.specs.Noted.{FailsOnceWritten};
+ghost use Rattle.qcow2_image.specs.Noted.{FailsOnceWritten, NotesChanges};
 ghost use Rattle.qcow2_alloc.specs.KeptNotes.{KeepsNotes};
 ghost use Rattle.std.specs.Prelude.{ℕ, List, Option, ◌≡◌, ◌⊎◌, ◌+◌, ◌-◌, ◌<◌, ◌≤◌, max, nat_lt, [], Some, None, Ok, Err, IfOk, IfErr, IfSome, OnOk, OnErr, IsTrue, MatchOption, false};
 ghost use Rattle.image_access.specs.Moments.{EachMomentSince};
@@ -27,6 +27,17 @@ use image_access::{PreallocateMode, Storage, WrappedFormat};
 use qcow2_alloc::{ImageError, WriteKind};
 use qcow2_metadata::GuestOffset;
 
+// Whether a cluster begins at or behind a size, and before an end.
+fn lies_between(cluster: u64, size: u64, end: u64) -> bool
+    requires { 0 < cluster }
+    ensures { result ≡ nat_lt (rounded_up_to cluster size) end }
+{
+    match rounded_up(size, cluster) {
+        Some(first) => first < end,
+        None => false,
+    }
+}
+
 impl<S: Storage, F: WrappedFormat<S>> Qcow2<S, F> {
     /// Makes the disk smaller, and drops the whole clusters behind its new end, so that the disk below shows there should it grow again.
     /// Answers the offset up to which that was done, which is less than the old size only where dropping the next cluster is refused. A
@@ -44,6 +55,7 @@ impl<S: Storage, F: WrappedFormat<S>> Qcow2<S, F> {
         ensures sees { Shrinks S.view F.backing self.old self.new size result }
         ensures stops { (out : List (Option Prepared)) → (abstract_of S.view F.backing self.old out).is_sound → IfOk result (EndsTail S.view self.old self.new size) }
         ensures last { (out : List (Option Prepared)) → (abstract_of S.view F.backing self.old out).is_sound → WritesSizeLast S.view F.backing self.old self.new }
+        ensures once_written { FailsOnceWritten S.view self.old self.new result }
         ensures faults { CountsImageFaults S.view F.backing self.old self.new result }
     {
         self.check_resize()?;
@@ -78,10 +90,12 @@ impl<S: Storage, F: WrappedFormat<S>> Qcow2<S, F> {
         ensures stops { refuses_to_resize self.old ≡ None → (out : List (Option Prepared)) → (abstract_of S.view F.backing self.old out).is_sound → (HasPrepared out → ⊥)
             → IfOk result (EndsTail S.view self.old self.new size) }
         ensures last { (out : List (Option Prepared)) → (abstract_of S.view F.backing self.old out).is_sound → WritesSizeLast S.view F.backing self.old self.new }
+        ensures once_written { FailsOnceWritten S.view self.old self.new result }
         ensures faults { CountsImageFaults S.view F.backing self.old self.new result }
     {
+        let cluster = self.file.header.cluster_size();
         let (end, stopped) = self.uncover_tail(size);
-        let any = self.lies_between(size, end);
+        let any = lies_between(cluster, size, end);
         if let Some(refusal) = stopped {
             self.mark_refused(&refusal, any);
             return Err(refusal);
@@ -104,6 +118,7 @@ impl<S: Storage, F: WrappedFormat<S>> Qcow2<S, F> {
         ensures stops { refuses_to_resize self.old ≡ None → (out : List (Option Prepared)) → (abstract_of S.view F.backing self.old out).is_sound → (HasPrepared out → ⊥)
             → result.1 ≡ None → result.0 < size_of self.old → CantUncover S.view (size_of self.old) self.new result.0 }
         ensures emptied { IsTrue (is_writable self.old) → (out : List (Option Prepared)) → ImageInvariant S.view F.backing (pending_in S.view F.backing self.old out) self.old out → result.1 ≡ None → boundary_in self.old size < size_of self.old → HasNothingToFree self.new }
+        ensures since { result.0 ≤ boundary_in self.old size → NotesChanges S.view self.old self.new }
         ensures faults { NoFewerFaults S.view F.backing self.old self.new × IfSome result.1 (TellsFault S.view F.backing self.old self.new) }
     {
         self.begin();
@@ -134,6 +149,8 @@ impl<S: Storage, F: WrappedFormat<S>> Qcow2<S, F> {
         ensures stops { refuses_to_resize self.old ≡ None → (out : List (Option Prepared)) → (abstract_of S.view F.backing self.old out).is_sound → (HasPrepared out → ⊥)
             → IfErr result (IsFaultOrCantUncover S.view (size_of self.old) self.new at) }
         ensures emptied { IsTrue (is_writable self.old) → (out : List (Option Prepared)) → ImageInvariant S.view F.backing (pending_in S.view F.backing self.old out) self.old out → FreesTurn self.old self.new at result }
+        ensures since { NotesChanges S.view self.old self.new }
+        ensures idle { IfOk result (λ next. next ≤ boundary_in self.old at → self.new ≡ self.old) }
         ensures faults { CountsImageFaults S.view F.backing self.old self.new result }
     {
         match self.uncover_next(at) {
@@ -158,6 +175,8 @@ impl<S: Storage, F: WrappedFormat<S>> Qcow2<S, F> {
         ensures stops { refuses_to_resize self.old ≡ None → (out : List (Option Prepared)) → (abstract_of S.view F.backing self.old out).is_sound → (HasPrepared out → ⊥)
             → IfErr result (IsFaultOrCantUncover S.view (size_of self.old) self.new at) }
         ensures emptied { (out : List (Option Prepared)) → ImageInvariant S.view F.backing (pending_in S.view F.backing self.old out) self.old out → OnOk result ((boundary_in self.old at < size_of self.old) ⊎ HasNothingToFree self.old → HasNothingToFree self.new) }
+        ensures since { NotesChanges S.view self.old self.new }
+        ensures idle { IfOk result (λ next. next ≤ boundary_in self.old at → self.new ≡ self.old) }
         ensures faults { CountsImageFaults S.view F.backing self.old self.new result }
     {
         let end = self.file.header.size();
@@ -167,16 +186,6 @@ impl<S: Storage, F: WrappedFormat<S>> Qcow2<S, F> {
             Ok(next)
         } else {
             Ok(end)
-        }
-    }
-
-    // Whether a cluster begins at or behind a size, and before an end.
-    fn lies_between(&self, size: u64, end: u64) -> bool
-        ensures { result ≡ nat_lt (rounded_up_to (cluster_size self.now.file.header.fields) size) end }
-    {
-        match rounded_up(size, self.file.header.cluster_size()) {
-            Some(first) => first < end,
-            None => false,
         }
     }
 
@@ -301,6 +310,7 @@ impl<S: Storage, F: WrappedFormat<S>> Qcow2<S, F> {
         ensures time { (view_in S.view self.old.file).is_honest → EachMomentSince (view_in S.view self.old.file) (view_in S.view self.new.file) (λ c. c ≡ (view_in S.view self.new.file).contents) }
         ensures writes { (out : List (Option Prepared)) → ImageInvariant S.view F.backing (pending_in S.view F.backing self.old out) self.old out → WritesSize S.view F.backing self.old self.new out size result }
         ensures resizes { (p : Pending) → ImageInvariant S.view F.backing p self.old [] → Resizes S.view F.backing p self.old self.new size result }
+        ensures notes { KeepsNotes S.view self.old.file.storage self.new.file.storage }
         ensures faults { CountsImageFaults S.view F.backing self.old self.new result }
     {
         let old = self.file.header.size();

@@ -1,8 +1,8 @@
 -- Whole clusters of a range: numbers.
-use Rattle.std.proofs.Common.{◌≡◌, inl, inr, ℕ, ◌+◌, ◌-◌, ◌*◌, ◌/◌, ◌%◌, ◌^◌, ◌<◌, ◌≤◌, Option, Some, None, List, [], ◌∷◌, ◌++◌, refl, sym, ap, ◌∙◌, arith}
-use Rattle.std.specs.Prelude.{IfSome}
+use Rattle.std.proofs.Common.{◌≡◌, inl, inr, ℕ, ◌+◌, ◌-◌, ◌*◌, ◌/◌, ◌%◌, ◌^◌, ◌<◌, ◌≤◌, Option, Some, None, List, [], ◌∷◌, ◌++◌, refl, sym, ap, ◌∙◌, arith, cond, min}
+use Rattle.std.specs.Prelude.{IfSome, nat_lt}
 use Rattle.std.specs.Option.{SomeIff}
-use Rattle.std.proofs.lemmas.Bool.{cases_lt}
+use Rattle.std.proofs.lemmas.Bool.{cases_lt, cond-true, cond-false, lt-ltb, le-ltb}
 use Rattle.std.proofs.lemmas.Nat.{div-add-mod', div-mul-add, mod_below}
 use Rattle.qcow2_metadata.specs.Header.{rounded_up}
 
@@ -41,3 +41,15 @@ module _ (size offset : ℕ) (some : 0 < size) where
 pub nothing_more : {A : Type 0} (l : List A) → l ≡ l ++ []
 nothing_more [] = refl
 nothing_more (x ∷ l) = ap (λ r. x ∷ r) (nothing_more l)
+
+-- the range that is answered: where it begins, and how much of it was cleared
+abbrev span : ℕ → ℕ → ℕ × ℕ
+span from length = (from, length)
+
+module _ (from to offset n : ℕ) where
+  pub none_answered : (first : ℕ) → first ≡ from → to ≤ from → span first 0 ≡ span from (cond (nat_lt from to) (min to (offset + n) - from) 0)
+  none_answered first is none = ap (λ (k : ℕ). span k 0) is ∙ ap (λ (k : ℕ). span from k) (sym (cond-false (nat_lt from to) (min to (offset + n) - from) 0 (le-ltb from to none)))
+
+  pub some_answered : (first length : ℕ) → first ≡ from → from < to → length ≡ min to (offset + n) - from → span first length ≡ span from (cond (nat_lt from to) (min to (offset + n) - from) 0)
+  some_answered first length is some many =
+      ap (λ (k : ℕ). span k length) is ∙ ap (λ (k : ℕ). span from k) (many ∙ sym (cond-true (nat_lt from to) (min to (offset + n) - from) 0 (lt-ltb from to some)))

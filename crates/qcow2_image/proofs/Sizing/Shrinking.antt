@@ -287,7 +287,7 @@ module _ {S F : Type 0} (view : S → StorageView) (backing : F → BackingView)
     }
 
     -- ---- it was refused
-    module _ (new : Qcow2 S F) (e : ImageError) (marked : Bool) (number : number_of new ≡ number_of old) (fault : IsFaultOfTables e) (marks : MayMark e (is_failed new) marked) (changed : nat_lt (rounded_up (cluster_size new.file.header.fields) size) at ≡ true → marked ≡ true) where
+    module _ (new : Qcow2 S F) (e : ImageError) (marked : Bool) (number : number_of new ≡ number_of old) (fault : IsFaultOfTables e) (marks : MayMark e (is_failed new) marked) (changed : nat_lt (rounded_up cs size) at ≡ true → marked ≡ true) where
       abbrev final : Qcow2 S F
       final = record new { is_failed = marked }
 
@@ -307,12 +307,12 @@ module _ {S F : Type 0} (view : S → StorageView) (backing : F → BackingView)
       left_works out (inr (so, works)) = subst (λ (f : Bool). EffectOnSound (abstract_of view backing old out) (abstract_of view backing (record new { is_failed = f }) out) (all_given_by_shrink view backing old size) (size ∷ [])) (sym so) works
 
       -- where nothing was uncovered, all is as it was
-      unmarked : (out : List (Option Prepared)) → cluster_size new.file.header.fields ≡ cluster_size old.file.header.fields → ImageInvariant view backing (pending_in view backing new out) new out × ShowsBelow view backing size at old new out × Ends → (f : Bool) → marked ≡ f
+      unmarked : (out : List (Option Prepared)) → ImageInvariant view backing (pending_in view backing new out) new out × ShowsBelow view backing size at old new out × Ends → (f : Bool) → marked ≡ f
           → ((abstract_of view backing final out).is_sound × IsSame (abstract_of view backing old out) (abstract_of view backing final out)) ⊎ (IsRefusalByFault (refusal_of e) × IsTrue marked)
-      unmarked out sizes still true is = inr (of_fault e fault, is)
-      unmarked out sizes still false is =
+      unmarked out still true is = inr (of_fault e fault, is)
+      unmarked out still false is =
           let same : new ≡ record new { is_failed = marked } = ap (λ (f : Bool). record new { is_failed = f }) (still.0.works ∙ sym is) in
-          let low : at ≤ rounded_up cs size = elim (cases_lt (rounded_up cs size) at) [ inl lt ↦ absurd (let yes = changed (ap (λ n. nat_lt (rounded_up n size) at) sizes ∙ lt-ltb (rounded_up cs size) at lt) in let no : true ≡ false = sym yes ∙ is in cc) | inr le ↦ le ] in
+          let low : at ≤ rounded_up cs size = elim (cases_lt (rounded_up cs size) at) [ inl lt ↦ absurd (let yes = changed (lt-ltb (rounded_up cs size) at lt) in let no : true ≡ false = sym yes ∙ is in cc) | inr le ↦ le ] in
           let none = none_between cs large size at low in
           inl (
             subst (λ (i : Qcow2 S F). ImageInvariant view backing (pending_in view backing i out) i out) same still.0,
@@ -321,7 +321,7 @@ module _ {S F : Type 0} (view : S → StorageView) (backing : F → BackingView)
           )
 
       left_answer : (out : List (Option Prepared)) → Left out → ((abstract_of view backing final out).is_sound × IsSame (abstract_of view backing old out) (abstract_of view backing final out)) ⊎ (IsRefusalByFault (refusal_of e) × IsTrue marked)
-      left_answer out (inl (works, still)) = unmarked out (ap (λ (s : Setting). s.cluster_size) works.setting) still marked refl
+      left_answer out (inl (works, still)) = unmarked out still marked refl
       left_answer out (inr (so, works)) = inr (of_fault e fault, so)
 
       pub shrinks_refused : ((out : List (Option Prepared)) → ImageInvariant view backing (pending_in view backing old out) old out → Left out) → Shrinks view backing old final size (Err e)
@@ -338,7 +338,7 @@ module _ {S F : Type 0} (view : S → StorageView) (backing : F → BackingView)
       ]
 
     -- a turn was refused by a fault
-    module _ (e : ImageError) (marked : Bool) (number : number_of mid ≡ number_of old) (fault : IsFaultOfTables e) (marks : MayMark e (is_failed mid) marked) (changed : nat_lt (rounded_up (cluster_size mid.file.header.fields) size) at ≡ true → marked ≡ true)
+    module _ (e : ImageError) (marked : Bool) (number : number_of mid ≡ number_of old) (fault : IsFaultOfTables e) (marks : MayMark e (is_failed mid) marked) (changed : nat_lt (rounded_up cs size) at ≡ true → marked ≡ true)
         (tail : (out : List (Option Prepared)) → ImageInvariant view backing (pending_in view backing old out) old out → UncoversTail view backing old mid size at (Some e) out) where
       tail_left : (out : List (Option Prepared)) → ImageInvariant view backing (pending_in view backing old out) old out → Left mid e marked number fault marks changed out
       tail_left out sound =
@@ -357,7 +357,7 @@ module _ {S F : Type 0} (view : S → StorageView) (backing : F → BackingView)
       shrinks_stopped = shrinks_refused mid e marked number fault marks changed tail_left
 
     -- the size was refused
-    module _ (new : Qcow2 S F) (e : ImageError) (marked : Bool) (number : number_of new ≡ number_of old) (fault : IsFaultOfTables e) (marks : MayMark e (is_failed new) marked) (changed : nat_lt (rounded_up (cluster_size new.file.header.fields) size) at ≡ true → marked ≡ true)
+    module _ (new : Qcow2 S F) (e : ImageError) (marked : Bool) (number : number_of new ≡ number_of old) (fault : IsFaultOfTables e) (marks : MayMark e (is_failed new) marked) (changed : nat_lt (rounded_up cs size) at ≡ true → marked ≡ true)
         (tail : (out : List (Option Prepared)) → ImageInvariant view backing (pending_in view backing old out) old out → UncoversTail view backing old mid size at None out)
         (writes : (out : List (Option Prepared)) → ImageInvariant view backing (pending_in view backing mid out) mid out → WritesSize view backing mid new out size (Err e)) where
       size_left : (out : List (Option Prepared)) → ImageInvariant view backing (pending_in view backing old out) old out → Left new e marked number fault marks changed out

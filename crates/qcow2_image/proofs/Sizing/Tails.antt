@@ -50,6 +50,33 @@ module _ (cs : ℕ) (some : 0 < cs) where
   pub none_between : (size end : ℕ) → end ≤ rounded_up cs size → rounded_up cs end ≤ rounded_up cs size
   none_between size end le = least_up end (rounded_up cs size) le (whole_up size)
 
+-- ---- what a turn touches
+module _ (cs : ℕ) (some : 0 < cs) (end at : ℕ) (lt : at < end) where
+  pub touched_is : touched_to cs end at (end - at) ≡ min (rounded_up cs end) (rounded_down (cs / 8 * cs) (rounded_up cs at) + cs / 8 * cs)
+  touched_is =
+      let e : at + (end - at) ≡ end = omega (arith, lt) in
+      ap (λ k. min (if k == end then rounded_up cs k else rounded_down cs k) (rounded_down (cs / 8 * cs) (rounded_up cs at) + cs / 8 * cs)) e
+      ∙ ap (λ b. min (if b then rounded_up cs end else rounded_down cs end) (rounded_down (cs / 8 * cs) (rounded_up cs at) + cs / 8 * cs)) (eq-eqb end end refl)
+
+  pub touched_before : rounded_up cs at < touched_to cs end at (end - at) → rounded_up cs at < end
+  touched_before touched = elim (cases_lt (rounded_up cs at) end) [
+    | inl is ↦ is
+    | inr past ↦ absurd (let least = least_up cs some end (rounded_up cs at) past (whole_up cs some at) in let is = touched_is in omega (arith, least, is, touched))
+  ]
+
+  -- one that touches a cluster passes its boundary
+  pub passes_boundary : (range : ℕ × ℕ) → range ≡ answered cs end at (end - at) → end < 2 ^ 64 → (next : ℕ) → (next ≡ min (range.0 + range.1) (2 ^ 64 - 1)) ⊎ (next ≡ end) → rounded_up cs at < touched_to cs end at (end - at) → rounded_up cs at < next
+  passes_boundary range is near next branch touched =
+      let before = touched_before touched in
+      elim branch [
+        | inl sum ↦
+            let first : range.0 ≡ rounded_up cs at = ap (λ (r : ℕ × ℕ). r.0) is in
+            let many : range.1 ≡ min (touched_to cs end at (end - at)) (at + (end - at)) - rounded_up cs at =
+            ap (λ (r : ℕ × ℕ). r.1) is ∙ cond-true (nat_lt (rounded_up cs at) (touched_to cs end at (end - at))) (min (touched_to cs end at (end - at)) (at + (end - at)) - rounded_up cs at) 0 (lt-ltb (rounded_up cs at) (touched_to cs end at (end - at)) touched) in
+            omega (arith, sum, first, many, before, touched, near, lt)
+        | inr last ↦ omega (arith, last, before)
+      ]
+
 -- ---- where a turn ends
 module _ (h : HeaderFields) (some : 0 < cluster_size h) (rows : 0 < entries_per_cluster h) (end at : ℕ) (lt : at < end) where
   abbrev cs : ℕ
@@ -65,10 +92,7 @@ module _ (h : HeaderFields) (some : 0 < cluster_size h) (rows : 0 < entries_per_
   to = touched_to (cluster_size h) end at (end - at)
 
   to_is : touched_to (cluster_size h) end at (end - at) ≡ min (rounded_up (cluster_size h) end) (rounded_down table (rounded_up (cluster_size h) at) + table)
-  to_is =
-      let e : at + (end - at) ≡ end = omega (arith, lt) in
-      ap (λ k. min (if k == end then rounded_up (cluster_size h) k else rounded_down (cluster_size h) k) (rounded_down table (rounded_up (cluster_size h) at) + table)) e
-      ∙ ap (λ b. min (if b then rounded_up (cluster_size h) end else rounded_down (cluster_size h) end) (rounded_down table (rounded_up (cluster_size h) at) + table)) (eq-eqb end end refl)
+  to_is = touched_is (cluster_size h) some end at lt
 
   some_table : 0 < table
   some_table =
@@ -114,10 +138,7 @@ module _ (h : HeaderFields) (some : 0 < cluster_size h) (rows : 0 < entries_per_
     -- some were
     module _ (touched : from < to) where
       before_end : from < end
-      before_end = elim (cases_lt from end) [
-        | inl is ↦ is
-        | inr past ↦ absurd (let least = least_up (cluster_size h) some end from past (whole_up (cluster_size h) some at) in let most = to_at_most in omega (arith, least, most, touched))
-      ]
+      before_end = touched_before (cluster_size h) some end at lt touched
 
       last_is : last ≡ min to end
       last_is =

@@ -31,7 +31,7 @@ use Rattle.qcow2_image.specs.NewTables.{LacksTable}
 use Rattle.qcow2_image.specs.Refusals.{passes, refuse_if}
 use Rattle.qcow2_image.specs.Resizing.{IsFaultOrCantUncover, IsTurnEnd, UncoversNext, UncoversPart, boundary_in, refuses_to_resize}
 use Rattle.qcow2_image.proofs.Sizes.{disk_size}
-use Rattle.qcow2_image.proofs.Sizing.Tails.{given_as, given_below, given_is, mono_up, shown_below, to_at_most, touches_before, turn_numbers}
+use Rattle.qcow2_image.proofs.Sizing.Tails.{given_as, given_below, given_is, mono_up, passes_boundary, shown_below, to_at_most, touches_before, turn_numbers}
 
 -- a call that gives fewer bytes gives these too
 pub refuses_giving : (v w : AbstractImage) (gs more : List GivenBytes) (e : Refusal) (still : Type 0) → (v.is_sound → (o : ℕ) (x : Value) → IsGiven gs o x → IsGiven more o x) → RefusedEffect v w gs [] e still → RefusedEffect v w more [] e still
@@ -154,4 +154,15 @@ module _ {S F : Type 0} (view : S → StorageView) (backing : F → BackingView)
   turn_frees is lt clears nothing out sound (inr none) = elim (cases_lt (touched_from (cluster_size h) at) (touched_to (cluster_size h) (size_of old) at (end - at))) [
     | inl touched ↦ clears touched
     | inr least ↦ subst (λ (i : Qcow2 S F). HasNothingToFree i) (sym (nothing least)) none
+  ]
+
+  -- an answered turn that passes no boundary changes nothing
+  pub turn_idle : end ≡ size_of old → at < size_of old → end < 2 ^ 64 → (range : ℕ × ℕ) → range ≡ answered (cluster_size h) (size_of old) at (end - at)
+      → (touched_to (cluster_size h) (size_of old) at (end - at) ≤ touched_from (cluster_size h) at → new ≡ old) → (next : ℕ) → (next ≡ min (range.0 + range.1) (2 ^ 64 - 1)) ⊎ (next ≡ end) → next ≤ boundary_in old at → new ≡ old
+  turn_idle is lt near range range_is nothing next branch least = elim (cases_lt (touched_from (cluster_size h) at) (touched_to (cluster_size h) (size_of old) at (end - at))) [
+    | inl touched ↦
+        let on = passes_boundary (cluster_size h) (pow_pos h.cluster_bits) end at (omega (arith, lt, is)) range (range_is ∙ ap (λ n. answered (cluster_size h) n at (end - at)) (sym is)) near next branch
+            (subst (λ n. touched_from (cluster_size h) at < touched_to (cluster_size h) n at (end - at)) (sym is) touched) in
+        absurd (omega (arith, on, least))
+    | inr none ↦ nothing none
   ]

@@ -21,8 +21,8 @@ use Rattle.qcow2_alloc.specs.KeptNotes.{kept_then}
 use Rattle.qcow2_image.proofs.Call.Notes.{same_kept}
 use Rattle.qcow2_alloc.proofs.AllocationSteps.{handed_on}
 use Rattle.qcow2_alloc.proofs.Outcomes.{err_as}
-use Rattle.qcow2_image.specs.Noted.{FailsOnceWritten}
-use Rattle.qcow2_image.proofs.Call.OnceWritten.{once_written, written_once}
+use Rattle.qcow2_image.proofs.Call.OnceWritten.{notes_none, notes_since}
+use Rattle.qcow2_image.proofs.Clear.Touched.{none_answered, some_answered}
 use Rattle.qcow2_image.proofs.image.Qcow2.clear_range.Goals as goal
 
 pub returns-in_err-from-clause-early : goal.returns-in_err-from-clause-early
@@ -352,15 +352,47 @@ returns-clause-far g c = λ some none needs.
     let done : c.clear_between-cleared.result ≡ Ok c.in_ok-mark_failure.field-0 = sym c.mark_failure.ensures.answer ∙ c.in_ok-mark_failure.was in
     absurd (far_unanswered c.clear_between-cleared.result c.in_ok-mark_failure.field-0 done (c.clear_between-cleared.ensures.far (far_begun old c.begin.new.self (from_in old c.args.offset c.args.length) c.in_ok-from.from from c.begin.ensures.begun needs)).0)
 
-pub returns-in_err-from-clause-once_written : goal.returns-in_err-from-clause-once_written
-returns-in_err-from-clause-once_written g c = λ memory works honest. refl
+pub returns-in_err-from-clause-since : goal.returns-in_err-from-clause-since
+returns-in_err-from-clause-since g c = notes_none g.S.Storage.view c.args.self.now
 
-pub returns-in_err-mark_failure-clause-once_written : goal.returns-in_err-mark_failure-clause-once_written
-returns-in_err-mark_failure-clause-once_written g c =
-    handed_on (λ r. FailsOnceWritten g.S.Storage.view c.args.self.now c.mark_failure.new.self r) c.from_residual-in_err-mark_failure.result c.in_err-mark_failure.field-0.0 c.from_residual-in_err-mark_failure.ensures
-    (λ memory. once_written g.S.Storage.view c.args.self.now c.begin.new.self c.clear_between-cleared.new.self c.mark_failure.new.self c.clear_between-cleared.result c.begin.ensures.storage c.clear_between-cleared.ensures.notes c.mark_failure.ensures.marks c.mark_failure.ensures.rest (sym c.mark_failure.ensures.answer ∙ c.in_err-mark_failure.was ∙ err_as c.in_err-mark_failure.field-0.0 Memory memory))
+pub returns-then-to-from-clause-since : goal.returns-then-to-from-clause-since
+returns-then-to-from-clause-since g c = notes_none g.S.Storage.view c.args.self.now
 
-pub returns-in_err-end_freeing-clause-once_written : goal.returns-in_err-end_freeing-clause-once_written
-returns-in_err-end_freeing-clause-once_written g c =
-    handed_on (λ r. FailsOnceWritten g.S.Storage.view c.args.self.now c.end_freeing.new.self r) c.from_residual-in_err-end_freeing.result c.in_err-end_freeing.field-0.0 c.from_residual-in_err-end_freeing.ensures
-    (λ memory. written_once g.S.Storage.view c.args.self.now c.begin.new.self c.mark_failure.new.self c.end_freeing.new.self c.end_freeing.result c.begin.ensures.storage (kept_then _ _ _ (kept_then _ _ _ c.clear_between-cleared.ensures.notes (same_kept c.clear_between-cleared.new.self c.mark_failure.new.self (ap (λ (i : Qcow2 _ _). i.file.storage) c.mark_failure.ensures.rest))) c.end_freeing.ensures.notes) c.end_freeing.ensures.marks (c.in_err-end_freeing.was ∙ err_as c.in_err-end_freeing.field-0.0 Memory memory))
+pub returns-in_err-mark_failure-clause-since : goal.returns-in_err-mark_failure-clause-since
+returns-in_err-mark_failure-clause-since g c =
+    notes_since g.S.Storage.view c.args.self.now c.begin.new.self c.mark_failure.new.self c.begin.ensures.storage
+    (kept_then _ _ _ c.clear_between-cleared.ensures.notes (same_kept c.clear_between-cleared.new.self c.mark_failure.new.self (ap (λ (i : Qcow2 _ _). i.file.storage) c.mark_failure.ensures.rest)))
+
+pub returns-in_err-end_freeing-clause-since : goal.returns-in_err-end_freeing-clause-since
+returns-in_err-end_freeing-clause-since g c =
+    notes_since g.S.Storage.view c.args.self.now c.begin.new.self c.end_freeing.new.self c.begin.ensures.storage
+    (kept_then _ _ _ (kept_then _ _ _ c.clear_between-cleared.ensures.notes (same_kept c.clear_between-cleared.new.self c.mark_failure.new.self (ap (λ (i : Qcow2 _ _). i.file.storage) c.mark_failure.ensures.rest))) c.end_freeing.ensures.notes)
+
+pub returns-clause-since : goal.returns-clause-since
+returns-clause-since g c =
+    notes_since g.S.Storage.view c.args.self.now c.begin.new.self c.end_freeing.new.self c.begin.ensures.storage
+    (kept_then _ _ _ (kept_then _ _ _ c.clear_between-cleared.ensures.notes (same_kept c.clear_between-cleared.new.self c.mark_failure.new.self (ap (λ (i : Qcow2 _ _). i.file.storage) c.mark_failure.ensures.rest))) c.end_freeing.ensures.notes)
+
+pub returns-then-to-from-clause-range : goal.returns-then-to-from-clause-range
+returns-then-to-from-clause-range g c =
+    let old = c.args.self.now in
+    let first = from_in c.args.self.now c.args.offset c.args.length in
+    let last = to_in c.args.self.now c.args.offset c.args.length in
+    let range = not_refused c.check_clear.result _ (refuses_to_clear old c.args.offset c.args.length c.args.how) (c.in_ok-from.from, c.in_ok-from.to) c.check_clear.ensures.refusal c.in_ok-from.was in
+    let from : c.in_ok-from.from ≡ from_in c.args.self.now c.args.offset c.args.length = ap (λ (r : ℕ × ℕ). r.0) range.1 in
+    let to : c.in_ok-from.to ≡ to_in c.args.self.now c.args.offset c.args.length = ap (λ (r : ℕ × ℕ). r.1) range.1 in
+    none_answered first last c.args.offset c.args.length c.in_ok-from.from from (omega (arith, c.if-to-from.true, from, to))
+
+pub returns-clause-range : goal.returns-clause-range
+returns-clause-range g c =
+    let old = c.args.self.now in
+    let offset = c.args.offset in
+    let n = c.args.length in
+    let first = from_in c.args.self.now c.args.offset c.args.length in
+    let last = to_in c.args.self.now c.args.offset c.args.length in
+    let range = not_refused c.check_clear.result _ (refuses_to_clear old c.args.offset c.args.length c.args.how) (c.in_ok-from.from, c.in_ok-from.to) c.check_clear.ensures.refusal c.in_ok-from.was in
+    let from : c.in_ok-from.from ≡ from_in c.args.self.now c.args.offset c.args.length = ap (λ (r : ℕ × ℕ). r.0) range.1 in
+    let to : c.in_ok-from.to ≡ to_in c.args.self.now c.args.offset c.args.length = ap (λ (r : ℕ × ℕ). r.1) range.1 in
+    let many : c.saturating_sub.result ≡ min (to_in c.args.self.now c.args.offset c.args.length) (c.args.offset + c.args.length) - from_in c.args.self.now c.args.offset c.args.length =
+    c.saturating_sub.ensures ∙ ap (λ k. k - c.in_ok-from.from) c.min.ensures ∙ ap (λ k. min k (offset + n) - c.in_ok-from.from) to ∙ ap (λ k. min (to_in old offset n) (offset + n) - k) from in
+    some_answered first last c.args.offset c.args.length c.in_ok-from.from c.saturating_sub.result from (omega (arith, c.if-to-from.false, from, to)) many

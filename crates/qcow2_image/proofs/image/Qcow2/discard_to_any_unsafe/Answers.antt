@@ -35,3 +35,6 @@ returns-clause-reaches g c = c.discard_to_zero_unsafe.ensures.reaches
 
 pub returns-clause-faults : goal.returns-clause-faults
 returns-clause-faults g c = c.discard_to_zero_unsafe.ensures.faults
+
+pub returns-clause-once_written : goal.returns-clause-once_written
+returns-clause-once_written g c = c.discard_to_zero_unsafe.ensures.once_written

@@ -1,3 +1,4 @@
+use Rattle.qcow2_image.proofs.Call.OnceWritten.{noted_once}
 use Rattle.qcow2_image.proofs.image.Qcow2.ensure_zero_mapping.Goals as goal
 
 pub returns-clause-far : goal.returns-clause-far
@@ -35,3 +36,6 @@ returns-clause-reaches g c = c.clear_range.ensures.reaches
 
 pub returns-clause-faults : goal.returns-clause-faults
 returns-clause-faults g c = c.clear_range.ensures.faults
+
+pub returns-clause-once_written : goal.returns-clause-once_written
+returns-clause-once_written g c = noted_once g.S.Storage.view c.args.self.now c.args.self.now c.clear_range.new.self c.clear_range.result c.clear_range.ensures.since c.clear_range.ensures.image.1

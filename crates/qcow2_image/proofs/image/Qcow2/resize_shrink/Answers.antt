@@ -1,4 +1,4 @@
-use Rattle.std.proofs.Common.{◌≤◌, ◌∙◌, sym, subst, arith}
+use Rattle.std.proofs.Common.{◌≤◌, ◌∙◌, refl, sym, subst, arith}
 use Rattle.std.specs.Prelude.{Ok, Result}
 use Rattle.qcow2_alloc.specs.ImageFile.{l2_pins}
 use Rattle.qcow2_image.specs.Resizing.{Shrinks, refuses_to_resize}
@@ -54,3 +54,15 @@ returns-then-size-clause-stops g c = λ out sound.
     let le = subst (λ n. n ≤ c.args.size) c.size.ensures c.if-size.true in
     let up = rounded_from (cluster_size old.file.header.fields) c.args.size (pow_pos old.file.header.fields.cluster_bits) in
     record { stops = λ lt. absurd (omega (arith, lt, is)); emptied = λ before. absurd (omega (arith, le, up, before)) }
+
+pub returns-in_err-check_resize-clause-once_written : goal.returns-in_err-check_resize-clause-once_written
+returns-in_err-check_resize-clause-once_written g c = λ memory works honest. refl
+
+pub returns-then-size-clause-once_written : goal.returns-then-size-clause-once_written
+returns-then-size-clause-once_written g c = λ bad. absurd (cc)
+
+pub returns-then-is_some-clause-once_written : goal.returns-then-is_some-clause-once_written
+returns-then-is_some-clause-once_written g c = λ memory works honest. refl
+
+pub returns-clause-once_written : goal.returns-clause-once_written
+returns-clause-once_written g c = c.shrink.ensures.once_written

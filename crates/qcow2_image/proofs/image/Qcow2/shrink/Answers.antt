@@ -1,20 +1,22 @@
 use Rattle.std.proofs.Common.{◌≡◌, ◌∙◌, sym, ap, subst}
 use Rattle.std.specs.Prelude.{Err, IfSome, MatchOption, nat_lt}
 use Rattle.image_access.proofs.EachMomentSince.{passes_none}
-use Rattle.qcow2_metadata.specs.Header.{HeaderView, cluster_size, rounded_up}
+use Rattle.qcow2_metadata.specs.Header.{rounded_up}
 use Rattle.qcow2_alloc.specs.ImageError.{IsFault}
 use Rattle.qcow2_alloc.specs.ImageFile.{view_in}
-use Rattle.qcow2_alloc.specs.ImageStorage.{is_changed_of}
+use Rattle.qcow2_alloc.specs.ImageStorage.{is_changed_of, storage_of}
 use Rattle.qcow2_image.specs.declared.image.Qcow2.{Qcow2}
 use Rattle.qcow2_image.specs.Image.{is_failed, size_of}
 use Rattle.qcow2_image.specs.Refusals.{MarksRefused}
-use Rattle.qcow2_image.specs.Resizing.{Shrinks, UncoversTail, WritesSizeLast}
+use Rattle.qcow2_image.specs.Resizing.{Shrinks, UncoversTail, WritesSizeLast, boundary_in}
 use Rattle.qcow2_image.proofs.Sizing.Noted.{fewer_noted, shrinks_noted}
 use Rattle.qcow2_image.proofs.Sizing.Shrinking.{shrinks_done, shrinks_stopped, shrinks_unwritten, size_is_last, uncovered_honest, written_stops}
 use Rattle.qcow2_image.proofs.Sizing.ShrinkCalls.{resize_writable}
 use Rattle.qcow2_image.proofs.Call.Marked.{may_mark_refused, refused_on, refused_since}
 use Rattle.qcow2_image.proofs.Call.FaultCounts.{counted_as, counted_still}
 use Rattle.qcow2_image.specs.Faults.{TellsFault}
+use Rattle.qcow2_image.proofs.Call.OnceWritten.{notes_then, refused_once}
+use Rattle.qcow2_image.proofs.Sizing.IdleTurns.{not_passed}
 use Rattle.qcow2_image.proofs.image.Qcow2.shrink.Goals as goal
 
 pub returns-in-Some-clause-sees : goal.returns-in-Some-clause-sees
@@ -28,7 +30,7 @@ returns-in-Some-clause-sees g c =
     let e = c.in-Some.refusal in
     subst (λ (image : Qcow2 _ _). Shrinks view below old image size (Err e)) (sym c.mark_refused.ensures.rest)
     (shrinks_noted view below old (record mid { is_failed = is_failed c.mark_refused.new.self }) (is_changed_of c.mark_refused.new.self.file.storage) size (Err e) (shrinks_stopped view below old mid size at c.requires.usable c.requires.smaller e (is_failed c.mark_refused.new.self) c.uncover_tail-end.ensures.image.number
-    (subst (λ r. IfSome r IsFault) c.in-Some.is c.uncover_tail-end.ensures.cause) (may_mark_refused mid c.mark_refused.new.self e c.mark_refused.ensures.marks) (λ any. c.mark_refused.ensures.changed (c.lies_between-any.ensures ∙ any))
+    (subst (λ r. IfSome r IsFault) c.in-Some.is c.uncover_tail-end.ensures.cause) (may_mark_refused mid c.mark_refused.new.self e c.mark_refused.ensures.marks) (λ any. c.mark_refused.ensures.changed (c.lies_between-any.ensures ∙ ap (λ n. nat_lt (rounded_up n size) at) c.cluster_size-cluster.ensures.value ∙ any))
     (λ out sound. subst (λ r. UncoversTail view below old mid size at r out) c.in-Some.is (c.uncover_tail-end.ensures.uncovers out sound))))
 
 pub returns-in-Some-clause-last : goal.returns-in-Some-clause-last
@@ -52,7 +54,7 @@ returns-in-Err-clause-sees g c =
     subst (λ (image : Qcow2 _ _). Shrinks view below old image size (Err e)) (sym c.mark_refused-in-Err.ensures.rest)
     (shrinks_noted view below old (record new { is_failed = is_failed c.mark_refused-in-Err.new.self }) (is_changed_of c.mark_refused-in-Err.new.self.file.storage) size (Err e) (shrinks_unwritten view below old mid size at c.requires.usable c.requires.smaller new e (is_failed c.mark_refused-in-Err.new.self) (ap (λ (i : Qcow2 _ _). i.number) c.write_size.ensures.rest ∙ c.uncover_tail-end.ensures.image.number)
     c.in-Err.ensures.cause (may_mark_refused new c.mark_refused-in-Err.new.self e c.mark_refused-in-Err.ensures.marks)
-    (λ any. c.mark_refused-in-Err.ensures.changed (c.lies_between-any.ensures ∙ ap (λ (v : HeaderView). nat_lt (rounded_up (cluster_size v.fields) size) at) (sym c.in-Err.ensures.restored) ∙ any))
+    (λ any. c.mark_refused-in-Err.ensures.changed (c.lies_between-any.ensures ∙ ap (λ n. nat_lt (rounded_up n size) at) c.cluster_size-cluster.ensures.value ∙ any))
     (λ out sound. subst (λ r. UncoversTail view below old mid size at r out) c.in_default.is (c.uncover_tail-end.ensures.uncovers out sound)) c.in-Err.ensures.writes))
 
 pub returns-in-Err-clause-last : goal.returns-in-Err-clause-last
@@ -124,3 +126,24 @@ returns-in-Err-clause-marks g c =
     refused_since c.args.self.now c.write_size.new.self c.mark_refused-in-Err.new.self
     (ap (λ (i : Qcow2 _ _). i.is_failed) c.write_size.ensures.rest ∙ subst (λ r. MatchOption r (is_failed c.uncover_tail-end.new.self ≡ is_failed c.args.self.now) (MarksRefused c.args.self.now c.uncover_tail-end.new.self)) c.in_default.is c.uncover_tail-end.ensures.marks)
     c.in-Err.refusal c.mark_refused-in-Err.ensures.marks
+
+pub returns-in-Some-clause-once_written : goal.returns-in-Some-clause-once_written
+returns-in-Some-clause-once_written g c =
+    let old = c.args.self.now in
+    let tail = c.uncover_tail-end.new.self in
+    let passed = c.lies_between-any.ensures ∙ ap (λ n. nat_lt (rounded_up n c.args.size) c.uncover_tail-end.result.0) c.cluster_size-cluster.ensures.value in
+    refused_once g.S.Storage.view old tail c.mark_refused.new.self c.lies_between-any.result (Err c.in-Some.refusal) (λ none. c.uncover_tail-end.ensures.since (not_passed (boundary_in old c.args.size) c.uncover_tail-end.result.0 c.lies_between-any.result passed none))
+    (ap (λ (i : Qcow2 _ _). storage_of i.file.storage) c.mark_refused.ensures.rest) c.mark_refused.ensures.noted c.mark_refused.ensures.marks c.mark_refused.ensures.changed
+
+pub returns-in-Err-clause-once_written : goal.returns-in-Err-clause-once_written
+returns-in-Err-clause-once_written g c =
+    let view = g.S.Storage.view in
+    let old = c.args.self.now in
+    let tail = c.uncover_tail-end.new.self in
+    let passed = c.lies_between-any.ensures ∙ ap (λ n. nat_lt (rounded_up n c.args.size) c.uncover_tail-end.result.0) c.cluster_size-cluster.ensures.value in
+    refused_once view old c.write_size.new.self c.mark_refused-in-Err.new.self c.lies_between-any.result (Err c.in-Err.refusal)
+    (λ none. notes_then view old tail c.write_size.new.self (c.uncover_tail-end.ensures.since (not_passed (boundary_in old c.args.size) c.uncover_tail-end.result.0 c.lies_between-any.result passed none)) c.write_size.ensures.notes)
+    (ap (λ (i : Qcow2 _ _). storage_of i.file.storage) c.mark_refused-in-Err.ensures.rest) c.mark_refused-in-Err.ensures.noted c.mark_refused-in-Err.ensures.marks c.mark_refused-in-Err.ensures.changed
+
+pub returns-clause-once_written : goal.returns-clause-once_written
+returns-clause-once_written g c = λ bad. absurd (cc)

@@ -12,6 +12,7 @@ use Rattle.qcow2_image.proofs.Call.Marked.{refused_since}
 use Rattle.qcow2_image.proofs.Clear.ClearCalls.{err_is}
 use Rattle.qcow2_image.proofs.Sizing.RefusedTurns.{failed_other, not_marked, turn_ended, turn_still}
 use Rattle.qcow2_image.proofs.Sizing.Shrinking.{fault_of, written_stops}
+use Rattle.qcow2_image.proofs.Call.OnceWritten.{notes_then}
 use Rattle.qcow2_image.proofs.image.Qcow2.uncover_from.Goals as goal
 
 pub returns-in-Ok-clause-uncovers : goal.returns-in-Ok-clause-uncovers
@@ -141,3 +142,18 @@ returns-in_ok-end_freeing-in-Err-clause-faults g c =
     let old = c.args.self.now in
     let e = c.in-Err.refusal in
     counted_still view below old c.uncover_next.new.self c.end_freeing.new.self (Err e) (counted_as view below old old c.uncover_next.new.self c.uncover_next.result e (untouched view below old old refl refl) c.uncover_next.ensures.faults c.in-Err.is) c.end_freeing.ensures.faults.no_fewer
+
+pub returns-in-Ok-clause-since : goal.returns-in-Ok-clause-since
+returns-in-Ok-clause-since g c = c.uncover_next.ensures.since
+
+pub returns-then-is_fault-clause-since : goal.returns-then-is_fault-clause-since
+returns-then-is_fault-clause-since g c = c.uncover_next.ensures.since
+
+pub returns-in_err-end_freeing-in-Err-clause-since : goal.returns-in_err-end_freeing-in-Err-clause-since
+returns-in_err-end_freeing-in-Err-clause-since g c = notes_then g.S.Storage.view c.args.self.now c.uncover_next.new.self c.end_freeing.new.self c.uncover_next.ensures.since c.end_freeing.ensures.notes
+
+pub returns-in_ok-end_freeing-in-Err-clause-since : goal.returns-in_ok-end_freeing-in-Err-clause-since
+returns-in_ok-end_freeing-in-Err-clause-since g c = notes_then g.S.Storage.view c.args.self.now c.uncover_next.new.self c.end_freeing.new.self c.uncover_next.ensures.since c.end_freeing.ensures.notes
+
+pub returns-in-Ok-clause-idle : goal.returns-in-Ok-clause-idle
+returns-in-Ok-clause-idle g c = c.in-Ok.ensures.idle

@@ -4,7 +4,7 @@ use Rattle.qcow2_alloc.proofs.AllocationSteps.{handed_on}
 use Rattle.qcow2_image.specs.Image.{size_of}
 use Rattle.qcow2_image.specs.Resizing.{IsFaultOrCantUncover, UncoversNext}
 use Rattle.qcow2_image.proofs.Clear.ClearCalls.{err_is}
-use Rattle.qcow2_image.proofs.Sizing.Turns.{none_early, turn_done, turn_frees, turn_refused, turn_stops}
+use Rattle.qcow2_image.proofs.Sizing.Turns.{none_early, turn_done, turn_frees, turn_idle, turn_refused, turn_stops}
 use Rattle.qcow2_image.specs.Clearing.{refuses_to_clear}
 use Rattle.qcow2_image.specs.declared.discarding.Clearance.TheVariants.{Uncovered}
 use Rattle.qcow2_image.proofs.image.Qcow2.uncover_next.Goals as goal
@@ -51,3 +51,26 @@ returns-else-at-next-clause-emptied g c = λ out sound.
     let old = c.args.self.now in
     let none = none_early _ (refuses_to_clear old c.args.at (c.size-end.result - c.args.at) Uncovered) (c.in_ok-from.from, c.in_ok-from.count) c.clear_range.result c.clear_range.ensures.early c.in_ok-from.was in
     turn_frees g.S.Storage.view g.F.BackingDisk.backing old c.clear_range.new.self c.args.at c.size-end.result c.size-end.ensures c.requires.inside c.in_ok-from.ensures.emptied (λ least. (c.in_ok-from.ensures.nothing none least).1) out sound
+
+pub returns-in_err-from-clause-since : goal.returns-in_err-from-clause-since
+returns-in_err-from-clause-since g c = c.clear_range.ensures.since
+
+pub returns-then-next-end-clause-since : goal.returns-then-next-end-clause-since
+returns-then-next-end-clause-since g c = c.clear_range.ensures.since
+
+pub returns-else-at-next-clause-since : goal.returns-else-at-next-clause-since
+returns-else-at-next-clause-since g c = c.clear_range.ensures.since
+
+pub returns-then-next-end-clause-idle : goal.returns-then-next-end-clause-idle
+returns-then-next-end-clause-idle g c =
+    let old = c.args.self.now in
+    let none = none_early _ (refuses_to_clear old c.args.at (c.size-end.result - c.args.at) Uncovered) (c.in_ok-from.from, c.in_ok-from.count) c.clear_range.result c.clear_range.ensures.early c.in_ok-from.was in
+    turn_idle g.S.Storage.view g.F.BackingDisk.backing old c.clear_range.new.self c.args.at c.size-end.result c.size-end.ensures c.requires.inside (omega (arith, c.size-end.type_inv)) (c.in_ok-from.from, c.in_ok-from.count) c.in_ok-from.ensures.range
+    (λ least. (c.in_ok-from.ensures.nothing none least).1) c.saturating_add-next.result (inl c.saturating_add-next.ensures)
+
+pub returns-else-at-next-clause-idle : goal.returns-else-at-next-clause-idle
+returns-else-at-next-clause-idle g c =
+    let old = c.args.self.now in
+    let none = none_early _ (refuses_to_clear old c.args.at (c.size-end.result - c.args.at) Uncovered) (c.in_ok-from.from, c.in_ok-from.count) c.clear_range.result c.clear_range.ensures.early c.in_ok-from.was in
+    turn_idle g.S.Storage.view g.F.BackingDisk.backing old c.clear_range.new.self c.args.at c.size-end.result c.size-end.ensures c.requires.inside (omega (arith, c.size-end.type_inv)) (c.in_ok-from.from, c.in_ok-from.count) c.in_ok-from.ensures.range
+    (λ least. (c.in_ok-from.ensures.nothing none least).1) c.size-end.result (inr refl)

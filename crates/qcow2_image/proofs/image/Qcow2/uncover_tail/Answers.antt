@@ -6,6 +6,8 @@ use Rattle.qcow2_image.proofs.Sizing.RefusedTurns.{frees_next}
 use Rattle.qcow2_image.proofs.Sizing.Shrinking.{next_so_far, none_so_far, tail_refused, tail_stops}
 use Rattle.qcow2_image.proofs.Call.FaultCounts.{counted_as, fewer_then}
 use Rattle.qcow2_image.specs.Faults.{CountsImageFaults}
+use Rattle.qcow2_image.proofs.Call.OnceWritten.{notes_begun, notes_none}
+use Rattle.qcow2_image.proofs.Sizing.IdleTurns.{idle_next}
 use Rattle.qcow2_image.proofs.image.Qcow2.uncover_tail.Goals as goal
 
 pub loop-at-init : goal.loop-at-init
@@ -17,6 +19,7 @@ loop-at-init g c =
           (λ out sound. record { keeps = c.begin.ensures.keeps (pending_in view below c.args.self.now out) out sound; list = c.begin.ensures.list });
       faults = c.begin.ensures.faults;
       emptied = λ writable out sound before. inl refl;
+      idle = λ least. c.begin.ensures.begun;
     }
 
 pub loop-at-preserved : goal.loop-at-preserved
@@ -28,6 +31,7 @@ loop-at-preserved g c = record {
       let so = c.loop-at.invariant.turns in
       inr (c.in-Ok.ensures.emptied (subst IsTrue (sym so.image.writable) writable) out (so.so_far out sound).0.sound
       (frees_next g.S.Storage.view g.F.BackingDisk.backing c.args.self.now c.loop-at.self c.args.size c.loop-at.at c.size-end.result so out sound before (c.loop-at.invariant.emptied writable out sound before)));
+  idle = idle_next c.args.self.now c.loop-at.self c.uncover_from.new.self c.args.size c.loop-at.at c.in-Ok.next c.loop-at.invariant.turns.from c.in-Ok.ensures.on.0 c.loop-at.invariant.idle c.in-Ok.ensures.idle;
 }
 
 pub returns-then-is_fault-clause-uncovers : goal.returns-then-is_fault-clause-uncovers
@@ -91,3 +95,12 @@ returns-clause-emptied g c = λ writable out sound is before.
 
 pub uncover_from-requires-clause-usable : goal.uncover_from-requires-clause-usable
 uncover_from-requires-clause-usable g c = c.loop-at.invariant.turns.failed ∙ c.requires.usable
+
+pub returns-then-is_fault-clause-since : goal.returns-then-is_fault-clause-since
+returns-then-is_fault-clause-since g c = λ least. notes_begun g.S.Storage.view c.args.self.now c.loop-at.self c.uncover_from.new.self (c.loop-at.invariant.idle least) c.uncover_from.ensures.since
+
+pub returns-in-Err-clause-since : goal.returns-in-Err-clause-since
+returns-in-Err-clause-since g c = λ least. notes_begun g.S.Storage.view c.args.self.now c.loop-at.self c.uncover_from.new.self (c.loop-at.invariant.idle least) c.uncover_from.ensures.since
+
+pub returns-clause-since : goal.returns-clause-since
+returns-clause-since g c = λ least. notes_begun g.S.Storage.view c.args.self.now c.loop-at.self c.loop-at.self (c.loop-at.invariant.idle least) (notes_none g.S.Storage.view c.loop-at.self)

@@ -7,6 +7,7 @@ use Rattle.qcow2_alloc.specs.ImageStorage.{storage_of}
 use Rattle.qcow2_image.specs.declared.image.Qcow2.{Qcow2}
 use Rattle.qcow2_image.specs.Resizing.{WritesSize}
 use Rattle.qcow2_image.proofs.Sizing.SizeWritten.{resizes_refused, resizes_so, size_is_refused, size_is_set}
+use Rattle.qcow2_alloc.proofs.KeptMarks.{told_kept}
 use Rattle.qcow2_image.proofs.image.Qcow2.write_size.Goals as goal
 
 pub returns-in-Ok-clause-writes : goal.returns-in-Ok-clause-writes
@@ -50,3 +51,9 @@ returns-in-Err-clause-resizes g c = λ p sound.
     let asked = storage_of c.will_write.new.self in
     let wrote = subst (λ (v : HeaderView). Changes (view asked) (view (storage_of after)) c.write_size.result (size_written v.fields (view asked).contents)) c.set_size.ensures c.write_size.ensures.written in
     resizes_refused view g.F.BackingDisk.backing p old sound c.args.size c.ranges.size.fits after c.write_size.result asked c.will_write.ensures.storage wrote c.write_size.ensures.calls _ c.in-Err.refusal refl
+
+pub returns-in-Ok-clause-notes : goal.returns-in-Ok-clause-notes
+returns-in-Ok-clause-notes g c = told_kept c.args.self.now.file.storage c.will_write.new.self c.write_size.new.self c.write_size.result c.will_write.ensures.storage c.will_write.ensures.changed _ c.write_size.ensures.written c.write_size.ensures.calls c.write_size.ensures.noted
+
+pub returns-in-Err-clause-notes : goal.returns-in-Err-clause-notes
+returns-in-Err-clause-notes g c = told_kept c.args.self.now.file.storage c.will_write.new.self c.write_size.new.self c.write_size.result c.will_write.ensures.storage c.will_write.ensures.changed _ c.write_size.ensures.written c.write_size.ensures.calls c.write_size.ensures.noted
