@@ -10,3 +10,4 @@ pub mod Refused
 pub mod Slots
 pub mod OnceWritten
 pub mod Notes
+pub mod BehindHeader

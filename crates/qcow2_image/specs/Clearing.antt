@@ -24,6 +24,7 @@ use Rattle.qcow2_disk.specs.Mappings.{given_shown}
 use Rattle.qcow2_disk.specs.Rules.{answered, touched_from, touched_to}
 use Rattle.qcow2_laws.specs.Steps.{guest_at}
 use Rattle.qcow2_disk.specs.Stops.{GivenBytes}
+use Rattle.qcow2_alloc.specs.BehindHeader.{KeepBehindHeader}
 use Rattle.qcow2_alloc.specs.CachePins.{KeepsPinsAndNotes, l2_pins}
 use Rattle.qcow2_alloc.specs.declared.cache.MetadataCaches.{MetadataCaches}
 use Rattle.qcow2_alloc.specs.declared.clusters_to_free.ClustersToFreeEntry.{ClustersToFreeEntry}
@@ -156,6 +157,7 @@ pub record ClearsEntry {S F : Type 0} (how : Clearance) (table index : ℕ) (old
   pub cleared : (h : HeaderFields) (p : Pending) (on_storage : Bytes) (i : ℕ) → CacheInvariant h p old.file.caches on_storage → IsEntryAt h (known_of h old.file.caches on_storage) i table index → is_copied (l1_entry h on_storage i) ≡ true → IsSome (l2_at old.file.caches table)
       → MadeEntry h old.file.caches new.file.caches on_storage i index (cleared_entry how (entry_cover h (l2_entry (known_of h old.file.caches on_storage) (table_at h (known_of h old.file.caches on_storage) i) index))) answer
   pub noted : NotesHeld old.file.caches new.file.caches table index
+  pub behind : KeepBehindHeader old.file.caches new.file.caches
 
 -- what a cleared cluster is mapped to, as the laws ask for it
 abbrev pub is_cleared : Clearance → L2Mapping → Type 0
@@ -200,6 +202,7 @@ module _ {S F : Type 0} (view : S → StorageView) (backing : F → BackingView)
     pub new_data : IsSome (l2_at a.file.caches t) → IsSome (l2_at b.file.caches t)
     pub part : (out : List (Option Prepared)) (p : Pending) (row : ℕ) → MayClear how t row column n a out p → AreCleared how row column n a b.file.caches out p
     pub noted : (out : List (Option Prepared)) (p : Pending) (row : ℕ) → MayClear how t row column n a out p → 0 < n → IsTrue b.file.caches.is_changed
+    pub behind : KeepBehindHeader a.file.caches b.file.caches
 
   -- ---- what is read before the first entry changes
   -- what the entry of a guest cluster will name no longer is put at the end of a list; it is within the reach of an entry

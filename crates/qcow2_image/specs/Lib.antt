@@ -27,3 +27,4 @@ pub mod Unwritten
 pub mod L1Entries
 pub mod ListedClusters
 pub mod Noted
+pub mod BehindHeader

@@ -8,6 +8,7 @@ use Rattle.qcow2_laws.specs.CrashInvariant.{Pending}
 use Rattle.qcow2_laws.specs.SafeSteps.{DriverState, SafeStep}
 use Rattle.qcow2_disk.specs.Stops.{SafeThroughout}
 use Rattle.qcow2_laws.specs.Unseen.{KeepsFormat, IsUnseen}
+use Rattle.qcow2_alloc.specs.BehindHeader.{KeepBehindHeader}
 use Rattle.qcow2_alloc.specs.declared.clusters_to_free.ClustersToFreeEntry.{ClustersToFreeEntry}
 use Rattle.qcow2_alloc.specs.declared.error.ImageError.{ImageError}
 use Rattle.qcow2_alloc.specs.declared.image_file.ImageFile.{ImageFile}
@@ -76,6 +77,7 @@ module _ {S F : Type 0} where
     pub marks : KeepsPinsAndNotes old.file.caches new.file.caches
     pub entered : (t : ℕ) → table ≡ Some t → (answer : Option (ℕ × ℕ)) × MapsCachedEntry old.file.caches new.file.caches t index host answer
     pub noted : (t : ℕ) → table ≡ Some t → NotesEntry old.file.caches new.file.caches t index host
+    pub behind : KeepBehindHeader old.file.caches new.file.caches
 
   -- A share that isn't in place is entered in the table of its mapping, where its cluster stands in the file, and is in place then. What stood there before is to be freed. Nothing else changes.
   pub record EntersShare (i : ℕ) (p p' : Prepared) (old new : Qcow2 S F) : Type 0 where

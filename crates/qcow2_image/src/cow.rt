@@ -1,4 +1,5 @@
 //! Filling a new cluster with the bytes that the guest saw there before.
+ghost use Rattle.qcow2_image.specs.BehindHeader.{StaysBehindHeader};
 ghost use Rattle.qcow2_alloc.specs.KeptNotes.{KeepsNotes};
 ghost use Rattle.std.specs.Prelude.{◌≡◌, ◌/◌, ◌^◌, ◌<◌, ◌≤◌, ℕ, List, Option, Some, true, false, replicate, IfOk, IfErr, IfSome};
 ghost use Rattle.qcow2_laws.specs.CrashInvariant.{Pending};
@@ -38,6 +39,7 @@ impl<S: Storage, F: WrappedFormat<S>> Qcow2<S, F> {
         ensures value { self.new.file.header ≡ self.old.file.header }
         ensures stays { ImageStays self.old self.new }
         ensures notes { KeepsNotes S.view self.old.file.storage self.new.file.storage }
+        ensures header_cluster { StaysBehindHeader self.old self.new }
         ensures cause { IfErr result IsMet }
         ensures image_step { (p : Pending) (out : List (Option Prepared)) → ImageInvariant S.view F.backing p self.old out → HoldsAll S.view F.backing p out → 0 < p.new_data cluster → over_all new_data_by out cluster ≡ 0 → UnseenFillingStep S.view F.backing p p self.old self.new out }
         ensures allocator { self.new.allocator ≡ self.old.allocator }
@@ -70,6 +72,7 @@ impl<S: Storage, F: WrappedFormat<S>> Qcow2<S, F> {
         requires reach { host ≤ greatest_offset }
         ensures stays { ImageStays self.old self.new }
         ensures notes { KeepsNotes S.view self.old.file.storage self.new.file.storage }
+        ensures header_cluster { StaysBehindHeader self.old self.new }
         ensures cause { IfErr result IsMet }
         ensures rest { self.new ≡ record self.old { file = record self.old.file { storage = self.new.file.storage } } }
         ensures image_step { (p : Pending) (out : List (Option Prepared)) → ImageInvariant S.view F.backing p self.old out → HoldsAll S.view F.backing p out → IsKeptAlone S.view F.backing self.old out offset host → UnseenFillingStep S.view F.backing p p self.old self.new out }
@@ -108,6 +111,7 @@ impl<S: Storage, F: WrappedFormat<S>> Qcow2<S, F> {
         ensures value { self.new.file.header ≡ self.old.file.header }
         ensures stays { ImageStays self.old self.new }
         ensures notes { KeepsNotes S.view self.old.file.storage self.new.file.storage }
+        ensures header_cluster { StaysBehindHeader self.old self.new }
         ensures cause { IfErr result IsMet }
         ensures image_step { (p : Pending) (out : List (Option Prepared)) (cluster : ℕ) → ImageInvariant S.view F.backing p self.old out → HoldsAll S.view F.backing p out → IsInHeldCluster S.view F.backing p self.old out cluster at length → UnseenFillingStep S.view F.backing p p self.old self.new out }
         ensures allocator { self.new.allocator ≡ self.old.allocator }
@@ -127,6 +131,7 @@ impl<S: Storage, F: WrappedFormat<S>> Qcow2<S, F> {
     fn write_zeros(&mut self, at: u64, length: u64) -> Result<(), ImageError>
         ensures stays { ImageStays self.old self.new }
         ensures notes { KeepsNotes S.view self.old.file.storage self.new.file.storage }
+        ensures header_cluster { StaysBehindHeader self.old self.new }
         ensures cause { IfErr result IsMet }
         ensures written { WritesBytes S.view self.old self.new at (replicate length 0) result }
         ensures faults { CountsImageFaults S.view F.backing self.old self.new result }

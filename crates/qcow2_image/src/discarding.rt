@@ -1,4 +1,5 @@
 //! Clearing the whole clusters of a range: to zeros, or to what the disk below shows.
+ghost use Rattle.qcow2_image.specs.BehindHeader.{StaysBehindHeader};
 ghost use Rattle.qcow2_image.specs.Noted.{FailsOnceWritten, NotesChanges};
 ghost use Rattle.qcow2_alloc.specs.KeptNotes.{KeepsNotes};
 ghost use Rattle.std.specs.Prelude.{ℕ, List, Option, ◌≡◌, ◌+◌, ◌-◌, ◌*◌, ◌/◌, ◌%◌, ◌^◌, ◌<◌, ◌≤◌, ◌≢◌, ◌++◌, true, false, not, Some, None, Ok, Err, IfOk, IfErr, IfSome, OnOk, IsOk, IsSome, IsTrue, MatchOption, nat_le, nat_lt, if◌then◌else◌};
@@ -132,6 +133,7 @@ impl<S: Storage, F: WrappedFormat<S>> Qcow2<S, F> {
             → OnOk result (ReachesOffset (from_in self.old offset length) self.old.file.header.fields self.new.file.header.fields) }
         ensures far { from_in self.old offset length < to_in self.old offset length → RefusesFarEntry (refuses_to_clear self.old offset length Clearance.Uncovered) (from_in self.old offset length) self.old self.new result }
         ensures once_written { FailsOnceWritten S.view self.old self.new result }
+        ensures header_cluster { StaysBehindHeader self.old self.new }
         ensures faults { CountsImageFaults S.view F.backing self.old self.new result }
     {
         self.clear_range(offset, length, Clearance::Uncovered)
@@ -164,6 +166,7 @@ impl<S: Storage, F: WrappedFormat<S>> Qcow2<S, F> {
             → OnOk result (ReachesOffset (from_in self.old offset length) self.old.file.header.fields self.new.file.header.fields) }
         ensures far { from_in self.old offset length < to_in self.old offset length → RefusesFarEntry (refuses_to_clear self.old offset length Clearance.Zeros) (from_in self.old offset length) self.old self.new result }
         ensures once_written { FailsOnceWritten S.view self.old self.new result }
+        ensures header_cluster { StaysBehindHeader self.old self.new }
         ensures faults { CountsImageFaults S.view F.backing self.old self.new result }
     {
         self.clear_range(offset, length, Clearance::Zeros)
@@ -196,6 +199,7 @@ impl<S: Storage, F: WrappedFormat<S>> Qcow2<S, F> {
             → OnOk result (ReachesOffset (from_in self.old offset length) self.old.file.header.fields self.new.file.header.fields) }
         ensures far { from_in self.old offset length < to_in self.old offset length → RefusesFarEntry (refuses_to_clear self.old offset length Clearance.Zeros) (from_in self.old offset length) self.old self.new result }
         ensures once_written { FailsOnceWritten S.view self.old self.new result }
+        ensures header_cluster { StaysBehindHeader self.old self.new }
         ensures faults { CountsImageFaults S.view F.backing self.old self.new result }
     {
         self.discard_to_zero_unsafe(offset, length)
@@ -228,6 +232,7 @@ impl<S: Storage, F: WrappedFormat<S>> Qcow2<S, F> {
             → OnOk result (ReachesOffset (from_in self.old offset length) self.old.file.header.fields self.new.file.header.fields) }
         ensures far { from_in self.old offset length < to_in self.old offset length → RefusesFarEntry (refuses_to_clear self.old offset length Clearance.KeptZeros) (from_in self.old offset length) self.old self.new result }
         ensures once_written { FailsOnceWritten S.view self.old self.new result }
+        ensures header_cluster { StaysBehindHeader self.old self.new }
         ensures faults { CountsImageFaults S.view F.backing self.old self.new result }
     {
         self.clear_range(offset, length, Clearance::KeptZeros)
@@ -256,6 +261,7 @@ impl<S: Storage, F: WrappedFormat<S>> Qcow2<S, F> {
         ensures range { IfOk result (λ range. range ≡ answered (cluster_size self.old.file.header.fields) (size_of self.old) offset length) }
         ensures refused { IfErr result (RefusesClearing S.view F.backing how self.old self.new offset length) }
         ensures since { NotesChanges S.view self.old self.new }
+        ensures header_cluster { StaysBehindHeader self.old self.new }
         ensures faults { CountsImageFaults S.view F.backing self.old self.new result }
     {
         let (from, to) = self.check_clear(offset, length, how)?;
@@ -325,6 +331,7 @@ impl<S: Storage, F: WrappedFormat<S>> Qcow2<S, F> {
         requires some { from < to }
         ensures stays { ImageStays self.old self.new }
         ensures notes { KeepsNotes S.view self.old.file.storage self.new.file.storage }
+        ensures header_cluster { StaysBehindHeader self.old self.new }
         ensures cause { IfErr result IsMetPreparing }
         ensures lacks { (out : List (Option Prepared)) → ImageInvariant S.view F.backing (pending_in S.view F.backing self.old out) self.old out → IsClearable self.old.file.header.fields how from to
             → (HasPrepared out → ⊥) → IfErr result (IsFaultOrLacksTable S.view self.new from) }

@@ -1,4 +1,5 @@
 //! The first cluster of a prepared range.
+ghost use Rattle.qcow2_image.specs.BehindHeader.{StaysBehindHeader};
 ghost use Rattle.qcow2_alloc.specs.KeptNotes.{KeepsNotes};
 ghost use Rattle.std.specs.Prelude.{List, Option, ◌≡◌, ◌+◌, ◌-◌, ◌/◌, ◌%◌, ◌^◌, ◌<◌, ◌≤◌, true, false, Some, [], ◌∷◌, vec_capacity, IfOk, IfErr, IsSome, IsTrue, OnOk};
 ghost use Rattle.qcow2_metadata.specs.L2Mapping.{IsHostCluster, IsInReach, greatest_offset};
@@ -54,6 +55,7 @@ impl<S: Storage, F: WrappedFormat<S>> Qcow2<S, F> {
         ensures stays { ImageStays self.old self.new }
         ensures header { KeepsHeader self.old.file.header self.new.file.header }
         ensures notes { KeepsNotes S.view self.old.file.storage self.new.file.storage }
+        ensures header_cluster { 0 < table → StaysBehindHeader self.old self.new }
         ensures cause { IfErr result IsMetPreparing }
         ensures taken { IfErr result (λ e. e ≡ TablePrepared → 0 < l2_pins self.old.file.caches table) }
         ensures own { IfOk result (λ p. image_of p ≡ number_of self.old) }
@@ -95,6 +97,7 @@ impl<S: Storage, F: WrappedFormat<S>> Qcow2<S, F> {
         requires room { 0 < vec_capacity room }
         ensures stays { ImageStays self.old self.new }
         ensures notes { KeepsNotes S.view self.old.file.storage self.new.file.storage }
+        ensures header_cluster { 0 < table → StaysBehindHeader self.old self.new }
         ensures cause { IfErr result IsMet }
         ensures own { IfOk result (λ p. image_of p ≡ number_of self.old) }
         ensures first { IfOk result (IsFirst self.old.file.header.fields offset table) }
@@ -128,6 +131,7 @@ impl<S: Storage, F: WrappedFormat<S>> Qcow2<S, F> {
         requires room { 0 < vec_capacity room }
         ensures stays { ImageStays self.old self.new }
         ensures notes { KeepsNotes S.view self.old.file.storage self.new.file.storage }
+        ensures header_cluster { StaysBehindHeader self.old self.new }
         ensures cause { IfErr result IsMet }
         ensures own { IfOk result (λ p. image_of p ≡ number_of self.old) }
         ensures first { IfOk result (IsFirst self.old.file.header.fields offset table) }
@@ -162,6 +166,7 @@ impl<S: Storage, F: WrappedFormat<S>> Qcow2<S, F> {
         requires room { 0 < vec_capacity room }
         ensures stays { ImageStays self.old self.new }
         ensures notes { KeepsNotes S.view self.old.file.storage self.new.file.storage }
+        ensures header_cluster { 0 < table → StaysBehindHeader self.old self.new }
         ensures cause { IfErr result IsMet }
         ensures own { IfOk result (λ p. image_of p ≡ number_of self.old) }
         ensures first { IfOk result (IsFirst self.old.file.header.fields offset table) }
@@ -196,6 +201,7 @@ impl<S: Storage, F: WrappedFormat<S>> Qcow2<S, F> {
         ensures header { self.new.file.header ≡ self.old.file.header }
         ensures stays { ImageStays self.old self.new }
         ensures notes { KeepsNotes S.view self.old.file.storage self.new.file.storage }
+        ensures header_cluster { 0 < table → StaysBehindHeader self.old self.new }
         ensures cause { IfErr result IsMet }
         ensures allocator { self.new.allocator ≡ self.old.allocator }
         ensures list { self.new.file.free_list ≡ self.old.file.free_list }
@@ -264,6 +270,7 @@ impl<S: Storage, F: WrappedFormat<S>> Qcow2<S, F> {
         ensures header { KeepsHeader self.old.file.header self.new.file.header }
         ensures stays { ImageStays self.old self.new }
         ensures notes { KeepsNotes S.view self.old.file.storage self.new.file.storage }
+        ensures header_cluster { StaysBehindHeader self.old self.new }
         ensures cause { IfErr result IsMet }
         ensures gains { (p : Pending) (out : List (Option Prepared)) → ImageInvariant S.view F.backing p self.old out → HoldsAll S.view F.backing p out → Gains S.view F.backing p self.old self.new out offset length overwrite old.now result }
         ensures former { OnOk result (ListsFormer self.old self.new) }
@@ -287,6 +294,7 @@ impl<S: Storage, F: WrappedFormat<S>> Qcow2<S, F> {
         ensures list { ListGrows self.old self.new }
         ensures stays { ImageStays self.old self.new }
         ensures notes { KeepsNotes S.view self.old.file.storage self.new.file.storage }
+        ensures header_cluster { StaysBehindHeader self.old self.new }
         ensures cause { IfErr result IsMet }
         ensures takes { (p : Pending) (out : List (Option Prepared)) → ImageInvariant S.view F.backing p self.old out → HoldsAll S.view F.backing p out → TakesData S.view F.backing p self.old self.new out result }
         ensures former { ListsFormer self.old self.new }

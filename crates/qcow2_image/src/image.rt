@@ -1,4 +1,6 @@
-ghost use Rattle.std.specs.Prelude.{◌≡◌, ◌&&◌};
+ghost use Rattle.qcow2_alloc.specs.BehindHeader.{AreBehindHeader};
+ghost use Rattle.qcow2_image.specs.BehindHeader.{LiesBehindHeader, StaysBehindHeader, TablesBehindHeader};
+ghost use Rattle.std.specs.Prelude.{◌≡◌, ◌<◌, ◌&&◌};
 ghost use Rattle.qcow2_image.specs.Opened.{needs_another as needs_another_of};
 
 use image_access::{BackingDisk, Format, Storage, WrappedFormat};
@@ -124,6 +126,7 @@ impl<S: Storage, F: WrappedFormat<S>> Qcow2<S, F> {
         ensures names { (S.view metadata).is_honest → IfOk result (λ image. HasNamesIn image.file.header (S.view metadata).contents) }
         ensures storage { LeavesStorage S.view writable (S.view metadata) result }
         ensures cause { OpensRightly (S.view metadata) writable false result }
+        ensures header_cluster { IfOk result (λ image. 0 < image.file.header.fields.reftable_offset → LiesBehindHeader image) }
     {
         Self::open(alloc, ImageStorage::new(metadata), writable, number, false)
     }
@@ -148,6 +151,7 @@ impl<S: Storage, F: WrappedFormat<S>> Qcow2<S, F> {
         ensures storage { LeavesStorage S.view writable (S.view metadata) result }
         ensures another { (S.view metadata).is_honest → NeedsAnother (S.view metadata).contents → IsRefusedAlone result × ContentsStay (S.view metadata) (S.view (storage_after result)) }
         ensures cause { OpensRightly (S.view metadata) writable true result }
+        ensures header_cluster { IfOk result (λ image. 0 < image.file.header.fields.reftable_offset → LiesBehindHeader image) }
     {
         Self::open(alloc, ImageStorage::new(metadata), writable, number, true)
     }
@@ -170,6 +174,7 @@ impl<S: Storage, F: WrappedFormat<S>> Qcow2<S, F> {
         ensures storage { LeavesStorage S.view writable (S.view (storage_of storage)) result }
         ensures another { IsTrue alone → (S.view (storage_of storage)).is_honest → NeedsAnother (S.view (storage_of storage)).contents → IsRefusedAlone result × ContentsStay (S.view (storage_of storage)) (S.view (storage_after result)) }
         ensures cause { OpensRightly (S.view (storage_of storage)) writable alone result }
+        ensures header_cluster { IfOk result (λ image. 0 < image.file.header.fields.reftable_offset → LiesBehindHeader image) }
     {
         let header = match Header::load(alloc, &mut storage, writable) {
             Ok(header) => header,
@@ -246,6 +251,7 @@ impl<S: Storage, F: WrappedFormat<S>> Qcow2<S, F> {
         ensures loaded { (p : Pending) → IsFresh S.view F.backing p file.old → IfOk result (λ allocator. StaysFresh S.view F.backing p file.old file.new × IsAllocatorOf S.view file.new allocator) }
         ensures cause { IfErr result IsMet }
         ensures why { (view_in S.view file.old).is_honest → MatchResult result (λ allocator. ReftableReads file.old.header.fields (contents_in S.view file.old)) (IsReasonAgainstReftable file.old.header.fields (contents_in S.view file.old)) }
+        ensures header_cluster { AreBehindHeader file.old.header.fields.cluster_bits file.old.caches → 0 < file.new.header.fields.reftable_offset → IfOk result (λ allocator. TablesBehindHeader file.new.header.fields.cluster_bits file.new.header.fields.cluster_bits file.new.caches (Some allocator)) }
     {
         let allocator = Allocator::new(file)?;
         file.storage.will_write(WriteKind::Other);
@@ -264,6 +270,7 @@ impl<S: Storage, F: WrappedFormat<S>> Qcow2<S, F> {
         ensures loaded { (p : Pending) → IsFresh S.view F.backing p file.old → IfOk result (λ tables. IsLoaded S.view F.backing p file.new tables.l1_table tables.allocator) }
         ensures cause { IfErr result IsMet }
         ensures why { (view_in S.view file.old).is_honest → MatchResult result (λ tables. NeededTablesRead file.old.header.fields (contents_in S.view file.old) writable) (IsReasonAgainstTables file.old.header.fields (contents_in S.view file.old) writable) }
+        ensures header_cluster { AreBehindHeader file.old.header.fields.cluster_bits file.old.caches → 0 < file.new.header.fields.reftable_offset → IfOk result (λ tables. TablesBehindHeader file.new.header.fields.cluster_bits file.new.header.fields.cluster_bits file.new.caches tables.allocator) }
     {
         let l1_table = Self::load_l1_table(file)?;
         if !writable {
@@ -393,6 +400,7 @@ impl<S: Storage, F: WrappedFormat<S>> Qcow2<S, F> {
         ensures writes { (p : Pending) → ImageInvariant S.view F.backing (with_listed p self.old.file.free_list) self.old [] → WritesBack S.view F.backing p self.old self.new result }
         ensures unwritten { is_writable self.old ≡ false → OnlyReadsImage S.view F.backing self.old self.new }
         ensures once_written { FailsOnceWritten S.view self.old self.new result }
+        ensures header_cluster { StaysBehindHeader self.old self.new }
         ensures faults { CountsImageFaults S.view F.backing self.old self.new result }
     {
         if self.is_failed {
@@ -410,6 +418,7 @@ impl<S: Storage, F: WrappedFormat<S>> Qcow2<S, F> {
         ensures emptied { IsTrue (is_writable self.old) → OnOk result (HasNothingToFree self.new) }
         ensures frees { (p : Pending) (out : List (Option Prepared)) → ImageInvariant S.view F.backing (with_listed p self.old.file.free_list) self.old out → FreesListed S.view F.backing p self.old self.new out result }
         ensures notes { KeepsNotes S.view self.old.file.storage self.new.file.storage }
+        ensures header_cluster { StaysBehindHeader self.old self.new }
         ensures written { IfOk result (λ done. known_in S.view self.new.file ≡ contents_in S.view self.new.file) }
         ensures unwritten { is_writable self.old ≡ false → OnlyReadsImage S.view F.backing self.old self.new }
         ensures faults { CountsImageFaults S.view F.backing self.old self.new result }
@@ -432,6 +441,7 @@ impl<S: Storage, F: WrappedFormat<S>> Qcow2<S, F> {
         ensures noted { IsTrue self.old.file.caches.is_changed → IsTrue self.new.file.caches.is_changed }
         ensures idle { HasNothingToFree self.old → (result ≡ Ok tt) × (self.new ≡ self.old) }
         ensures notes { KeepsNotes S.view self.old.file.storage self.new.file.storage }
+        ensures header_cluster { StaysBehindHeader self.old self.new }
         ensures untouched { is_writable self.old ≡ false → self.new ≡ self.old }
         ensures counts { CountsImageFaults S.view F.backing self.old self.new result }
     {
@@ -448,6 +458,7 @@ impl<S: Storage, F: WrappedFormat<S>> Qcow2<S, F> {
     pub(crate) fn end_freeing(&mut self) -> Result<(), ImageError>
         ensures image { IsSameImage self.old self.new }
         ensures notes { KeepsNotes S.view self.old.file.storage self.new.file.storage }
+        ensures header_cluster { StaysBehindHeader self.old self.new }
         ensures cause { IfErr result IsOfTables }
         ensures marks { MarksFailed self.old self.new result }
         ensures emptied { IsTrue (is_writable self.old) → OnOk result (HasNothingToFree self.new) }

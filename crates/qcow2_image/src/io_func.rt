@@ -1,4 +1,5 @@
 //! Reading and writing what is mapped.
+ghost use Rattle.qcow2_image.specs.BehindHeader.{StaysBehindHeader};
 ghost use Rattle.std.specs.Prelude.{◌≡◌, ◌≢◌, ◌+◌, ◌^◌, ◌<◌, ◌≤◌, ℕ, List, [], Option, length, slice_get, ◌⊎◌, IfOk, IfErr, IfSome, OnOk, IsErr, IsSome, IsTrue, MatchOption, Ok, Err, Some, None, true, false};
 ghost use Rattle.qcow2_disk.specs.Calls.{Shows};
 ghost use Rattle.qcow2_laws.specs.CrashInvariant.{Pending};
@@ -66,6 +67,7 @@ impl<S: Storage, F: WrappedFormat<S>> Qcow2<S, F> {
         ensures sees { AnswersCall S.view F.backing self.old self.new [] (λ done old new. (new ≡ old) × Shows old.disk (mapping.now.offset + at) bytes.new) result }
         ensures faults { CountsImageFaults S.view F.backing self.old self.new result }
         ensures once_written { FailsOnceWritten S.view self.old self.new result }
+        ensures header_cluster { StaysBehindHeader self.old self.new }
         ensures unwritten { OnlyReadsImage S.view F.backing self.old self.new }
     {
         self.check_usable()?;
@@ -96,6 +98,7 @@ impl<S: Storage, F: WrappedFormat<S>> Qcow2<S, F> {
         ensures shows { 0 < length bytes.old → (p : Pending) (out : List (Option Prepared)) → ImageInvariant S.view F.backing p self.old out → IfOk result (λ done. Shows (disk_of S.view F.backing self.new) (mapping.now.offset + at) bytes.new) }
         ensures faults { CountsImageFaults S.view F.backing self.old self.new result }
         ensures notes { KeepsNotes S.view self.old.file.storage self.new.file.storage }
+        ensures header_cluster { StaysBehindHeader self.old self.new }
         ensures unwritten { OnlyReadsImage S.view F.backing self.old self.new }
     {
         let offset = self.place_within(mapping.offset, at)?;
@@ -134,6 +137,7 @@ impl<S: Storage, F: WrappedFormat<S>> Qcow2<S, F> {
         ensures found { (p : Pending) (out : List (Option Prepared)) → ImageInvariant S.view F.backing p self.old out → OnOk result (IsFoundWhole S.view self.old offset wanted.now length) }
         ensures faults { CountsImageFaults S.view F.backing self.old self.new result }
         ensures notes { KeepsNotes S.view self.old.file.storage self.new.file.storage }
+        ensures header_cluster { StaysBehindHeader self.old self.new }
         ensures unwritten { OnlyReadsImage S.view F.backing self.old self.new }
     {
         let (kind, found) = self.look_up(offset, length)?;
@@ -161,6 +165,7 @@ impl<S: Storage, F: WrappedFormat<S>> Qcow2<S, F> {
             → IfOk result (λ done. Shows (disk_of S.view F.backing self.new) offset bytes.new) }
         ensures faults { CountsImageFaults S.view F.backing self.old self.new result }
         ensures notes { KeepsNotes S.view self.old.file.storage self.new.file.storage }
+        ensures header_cluster { StaysBehindHeader self.old self.new }
         ensures unwritten { OnlyReadsImage S.view F.backing self.old self.new }
     {
         match kind {
@@ -192,6 +197,7 @@ impl<S: Storage, F: WrappedFormat<S>> Qcow2<S, F> {
         ensures reads { IsHonestBacking S.view F.backing self.old.backing → IfOk result (λ done. (length bytes.new ≡ length bytes.old) × AreBytesOf (backing_bytes S.view F.backing self.old.backing) offset bytes.new) }
         ensures faults { CountsImageFaults S.view F.backing self.old self.new result }
         ensures notes { KeepsNotes S.view self.old.file.storage self.new.file.storage }
+        ensures header_cluster { StaysBehindHeader self.old self.new }
     {
         let Some(backing) = &mut self.backing else {
             bytes.fill(0);
@@ -217,6 +223,7 @@ impl<S: Storage, F: WrappedFormat<S>> Qcow2<S, F> {
         ensures sees { AnswersCall S.view F.backing self.old self.new [] (λ done was is. is ≡ was) result }
         ensures faults { CountsImageFaults S.view F.backing self.old self.new result }
         ensures once_written { FailsOnceWritten S.view self.old self.new result }
+        ensures header_cluster { StaysBehindHeader self.old self.new }
         ensures unwritten { OnlyReadsImage S.view F.backing self.old self.new }
     {
         match self.try_readv_special(bytes, offset)? {
@@ -244,6 +251,7 @@ impl<S: Storage, F: WrappedFormat<S>> Qcow2<S, F> {
         ensures sees { AnswersCall S.view F.backing self.old self.new [] (λ at was is. is ≡ was) result }
         ensures faults { CountsImageFaults S.view F.backing self.old self.new result }
         ensures once_written { FailsOnceWritten S.view self.old self.new result }
+        ensures header_cluster { StaysBehindHeader self.old self.new }
         ensures unwritten { OnlyReadsImage S.view F.backing self.old self.new }
     {
         self.check_usable()?;
@@ -265,6 +273,7 @@ impl<S: Storage, F: WrappedFormat<S>> Qcow2<S, F> {
         ensures tells { (p : Pending) (out : List (Option Prepared)) → ImageInvariant S.view F.backing p self.old out → TellsWhether (known_in S.view self.old.file) offset result }
         ensures faults { CountsImageFaults S.view F.backing self.old self.new result }
         ensures notes { KeepsNotes S.view self.old.file.storage self.new.file.storage }
+        ensures header_cluster { StaysBehindHeader self.old self.new }
         ensures unwritten { OnlyReadsImage S.view F.backing self.old self.new }
     {
         let (kind, _length) = self.look_up(offset, length)?;
@@ -299,6 +308,7 @@ impl<S: Storage, F: WrappedFormat<S>> Qcow2<S, F> {
         ensures sees { Puts S.view F.backing self.old self.new prepared.now at bytes.now result }
         ensures faults { CountsImageFaults S.view F.backing self.old self.new result }
         ensures once_written { FailsOnceWritten S.view self.old self.new result }
+        ensures header_cluster { StaysBehindHeader self.old self.new }
     {
         self.check_usable()?;
         if prepared.image != self.number {
@@ -332,6 +342,7 @@ impl<S: Storage, F: WrappedFormat<S>> Qcow2<S, F> {
             → ImageInvariant S.view F.backing (pending_in S.view F.backing self.old out) self.old out → PutsPart S.view F.backing self.old self.new out k prepared.now at bytes.now result }
         ensures faults { CountsImageFaults S.view F.backing self.old self.new result }
         ensures notes { KeepsNotes S.view self.old.file.storage self.new.file.storage }
+        ensures header_cluster { StaysBehindHeader self.old self.new }
     {
         let Some(host) = prepared.offset.checked_add(at) else {
             return Err(ImageError::Overflow);
@@ -359,6 +370,7 @@ impl<S: Storage, F: WrappedFormat<S>> Qcow2<S, F> {
         ensures private { IsSome (table_of prepared.now) → result ≡ Ok tt }
         ensures faults { CountsImageFaults S.view F.backing self.old self.new result }
         ensures notes { KeepsNotes S.view self.old.file.storage self.new.file.storage }
+        ensures header_cluster { StaysBehindHeader self.old self.new }
     {
         if prepared.table.is_some() {
             return Ok(());
@@ -379,6 +391,7 @@ impl<S: Storage, F: WrappedFormat<S>> Qcow2<S, F> {
         ensures written { WritesBytes S.view self.old self.new host bytes.now result }
         ensures faults { CountsImageFaults S.view F.backing self.old self.new result }
         ensures notes { KeepsNotes S.view self.old.file.storage self.new.file.storage }
+        ensures header_cluster { StaysBehindHeader self.old self.new }
     {
         self.file.storage.will_write(WriteKind::Data);
         self.file.storage.write_data(host, bytes)?;

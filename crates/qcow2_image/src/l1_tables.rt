@@ -1,4 +1,5 @@
 //! A longer L1 table, in the place of the former one.
+ghost use Rattle.qcow2_image.specs.BehindHeader.{StaysBehindHeader};
 ghost use Rattle.qcow2_alloc.specs.KeptNotes.{KeepsNotes};
 ghost use Rattle.std.specs.Prelude.{ℕ, List, Option, ◌≡◌, ◌<◌, ◌≤◌, ◌++◌, ◌∷◌, [], ◌+◌, max, Some, IfErr, IfOk, IsTrue, OnErr, OnOk};
 ghost use Rattle.qcow2_metadata.specs.EntryTable.{entry_count};
@@ -28,6 +29,7 @@ impl<S: Storage, F: WrappedFormat<S>> Qcow2<S, F> {
         requires writable { IsTrue (is_writable self.old) }
         ensures stays { ImageStays self.old self.new }
         ensures notes { KeepsNotes S.view self.old.file.storage self.new.file.storage }
+        ensures header_cluster { StaysBehindHeader self.old self.new }
         ensures cause { IfErr result IsMet }
         ensures lacks { (out : List (Option Prepared)) → ImageInvariant S.view F.backing (pending_in S.view F.backing self.old out) self.old out → IfErr result (IsFaultOrLacksTable S.view self.new offset) }
         ensures length { OnOk result (entry_count self.new.l1_table ≡ max (entry_count self.old.l1_table) (l1_index_of self.old.file.header.fields offset + 1)) }
@@ -48,6 +50,7 @@ impl<S: Storage, F: WrappedFormat<S>> Qcow2<S, F> {
     pub(crate) fn grow_l1_table(&mut self, index: usize) -> Result<(), ImageError>
         ensures stays { ImageStays self.old self.new }
         ensures notes { KeepsNotes S.view self.old.file.storage self.new.file.storage }
+        ensures header_cluster { StaysBehindHeader self.old self.new }
         ensures cause { IsTrue (is_writable self.old) → IfErr result IsMet }
         ensures lengthens { (p : Pending) (out : List (Option Prepared)) → ImageInvariant S.view F.backing p self.old out → Lengthens S.view F.backing p self.old self.new out result }
         ensures length { OnOk result (entry_count self.new.l1_table ≡ max (entry_count self.old.l1_table) (index + 1)) }
@@ -90,6 +93,7 @@ impl<S: Storage, F: WrappedFormat<S>> Qcow2<S, F> {
     fn enter_l1_table(&mut self, table: L1Table) -> Result<(), ImageError>
         ensures stays { ImageStays self.old self.new }
         ensures notes { KeepsNotes S.view self.old.file.storage self.new.file.storage }
+        ensures header_cluster { StaysBehindHeader self.old self.new }
         ensures cause { IsTrue (is_writable self.old) → IfErr result IsMet }
         ensures takes { (p : Pending) (out : List (Option Prepared)) → ImageInvariant S.view F.backing p self.old out → IsLongerL1 self.old table → TakesTable S.view F.backing p self.old self.new out result }
         ensures entries { OnOk result (entry_count self.new.l1_table ≡ entry_count table) }
@@ -108,6 +112,7 @@ impl<S: Storage, F: WrappedFormat<S>> Qcow2<S, F> {
         requires { IsHostCluster self.old.file.header.fields.cluster_bits taken.first_cluster }
         ensures stays { ImageStays self.old self.new }
         ensures notes { KeepsNotes S.view self.old.file.storage self.new.file.storage }
+        ensures header_cluster { StaysBehindHeader self.old self.new }
         ensures cause { IfErr result IsMet }
         ensures names { (p : Pending) (out : List (Option Prepared)) → ImageInvariant S.view F.backing (with_table p table taken.first_cluster) self.old out → IsTrue self.old.file.caches.is_changed → IsLongerL1 self.old table
             → NamesTaken S.view F.backing p self.old self.new out table taken result }
@@ -125,6 +130,7 @@ impl<S: Storage, F: WrappedFormat<S>> Qcow2<S, F> {
         requires { IsHostCluster self.old.file.header.fields.cluster_bits cluster }
         ensures stays { ImageStays self.old self.new }
         ensures notes { KeepsNotes S.view self.old.file.storage self.new.file.storage }
+        ensures header_cluster { StaysBehindHeader self.old self.new }
         ensures cause { IfErr result IsMet }
         ensures names { (p : Pending) (out : List (Option Prepared)) → ImageInvariant S.view F.backing (with_table p table cluster) self.old out → IsTrue self.old.file.caches.is_changed → IsLongerL1 self.old table
             → NamesTable S.view F.backing p self.old self.new out table cluster result }
@@ -143,6 +149,7 @@ impl<S: Storage, F: WrappedFormat<S>> Qcow2<S, F> {
         cluster: HostCluster,
     ) -> Result<(), ImageError>
         ensures notes { KeepsNotes S.view self.old.file.storage self.new.file.storage }
+        ensures header_cluster { StaysBehindHeader self.old self.new }
         ensures cause { IfErr result IsMet }
         ensures rest { self.new ≡ record self.old { file = record self.old.file { storage = self.new.file.storage; caches = self.new.file.caches } } }
         ensures noted { IsTrue self.old.file.caches.is_changed → IsTrue self.new.file.caches.is_changed }
@@ -166,6 +173,7 @@ impl<S: Storage, F: WrappedFormat<S>> Qcow2<S, F> {
         requires { IsHostCluster self.old.file.header.fields.cluster_bits cluster }
         ensures stays { ImageStays self.old self.new }
         ensures notes { KeepsNotes S.view self.old.file.storage self.new.file.storage }
+        ensures header_cluster { StaysBehindHeader self.old self.new }
         ensures cause { IfErr result IsMet }
         ensures names { (p : Pending) (out : List (Option Prepared)) → ImageInvariant S.view F.backing (with_table p table cluster) self.old out → IsTrue self.old.file.caches.is_changed → StandsWhole S.view self.old table cluster
             → NamesTable S.view F.backing p self.old self.new out table cluster result }

@@ -1,4 +1,5 @@
 //! What a guest range is mapped to, and making it writable.
+ghost use Rattle.qcow2_image.specs.BehindHeader.{StaysBehindHeader};
 ghost use Rattle.std.specs.Prelude.{◌↔◌, ℕ, List, Option, is_some, ◌≡◌, ◌⊎◌, ◌≢◌, ◌+◌, ◌*◌, ◌-◌, ◌/◌, ◌%◌, true, Some, ◌^◌, ◌<◌, ◌≤◌, [], ◌∷◌, ◌++◌, length, slice_get, IfOk, IfErr, IfSome, OnOk, IsOk, IsNone, IsSome, IsTrue, IsFalse, MatchOption, MatchResult, Ok, Err, None, false};
 ghost use Rattle.qcow2_metadata.specs.L2Mapping.{IsInReach, greatest_offset, named_run};
 ghost use Rattle.qcow2_disk.specs.Mappings.{is_copied_data};
@@ -168,6 +169,7 @@ impl<S: Storage, F: WrappedFormat<S>> Qcow2<S, F> {
         ensures run { (out : List (Option Prepared)) → (abstract_of S.view F.backing self.old out).is_sound → IfOk result (λ (mapping, n). IsFoundIn (known_in S.view self.new.file) (is_some self.new.backing) offset max (found_kind mapping.kind) n) }
         ensures faults { CountsImageFaults S.view F.backing self.old self.new result }
         ensures once_written { FailsOnceWritten S.view self.old self.new result }
+        ensures header_cluster { StaysBehindHeader self.old self.new }
         ensures unwritten { OnlyReadsImage S.view F.backing self.old self.new }
     {
         self.check_usable()?;
@@ -199,6 +201,7 @@ impl<S: Storage, F: WrappedFormat<S>> Qcow2<S, F> {
         ensures found { (p : Pending) (out : List (Option Prepared)) → ImageInvariant S.view F.backing p self.old out → IfOk result (λ (kind, n). IsFoundInImage S.view self.new offset max kind n) }
         ensures faults { CountsImageFaults S.view F.backing self.old self.new result }
         ensures notes { KeepsNotes S.view self.old.file.storage self.new.file.storage }
+        ensures header_cluster { StaysBehindHeader self.old self.new }
         ensures unwritten { OnlyReadsImage S.view F.backing self.old self.new }
     {
         let size = self.file.header.size();
@@ -231,6 +234,7 @@ impl<S: Storage, F: WrappedFormat<S>> Qcow2<S, F> {
     fn l2_cluster(&self, offset: u64) -> Result<Option<HostCluster>, ImageError>
         ensures cause { IfErr result IsOfTables }
         ensures names { HasL1Table S.view F.backing self.now.file self.now.l1_table → IfOk result (NamesL2Table S.view self.now offset) }
+        ensures elsewhere { IfOk result (λ table. IfSome table (λ cluster. 0 < cluster)) }
         ensures faults { IfErr result IsNotOfStorage }
     {
         let bits = self.file.header.cluster_bits();
@@ -369,6 +373,7 @@ impl<S: Storage, F: WrappedFormat<S>> Qcow2<S, F> {
             → IfOk result (λ p. IsAnswered self.old.file.header.fields (known_in S.view self.old.file) offset length self.new.file.header.fields (known_in S.view self.new.file) p (meaning S.view F.backing self.new p)) }
         ensures far { 0 < length → RefusesFarEntryFreeing S.view F.backing (refuses_to_prepare self.old offset length) offset self.old self.new result }
         ensures once_written { FailsOnceWritten S.view self.old self.new result }
+        ensures header_cluster { StaysBehindHeader self.old self.new }
         ensures faults { CountsImageFaults S.view F.backing self.old self.new result }
     {
         self.check_prepare(offset, length)?;
@@ -424,6 +429,7 @@ impl<S: Storage, F: WrappedFormat<S>> Qcow2<S, F> {
         requires writable { IsTrue (is_writable self.old) }
         ensures stays { ImageStays self.old self.new }
         ensures notes { KeepsNotes S.view self.old.file.storage self.new.file.storage }
+        ensures header_cluster { StaysBehindHeader self.old self.new }
         ensures cause { IfErr result IsMetPreparing }
         ensures taken { 0 < length → (out : List (Option Prepared)) → ImageInvariant S.view F.backing (pending_in S.view F.backing self.old out) self.old out
             → IfErr result (λ e. e ≡ TablePrepared → IsTaken self.old.file.header.fields (known_in S.view self.old.file) offset length out) }
@@ -453,6 +459,7 @@ impl<S: Storage, F: WrappedFormat<S>> Qcow2<S, F> {
         requires writable { IsTrue (is_writable self.old) }
         ensures stays { ImageStays self.old self.new }
         ensures notes { KeepsNotes S.view self.old.file.storage self.new.file.storage }
+        ensures header_cluster { StaysBehindHeader self.old self.new }
         ensures cause { IfErr result IsMetPreparing }
         ensures taken { 0 < length → (out : List (Option Prepared)) → ImageInvariant S.view F.backing (pending_in S.view F.backing self.old out) self.old out
             → IfErr result (λ e. e ≡ TablePrepared → IsTaken self.old.file.header.fields (known_in S.view self.old.file) offset length out) }
@@ -477,6 +484,7 @@ impl<S: Storage, F: WrappedFormat<S>> Qcow2<S, F> {
     pub(crate) fn free_after(&mut self, refusal: ImageError) -> ImageError
         ensures stays { ImageStays self.old self.new }
         ensures notes { KeepsNotes S.view self.old.file.storage self.new.file.storage }
+        ensures header_cluster { StaysBehindHeader self.old self.new }
         ensures cause { IsMetPreparing refusal → IsMetPreparing result }
         ensures taken { IsMetPreparing refusal → result ≡ TablePrepared → refusal ≡ TablePrepared }
         ensures fault { IsFault refusal → (result ≡ refusal) × (self.new ≡ self.old) }
@@ -528,6 +536,7 @@ impl<S: Storage, F: WrappedFormat<S>> Qcow2<S, F> {
         requires writable { IsTrue (is_writable self.old) }
         ensures stays { ImageStays self.old self.new }
         ensures notes { KeepsNotes S.view self.old.file.storage self.new.file.storage }
+        ensures header_cluster { 0 < table → StaysBehindHeader self.old self.new }
         ensures cause { IfErr result IsMetPreparing }
         ensures taken { IfErr result (λ e. e ≡ TablePrepared → 0 < l2_pins self.old.file.caches table) }
         ensures own { IfOk result (λ p. image_of p ≡ number_of self.old) }
@@ -608,6 +617,7 @@ impl<S: Storage, F: WrappedFormat<S>> Qcow2<S, F> {
         ensures emptied { image_of prepared ≡ number_of self.old → IsSome (table_of prepared) → IsTrue (is_writable self.old) → OnOk result (HasNothingToFree self.new) }
         ensures quiet { HasNothingToFree self.old → DropsNothing prepared → storage_of self.new.file.storage ≡ storage_of self.old.file.storage }
         ensures once_written { CommitFailsOnceWritten S.view self.old self.new result }
+        ensures header_cluster { StaysBehindHeader self.old self.new }
         ensures faults { NoFewerFaults S.view F.backing self.old self.new × IfErr result (λ r. TellsFault S.view F.backing self.old self.new (reason_of r)) }
     {
         if prepared.image != self.number {
@@ -641,6 +651,7 @@ impl<S: Storage, F: WrappedFormat<S>> Qcow2<S, F> {
         ensures left { freed_by prepared.new.shares.items ≡ [] }
         ensures storage { self.new.file.storage ≡ self.old.file.storage }
         ensures quiet { DropsNothing prepared.old → self.new.file.free_list ≡ self.old.file.free_list }
+        ensures header_cluster { StaysBehindHeader self.old self.new }
         ensures faults { NoFewerFaults S.view F.backing self.old self.new }
     {
         let mut entered = false;
@@ -701,6 +712,7 @@ impl<S: Storage, F: WrappedFormat<S>> Qcow2<S, F> {
         ensures stays { ImageStays self.old self.new }
         ensures sees { IfOk result (λ done. Discards S.view F.backing self.old self.new prepared) }
         ensures rest { IfOk result (λ done. ReleasesOneMapping S.view self.old self.new) }
+        ensures header_cluster { StaysBehindHeader self.old self.new }
         ensures faults { NoFewerFaults S.view F.backing self.old self.new }
     {
         if prepared.image != self.number {
@@ -716,6 +728,7 @@ impl<S: Storage, F: WrappedFormat<S>> Qcow2<S, F> {
         ensures list { self.new.file.free_list ≡ self.old.file.free_list ++ freed_by prepared.shares.items }
         ensures rest { ReleasesOneMapping S.view self.old self.new }
         ensures sees { Discards S.view F.backing self.old self.new prepared }
+        ensures header_cluster { StaysBehindHeader self.old self.new }
         ensures faults { NoFewerFaults S.view F.backing self.old self.new }
     {
         let Prepared {

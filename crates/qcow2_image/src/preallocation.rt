@@ -1,4 +1,5 @@
 //! Preallocation: zeros behind the end of a disk, before its size grows.
+ghost use Rattle.qcow2_image.specs.BehindHeader.{StaysBehindHeader};
 ghost use Rattle.std.specs.Prelude.{ℕ, List, Option, ◌≡◌, ◌%◌, ◌^◌, ◌<◌, ◌≤◌, Err, IfOk, IfErr, IsTrue, OnOk, max, replicate, slice_get, slice_set, None, Some};
 ghost use Rattle.image_access.specs.declared.storage.PreallocateMode.TheVariants.{None as PreallocateNone, Zero};
 ghost use Rattle.qcow2_metadata.specs.Header.{cluster_size, rounded_up as rounded_up_to};
@@ -98,6 +99,7 @@ impl<S: Storage, F: WrappedFormat<S>> Qcow2<S, F> {
         ensures version { mode ≡ Zero → self.old.file.header.fields.version < 3 → (result ≡ Err Version) × (self.new ≡ self.old) }
         ensures fills { (out : List (Option Prepared)) → ImageInvariant S.view F.backing (pending_in S.view F.backing self.old out) self.old out
             → FillsGrownOrRefuses S.view F.backing size mode self.old self.new out result }
+        ensures header_cluster { StaysBehindHeader self.old self.new }
         ensures faults { CountsImageFaults S.view F.backing self.old self.new result }
     {
         match mode {
@@ -122,6 +124,7 @@ impl<S: Storage, F: WrappedFormat<S>> Qcow2<S, F> {
         ensures emptied { HasNothingToFree self.old → OnOk result (HasNothingToFree self.new) }
         ensures fills { (out : List (Option Prepared)) → ImageInvariant S.view F.backing (pending_in S.view F.backing self.old out) self.old out
             → old ≤ size → FillsOrRefuses S.view F.backing (rounded_up_to (cluster_size self.old.file.header.fields) size) old (rounded_up_to (cluster_size self.old.file.header.fields) size) self.old self.new out result }
+        ensures header_cluster { StaysBehindHeader self.old self.new }
         ensures faults { CountsImageFaults S.view F.backing self.old self.new result }
     {
         let Some(end) = rounded_up(size, self.file.header.cluster_size()) else {
@@ -139,6 +142,7 @@ impl<S: Storage, F: WrappedFormat<S>> Qcow2<S, F> {
         ensures version { self.old.file.header.fields.version < 3 → (result ≡ Err Version) × (self.new ≡ self.old) }
         ensures fills { (out : List (Option Prepared)) → ImageInvariant S.view F.backing (pending_in S.view F.backing self.old out) self.old out
             → old ≤ size → FillsOrRefuses S.view F.backing (rounded_up_to (cluster_size self.old.file.header.fields) old) old (rounded_up_to (cluster_size self.old.file.header.fields) size) self.old self.new out result }
+        ensures header_cluster { StaysBehindHeader self.old self.new }
         ensures faults { CountsImageFaults S.view F.backing self.old self.new result }
     {
         if self.file.header.version() < 3 {
@@ -162,6 +166,7 @@ impl<S: Storage, F: WrappedFormat<S>> Qcow2<S, F> {
         ensures emptied { HasNothingToFree self.old → OnOk result (HasNothingToFree self.new) }
         ensures fills { (out : List (Option Prepared)) → ImageInvariant S.view F.backing (pending_in S.view F.backing self.old out) self.old out → old ≤ from → from ≤ end → IsWholeRange self.old.file.header.fields from end
             → 3 ≤ self.old.file.header.fields.version → FillsOrRefuses S.view F.backing from old end self.old self.new out result }
+        ensures header_cluster { StaysBehindHeader self.old self.new }
         ensures faults { CountsImageFaults S.view F.backing self.old self.new result }
     {
         let next = self.zero_first(from, end)?;
@@ -177,6 +182,7 @@ impl<S: Storage, F: WrappedFormat<S>> Qcow2<S, F> {
         ensures emptied { HasNothingToFree self.old → OnOk result (HasNothingToFree self.new) }
         ensures fills { (out : List (Option Prepared)) → ImageInvariant S.view F.backing (pending_in S.view F.backing self.old out) self.old out → from ≤ to → IsWholeRange self.old.file.header.fields from to
             → 3 ≤ self.old.file.header.fields.version → FillsOrRefuses S.view F.backing 0 from to self.old self.new out result }
+        ensures header_cluster { StaysBehindHeader self.old self.new }
         ensures faults { CountsImageFaults S.view F.backing self.old self.new result }
     {
         let mut at = from;
@@ -196,6 +202,7 @@ impl<S: Storage, F: WrappedFormat<S>> Qcow2<S, F> {
         ensures whole { (out : List (Option Prepared)) → ImageInvariant S.view F.backing (pending_in S.view F.backing self.old out) self.old out → IsWholeRange self.old.file.header.fields from to → IfOk result (λ next. next % cluster_size self.old.file.header.fields ≡ 0) }
         ensures fills { (out : List (Option Prepared)) → ImageInvariant S.view F.backing (pending_in S.view F.backing self.old out) self.old out → from ≤ to → IsWholeRange self.old.file.header.fields from to
             → 3 ≤ self.old.file.header.fields.version → FillsFirst S.view F.backing 0 from to self.old self.new out result }
+        ensures header_cluster { StaysBehindHeader self.old self.new }
         ensures faults { CountsImageFaults S.view F.backing self.old self.new result }
     {
         if to <= from {
@@ -217,6 +224,7 @@ impl<S: Storage, F: WrappedFormat<S>> Qcow2<S, F> {
         ensures emptied { HasNothingToFree self.old → OnOk result (HasNothingToFree self.new) }
         ensures fills { (out : List (Option Prepared)) → ImageInvariant S.view F.backing (pending_in S.view F.backing self.old out) self.old out
             → from ≤ to → to % cluster_size self.old.file.header.fields ≡ 0 → FillsOrRefuses S.view F.backing to from to self.old self.new out result }
+        ensures header_cluster { StaysBehindHeader self.old self.new }
         ensures faults { CountsImageFaults S.view F.backing self.old self.new result }
     {
         let mut at = from;
@@ -238,6 +246,7 @@ impl<S: Storage, F: WrappedFormat<S>> Qcow2<S, F> {
         ensures next { IfOk result (λ next. (from < next) × (next ≤ to)) }
         ensures fills { (out : List (Option Prepared)) → ImageInvariant S.view F.backing (pending_in S.view F.backing self.old out) self.old out
             → to % cluster_size self.old.file.header.fields ≡ 0 → FillsFirst S.view F.backing to from to self.old self.new out result }
+        ensures header_cluster { StaysBehindHeader self.old self.new }
         ensures faults { CountsImageFaults S.view F.backing self.old self.new result }
     {
         let prepared = self.prepare(from, writes.most().min(to - from), true)?;
@@ -258,6 +267,7 @@ impl<S: Storage, F: WrappedFormat<S>> Qcow2<S, F> {
         ensures stays { ImageStays self.old self.new }
         ensures cause { IfErr result IsMet }
         ensures written { WritesBytes S.view self.old self.new host (replicate count 0) result }
+        ensures header_cluster { StaysBehindHeader self.old self.new }
         ensures faults { CountsImageFaults S.view F.backing self.old self.new result }
     {
         self.file.storage.will_write(WriteKind::Data);
@@ -271,6 +281,7 @@ impl<S: Storage, F: WrappedFormat<S>> Qcow2<S, F> {
         ensures header { self.new.file.header ≡ self.old.file.header }
         ensures commits { (out : List (Option Prepared)) (k : ℕ) → slice_get out k ≡ Some (Some prepared) → ImageInvariant S.view F.backing (pending_in S.view F.backing self.old out) self.old out
             → CommitsWhole S.view F.backing self.old self.new out k prepared (slice_set out k None) }
+        ensures header_cluster { StaysBehindHeader self.old self.new }
         ensures faults { NoFewerFaults S.view F.backing self.old self.new }
     {
         if prepared.table.is_none() {

@@ -1,4 +1,5 @@
 //! The clusters of a prepared range behind its first one.
+ghost use Rattle.qcow2_image.specs.BehindHeader.{StaysBehindHeader};
 ghost use Rattle.qcow2_alloc.specs.KeptNotes.{KeepsNotes};
 ghost use Rattle.std.specs.Prelude.{ℕ, List, Option, ◌≡◌, ◌≢◌, ◌+◌, ◌*◌, ◌%◌, ◌<◌, min, true, Some, None, Ok, slice_get, vec_len, vec_capacity, IfOk, IfErr, OnOk, IsTrue, IsSome};
 ghost use Rattle.qcow2_metadata.specs.L2Mapping.{IsHostCluster, IsInReach};
@@ -52,6 +53,7 @@ impl<S: Storage, F: WrappedFormat<S>> Qcow2<S, F> {
         ensures stays { ImageStays self.old self.new }
         ensures header { KeepsHeader self.old.file.header self.new.file.header }
         ensures notes { KeepsNotes S.view self.old.file.storage self.new.file.storage }
+        ensures header_cluster { StaysBehindHeader self.old self.new }
         ensures cause { IfErr result IsMet }
         ensures longer { IsLongerMapping self.old.file.header.fields length prepared.old prepared.new }
         ensures image_step { (start : Qcow2 S F) (out : List (Option Prepared)) (k : ℕ) → slice_get out k ≡ Some None → prepared.old.table ≡ Some table
@@ -81,6 +83,7 @@ impl<S: Storage, F: WrappedFormat<S>> Qcow2<S, F> {
         ensures stays { ImageStays self.old self.new }
         ensures header { KeepsHeader self.old.file.header self.new.file.header }
         ensures notes { KeepsNotes S.view self.old.file.storage self.new.file.storage }
+        ensures header_cluster { StaysBehindHeader self.old self.new }
         ensures cause { IfErr result IsMet }
         ensures same { result ≢ Ok true → prepared.new ≡ prepared.old }
         ensures room { vec_capacity prepared.new.shares ≡ vec_capacity prepared.old.shares }
@@ -111,6 +114,7 @@ impl<S: Storage, F: WrappedFormat<S>> Qcow2<S, F> {
         ensures stays { ImageStays self.old self.new }
         ensures header { KeepsHeader self.old.file.header self.new.file.header }
         ensures notes { KeepsNotes S.view self.old.file.storage self.new.file.storage }
+        ensures header_cluster { StaysBehindHeader self.old self.new }
         ensures cause { IfErr result IsMet }
         ensures finds { (out : List (Option Prepared)) (k : ℕ) → slice_get out k ≡ Some (Some prepared.now) → MayGoOn self.old.file.header.fields length table prepared.now
             → ImageInvariant S.view F.backing (pending_in S.view F.backing self.old out) self.old out → FindsBehind S.view F.backing self.old self.new out length overwrite prepared.now result }
@@ -151,6 +155,7 @@ impl<S: Storage, F: WrappedFormat<S>> Qcow2<S, F> {
         ensures stays { ImageStays self.old self.new }
         ensures header { KeepsHeader self.old.file.header self.new.file.header }
         ensures notes { KeepsNotes S.view self.old.file.storage self.new.file.storage }
+        ensures header_cluster { StaysBehindHeader self.old self.new }
         ensures cause { IfErr result IsMet }
         ensures shares { (p : Pending) (out : List (Option Prepared)) → ImageInvariant S.view F.backing p self.old out → HoldsAll S.view F.backing p out
             → SharesAt S.view F.backing p self.old self.new out offset length overwrite old.now host result }
@@ -184,6 +189,7 @@ impl<S: Storage, F: WrappedFormat<S>> Qcow2<S, F> {
         ensures stays { ImageStays self.old self.new }
         ensures header { KeepsHeader self.old.file.header self.new.file.header }
         ensures notes { KeepsNotes S.view self.old.file.storage self.new.file.storage }
+        ensures header_cluster { StaysBehindHeader self.old self.new }
         ensures cause { IfErr result IsMet }
         ensures nameable { IfOk result (λ run. IsSome run → IsHostCluster self.old.file.header.fields.cluster_bits cluster) }
         ensures gains { (p : Pending) (out : List (Option Prepared)) → ImageInvariant S.view F.backing p self.old out → HoldsAll S.view F.backing p out
@@ -209,6 +215,7 @@ impl<S: Storage, F: WrappedFormat<S>> Qcow2<S, F> {
         ensures stays { ImageStays self.old self.new }
         ensures header { KeepsHeader self.old.file.header self.new.file.header }
         ensures notes { KeepsNotes S.view self.old.file.storage self.new.file.storage }
+        ensures header_cluster { StaysBehindHeader self.old self.new }
         ensures cause { IfErr result IsMet }
         ensures nameable { IfOk result (λ run. IsSome run → IsHostCluster self.old.file.header.fields.cluster_bits cluster) }
         ensures list { ListGrows self.old self.new }

@@ -1,4 +1,5 @@
 //! A disk of another size: what lies behind a smaller one is dropped first, and the size is written last.
+ghost use Rattle.qcow2_image.specs.BehindHeader.{StaysBehindHeader};
 ghost use Rattle.qcow2_image.specs.Noted.{FailsOnceWritten, NotesChanges};
 ghost use Rattle.qcow2_alloc.specs.KeptNotes.{KeepsNotes};
 ghost use Rattle.std.specs.Prelude.{ℕ, List, Option, ◌≡◌, ◌⊎◌, ◌+◌, ◌-◌, ◌<◌, ◌≤◌, max, nat_lt, [], Some, None, Ok, Err, IfOk, IfErr, IfSome, OnOk, OnErr, IsTrue, MatchOption, false};
@@ -56,6 +57,7 @@ impl<S: Storage, F: WrappedFormat<S>> Qcow2<S, F> {
         ensures stops { (out : List (Option Prepared)) → (abstract_of S.view F.backing self.old out).is_sound → IfOk result (EndsTail S.view self.old self.new size) }
         ensures last { (out : List (Option Prepared)) → (abstract_of S.view F.backing self.old out).is_sound → WritesSizeLast S.view F.backing self.old self.new }
         ensures once_written { FailsOnceWritten S.view self.old self.new result }
+        ensures header_cluster { StaysBehindHeader self.old self.new }
         ensures faults { CountsImageFaults S.view F.backing self.old self.new result }
     {
         self.check_resize()?;
@@ -91,6 +93,7 @@ impl<S: Storage, F: WrappedFormat<S>> Qcow2<S, F> {
             → IfOk result (EndsTail S.view self.old self.new size) }
         ensures last { (out : List (Option Prepared)) → (abstract_of S.view F.backing self.old out).is_sound → WritesSizeLast S.view F.backing self.old self.new }
         ensures once_written { FailsOnceWritten S.view self.old self.new result }
+        ensures header_cluster { StaysBehindHeader self.old self.new }
         ensures faults { CountsImageFaults S.view F.backing self.old self.new result }
     {
         let cluster = self.file.header.cluster_size();
@@ -119,6 +122,7 @@ impl<S: Storage, F: WrappedFormat<S>> Qcow2<S, F> {
             → result.1 ≡ None → result.0 < size_of self.old → CantUncover S.view (size_of self.old) self.new result.0 }
         ensures emptied { IsTrue (is_writable self.old) → (out : List (Option Prepared)) → ImageInvariant S.view F.backing (pending_in S.view F.backing self.old out) self.old out → result.1 ≡ None → boundary_in self.old size < size_of self.old → HasNothingToFree self.new }
         ensures since { result.0 ≤ boundary_in self.old size → NotesChanges S.view self.old self.new }
+        ensures header_cluster { StaysBehindHeader self.old self.new }
         ensures faults { NoFewerFaults S.view F.backing self.old self.new × IfSome result.1 (TellsFault S.view F.backing self.old self.new) }
     {
         self.begin();
@@ -150,6 +154,7 @@ impl<S: Storage, F: WrappedFormat<S>> Qcow2<S, F> {
             → IfErr result (IsFaultOrCantUncover S.view (size_of self.old) self.new at) }
         ensures emptied { IsTrue (is_writable self.old) → (out : List (Option Prepared)) → ImageInvariant S.view F.backing (pending_in S.view F.backing self.old out) self.old out → FreesTurn self.old self.new at result }
         ensures since { NotesChanges S.view self.old self.new }
+        ensures header_cluster { StaysBehindHeader self.old self.new }
         ensures idle { IfOk result (λ next. next ≤ boundary_in self.old at → self.new ≡ self.old) }
         ensures faults { CountsImageFaults S.view F.backing self.old self.new result }
     {
@@ -176,6 +181,7 @@ impl<S: Storage, F: WrappedFormat<S>> Qcow2<S, F> {
             → IfErr result (IsFaultOrCantUncover S.view (size_of self.old) self.new at) }
         ensures emptied { (out : List (Option Prepared)) → ImageInvariant S.view F.backing (pending_in S.view F.backing self.old out) self.old out → OnOk result ((boundary_in self.old at < size_of self.old) ⊎ HasNothingToFree self.old → HasNothingToFree self.new) }
         ensures since { NotesChanges S.view self.old self.new }
+        ensures header_cluster { StaysBehindHeader self.old self.new }
         ensures idle { IfOk result (λ next. next ≤ boundary_in self.old at → self.new ≡ self.old) }
         ensures faults { CountsImageFaults S.view F.backing self.old self.new result }
     {
@@ -206,6 +212,7 @@ impl<S: Storage, F: WrappedFormat<S>> Qcow2<S, F> {
         ensures last { (out : List (Option Prepared)) → (abstract_of S.view F.backing self.old out).is_sound → WritesSizeLast S.view F.backing self.old self.new }
         ensures tables { refuses_to_resize self.old ≡ None → size_of self.old < size → (out : List (Option Prepared)) → (abstract_of S.view F.backing self.old out).is_sound → GrowsTables S.view F.backing self.old self.new size mode out result }
         ensures once_written { FailsOnceWritten S.view self.old self.new result }
+        ensures header_cluster { StaysBehindHeader self.old self.new }
         ensures faults { CountsImageFaults S.view F.backing self.old self.new result }
     {
         self.check_resize()?;
@@ -242,6 +249,7 @@ impl<S: Storage, F: WrappedFormat<S>> Qcow2<S, F> {
         ensures last { (out : List (Option Prepared)) → (abstract_of S.view F.backing self.old out).is_sound → WritesSizeLast S.view F.backing self.old self.new }
         ensures tables { (out : List (Option Prepared)) → (abstract_of S.view F.backing self.old out).is_sound → GrowsTables S.view F.backing self.old self.new size mode out result }
         ensures once_written { FailsOnceWritten S.view self.old self.new result }
+        ensures header_cluster { StaysBehindHeader self.old self.new }
         ensures faults { CountsImageFaults S.view F.backing self.old self.new result }
     {
         self.begin();
@@ -275,6 +283,7 @@ impl<S: Storage, F: WrappedFormat<S>> Qcow2<S, F> {
         requires writable { IsTrue (is_writable self.old) }
         ensures stays { ImageStays self.old self.new }
         ensures notes { KeepsNotes S.view self.old.file.storage self.new.file.storage }
+        ensures header_cluster { StaysBehindHeader self.old self.new }
         ensures cause { IfErr result IsMet }
         ensures length { OnOk result (entry_count self.new.l1_table ≡ max (entry_count self.old.l1_table) (l1_index_of self.old.file.header.fields offset + 1)) }
         ensures emptied { OnOk result (HasNothingToFree self.new) }
@@ -311,6 +320,7 @@ impl<S: Storage, F: WrappedFormat<S>> Qcow2<S, F> {
         ensures writes { (out : List (Option Prepared)) → ImageInvariant S.view F.backing (pending_in S.view F.backing self.old out) self.old out → WritesSize S.view F.backing self.old self.new out size result }
         ensures resizes { (p : Pending) → ImageInvariant S.view F.backing p self.old [] → Resizes S.view F.backing p self.old self.new size result }
         ensures notes { KeepsNotes S.view self.old.file.storage self.new.file.storage }
+        ensures header_cluster { StaysBehindHeader self.old self.new }
         ensures faults { CountsImageFaults S.view F.backing self.old self.new result }
     {
         let old = self.file.header.size();

@@ -136,6 +136,7 @@ module _ {S F : Type 0} (view : S → StorageView) (backing : F → BackingView)
     new_data = λ some. some;
     part = λ out p row may. none_cleared how row column a out p may.sound;
     noted = λ out p row may some. absurd (omega (arith, some));
+    behind = λ bits are. are;
   }
 
   module _ (how : Clearance) (t column n : ℕ) (a b c : Qcow2 S F) (first : ClearsTable view backing how t column n a b) (clears : ClearsEntry how t (min (column + n) (2 ^ 64 - 1)) b c) where
@@ -178,6 +179,7 @@ module _ {S F : Type 0} (view : S → StorageView) (backing : F → BackingView)
           let so_far = first.part out p row (fewer out p row may) in
           (clears_at out p row may).noted a.file.header.fields so_far.now (contents_in view a.file) row so_far.sound_now.file.caches
           (record { real = λ none. may.real (sym so_far.table_stays ∙ none); place = so_far.table_stays ∙ may.place; within = let w = may.within in omega (arith, w) }) (first.new_data may.found);
+      behind = λ bits are. clears_here.behind bits (first.behind bits are);
     }
 
   -- ---- all are, and what they named is to be freed

@@ -24,6 +24,8 @@ use Rattle.qcow2_alloc.specs.declared.cache.MetadataCaches.{MetadataCaches}
 use Rattle.qcow2_alloc.specs.declared.async_lru_cache.slot.Slot.{Slot}
 use Rattle.qcow2_alloc.specs.MetadataCaches.{MapsCachedEntry, l2_at}
 use Rattle.qcow2_alloc.specs.ImageFile.{contents_in, known_in}
+use Rattle.qcow2_image.specs.BehindHeader.{StaysBehindHeader}
+use Rattle.qcow2_image.proofs.Call.BehindHeader.{behind_by, behind_caches, behind_none, behind_then}
 use Rattle.qcow2_image.specs.declared.image.Qcow2.{Qcow2}
 use Rattle.qcow2_image.specs.declared.prepared.Prepared.{Prepared}
 use Rattle.qcow2_image.specs.declared.prepared.Share.{Share}
@@ -236,6 +238,7 @@ module _ {S F : Type 0} (view : S → StorageView) (backing : F → BackingView)
     pub storage : now.file.storage ≡ old.file.storage
     pub below : now.backing ≡ old.backing
     pub quiet : DropsNothing p → DropsNothing q × (now.file.free_list ≡ old.file.free_list)
+    pub behind : StaysBehindHeader old now
 
   pub first_none : (old : Qcow2 S F) (p : Prepared) → EntersFirst old old p p 0 false
   first_none old p = record {
@@ -249,6 +252,7 @@ module _ {S F : Type 0} (view : S → StorageView) (backing : F → BackingView)
     storage = refl;
     below = refl;
     quiet = λ none. (none, refl);
+    behind = behind_none;
   }
 
   module _ (old now new : Qcow2 S F) (p q r : Prepared) (n : ℕ) (entered : Bool) (first : EntersFirst old now p q n entered) where
@@ -270,6 +274,7 @@ module _ {S F : Type 0} (view : S → StorageView) (backing : F → BackingView)
           storage = first.storage;
           below = first.below;
           quiet = first.quiet;
+          behind = first.behind;
         }))
 
     -- what is in place drops nothing
@@ -316,6 +321,7 @@ module _ {S F : Type 0} (view : S → StorageView) (backing : F → BackingView)
                 λ i share at. left_of q r n enters before.0 i share at,
                 last ∙ ap (λ l. enters.mid.file.free_list ++ l) (before.0 n enters.share enters.was) ∙ append-nil enters.mid.file.free_list ∙ rest ∙ before.1,
               );
+          behind = behind_then first.behind (behind_then (behind_by enters.enters.rest (behind_caches enters.enters.behind)) (behind_by enters.lists behind_none));
         }
 
   -- all are

@@ -15,6 +15,7 @@ use Rattle.qcow2_image.proofs.Backings.{some_prepared}
 use Rattle.qcow2_image.proofs.Prepare.FarEntries.{far_handed_on, far_unanswered}
 use Rattle.qcow2_alloc.specs.KeptNotes.{kept_then}
 use Rattle.qcow2_image.proofs.Call.Notes.{same_kept}
+use Rattle.qcow2_image.proofs.Call.BehindHeader.{behind_by, behind_caches, behind_then}
 use Rattle.qcow2_image.proofs.image.Qcow2.clear_between.Goals as goal
 
 pub returns-in_err-table-clause-clears : goal.returns-in_err-table-clause-clears
@@ -120,3 +121,15 @@ returns-in_err-old_data-clause-notes g c = c.table_for.ensures.notes
 
 pub returns-clause-notes : goal.returns-clause-notes
 returns-clause-notes g c = kept_then _ _ _ c.table_for.ensures.notes (same_kept c.table_for.new.self c.clear_entries.new.self (ap (λ (i : Qcow2 _ _). i.file.storage) c.clear_entries.ensures.clears.rest))
+
+pub returns-in_err-table-clause-header_cluster : goal.returns-in_err-table-clause-header_cluster
+returns-in_err-table-clause-header_cluster g c = c.table_for.ensures.header_cluster
+
+pub returns-then-l2_is_pinned-clause-header_cluster : goal.returns-then-l2_is_pinned-clause-header_cluster
+returns-then-l2_is_pinned-clause-header_cluster g c = c.table_for.ensures.header_cluster
+
+pub returns-in_err-old_data-clause-header_cluster : goal.returns-in_err-old_data-clause-header_cluster
+returns-in_err-old_data-clause-header_cluster g c = c.table_for.ensures.header_cluster
+
+pub returns-clause-header_cluster : goal.returns-clause-header_cluster
+returns-clause-header_cluster g c = behind_then c.table_for.ensures.header_cluster (behind_by c.clear_entries.ensures.clears.rest (behind_caches c.clear_entries.ensures.clears.behind))

@@ -23,6 +23,7 @@ use Rattle.qcow2_alloc.proofs.AllocationSteps.{handed_on}
 use Rattle.qcow2_alloc.proofs.Outcomes.{err_as}
 use Rattle.qcow2_image.proofs.Call.OnceWritten.{notes_none, notes_since}
 use Rattle.qcow2_image.proofs.Clear.Touched.{none_answered, some_answered}
+use Rattle.qcow2_image.proofs.Call.BehindHeader.{behind_call, behind_none, behind_then}
 use Rattle.qcow2_image.proofs.image.Qcow2.clear_range.Goals as goal
 
 pub returns-in_err-from-clause-early : goal.returns-in_err-from-clause-early
@@ -396,3 +397,18 @@ returns-clause-range g c =
     let many : c.saturating_sub.result ≡ min (to_in c.args.self.now c.args.offset c.args.length) (c.args.offset + c.args.length) - from_in c.args.self.now c.args.offset c.args.length =
     c.saturating_sub.ensures ∙ ap (λ k. k - c.in_ok-from.from) c.min.ensures ∙ ap (λ k. min k (offset + n) - c.in_ok-from.from) to ∙ ap (λ k. min (to_in old offset n) (offset + n) - k) from in
     some_answered first last c.args.offset c.args.length c.in_ok-from.from c.saturating_sub.result from (omega (arith, c.if-to-from.false, from, to)) many
+
+pub returns-in_err-from-clause-header_cluster : goal.returns-in_err-from-clause-header_cluster
+returns-in_err-from-clause-header_cluster g c = behind_none
+
+pub returns-then-to-from-clause-header_cluster : goal.returns-then-to-from-clause-header_cluster
+returns-then-to-from-clause-header_cluster g c = behind_none
+
+pub returns-in_err-mark_failure-clause-header_cluster : goal.returns-in_err-mark_failure-clause-header_cluster
+returns-in_err-mark_failure-clause-header_cluster g c = behind_call c.begin.ensures.begun c.clear_between-cleared.ensures.header_cluster c.mark_failure.ensures.rest
+
+pub returns-in_err-end_freeing-clause-header_cluster : goal.returns-in_err-end_freeing-clause-header_cluster
+returns-in_err-end_freeing-clause-header_cluster g c = behind_then (behind_call c.begin.ensures.begun c.clear_between-cleared.ensures.header_cluster c.mark_failure.ensures.rest) c.end_freeing.ensures.header_cluster
+
+pub returns-clause-header_cluster : goal.returns-clause-header_cluster
+returns-clause-header_cluster g c = behind_then (behind_call c.begin.ensures.begun c.clear_between-cleared.ensures.header_cluster c.mark_failure.ensures.rest) c.end_freeing.ensures.header_cluster

@@ -16,6 +16,7 @@ use Rattle.qcow2_image.specs.Faults.{CountsImageFaults}
 use Rattle.qcow2_alloc.specs.KeptNotes.{kept_then}
 use Rattle.qcow2_image.proofs.Call.Notes.{same_kept}
 use Rattle.qcow2_image.proofs.Call.OnceWritten.{written_once}
+use Rattle.qcow2_image.proofs.Call.BehindHeader.{behind_begun, behind_then}
 use Rattle.qcow2_image.proofs.image.Qcow2.commit_data_mapping.Goals.{then-entered, else-entered}
 use Rattle.qcow2_image.proofs.image.Qcow2.commit_data_mapping.Goals as goal
 use Rattle.qcow2_disk.proofs.Compose.{rests_none}
@@ -114,3 +115,12 @@ returns-then-prepared-self-clause-once_written g c = λ memory works honest. ref
 
 pub returns-after-entered-clause-once_written : goal.returns-after-entered-clause-once_written
 returns-after-entered-clause-once_written g c = λ memory works. written_once g.S.Storage.view c.args.self.now c.begin.new.self c.enter_shares-entered.new.self c.end_freeing.new.self c.end_freeing.result c.begin.ensures.storage (kept_then _ _ _ (same_kept c.begin.new.self c.enter_shares-entered.new.self c.enter_shares-entered.ensures.storage) c.end_freeing.ensures.notes) c.end_freeing.ensures.marks (c.in-Err.is ∙ ap Err (sym c.refused_commit.ensures.reason ∙ memory)) works
+
+pub returns-then-is_none-clause-header_cluster : goal.returns-then-is_none-clause-header_cluster
+returns-then-is_none-clause-header_cluster g c = c.release_prepared.ensures.header_cluster
+
+pub returns-in-Ok-clause-header_cluster : goal.returns-in-Ok-clause-header_cluster
+returns-in-Ok-clause-header_cluster g c = behind_then (behind_then (behind_then (behind_begun c.begin.ensures.begun) c.enter_shares-entered.ensures.header_cluster) c.end_freeing.ensures.header_cluster) c.release_prepared-in-Ok.ensures.header_cluster
+
+pub returns-after-entered-clause-header_cluster : goal.returns-after-entered-clause-header_cluster
+returns-after-entered-clause-header_cluster g c = behind_then (behind_then (behind_begun c.begin.ensures.begun) c.enter_shares-entered.ensures.header_cluster) c.end_freeing.ensures.header_cluster

@@ -2,6 +2,7 @@ use Rattle.std.proofs.Common.{◌≡◌, None, ap, ◌∙◌, rules}
 use Rattle.std.specs.Prelude.{IsSome}
 use Rattle.qcow2_image.specs.declared.image.Qcow2.{Qcow2}
 use Rattle.qcow2_image.proofs.Preallocate.Piece.{commits_entered, commits_existing}
+use Rattle.qcow2_image.proofs.Call.BehindHeader.{behind_then}
 use Rattle.qcow2_image.proofs.image.Qcow2.commit_filled.Goals as goal
 
 pub returns-then-is_none-clause-commits : goal.returns-then-is_none-clause-commits
@@ -20,3 +21,9 @@ returns-then-is_none-clause-header g c = ap (λ (image : Qcow2 _ _). image.file.
 
 pub returns-clause-header : goal.returns-clause-header
 returns-clause-header g c = ap (λ (image : Qcow2 _ _). image.file.header) c.release_prepared-2.ensures.rest.rest ∙ c.enter_shares-entered.ensures.header
+
+pub returns-then-is_none-clause-header_cluster : goal.returns-then-is_none-clause-header_cluster
+returns-then-is_none-clause-header_cluster g c = c.release_prepared.ensures.header_cluster
+
+pub returns-clause-header_cluster : goal.returns-clause-header_cluster
+returns-clause-header_cluster g c = behind_then c.enter_shares-entered.ensures.header_cluster c.release_prepared-2.ensures.header_cluster

@@ -38,3 +38,6 @@ returns-clause-faults g c = c.discard_to_zero_unsafe.ensures.faults
 
 pub returns-clause-once_written : goal.returns-clause-once_written
 returns-clause-once_written g c = c.discard_to_zero_unsafe.ensures.once_written
+
+pub returns-clause-header_cluster : goal.returns-clause-header_cluster
+returns-clause-header_cluster g c = c.discard_to_zero_unsafe.ensures.header_cluster

@@ -10,6 +10,7 @@ use Rattle.qcow2_alloc.specs.ImageFile.{contents_in}
 use Rattle.qcow2_image.specs.Found.{l1_index_of}
 use Rattle.qcow2_image.proofs.Prepare.Lacking.{fault_alone, named_place}
 use Rattle.qcow2_alloc.specs.KeptNotes.{kept_then}
+use Rattle.qcow2_image.proofs.Call.BehindHeader.{behind_caches, behind_then}
 use Rattle.qcow2_image.proofs.image.Qcow2.ensure_l2.Goals as goal
 
 pub returns-in_err-cluster-clause-ready : goal.returns-in_err-cluster-clause-ready
@@ -74,3 +75,15 @@ returns-in_err-l2_get_or_insert-clause-notes g c = kept_then _ _ _ c.own_l2.ensu
 
 pub returns-clause-notes : goal.returns-clause-notes
 returns-clause-notes g c = kept_then _ _ _ c.own_l2.ensures.notes c.l2_get_or_insert.ensures.notes
+
+pub returns-in_err-cluster-clause-header_cluster : goal.returns-in_err-cluster-clause-header_cluster
+returns-in_err-cluster-clause-header_cluster g c = c.own_l2.ensures.header_cluster
+
+pub returns-in_err-l2_get_or_insert-clause-header_cluster : goal.returns-in_err-l2_get_or_insert-clause-header_cluster
+returns-in_err-l2_get_or_insert-clause-header_cluster g c = behind_then c.own_l2.ensures.header_cluster (behind_caches (c.l2_get_or_insert.ensures.header_cluster c.in_ok-cluster.ensures.elsewhere).behind)
+
+pub returns-clause-header_cluster : goal.returns-clause-header_cluster
+returns-clause-header_cluster g c = behind_then c.own_l2.ensures.header_cluster (behind_caches (c.l2_get_or_insert.ensures.header_cluster c.in_ok-cluster.ensures.elsewhere).behind)
+
+pub returns-clause-elsewhere : goal.returns-clause-elsewhere
+returns-clause-elsewhere g c = c.in_ok-cluster.ensures.elsewhere

@@ -39,3 +39,6 @@ returns-clause-faults g c = c.clear_range.ensures.faults
 
 pub returns-clause-once_written : goal.returns-clause-once_written
 returns-clause-once_written g c = noted_once g.S.Storage.view c.args.self.now c.args.self.now c.clear_range.new.self c.clear_range.result c.clear_range.ensures.since c.clear_range.ensures.image.1
+
+pub returns-clause-header_cluster : goal.returns-clause-header_cluster
+returns-clause-header_cluster g c = c.clear_range.ensures.header_cluster

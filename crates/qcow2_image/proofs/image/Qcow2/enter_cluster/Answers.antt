@@ -13,4 +13,5 @@ returns-in-Some g c = record {
   noted = λ t is.
       let same : c.in-Some.table ≡ t = cc in
       subst (λ n. NotesEntry c.args.self.now.file.caches c.l2_map_cluster-nothing.new.self n c.args.index c.args.cluster) same c.l2_map_cluster-nothing.ensures.noted;
+  behind = c.l2_map_cluster-nothing.ensures.header_cluster;
 }

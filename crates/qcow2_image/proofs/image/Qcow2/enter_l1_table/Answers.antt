@@ -7,6 +7,7 @@ use Rattle.qcow2_alloc.proofs.AllocationSteps.{handed_on}
 use Rattle.qcow2_image.specs.LongerTables.{TakesTable}
 use Rattle.qcow2_image.proofs.Grow.Lengthened.{none_taken_for_table, refused_none, table_named_blocks}
 use Rattle.qcow2_alloc.specs.KeptNotes.{kept_same, kept_then}
+use Rattle.qcow2_image.proofs.Call.BehindHeader.{behind_allocated, behind_none, behind_then}
 use Rattle.qcow2_image.proofs.image.Qcow2.enter_l1_table.Goals as goal
 
 pub returns-in_default-clause-takes : goal.returns-in_default-clause-takes
@@ -39,3 +40,12 @@ returns-in_err-pending-clause-notes g c = c.allocate_meta.ensures.marks.notes
 
 pub returns-clause-notes : goal.returns-clause-notes
 returns-clause-notes g c = kept_then _ _ _ c.allocate_meta.ensures.marks.notes c.write_taken.ensures.notes
+
+pub returns-in_default-clause-header_cluster : goal.returns-in_default-clause-header_cluster
+returns-in_default-clause-header_cluster g c = behind_none
+
+pub returns-in_err-pending-clause-header_cluster : goal.returns-in_err-pending-clause-header_cluster
+returns-in_err-pending-clause-header_cluster g c = behind_allocated c.in-Some.is c.allocate_meta.ensures.header_cluster
+
+pub returns-clause-header_cluster : goal.returns-clause-header_cluster
+returns-clause-header_cluster g c = behind_then (behind_allocated c.in-Some.is c.allocate_meta.ensures.header_cluster) c.write_taken.ensures.header_cluster

@@ -7,6 +7,8 @@ use Rattle.qcow2_alloc.proofs.AllocationSteps.{handed_on}
 use Rattle.qcow2_image.specs.NewTables.{EntersTable}
 use Rattle.qcow2_image.proofs.Prepare.Entering.{none_taken, table_entered, table_refused}
 use Rattle.qcow2_alloc.specs.KeptNotes.{kept_then}
+use Rattle.qcow2_image.proofs.Call.BehindHeader.{behind_allocated, behind_then}
+use Rattle.std.proofs.Common.{◌<◌}
 use Rattle.qcow2_image.proofs.image.Qcow2.enter_l2.Goals as goal
 
 pub returns-in_err-pending-clause-enters : goal.returns-in_err-pending-clause-enters
@@ -48,3 +50,15 @@ returns-in-Ok-clause-notes g c = kept_then _ _ _ c.allocate_meta.ensures.marks.n
 
 pub returns-in-Err-clause-notes : goal.returns-in-Err-clause-notes
 returns-in-Err-clause-notes g c = kept_then _ _ _ c.allocate_meta.ensures.marks.notes c.write_l2.ensures.notes
+
+pub returns-in_err-pending-clause-header_cluster : goal.returns-in_err-pending-clause-header_cluster
+returns-in_err-pending-clause-header_cluster g c = behind_allocated c.in-Some.is c.allocate_meta.ensures.header_cluster
+
+pub returns-in-Ok-clause-header_cluster : goal.returns-in-Ok-clause-header_cluster
+returns-in-Ok-clause-header_cluster g c = behind_then (behind_allocated c.in-Some.is c.allocate_meta.ensures.header_cluster) (c.write_l2.ensures.header_cluster (subst (λ n. 0 < n) (sym c.cluster-cluster.ensures) c.in_ok-pending.ensures.elsewhere))
+
+pub returns-in-Err-clause-header_cluster : goal.returns-in-Err-clause-header_cluster
+returns-in-Err-clause-header_cluster g c = behind_then (behind_allocated c.in-Some.is c.allocate_meta.ensures.header_cluster) (c.write_l2.ensures.header_cluster (subst (λ n. 0 < n) (sym c.cluster-cluster.ensures) c.in_ok-pending.ensures.elsewhere))
+
+pub returns-in-Ok-clause-elsewhere : goal.returns-in-Ok-clause-elsewhere
+returns-in-Ok-clause-elsewhere g c = subst (λ n. 0 < n) (sym c.cluster-cluster.ensures) c.in_ok-pending.ensures.elsewhere

@@ -54,3 +54,6 @@ returns-clause-in_place g c =
 
 pub returns-clause-faults : goal.returns-clause-faults
 returns-clause-faults g c = untouched g.S.Storage.view g.F.BackingDisk.backing c.args.self.now c.loop-i.self c.loop-i.invariant.storage c.loop-i.invariant.below
+
+pub returns-clause-header_cluster : goal.returns-clause-header_cluster
+returns-clause-header_cluster g c = c.loop-i.invariant.behind

@@ -12,6 +12,7 @@ use Rattle.qcow2_image.proofs.Prepare.Copied.{none_has, some_has}
 use Rattle.qcow2_image.proofs.Prepare.Filling.{alike_within, image_step_none}
 use Rattle.qcow2_image.proofs.Map.Loading.{if_ok, if_ok_any}
 use Rattle.qcow2_alloc.specs.KeptNotes.{kept_same}
+use Rattle.qcow2_image.proofs.Call.BehindHeader.{behind_none}
 use Rattle.qcow2_image.proofs.image.Qcow2.fill_cluster.Goals as goal
 
 pub returns-in_default-checked_add-clause-image_step : goal.returns-in_default-checked_add-clause-image_step
@@ -78,3 +79,12 @@ returns-in_default-checked_add-clause-notes g c = kept_same c.args.self.now.file
 
 pub returns-clause-notes : goal.returns-clause-notes
 returns-clause-notes g c = c.copy_old.ensures.notes
+
+pub returns-in_default-clause-header_cluster : goal.returns-in_default-clause-header_cluster
+returns-in_default-clause-header_cluster g c = behind_none
+
+pub returns-in_default-checked_add-clause-header_cluster : goal.returns-in_default-checked_add-clause-header_cluster
+returns-in_default-checked_add-clause-header_cluster g c = behind_none
+
+pub returns-clause-header_cluster : goal.returns-clause-header_cluster
+returns-clause-header_cluster g c = c.copy_old.ensures.header_cluster

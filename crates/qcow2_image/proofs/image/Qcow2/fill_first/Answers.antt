@@ -12,6 +12,7 @@ use Rattle.qcow2_image.proofs.Preallocate.Piece.{all_filled, all_fits, all_next,
 use Rattle.qcow2_image.proofs.Call.FaultCounts.{counted_as, counted_of, counted_still}
 use Rattle.qcow2_image.specs.Faults.{CountsImageFaults}
 use Rattle.qcow2_image.proofs.Call.MetErrors.{tables_met}
+use Rattle.qcow2_image.proofs.Call.BehindHeader.{behind_then}
 use Rattle.qcow2_image.proofs.image.Qcow2.fill_first.Goals as goal
 
 pub returns-in_err-prepared-clause-fills : goal.returns-in_err-prepared-clause-fills
@@ -127,3 +128,15 @@ returns-in-Err-clause-faults g c =
 pub returns-clause-emptied : goal.returns-clause-emptied
 returns-clause-emptied g c = λ none.
     c.in_ok-free_listed.ensures.emptied (subst IsTrue (sym (c.commit_filled.ensures.stays.image.writable ∙ c.put_zeros.ensures.stays.image.writable ∙ c.prepare.ensures.stays.image.writable)) c.requires.writable)
+
+pub returns-in_err-prepared-clause-header_cluster : goal.returns-in_err-prepared-clause-header_cluster
+returns-in_err-prepared-clause-header_cluster g c = c.prepare.ensures.header_cluster
+
+pub returns-in-Err-clause-header_cluster : goal.returns-in-Err-clause-header_cluster
+returns-in-Err-clause-header_cluster g c = behind_then (behind_then (behind_then c.prepare.ensures.header_cluster c.put_zeros.ensures.header_cluster) c.release_prepared.ensures.header_cluster) c.free_after.ensures.header_cluster
+
+pub returns-in_err-free_listed-clause-header_cluster : goal.returns-in_err-free_listed-clause-header_cluster
+returns-in_err-free_listed-clause-header_cluster g c = behind_then (behind_then (behind_then c.prepare.ensures.header_cluster c.put_zeros.ensures.header_cluster) c.commit_filled.ensures.header_cluster) c.free_listed.ensures.header_cluster
+
+pub returns-clause-header_cluster : goal.returns-clause-header_cluster
+returns-clause-header_cluster g c = behind_then (behind_then (behind_then c.prepare.ensures.header_cluster c.put_zeros.ensures.header_cluster) c.commit_filled.ensures.header_cluster) c.free_listed.ensures.header_cluster

@@ -4,6 +4,7 @@ use Rattle.qcow2_alloc.proofs.AllocationSteps.{handed_on}
 use Rattle.qcow2_metadata.specs.Header.{cluster_size, rounded_up}
 use Rattle.qcow2_image.specs.Preallocation.{first_zeros, FillsGrownOrRefuses}
 use Rattle.qcow2_image.proofs.Preallocate.Grown.{early_refused, grown_none, grown_or_refused}
+use Rattle.qcow2_image.proofs.Call.BehindHeader.{behind_none}
 use Rattle.qcow2_image.proofs.image.Qcow2.fill_grown.Goals as goal
 
 pub returns-in-None-clause-fills : goal.returns-in-None-clause-fills
@@ -42,3 +43,15 @@ returns-in_err-writes-in-WriteData-clause-fills g c = λ out sound.
     let e = c.in_err-writes-in-WriteData.field-0.0 in
     handed_on (λ r. FillsGrownOrRefuses view below c.args.size c.args.mode old old out r) c.from_residual.result e c.from_residual.ensures
     (early_refused view below out old sound c.args.size c.args.mode (subst (λ n. n < c.args.size) c.requires.end c.requires.larger) (ap shows_old c.in-WriteData.is) e c.in_err-writes-in-WriteData.ensures.cause)
+
+pub returns-in-None-clause-header_cluster : goal.returns-in-None-clause-header_cluster
+returns-in-None-clause-header_cluster g c = behind_none
+
+pub returns-in-Zero-clause-header_cluster : goal.returns-in-Zero-clause-header_cluster
+returns-in-Zero-clause-header_cluster g c = c.zero_grown.ensures.header_cluster
+
+pub returns-in-FormatAllocate-clause-header_cluster : goal.returns-in-FormatAllocate-clause-header_cluster
+returns-in-FormatAllocate-clause-header_cluster g c = c.allocate_grown.ensures.header_cluster
+
+pub returns-in_err-writes-in-WriteData-clause-header_cluster : goal.returns-in_err-writes-in-WriteData-clause-header_cluster
+returns-in_err-writes-in-WriteData-clause-header_cluster g c = behind_none

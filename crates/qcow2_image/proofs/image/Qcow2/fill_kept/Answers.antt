@@ -3,6 +3,7 @@ use Rattle.qcow2_image.proofs.Prepare.Copied.{none_has, some_has}
 use Rattle.qcow2_image.proofs.Prepare.Filling.{image_step_none}
 use Rattle.qcow2_image.proofs.Prepare.Keeping.{filled_by_none, filled_with_zeros, image_step_filled}
 use Rattle.qcow2_alloc.specs.KeptNotes.{kept_same}
+use Rattle.qcow2_image.proofs.Call.BehindHeader.{behind_none}
 use Rattle.qcow2_image.proofs.image.Qcow2.fill_kept.Goals as goal
 
 pub returns-in-None-clause-image_step : goal.returns-in-None-clause-image_step
@@ -29,3 +30,9 @@ returns-in-None-clause-notes g c = kept_same c.args.self.now.file.storage
 
 pub returns-in-Some-clause-notes : goal.returns-in-Some-clause-notes
 returns-in-Some-clause-notes g c = c.write_zeros.ensures.notes
+
+pub returns-in-None-clause-header_cluster : goal.returns-in-None-clause-header_cluster
+returns-in-None-clause-header_cluster g c = behind_none
+
+pub returns-in-Some-clause-header_cluster : goal.returns-in-Some-clause-header_cluster
+returns-in-Some-clause-header_cluster g c = c.write_zeros.ensures.header_cluster

@@ -1,4 +1,5 @@
 use Rattle.std.proofs.Common.{◌-◌}
+use Rattle.qcow2_image.specs.BehindHeader.{StaysBehindHeader}
 use Rattle.qcow2_image.specs.Faults.{NoFewerFaults}
 use Rattle.qcow2_image.specs.Image.{HasNothingToFree}
 use Rattle.qcow2_image.proofs.Preallocate.Turns.{FilledTo}
@@ -10,6 +11,7 @@ invariant-loop-at g l = record {
   turns : FilledTo g.S.Storage.view g.F.BackingDisk.backing l.from l.to l.at l.fn.self l.self;
   faults : NoFewerFaults g.S.Storage.view g.F.BackingDisk.backing l.fn.self l.self;
   emptied : HasNothingToFree l.fn.self → HasNothingToFree l.self;
+  behind : StaysBehindHeader l.fn.self l.self;
 }
 
 abbrev pub decreases-loop-at : goal.decreases-loop-at

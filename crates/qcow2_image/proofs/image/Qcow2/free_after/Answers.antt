@@ -4,6 +4,7 @@ use Rattle.qcow2_image.specs.ImageInvariant.{ImageInvariant}
 use Rattle.qcow2_image.proofs.Flush.Freeing.{all_listed, beside, freed_refused, tidy_stays}
 use Rattle.qcow2_image.proofs.Call.FaultCounts.{counted_as, counted_still}
 use Rattle.qcow2_alloc.specs.KeptNotes.{kept_same}
+use Rattle.qcow2_image.proofs.Call.BehindHeader.{behind_none}
 use Rattle.qcow2_image.proofs.image.Qcow2.free_after.Goals as goal
 
 pub returns-in-Ok-clause-frees : goal.returns-in-Ok-clause-frees
@@ -68,3 +69,12 @@ returns-in-Ok-clause-notes g c = c.free_listed.ensures.notes
 
 pub returns-in-Err-clause-notes : goal.returns-in-Err-clause-notes
 returns-in-Err-clause-notes g c = c.free_listed.ensures.notes
+
+pub returns-then-is_last-clause-header_cluster : goal.returns-then-is_last-clause-header_cluster
+returns-then-is_last-clause-header_cluster g c = behind_none
+
+pub returns-in-Ok-clause-header_cluster : goal.returns-in-Ok-clause-header_cluster
+returns-in-Ok-clause-header_cluster g c = c.free_listed.ensures.header_cluster
+
+pub returns-in-Err-clause-header_cluster : goal.returns-in-Err-clause-header_cluster
+returns-in-Err-clause-header_cluster g c = c.free_listed.ensures.header_cluster

@@ -6,6 +6,7 @@ use Rattle.qcow2_image.proofs.Call.Answered.{freeing_step_kept}
 use Rattle.qcow2_image.proofs.Flush.Freeing.{frees_listed, frees_fault}
 use Rattle.qcow2_image.proofs.Prepare.Entering.{keeps_none}
 use Rattle.qcow2_alloc.specs.KeptNotes.{kept_same}
+use Rattle.qcow2_image.proofs.Call.BehindHeader.{behind_allocated, behind_none}
 use Rattle.qcow2_image.proofs.image.Qcow2.free_listed.Goals as goal
 
 pub returns-then-is_empty-clause-frees : goal.returns-then-is_empty-clause-frees
@@ -38,3 +39,12 @@ returns-in_default-clause-notes g c = kept_same c.args.self.now.file.storage
 
 pub returns-clause-notes : goal.returns-clause-notes
 returns-clause-notes g c = c.free.ensures.notes
+
+pub returns-then-is_empty-clause-header_cluster : goal.returns-then-is_empty-clause-header_cluster
+returns-then-is_empty-clause-header_cluster g c = behind_none
+
+pub returns-in_default-clause-header_cluster : goal.returns-in_default-clause-header_cluster
+returns-in_default-clause-header_cluster g c = behind_none
+
+pub returns-clause-header_cluster : goal.returns-clause-header_cluster
+returns-clause-header_cluster g c = behind_allocated c.in-Some.is c.free.ensures.header_cluster

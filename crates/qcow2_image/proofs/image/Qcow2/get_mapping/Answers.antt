@@ -18,6 +18,7 @@ use Rattle.qcow2_image.specs.Noted.{FailsOnceWritten}
 use Rattle.qcow2_alloc.proofs.AllocationSteps.{handed_on}
 use Rattle.qcow2_alloc.proofs.Outcomes.{err_as}
 use Rattle.qcow2_alloc.specs.declared.error.ImageError.TheVariants.{Memory}
+use Rattle.qcow2_image.proofs.Call.BehindHeader.{behind_call}
 use Rattle.qcow2_image.proofs.image.Qcow2.get_mapping.Goals as goal
 
 pub returns-in_err-kind-clause-sees : goal.returns-in_err-kind-clause-sees
@@ -87,3 +88,9 @@ returns-in_err-kind-clause-once_written g c =
 
 pub returns-clause-once_written : goal.returns-clause-once_written
 returns-clause-once_written g c = λ bad. absurd (cc)
+
+pub returns-in_err-kind-clause-header_cluster : goal.returns-in_err-kind-clause-header_cluster
+returns-in_err-kind-clause-header_cluster g c = behind_call c.begin.ensures.begun c.look_up-found.ensures.header_cluster c.mark_failure.ensures.rest
+
+pub returns-clause-header_cluster : goal.returns-clause-header_cluster
+returns-clause-header_cluster g c = behind_call c.begin.ensures.begun c.look_up-found.ensures.header_cluster c.mark_failure.ensures.rest

@@ -34,6 +34,7 @@ use Rattle.qcow2_alloc.proofs.AllocationSteps.{handed_on}
 use Rattle.qcow2_alloc.proofs.Outcomes.{err_as}
 use Rattle.qcow2_image.specs.Noted.{FailsOnceWritten}
 use Rattle.qcow2_image.proofs.Call.OnceWritten.{once_written, failed_once}
+use Rattle.qcow2_image.proofs.Call.BehindHeader.{behind_by, behind_call, behind_none, behind_then}
 use Rattle.qcow2_image.proofs.image.Qcow2.grow_disk.Goals as goal
 
 pub returns-in_err-mark_failure-clause-sees : goal.returns-in_err-mark_failure-clause-sees
@@ -314,3 +315,12 @@ returns-in_err-mark_fault-clause-once_written g c =
 
 pub returns-clause-once_written : goal.returns-clause-once_written
 returns-clause-once_written g c = failed_once g.S.Storage.view c.args.self.now c.mark_fault-2.new.self c.write_size-written.result c.mark_fault-2.result c.mark_fault-2.ensures.answer c.mark_fault-2.ensures.fault
+
+pub returns-in_err-mark_failure-clause-header_cluster : goal.returns-in_err-mark_failure-clause-header_cluster
+returns-in_err-mark_failure-clause-header_cluster g c = behind_call c.begin.ensures.begun c.renew_l1_table-longer.ensures.header_cluster c.mark_failure.ensures.rest
+
+pub returns-in_err-mark_fault-clause-header_cluster : goal.returns-in_err-mark_fault-clause-header_cluster
+returns-in_err-mark_fault-clause-header_cluster g c = behind_then (behind_then (behind_call c.begin.ensures.begun c.renew_l1_table-longer.ensures.header_cluster c.mark_failure.ensures.rest) c.fill_grown-filled.ensures.header_cluster) (behind_by c.mark_fault.ensures.rest behind_none)
+
+pub returns-clause-header_cluster : goal.returns-clause-header_cluster
+returns-clause-header_cluster g c = behind_then (behind_then (behind_then (behind_then (behind_call c.begin.ensures.begun c.renew_l1_table-longer.ensures.header_cluster c.mark_failure.ensures.rest) c.fill_grown-filled.ensures.header_cluster) (behind_by c.mark_fault.ensures.rest behind_none)) c.write_size-written.ensures.header_cluster) (behind_by c.mark_fault-2.ensures.rest behind_none)

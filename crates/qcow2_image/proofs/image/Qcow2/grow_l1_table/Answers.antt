@@ -5,6 +5,7 @@ use Rattle.qcow2_image.specs.LongerTables.{Lengthens}
 use Rattle.qcow2_image.proofs.Grow.Lengthened.{is_longer, lengthened, refused_none}
 use Rattle.qcow2_image.proofs.Prepare.Owning.{refused}
 use Rattle.qcow2_alloc.specs.KeptNotes.{kept_same}
+use Rattle.qcow2_image.proofs.Call.BehindHeader.{behind_none}
 use Rattle.qcow2_image.proofs.image.Qcow2.grow_l1_table.Goals as goal
 
 pub returns-then-index-ge-MAX_L1_ENTRIES-clause-lengthens : goal.returns-then-index-ge-MAX_L1_ENTRIES-clause-lengthens
@@ -52,3 +53,18 @@ returns-in-Ok-clause-notes g c = c.enter_l1_table.ensures.notes
 
 pub returns-in-Err-clause-notes : goal.returns-in-Err-clause-notes
 returns-in-Err-clause-notes g c = c.enter_l1_table.ensures.notes
+
+pub returns-then-index-ge-MAX_L1_ENTRIES-clause-header_cluster : goal.returns-then-index-ge-MAX_L1_ENTRIES-clause-header_cluster
+returns-then-index-ge-MAX_L1_ENTRIES-clause-header_cluster g c = behind_none
+
+pub returns-in_err-table-clause-header_cluster : goal.returns-in_err-table-clause-header_cluster
+returns-in_err-table-clause-header_cluster g c = behind_none
+
+pub returns-in_err-old-clause-header_cluster : goal.returns-in_err-old-clause-header_cluster
+returns-in_err-old-clause-header_cluster g c = behind_none
+
+pub returns-in-Ok-clause-header_cluster : goal.returns-in-Ok-clause-header_cluster
+returns-in-Ok-clause-header_cluster g c = c.enter_l1_table.ensures.header_cluster
+
+pub returns-in-Err-clause-header_cluster : goal.returns-in-Err-clause-header_cluster
+returns-in-Err-clause-header_cluster g c = c.enter_l1_table.ensures.header_cluster

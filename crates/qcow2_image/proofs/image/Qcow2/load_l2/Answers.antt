@@ -1,5 +1,6 @@
 use Rattle.qcow2_image.proofs.Prepare.Filling.{same_new_data}
 use Rattle.qcow2_image.proofs.Map.Loading.{caches_moved}
+use Rattle.qcow2_image.proofs.Call.BehindHeader.{behind_caches}
 use Rattle.qcow2_image.proofs.image.Qcow2.load_l2.Goals as goal
 
 pub returns-clause-keeps : goal.returns-clause-keeps
@@ -15,3 +16,6 @@ returns-clause-contents g c = λ p out sound.
 
 pub returns-clause-notes : goal.returns-clause-notes
 returns-clause-notes g c = c.l2_get_or_insert.ensures.notes
+
+pub returns-clause-header_cluster : goal.returns-clause-header_cluster
+returns-clause-header_cluster g c = λ some. behind_caches (c.l2_get_or_insert.ensures.header_cluster some).behind

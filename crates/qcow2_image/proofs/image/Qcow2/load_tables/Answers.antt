@@ -10,6 +10,11 @@ use Rattle.qcow2_image.proofs.Open.Left.{file_read, file_refused, file_then, fil
 use Rattle.qcow2_image.specs.Opened.{LeavesFile}
 use Rattle.qcow2_image.proofs.Open.Reading.{so_before}
 use Rattle.qcow2_image.proofs.Open.Opening.{new_tables_then, kept_read, kept_then}
+use Rattle.std.proofs.Common.{refl}
+use Rattle.std.proofs.Common.{None}
+use Rattle.qcow2_alloc.specs.declared.image_file.ImageFile.{ImageFile}
+use Rattle.qcow2_alloc.specs.BehindHeader.{AreBehindHeader}
+use Rattle.qcow2_image.specs.BehindHeader.{TablesBehindHeader}
 use Rattle.qcow2_image.proofs.image.Qcow2.load_tables.Goals as goal
 
 pub returns-then-not-writable-clause-loaded : goal.returns-then-not-writable-clause-loaded
@@ -118,3 +123,11 @@ returns-clause-storage g c =
     let x = c.in_ok-allocator.allocator in
     file_then view c.args.writable old mid l1.rest l1.honest l1.same l1.time new x _
     (subst (λ (w : Bool). LeavesFile view w mid new (Ok x)) (sym c.if-not-writable.false) c.in_ok-allocator.ensures.storage)
+
+pub returns-then-not-writable-clause-header_cluster : goal.returns-then-not-writable-clause-header_cluster
+returns-then-not-writable-clause-header_cluster g c = λ are some.
+    subst (λ (f : ImageFile _). TablesBehindHeader f.header.fields.cluster_bits f.header.fields.cluster_bits f.caches None) (sym c.load_l1_table.ensures.rest) (record { header = refl; caches = are; reftable = tt })
+
+pub returns-clause-header_cluster : goal.returns-clause-header_cluster
+returns-clause-header_cluster g c = λ are.
+    c.in_ok-allocator.ensures.header_cluster (subst (λ (f : ImageFile _). AreBehindHeader f.header.fields.cluster_bits f.caches) (sym c.load_l1_table.ensures.rest) are)

@@ -12,6 +12,9 @@ use Rattle.qcow2_image.specs.Found.{l1_index_of, NamesL2Table, IsRunFrom}
 use Rattle.qcow2_image.proofs.Map.Loading.{caches_moved, with_caches, if_ok}
 use Rattle.qcow2_image.proofs.Map.Looked.{none_found}
 use Rattle.qcow2_image.proofs.Map.Unmodified.{read_caches, read_none}
+use Rattle.qcow2_image.proofs.Call.BehindHeader.{behind_caches}
+use Rattle.std.specs.Prelude.{IfSome}
+use Rattle.std.proofs.Common.{◌<◌}
 use Rattle.qcow2_image.proofs.image.Qcow2.look_up.Goals as goal
 
 pub returns-in_err-l2_get_or_insert-in-Some-clause-keeps :
@@ -91,3 +94,9 @@ returns-in_ok-l2_get_or_insert-in-Some-clause-unwritten g c = λ p out sound cle
 
 pub returns-in-None-clause-unwritten : goal.returns-in-None-clause-unwritten
 returns-in-None-clause-unwritten g c = λ p out sound clean. read_none g.S.Storage.view c.args.self.now clean
+
+pub returns-in_err-l2_get_or_insert-in-Some-clause-header_cluster : goal.returns-in_err-l2_get_or_insert-in-Some-clause-header_cluster
+returns-in_err-l2_get_or_insert-in-Some-clause-header_cluster g c = behind_caches (c.l2_get_or_insert.ensures.header_cluster (subst (λ t. IfSome t (λ n. 0 < n)) c.in-Some.is c.in_ok-l2_cluster.ensures.elsewhere)).behind
+
+pub returns-in_ok-l2_get_or_insert-in-Some-clause-header_cluster : goal.returns-in_ok-l2_get_or_insert-in-Some-clause-header_cluster
+returns-in_ok-l2_get_or_insert-in-Some-clause-header_cluster g c = behind_caches (c.l2_get_or_insert.ensures.header_cluster (subst (λ t. IfSome t (λ n. 0 < n)) c.in-Some.is c.in_ok-l2_cluster.ensures.elsewhere)).behind

@@ -7,6 +7,8 @@ use Rattle.qcow2_image.specs.LongerTables.{NamesTable}
 use Rattle.qcow2_image.proofs.Grow.NamedL1.{named_interruption, named_so}
 use Rattle.qcow2_alloc.specs.KeptNotes.{kept_same}
 use Rattle.qcow2_alloc.proofs.KeptMarks.{told_kept}
+use Rattle.qcow2_image.proofs.Call.BehindHeader.{behind_bits}
+use Rattle.qcow2_metadata.specs.Header.{HeaderView}
 use Rattle.qcow2_image.proofs.image.Qcow2.name_l1_table.Goals as goal
 
 pub returns-in_err-write_l1_table_pointer-clause-names : goal.returns-in_err-write_l1_table_pointer-clause-names
@@ -39,3 +41,12 @@ returns-in_err-write_l1_table_pointer-clause-notes g c = told_kept c.args.self.n
 
 pub returns-clause-notes : goal.returns-clause-notes
 returns-clause-notes g c = told_kept c.args.self.now.file.storage c.will_write.new.self c.write_l1_table_pointer.new.self c.write_l1_table_pointer.result c.will_write.ensures.storage c.will_write.ensures.changed _ c.write_l1_table_pointer.ensures.written c.write_l1_table_pointer.ensures.calls c.write_l1_table_pointer.ensures.noted
+
+pub returns-in_err-set_l1_table-clause-header_cluster : goal.returns-in_err-set_l1_table-clause-header_cluster
+returns-in_err-set_l1_table-clause-header_cluster g c = behind_bits (ap (λ (v : HeaderView). v.fields.cluster_bits) c.in_err-set_l1_table.ensures.same)
+
+pub returns-in_err-write_l1_table_pointer-clause-header_cluster : goal.returns-in_err-write_l1_table_pointer-clause-header_cluster
+returns-in_err-write_l1_table_pointer-clause-header_cluster g c = behind_bits (ap (λ (v : HeaderView). v.fields.cluster_bits) c.in_ok-set_l1_table.ensures.ok)
+
+pub returns-clause-header_cluster : goal.returns-clause-header_cluster
+returns-clause-header_cluster g c = behind_bits (ap (λ (v : HeaderView). v.fields.cluster_bits) c.in_ok-set_l1_table.ensures.ok)

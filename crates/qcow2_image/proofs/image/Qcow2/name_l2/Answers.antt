@@ -6,6 +6,7 @@ use Rattle.qcow2_image.proofs.Prepare.Naming.{safe_throughout_named, named_so}
 use Rattle.qcow2_alloc.proofs.KeptMarks.{placed_kept}
 use Rattle.std.proofs.Common.{subst, sym, IsSome}
 use Rattle.qcow2_metadata.specs.EntryTable.{EntryTableView}
+use Rattle.qcow2_image.proofs.Call.BehindHeader.{behind_none}
 use Rattle.qcow2_image.proofs.image.Qcow2.name_l2.Goals as goal
 
 pub returns-in_err-write_l1_entry-clause-names : goal.returns-in_err-write_l1_entry-clause-names
@@ -31,3 +32,9 @@ returns-in_err-write_l1_entry-clause-notes g c = placed_kept c.args.self.now.fil
 
 pub returns-clause-notes : goal.returns-clause-notes
 returns-clause-notes g c = placed_kept c.args.self.now.file.storage c.will_write.new.self c.write_l1_entry.new.self c.write_l1_entry.result c.will_write.ensures.storage c.will_write.ensures.changed c.enter_l2_table.new.self.cluster _ (subst (λ (x : EntryTableView). IsSome x.cluster) (sym c.enter_l2_table.ensures.rest) c.requires.placed) c.write_l1_entry.ensures.written c.write_l1_entry.ensures.calls c.write_l1_entry.ensures.noted
+
+pub returns-in_err-write_l1_entry-clause-header_cluster : goal.returns-in_err-write_l1_entry-clause-header_cluster
+returns-in_err-write_l1_entry-clause-header_cluster g c = behind_none
+
+pub returns-clause-header_cluster : goal.returns-clause-header_cluster
+returns-clause-header_cluster g c = behind_none

@@ -13,6 +13,7 @@ use Rattle.qcow2_image.proofs.Prepare.Filling.{image_step_then}
 use Rattle.qcow2_image.proofs.Prepare.Listing.{lists_still}
 use Rattle.qcow2_alloc.specs.KeptNotes.{kept_then}
 use Rattle.qcow2_image.proofs.Call.Notes.{same_kept}
+use Rattle.qcow2_image.proofs.Call.BehindHeader.{behind_by, behind_none, behind_then}
 use Rattle.qcow2_image.proofs.image.Qcow2.new_cluster.Goals as goal
 
 pub returns-in-Ok-clause-gains : goal.returns-in-Ok-clause-gains
@@ -71,3 +72,12 @@ returns-in-Ok-clause-notes g c = kept_then _ _ _ c.take_data.ensures.notes c.fil
 
 pub returns-in-Err-clause-notes : goal.returns-in-Err-clause-notes
 returns-in-Err-clause-notes g c = kept_then _ _ _ (kept_then _ _ _ c.take_data.ensures.notes c.fill_cluster.ensures.notes) (same_kept c.fill_cluster.new.self c.hand_back.new.self (ap (λ (i : Qcow2 _ _). i.file.storage) c.hand_back.ensures))
+
+pub returns-in_err-pending-clause-header_cluster : goal.returns-in_err-pending-clause-header_cluster
+returns-in_err-pending-clause-header_cluster g c = c.take_data.ensures.header_cluster
+
+pub returns-in-Ok-clause-header_cluster : goal.returns-in-Ok-clause-header_cluster
+returns-in-Ok-clause-header_cluster g c = behind_then c.take_data.ensures.header_cluster c.fill_cluster.ensures.header_cluster
+
+pub returns-in-Err-clause-header_cluster : goal.returns-in-Err-clause-header_cluster
+returns-in-Err-clause-header_cluster g c = behind_then (behind_then c.take_data.ensures.header_cluster c.fill_cluster.ensures.header_cluster) (behind_by c.hand_back.ensures behind_none)

@@ -15,6 +15,7 @@ use Rattle.qcow2_image.proofs.Prepare.Filling.{image_step_then}
 use Rattle.qcow2_image.proofs.Prepare.Listing.{lists_still}
 use Rattle.qcow2_alloc.specs.KeptNotes.{kept_then}
 use Rattle.qcow2_image.proofs.Call.Notes.{same_kept}
+use Rattle.qcow2_image.proofs.Call.BehindHeader.{behind_by, behind_none, behind_then}
 use Rattle.qcow2_image.proofs.image.Qcow2.new_cluster_at.Goals as goal
 
 pub returns-in_default-clause-gains : goal.returns-in_default-clause-gains
@@ -80,3 +81,12 @@ returns-in-Ok-clause-notes g c = kept_then _ _ _ c.take_data_at.ensures.notes c.
 
 pub returns-in-Err-clause-notes : goal.returns-in-Err-clause-notes
 returns-in-Err-clause-notes g c = kept_then _ _ _ (kept_then _ _ _ c.take_data_at.ensures.notes c.fill_cluster.ensures.notes) (same_kept c.fill_cluster.new.self c.hand_back.new.self (ap (λ (i : Qcow2 _ _). i.file.storage) c.hand_back.ensures))
+
+pub returns-in_default-clause-header_cluster : goal.returns-in_default-clause-header_cluster
+returns-in_default-clause-header_cluster g c = c.take_data_at.ensures.header_cluster
+
+pub returns-in-Ok-clause-header_cluster : goal.returns-in-Ok-clause-header_cluster
+returns-in-Ok-clause-header_cluster g c = behind_then c.take_data_at.ensures.header_cluster c.fill_cluster.ensures.header_cluster
+
+pub returns-in-Err-clause-header_cluster : goal.returns-in-Err-clause-header_cluster
+returns-in-Err-clause-header_cluster g c = behind_then (behind_then c.take_data_at.ensures.header_cluster c.fill_cluster.ensures.header_cluster) (behind_by c.hand_back.ensures behind_none)

@@ -165,3 +165,6 @@ returns-in-Err-load_tables-clause-storage g c =
     let file : ImageFile _ = record { alloc = c.args.alloc; storage = c.load.new.storage; header = c.in-Ok.header; caches = c.in-Ok-new.caches; free_list = c.new-2.result } in
     left_refused g.S.Storage.view c.args.writable c.args.storage.storage c.args.storage.storage file refl c.load.result c.load.ensures.reads c.in-Ok.ensures.ok c.load_tables.new.file c.in-Err-load_tables.e c.into_storage.result
     c.into_storage.ensures c.in-Err-load_tables.ensures.storage
+
+pub returns-in-Ok-load_tables-clause-header_cluster : goal.returns-in-Ok-load_tables-clause-header_cluster
+returns-in-Ok-load_tables-clause-header_cluster g c = c.in-Ok-load_tables.ensures.header_cluster c.in-Ok-new.ensures.header_cluster

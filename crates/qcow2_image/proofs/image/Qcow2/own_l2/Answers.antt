@@ -7,6 +7,7 @@ use Rattle.qcow2_metadata.specs.EntryTable.{entry_count}
 use Rattle.qcow2_metadata.specs.TableBytes.{entry_at}
 use Rattle.qcow2_image.proofs.Prepare.Lacking.{lacks_past, not_within, owns_or_lacks}
 use Rattle.qcow2_alloc.specs.KeptNotes.{kept_same}
+use Rattle.qcow2_image.proofs.Call.BehindHeader.{behind_first, behind_none}
 use Rattle.qcow2_image.proofs.image.Qcow2.own_l2.Goals as goal
 
 pub returns-then-not-in_bounds-clause-owns : goal.returns-then-not-in_bounds-clause-owns
@@ -111,3 +112,27 @@ returns-in_default-clause-notes g c = c.enter_l2.ensures.notes
 
 pub returns-clause-notes : goal.returns-clause-notes
 returns-clause-notes g c = c.replace_l2.ensures.notes
+
+pub returns-then-not-in_bounds-clause-header_cluster : goal.returns-then-not-in_bounds-clause-header_cluster
+returns-then-not-in_bounds-clause-header_cluster g c = behind_none
+
+pub returns-in_err-table-clause-header_cluster : goal.returns-in_err-table-clause-header_cluster
+returns-in_err-table-clause-header_cluster g c = behind_none
+
+pub returns-then-entry-clause-header_cluster : goal.returns-then-entry-clause-header_cluster
+returns-then-entry-clause-header_cluster g c = behind_none
+
+pub returns-in_default-clause-header_cluster : goal.returns-in_default-clause-header_cluster
+returns-in_default-clause-header_cluster g c = c.enter_l2.ensures.header_cluster
+
+pub returns-clause-header_cluster : goal.returns-clause-header_cluster
+returns-clause-header_cluster g c = c.replace_l2.ensures.header_cluster (behind_first c.cluster_bits-bits.result c.in-Some-checked_cluster.cluster c.in-Some.entry.offset c.in-Some-checked_cluster.ensures.cluster c.in-Some.ensures.some)
+
+pub returns-then-entry-clause-elsewhere : goal.returns-then-entry-clause-elsewhere
+returns-then-entry-clause-elsewhere g c = behind_first c.cluster_bits-bits.result c.in-Some-checked_cluster.cluster c.in-Some.entry.offset c.in-Some-checked_cluster.ensures.cluster c.in-Some.ensures.some
+
+pub returns-in_default-clause-elsewhere : goal.returns-in_default-clause-elsewhere
+returns-in_default-clause-elsewhere g c = c.enter_l2.ensures.elsewhere
+
+pub returns-clause-elsewhere : goal.returns-clause-elsewhere
+returns-clause-elsewhere g c = c.replace_l2.ensures.elsewhere

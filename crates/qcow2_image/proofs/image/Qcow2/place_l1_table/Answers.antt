@@ -10,6 +10,7 @@ use Rattle.qcow2_image.proofs.Grow.LongerTables.{table_write_as, keeps_placed, s
 use Rattle.qcow2_alloc.specs.KeptNotes.{kept_same, kept_then}
 use Rattle.qcow2_alloc.proofs.KeptMarks.{placed_kept}
 use Rattle.qcow2_metadata.specs.EntryTable.{EntryTableView}
+use Rattle.qcow2_image.proofs.Call.BehindHeader.{behind_caches, behind_none}
 use Rattle.qcow2_image.proofs.image.Qcow2.place_l1_table.Goals as goal
 
 pub returns-in_err-flush_rb-clause-places : goal.returns-in_err-flush_rb-clause-places
@@ -75,3 +76,15 @@ returns-in_err-write_l1_table-clause-notes g c = kept_then _ _ _ c.flush_rb.ensu
 
 pub returns-clause-notes : goal.returns-clause-notes
 returns-clause-notes g c = kept_then _ _ _ c.flush_rb.ensures.notes (placed_kept c.flush_rb.new.storage c.will_write.new.self c.write_l1_table.new.self c.write_l1_table.result c.will_write.ensures.storage c.will_write.ensures.changed c.set_cluster.new.self.cluster _ (subst (λ (x : EntryTableView). IsSome x.cluster) (sym c.set_cluster.ensures) refl) c.write_l1_table.ensures.written c.write_l1_table.ensures.calls c.write_l1_table.ensures.noted)
+
+pub returns-then-not-is_nameable-clause-header_cluster : goal.returns-then-not-is_nameable-clause-header_cluster
+returns-then-not-is_nameable-clause-header_cluster g c = behind_none
+
+pub returns-in_err-flush_rb-clause-header_cluster : goal.returns-in_err-flush_rb-clause-header_cluster
+returns-in_err-flush_rb-clause-header_cluster g c = behind_caches c.flush_rb.ensures.header_cluster.behind
+
+pub returns-in_err-write_l1_table-clause-header_cluster : goal.returns-in_err-write_l1_table-clause-header_cluster
+returns-in_err-write_l1_table-clause-header_cluster g c = behind_caches c.flush_rb.ensures.header_cluster.behind
+
+pub returns-clause-header_cluster : goal.returns-clause-header_cluster
+returns-clause-header_cluster g c = behind_caches c.flush_rb.ensures.header_cluster.behind

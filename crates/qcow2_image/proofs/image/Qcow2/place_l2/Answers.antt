@@ -12,6 +12,9 @@ use Rattle.qcow2_image.proofs.Map.Loading.{if_ok}
 use Rattle.qcow2_image.proofs.Prepare.Placing.{holds, keeps_placed, keeps_put, keeps_stored, places_when, stands_ready, stands_there}
 use Rattle.qcow2_alloc.specs.KeptNotes.{kept_same, kept_then}
 use Rattle.qcow2_alloc.proofs.KeptMarks.{placed_kept}
+use Rattle.qcow2_image.proofs.Call.BehindHeader.{behind_caches, behind_none}
+use Rattle.qcow2_alloc.specs.SparedHeaders.{CachesSpareHeader}
+use Rattle.std.proofs.Common.{◌<◌}
 use Rattle.qcow2_image.proofs.image.Qcow2.place_l2.Goals as goal
 
 pub returns-in_err-write_new_l2_table-clause-places : goal.returns-in_err-write_new_l2_table-clause-places
@@ -61,3 +64,15 @@ returns-in_err-write_new_l2_table-clause-notes g c = placed_kept c.args.self.now
 
 pub returns-clause-notes : goal.returns-clause-notes
 returns-clause-notes g c = kept_then _ _ _ (placed_kept c.args.self.now.file.storage c.will_write.new.self c.write_new_l2_table.new.self c.write_new_l2_table.result c.will_write.ensures.storage c.will_write.ensures.changed c.set_cluster.new.self.cluster _ (subst (λ (x : L2TableView). IsSome x.cluster) (sym c.set_cluster.ensures) refl) c.write_new_l2_table.ensures.written c.write_new_l2_table.ensures.calls c.write_new_l2_table.ensures.noted) c.l2_insert.ensures.notes
+
+pub returns-then-not-is_nameable-clause-header_cluster : goal.returns-then-not-is_nameable-clause-header_cluster
+returns-then-not-is_nameable-clause-header_cluster g c = λ some. behind_none
+
+pub returns-in_err-write_new_l2_table-clause-header_cluster : goal.returns-in_err-write_new_l2_table-clause-header_cluster
+returns-in_err-write_new_l2_table-clause-header_cluster g c = λ some. behind_none
+
+pub returns-clause-header_cluster : goal.returns-clause-header_cluster
+returns-clause-header_cluster g c = λ some.
+    let is : c.clear_modified.new.self ≡ record c.args.table { cluster = Some c.args.cluster; is_modified = false } = c.clear_modified.ensures ∙ ap (λ (t : L2TableView). record t { is_modified = false }) c.set_cluster.ensures in
+    let spares = subst (λ (t : L2TableView). IfSome t.cluster (λ cluster. 0 < cluster → CachesSpareHeader g.S.Storage.view c.write_new_l2_table.new.self c.args.self.now.file.caches c.l2_insert.new.storage c.l2_insert.new.self)) is c.l2_insert.ensures.header_cluster in
+    behind_caches (spares some).behind

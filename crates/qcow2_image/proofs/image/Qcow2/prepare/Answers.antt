@@ -5,6 +5,7 @@ use Rattle.qcow2_image.proofs.Call.Refused.{back_then_freed}
 use Rattle.qcow2_image.proofs.Call.FaultCounts.{counted_as, counted_of, untouched}
 use Rattle.qcow2_image.proofs.Prepare.FarEntries.{far_refusal, far_then_freed, far_unanswered}
 use Rattle.qcow2_alloc.specs.KeptNotes.{kept_then}
+use Rattle.qcow2_image.proofs.Call.BehindHeader.{behind_then}
 use Rattle.qcow2_image.proofs.image.Qcow2.prepare.Goals as goal
 
 pub returns-in-Ok-clause-readies : goal.returns-in-Ok-clause-readies
@@ -47,3 +48,9 @@ returns-in-Ok-clause-notes g c = c.prepare_range.ensures.notes
 
 pub returns-in-Err-clause-notes : goal.returns-in-Err-clause-notes
 returns-in-Err-clause-notes g c = kept_then _ _ _ c.prepare_range.ensures.notes c.free_after.ensures.notes
+
+pub returns-in-Ok-clause-header_cluster : goal.returns-in-Ok-clause-header_cluster
+returns-in-Ok-clause-header_cluster g c = c.prepare_range.ensures.header_cluster
+
+pub returns-in-Err-clause-header_cluster : goal.returns-in-Err-clause-header_cluster
+returns-in-Err-clause-header_cluster g c = behind_then c.prepare_range.ensures.header_cluster c.free_after.ensures.header_cluster

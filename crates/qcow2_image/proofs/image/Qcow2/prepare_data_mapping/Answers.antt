@@ -22,6 +22,7 @@ use Rattle.qcow2_image.proofs.Call.Refused.{prepares_after, stays_kept}
 use Rattle.qcow2_image.proofs.Call.FaultCounts.{counted_marked}
 use Rattle.qcow2_image.proofs.Call.Marked.{marks_memory, may_mark}
 use Rattle.qcow2_image.proofs.Call.OnceWritten.{once_written}
+use Rattle.qcow2_image.proofs.Call.BehindHeader.{behind_call, behind_none}
 use Rattle.qcow2_image.proofs.image.Qcow2.prepare_data_mapping.Goals as goal
 
 pub returns-then-length-eq0-clause-sees : goal.returns-then-length-eq0-clause-sees
@@ -118,3 +119,12 @@ returns-in_err-check_prepare-clause-once_written g c = λ memory works honest. r
 
 pub returns-clause-once_written : goal.returns-clause-once_written
 returns-clause-once_written g c = λ memory. once_written g.S.Storage.view c.args.self.now c.begin.new.self c.prepare-prepared.new.self c.mark_failure.new.self c.prepare-prepared.result c.begin.ensures.storage c.prepare-prepared.ensures.notes c.mark_failure.ensures.marks c.mark_failure.ensures.rest (sym c.mark_failure.ensures.answer ∙ memory)
+
+pub returns-in_err-check_prepare-clause-header_cluster : goal.returns-in_err-check_prepare-clause-header_cluster
+returns-in_err-check_prepare-clause-header_cluster g c = behind_none
+
+pub returns-then-length-eq0-clause-header_cluster : goal.returns-then-length-eq0-clause-header_cluster
+returns-then-length-eq0-clause-header_cluster g c = behind_none
+
+pub returns-clause-header_cluster : goal.returns-clause-header_cluster
+returns-clause-header_cluster g c = behind_call c.begin.ensures.begun c.prepare-prepared.ensures.header_cluster c.mark_failure.ensures.rest

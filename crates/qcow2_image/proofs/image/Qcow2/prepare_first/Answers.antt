@@ -19,6 +19,7 @@ use Rattle.qcow2_image.proofs.Prepare.Listing.{lists_none, lists_still}
 use Rattle.qcow2_image.specs.declared.image.Qcow2.{Qcow2}
 use Rattle.qcow2_alloc.specs.KeptNotes.{kept_same}
 use Rattle.qcow2_image.proofs.Call.Notes.{same_kept}
+use Rattle.qcow2_image.proofs.Call.BehindHeader.{behind_by, behind_caches, behind_none}
 use Rattle.qcow2_image.proofs.image.Qcow2.prepare_first.Goals as goal
 
 pub returns-then-l2_is_pinned-clause-readies : goal.returns-then-l2_is_pinned-clause-readies
@@ -110,3 +111,18 @@ returns-in-Some-clause-notes g c = same_kept c.args.self.now c.prepare_at.new.se
 
 pub returns-in-None-clause-notes : goal.returns-in-None-clause-notes
 returns-in-None-clause-notes g c = c.prepare_private.ensures.notes
+
+pub returns-then-l2_is_pinned-clause-header_cluster : goal.returns-then-l2_is_pinned-clause-header_cluster
+returns-then-l2_is_pinned-clause-header_cluster g c = λ some. behind_none
+
+pub returns-in_err-room-clause-header_cluster : goal.returns-in_err-room-clause-header_cluster
+returns-in_err-room-clause-header_cluster g c = λ some. behind_none
+
+pub returns-in_err-old-clause-header_cluster : goal.returns-in_err-old-clause-header_cluster
+returns-in_err-old-clause-header_cluster g c = λ some. behind_none
+
+pub returns-in-Some-clause-header_cluster : goal.returns-in-Some-clause-header_cluster
+returns-in-Some-clause-header_cluster g c = λ some. behind_by c.prepare_at.ensures.pins.rest (behind_caches c.prepare_at.ensures.pins.tables.behind)
+
+pub returns-in-None-clause-header_cluster : goal.returns-in-None-clause-header_cluster
+returns-in-None-clause-header_cluster g c = c.prepare_private.ensures.header_cluster

@@ -15,6 +15,7 @@ use Rattle.qcow2_image.proofs.Call.FaultCounts.{counted_as, counted_still}
 use Rattle.qcow2_image.proofs.Prepare.Listing.{lists_then}
 use Rattle.qcow2_alloc.specs.KeptNotes.{kept_then}
 use Rattle.qcow2_image.proofs.Call.Notes.{same_kept}
+use Rattle.qcow2_image.proofs.Call.BehindHeader.{behind_then}
 use Rattle.qcow2_image.proofs.image.Qcow2.prepare_in.Goals as goal
 
 pub returns-in_err-prepared-clause-readies : goal.returns-in_err-prepared-clause-readies
@@ -110,3 +111,12 @@ returns-in-Ok-clause-notes g c = kept_then _ _ _ c.prepare_first.ensures.notes c
 
 pub returns-in-Err-clause-notes : goal.returns-in-Err-clause-notes
 returns-in-Err-clause-notes g c = kept_then _ _ _ (kept_then _ _ _ c.prepare_first.ensures.notes c.prepare_rest.ensures.notes) (same_kept c.prepare_rest.new.self c.release_prepared.new.self (ap (λ (i : Qcow2 _ _). i.file.storage) c.release_prepared.ensures.rest.rest))
+
+pub returns-in_err-prepared-clause-header_cluster : goal.returns-in_err-prepared-clause-header_cluster
+returns-in_err-prepared-clause-header_cluster g c = c.prepare_first.ensures.header_cluster
+
+pub returns-in-Ok-clause-header_cluster : goal.returns-in-Ok-clause-header_cluster
+returns-in-Ok-clause-header_cluster g c = λ some. behind_then (c.prepare_first.ensures.header_cluster some) c.prepare_rest.ensures.header_cluster
+
+pub returns-in-Err-clause-header_cluster : goal.returns-in-Err-clause-header_cluster
+returns-in-Err-clause-header_cluster g c = λ some. behind_then (behind_then (c.prepare_first.ensures.header_cluster some) c.prepare_rest.ensures.header_cluster) c.release_prepared.ensures.header_cluster

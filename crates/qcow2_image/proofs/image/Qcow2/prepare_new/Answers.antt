@@ -19,6 +19,7 @@ use Rattle.qcow2_image.proofs.Prepare.ReadyingNew.{back_none, readied_new}
 use Rattle.qcow2_image.proofs.Prepare.Listing.{lists_still}
 use Rattle.qcow2_alloc.specs.KeptNotes.{kept_same, kept_then}
 use Rattle.qcow2_image.proofs.Call.Notes.{same_kept}
+use Rattle.qcow2_image.proofs.Call.BehindHeader.{behind_by, behind_caches, behind_none, behind_then}
 use Rattle.qcow2_image.proofs.image.Qcow2.prepare_new.Goals as goal
 
 pub returns-in_err-old_data-clause-readies : goal.returns-in_err-old_data-clause-readies
@@ -100,3 +101,15 @@ returns-in-Ok-clause-notes g c = kept_then _ _ _ (kept_then _ _ _ c.new_cluster.
 
 pub returns-in-Err-clause-notes : goal.returns-in-Err-clause-notes
 returns-in-Err-clause-notes g c = kept_then _ _ _ (kept_then _ _ _ c.new_cluster.ensures.notes c.load_l2.ensures.notes) (same_kept c.load_l2.new.self c.hand_back-in-Err.new.self (ap (λ (i : Qcow2 _ _). i.file.storage) c.hand_back-in-Err.ensures))
+
+pub returns-in_err-old_data-clause-header_cluster : goal.returns-in_err-old_data-clause-header_cluster
+returns-in_err-old_data-clause-header_cluster g c = λ some. behind_none
+
+pub returns-in_err-pending-clause-header_cluster : goal.returns-in_err-pending-clause-header_cluster
+returns-in_err-pending-clause-header_cluster g c = λ some. c.new_cluster.ensures.header_cluster
+
+pub returns-in-Ok-clause-header_cluster : goal.returns-in-Ok-clause-header_cluster
+returns-in-Ok-clause-header_cluster g c = λ some. behind_then (behind_then c.new_cluster.ensures.header_cluster (c.load_l2.ensures.header_cluster some)) (behind_by c.prepare_at.ensures.pins.rest (behind_caches c.prepare_at.ensures.pins.tables.behind))
+
+pub returns-in-Err-clause-header_cluster : goal.returns-in-Err-clause-header_cluster
+returns-in-Err-clause-header_cluster g c = λ some. behind_then (behind_then c.new_cluster.ensures.header_cluster (c.load_l2.ensures.header_cluster some)) (behind_by c.hand_back-in-Err.ensures behind_none)

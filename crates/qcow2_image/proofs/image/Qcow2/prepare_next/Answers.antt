@@ -33,3 +33,9 @@ returns-in_default-clause-notes g c = c.share_behind.ensures.notes
 
 pub returns-clause-notes : goal.returns-clause-notes
 returns-clause-notes g c = c.share_behind.ensures.notes
+
+pub returns-in_default-clause-header_cluster : goal.returns-in_default-clause-header_cluster
+returns-in_default-clause-header_cluster g c = c.share_behind.ensures.header_cluster
+
+pub returns-clause-header_cluster : goal.returns-clause-header_cluster
+returns-clause-header_cluster g c = c.share_behind.ensures.header_cluster

@@ -22,3 +22,9 @@ returns-in-Some-clause-notes g c = c.prepare_kept.ensures.notes
 
 pub returns-in-None-clause-notes : goal.returns-in-None-clause-notes
 returns-in-None-clause-notes g c = c.prepare_new.ensures.notes
+
+pub returns-in-Some-clause-header_cluster : goal.returns-in-Some-clause-header_cluster
+returns-in-Some-clause-header_cluster g c = λ some. c.prepare_kept.ensures.header_cluster
+
+pub returns-in-None-clause-header_cluster : goal.returns-in-None-clause-header_cluster
+returns-in-None-clause-header_cluster g c = c.prepare_new.ensures.header_cluster

@@ -15,6 +15,7 @@ use Rattle.qcow2_image.proofs.Prepare.Listing.{lists_none}
 use Rattle.qcow2_image.proofs.Prepare.FarEntries.{far_handed_on, far_unanswered}
 use Rattle.std.specs.Prelude.{IsTrue}
 use Rattle.qcow2_alloc.specs.KeptNotes.{kept_then}
+use Rattle.qcow2_image.proofs.Call.BehindHeader.{behind_then}
 use Rattle.qcow2_image.proofs.image.Qcow2.prepare_range.Goals as goal
 
 pub returns-in_err-table-clause-readies : goal.returns-in_err-table-clause-readies
@@ -131,3 +132,15 @@ returns-in-Some-clause-notes g c = c.table_for.ensures.notes
 
 pub returns-in-None-clause-notes : goal.returns-in-None-clause-notes
 returns-in-None-clause-notes g c = kept_then _ _ _ c.table_for.ensures.notes c.prepare_in.ensures.notes
+
+pub returns-in_err-table-clause-header_cluster : goal.returns-in_err-table-clause-header_cluster
+returns-in_err-table-clause-header_cluster g c = c.table_for.ensures.header_cluster
+
+pub returns-in_err-host-clause-header_cluster : goal.returns-in_err-host-clause-header_cluster
+returns-in_err-host-clause-header_cluster g c = c.table_for.ensures.header_cluster
+
+pub returns-in-Some-clause-header_cluster : goal.returns-in-Some-clause-header_cluster
+returns-in-Some-clause-header_cluster g c = c.table_for.ensures.header_cluster
+
+pub returns-in-None-clause-header_cluster : goal.returns-in-None-clause-header_cluster
+returns-in-None-clause-header_cluster g c = behind_then c.table_for.ensures.header_cluster (c.prepare_in.ensures.header_cluster c.in_ok-table.ensures.elsewhere)

@@ -9,6 +9,7 @@ use Rattle.qcow2_image.proofs.Prepare.Onward.{may_go_on, so_far_all, so_far_ends
 use Rattle.qcow2_image.proofs.Call.FaultCounts.{counted_ok, counted_on, fewer_then}
 use Rattle.qcow2_image.proofs.Prepare.Listing.{lists_none, lists_then}
 use Rattle.qcow2_alloc.specs.KeptNotes.{kept_then}
+use Rattle.qcow2_image.proofs.Call.BehindHeader.{behind_then}
 use Rattle.qcow2_image.proofs.image.Qcow2.prepare_rest.Goals as goal
 
 pub returns-in_err-prepare_next-clause-image_step : goal.returns-in_err-prepare_next-clause-image_step
@@ -73,6 +74,7 @@ loop-prepared-preserved g c =
       faults = fewer_then view below c.args.self.now now new c.loop-prepared.invariant.faults c.prepare_next.ensures.faults.no_fewer;
       former = lists_then c.args.self.now now new c.loop-prepared.invariant.former c.in_ok-prepare_next.ensures.former;
       notes = kept_then _ _ _ c.loop-prepared.invariant.notes c.prepare_next.ensures.notes;
+      behind = behind_then c.loop-prepared.invariant.behind c.prepare_next.ensures.header_cluster;
     }
 
 pub returns-clause-image_step : goal.returns-clause-image_step
@@ -105,3 +107,12 @@ returns-then-not-branch-clause-notes g c = kept_then _ _ _ c.loop-prepared.invar
 
 pub returns-clause-notes : goal.returns-clause-notes
 returns-clause-notes g c = c.loop-prepared.invariant.notes
+
+pub returns-in_err-prepare_next-clause-header_cluster : goal.returns-in_err-prepare_next-clause-header_cluster
+returns-in_err-prepare_next-clause-header_cluster g c = behind_then c.loop-prepared.invariant.behind c.prepare_next.ensures.header_cluster
+
+pub returns-then-not-branch-clause-header_cluster : goal.returns-then-not-branch-clause-header_cluster
+returns-then-not-branch-clause-header_cluster g c = behind_then c.loop-prepared.invariant.behind c.prepare_next.ensures.header_cluster
+
+pub returns-clause-header_cluster : goal.returns-clause-header_cluster
+returns-clause-header_cluster g c = c.loop-prepared.invariant.behind

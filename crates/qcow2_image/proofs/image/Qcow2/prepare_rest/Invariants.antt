@@ -1,5 +1,6 @@
 use Rattle.std.proofs.Common.{◌-◌}
 use Rattle.qcow2_alloc.specs.KeptNotes.{KeepsNotes}
+use Rattle.qcow2_image.specs.BehindHeader.{StaysBehindHeader}
 use Rattle.qcow2_image.specs.Faults.{NoFewerFaults}
 use Rattle.qcow2_image.specs.ListedClusters.{ListsFormer}
 use Rattle.qcow2_image.proofs.Prepare.Onward.{IsSoFar}
@@ -12,6 +13,7 @@ invariant-loop-prepared g l = record {
   faults : NoFewerFaults g.S.Storage.view g.F.BackingDisk.backing l.fn.self l.self;
   former : ListsFormer l.fn.self l.self;
   notes : KeepsNotes g.S.Storage.view l.fn.self.file.storage l.self.file.storage;
+  behind : StaysBehindHeader l.fn.self l.self;
 }
 
 abbrev pub decreases-loop-prepared : goal.decreases-loop-prepared

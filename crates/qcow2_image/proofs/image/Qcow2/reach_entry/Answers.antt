@@ -12,6 +12,7 @@ use Rattle.std.specs.Prelude.{IfErr}
 use Rattle.qcow2_image.specs.NewTables.{IsFaultOrLacksTable}
 use Rattle.qcow2_image.proofs.Prepare.Lacking.{fault_or_lacking, not_within, short_lacking}
 use Rattle.qcow2_alloc.specs.KeptNotes.{kept_same, kept_then}
+use Rattle.qcow2_image.proofs.Call.BehindHeader.{behind_none, behind_then}
 use Rattle.qcow2_image.proofs.image.Qcow2.reach_entry.Goals as goal
 
 pub returns-then-in_bounds-clause-makes : goal.returns-then-in_bounds-clause-makes
@@ -83,3 +84,12 @@ returns-in_err-grow_l1_table-clause-notes g c = c.grow_l1_table.ensures.notes
 
 pub returns-clause-notes : goal.returns-clause-notes
 returns-clause-notes g c = kept_then _ _ _ c.grow_l1_table.ensures.notes c.free_listed.ensures.notes
+
+pub returns-then-in_bounds-clause-header_cluster : goal.returns-then-in_bounds-clause-header_cluster
+returns-then-in_bounds-clause-header_cluster g c = behind_none
+
+pub returns-in_err-grow_l1_table-clause-header_cluster : goal.returns-in_err-grow_l1_table-clause-header_cluster
+returns-in_err-grow_l1_table-clause-header_cluster g c = c.grow_l1_table.ensures.header_cluster
+
+pub returns-clause-header_cluster : goal.returns-clause-header_cluster
+returns-clause-header_cluster g c = behind_then c.grow_l1_table.ensures.header_cluster c.free_listed.ensures.header_cluster

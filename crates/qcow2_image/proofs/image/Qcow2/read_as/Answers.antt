@@ -15,6 +15,7 @@ use Rattle.qcow2_image.proofs.Map.Loading.{read_moved, if_ok}
 use Rattle.qcow2_image.proofs.Map.Reading.{raw_shown, zero_shown, indirect_shown, none_below}
 use Rattle.qcow2_image.proofs.Map.Unmodified.{read_bytes, read_same}
 use Rattle.qcow2_alloc.proofs.KeptNotes.{read_kept}
+use Rattle.qcow2_image.proofs.Call.BehindHeader.{behind_none}
 use Rattle.qcow2_image.proofs.image.Qcow2.read_as.Goals as goal
 
 pub returns-in_err-read-in-Raw-clause-keeps : goal.returns-in_err-read-in-Raw-clause-keeps
@@ -79,3 +80,9 @@ returns-in_err-read-in-Raw-clause-notes g c = read_kept _ _ c.read.result c.read
 
 pub returns-in_ok-read-in-Raw-clause-notes : goal.returns-in_ok-read-in-Raw-clause-notes
 returns-in_ok-read-in-Raw-clause-notes g c = read_kept _ _ c.read.result c.read.ensures.calls c.read.ensures.same c.read.ensures.unnoted
+
+pub returns-in_err-read-in-Raw-clause-header_cluster : goal.returns-in_err-read-in-Raw-clause-header_cluster
+returns-in_err-read-in-Raw-clause-header_cluster g c = behind_none
+
+pub returns-in_ok-read-in-Raw-clause-header_cluster : goal.returns-in_ok-read-in-Raw-clause-header_cluster
+returns-in_ok-read-in-Raw-clause-header_cluster g c = behind_none

@@ -9,6 +9,7 @@ use Rattle.qcow2_image.proofs.Call.Called.{keeps_then}
 use Rattle.qcow2_image.proofs.Map.Looked.{none_past}
 use Rattle.qcow2_image.proofs.Map.Unmodified.{reads_on}
 use Rattle.qcow2_alloc.specs.KeptNotes.{kept_then}
+use Rattle.qcow2_image.proofs.Call.BehindHeader.{behind_then}
 use Rattle.qcow2_image.proofs.image.Qcow2.read_current.Goals as goal
 
 pub returns-clause-keeps : goal.returns-clause-keeps
@@ -53,3 +54,6 @@ returns-clause-mapped g c = λ p out sound.
     always_ok c.read_as.result
     (subst (λ o. IsFoundWhole view old o (further_by c.args.at c.args.mapping.now.kind) n) c.in_ok-offset.ensures.place
     (subst (λ k. IsFoundWhole view old c.in_ok-offset.offset k n) c.further-kind.ensures (c.in_ok-check_mapped.ensures.found p out sound)))
+
+pub returns-clause-header_cluster : goal.returns-clause-header_cluster
+returns-clause-header_cluster g c = behind_then c.check_mapped.ensures.header_cluster c.read_as.ensures.header_cluster

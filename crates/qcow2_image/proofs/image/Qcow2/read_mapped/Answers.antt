@@ -17,6 +17,7 @@ use Rattle.qcow2_image.proofs.Map.Looked.{found_before}
 use Rattle.qcow2_image.proofs.Call.FaultCounts.{counted_marked}
 use Rattle.qcow2_image.proofs.Map.Unmodified.{read_call}
 use Rattle.qcow2_image.proofs.Call.OnceWritten.{once_written}
+use Rattle.qcow2_image.proofs.Call.BehindHeader.{behind_call}
 use Rattle.qcow2_image.proofs.image.Qcow2.read_mapped.Goals as goal
 
 pub returns-clause-sees : goal.returns-clause-sees
@@ -73,3 +74,6 @@ returns-clause-mapped g c = λ some out sound.
     let begun = c.begin.ensures.keeps p out sound in
     subst (λ (r : Result _ _). OnOk r (IsFoundWhole view old place kind n)) (sym c.mark_failure.ensures.answer)
     (on_ok c.read_current-done.result (λ whole. found_before view below old c.begin.new.self out p p place n kind begun whole) (c.read_current-done.ensures.mapped p out begun.sound))
+
+pub returns-clause-header_cluster : goal.returns-clause-header_cluster
+returns-clause-header_cluster g c = behind_call c.begin.ensures.begun c.read_current-done.ensures.header_cluster c.mark_failure.ensures.rest

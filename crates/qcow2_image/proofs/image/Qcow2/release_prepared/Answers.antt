@@ -7,6 +7,7 @@ use Rattle.qcow2_image.specs.Calls.{Discards}
 use Rattle.qcow2_image.specs.ImageInvariant.{pins_of}
 use Rattle.qcow2_image.proofs.Commit.Released.{discards}
 use Rattle.qcow2_image.proofs.Call.FaultCounts.{untouched}
+use Rattle.qcow2_image.proofs.Call.BehindHeader.{behind_by, behind_caches, behind_none, behind_then}
 use Rattle.qcow2_image.proofs.image.Qcow2.release_prepared.Goals as goal
 
 pub returns-clause-sees : goal.returns-clause-sees
@@ -41,3 +42,6 @@ returns-clause-faults g c =
     untouched g.S.Storage.view g.F.BackingDisk.backing c.args.self.now c.unpin.new.self
     (ap (λ (m : Qcow2 _ _). m.file.storage) c.unpin.ensures.rest ∙ ap (λ (m : Qcow2 _ _). m.file.storage) c.free_later.ensures)
     (ap (λ (m : Qcow2 _ _). m.backing) c.unpin.ensures.rest ∙ ap (λ (m : Qcow2 _ _). m.backing) c.free_later.ensures)
+
+pub returns-clause-header_cluster : goal.returns-clause-header_cluster
+returns-clause-header_cluster g c = behind_then (behind_by c.free_later.ensures behind_none) (behind_by c.unpin.ensures.rest (behind_caches c.unpin.ensures.tables.behind))

@@ -10,6 +10,7 @@ use Rattle.qcow2_image.specs.LongerTables.{MakesEntry}
 use Rattle.qcow2_image.proofs.Flush.Freeing.{all_listed, beside}
 use Rattle.qcow2_image.proofs.Grow.Lengthened.{freed_then, refused_moved, stays_moved}
 use Rattle.qcow2_alloc.specs.KeptNotes.{kept_then}
+use Rattle.qcow2_image.proofs.Call.BehindHeader.{behind_then}
 use Rattle.qcow2_image.proofs.image.Qcow2.renew_l1_table.Goals as goal
 
 pub returns-in_err-grow_l1_table-clause-makes : goal.returns-in_err-grow_l1_table-clause-makes
@@ -47,3 +48,9 @@ returns-in_err-grow_l1_table-clause-notes g c = c.grow_l1_table.ensures.notes
 
 pub returns-clause-notes : goal.returns-clause-notes
 returns-clause-notes g c = kept_then _ _ _ c.grow_l1_table.ensures.notes c.free_listed.ensures.notes
+
+pub returns-in_err-grow_l1_table-clause-header_cluster : goal.returns-in_err-grow_l1_table-clause-header_cluster
+returns-in_err-grow_l1_table-clause-header_cluster g c = c.grow_l1_table.ensures.header_cluster
+
+pub returns-clause-header_cluster : goal.returns-clause-header_cluster
+returns-clause-header_cluster g c = behind_then c.grow_l1_table.ensures.header_cluster c.free_listed.ensures.header_cluster

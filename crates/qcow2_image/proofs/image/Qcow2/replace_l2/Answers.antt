@@ -4,6 +4,7 @@ use Rattle.qcow2_image.proofs.Prepare.Entering.{as_listed_after}
 use Rattle.qcow2_image.proofs.Map.Loading.{caches_moved, with_caches}
 use Rattle.qcow2_image.proofs.Prepare.Owning.{refused, says_copy, shared_still, owned_then}
 use Rattle.qcow2_alloc.specs.KeptNotes.{kept_then}
+use Rattle.qcow2_image.proofs.Call.BehindHeader.{behind_caches, behind_then}
 use Rattle.qcow2_image.proofs.image.Qcow2.replace_l2.Goals as goal
 
 pub returns-in_err-l2_get_or_insert-clause-owns : goal.returns-in_err-l2_get_or_insert-clause-owns
@@ -42,3 +43,15 @@ returns-in_err-table-clause-notes g c = c.l2_get_or_insert.ensures.notes
 
 pub returns-clause-notes : goal.returns-clause-notes
 returns-clause-notes g c = kept_then _ _ _ c.l2_get_or_insert.ensures.notes c.swap_l2.ensures.notes
+
+pub returns-in_err-l2_get_or_insert-clause-header_cluster : goal.returns-in_err-l2_get_or_insert-clause-header_cluster
+returns-in_err-l2_get_or_insert-clause-header_cluster g c = λ some. behind_caches (c.l2_get_or_insert.ensures.header_cluster some).behind
+
+pub returns-in_err-table-clause-header_cluster : goal.returns-in_err-table-clause-header_cluster
+returns-in_err-table-clause-header_cluster g c = λ some. behind_caches (c.l2_get_or_insert.ensures.header_cluster some).behind
+
+pub returns-clause-header_cluster : goal.returns-clause-header_cluster
+returns-clause-header_cluster g c = λ some. behind_then (behind_caches (c.l2_get_or_insert.ensures.header_cluster some).behind) c.swap_l2.ensures.header_cluster
+
+pub returns-clause-elsewhere : goal.returns-clause-elsewhere
+returns-clause-elsewhere g c = c.swap_l2.ensures.elsewhere

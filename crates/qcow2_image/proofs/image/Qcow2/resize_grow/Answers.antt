@@ -35,3 +35,6 @@ returns-in_err-check_resize-clause-once_written g c = λ memory works honest. re
 
 pub returns-then-takes_over-clause-once_written : goal.returns-then-takes_over-clause-once_written
 returns-then-takes_over-clause-once_written g c = λ memory works honest. refl
+
+pub returns-clause-header_cluster : goal.returns-clause-header_cluster
+returns-clause-header_cluster g c = c.grow_disk.ensures.header_cluster

@@ -66,3 +66,6 @@ returns-then-is_some-clause-once_written g c = λ memory works honest. refl
 
 pub returns-clause-once_written : goal.returns-clause-once_written
 returns-clause-once_written g c = c.shrink.ensures.once_written
+
+pub returns-clause-header_cluster : goal.returns-clause-header_cluster
+returns-clause-header_cluster g c = c.shrink.ensures.header_cluster

@@ -11,6 +11,7 @@ use Rattle.qcow2_image.specs.Ranges.{GainsAt, SharesAt}
 use Rattle.qcow2_image.proofs.Prepare.Owning.{refused as any_refusal}
 use Rattle.qcow2_image.proofs.Prepare.ReadyingNew.{back_none}
 use Rattle.qcow2_alloc.specs.KeptNotes.{kept_same}
+use Rattle.qcow2_image.proofs.Call.BehindHeader.{behind_none}
 use Rattle.qcow2_image.proofs.image.Qcow2.share_at.Goals as goal
 
 pub returns-in_default-clause-shares : goal.returns-in_default-clause-shares
@@ -65,3 +66,15 @@ returns-in_default-2-clause-notes g c = c.new_cluster_at.ensures.notes
 
 pub returns-clause-notes : goal.returns-clause-notes
 returns-clause-notes g c = c.new_cluster_at.ensures.notes
+
+pub returns-in_default-clause-header_cluster : goal.returns-in_default-clause-header_cluster
+returns-in_default-clause-header_cluster g c = behind_none
+
+pub returns-in_err-old_data-clause-header_cluster : goal.returns-in_err-old_data-clause-header_cluster
+returns-in_err-old_data-clause-header_cluster g c = behind_none
+
+pub returns-in_default-2-clause-header_cluster : goal.returns-in_default-2-clause-header_cluster
+returns-in_default-2-clause-header_cluster g c = c.new_cluster_at.ensures.header_cluster
+
+pub returns-clause-header_cluster : goal.returns-clause-header_cluster
+returns-clause-header_cluster g c = c.new_cluster_at.ensures.header_cluster

@@ -15,6 +15,7 @@ use Rattle.qcow2_image.proofs.Prepare.KeptShares.{behind_alone, behind_kept}
 use Rattle.qcow2_image.proofs.Prepare.Behind.{behind_in_place, ends_elsewhere, finds_shared, next_cluster, next_says}
 use Rattle.qcow2_image.proofs.Prepare.Listing.{lists_none, lists_still}
 use Rattle.qcow2_alloc.specs.KeptNotes.{kept_same}
+use Rattle.qcow2_image.proofs.Call.BehindHeader.{behind_none}
 use Rattle.qcow2_image.proofs.image.Qcow2.share_behind.Goals as goal
 
 pub returns-in-Some-copied_place-clause-finds : goal.returns-in-Some-copied_place-clause-finds
@@ -128,3 +129,18 @@ returns-in_ok-fill_kept-in-None-clause-notes g c = c.fill_kept.ensures.notes
 
 pub returns-in-None-2-clause-notes : goal.returns-in-None-2-clause-notes
 returns-in-None-2-clause-notes g c = c.share_at.ensures.notes
+
+pub returns-in-Some-copied_place-clause-header_cluster : goal.returns-in-Some-copied_place-clause-header_cluster
+returns-in-Some-copied_place-clause-header_cluster g c = behind_none
+
+pub returns-in-Some-2-clause-header_cluster : goal.returns-in-Some-2-clause-header_cluster
+returns-in-Some-2-clause-header_cluster g c = behind_none
+
+pub returns-in_err-fill_kept-in-None-clause-header_cluster : goal.returns-in_err-fill_kept-in-None-clause-header_cluster
+returns-in_err-fill_kept-in-None-clause-header_cluster g c = c.fill_kept.ensures.header_cluster
+
+pub returns-in_ok-fill_kept-in-None-clause-header_cluster : goal.returns-in_ok-fill_kept-in-None-clause-header_cluster
+returns-in_ok-fill_kept-in-None-clause-header_cluster g c = c.fill_kept.ensures.header_cluster
+
+pub returns-in-None-2-clause-header_cluster : goal.returns-in-None-2-clause-header_cluster
+returns-in-None-2-clause-header_cluster g c = c.share_at.ensures.header_cluster

@@ -17,6 +17,7 @@ use Rattle.qcow2_image.proofs.Call.FaultCounts.{counted_as, counted_still}
 use Rattle.qcow2_image.specs.Faults.{TellsFault}
 use Rattle.qcow2_image.proofs.Call.OnceWritten.{notes_then, refused_once}
 use Rattle.qcow2_image.proofs.Sizing.IdleTurns.{not_passed}
+use Rattle.qcow2_image.proofs.Call.BehindHeader.{behind_by, behind_none, behind_then}
 use Rattle.qcow2_image.proofs.image.Qcow2.shrink.Goals as goal
 
 pub returns-in-Some-clause-sees : goal.returns-in-Some-clause-sees
@@ -147,3 +148,12 @@ returns-in-Err-clause-once_written g c =
 
 pub returns-clause-once_written : goal.returns-clause-once_written
 returns-clause-once_written g c = λ bad. absurd (cc)
+
+pub returns-in-Some-clause-header_cluster : goal.returns-in-Some-clause-header_cluster
+returns-in-Some-clause-header_cluster g c = behind_then c.uncover_tail-end.ensures.header_cluster (behind_by c.mark_refused.ensures.rest behind_none)
+
+pub returns-in-Err-clause-header_cluster : goal.returns-in-Err-clause-header_cluster
+returns-in-Err-clause-header_cluster g c = behind_then (behind_then c.uncover_tail-end.ensures.header_cluster c.write_size.ensures.header_cluster) (behind_by c.mark_refused-in-Err.ensures.rest behind_none)
+
+pub returns-clause-header_cluster : goal.returns-clause-header_cluster
+returns-clause-header_cluster g c = behind_then c.uncover_tail-end.ensures.header_cluster c.write_size.ensures.header_cluster

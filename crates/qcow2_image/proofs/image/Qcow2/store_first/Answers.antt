@@ -1,5 +1,6 @@
 use Rattle.qcow2_image.proofs.Map.Loading.{caches_moved, with_caches}
 use Rattle.qcow2_image.proofs.Prepare.Storing.{stores_counts}
+use Rattle.qcow2_image.proofs.Call.BehindHeader.{behind_caches}
 use Rattle.qcow2_image.proofs.image.Qcow2.store_first.Goals as goal
 
 pub returns-clause-stores : goal.returns-clause-stores
@@ -12,3 +13,6 @@ returns-clause-stores g c = λ p out sound.
 
 pub returns-clause-notes : goal.returns-clause-notes
 returns-clause-notes g c = c.flush_rb.ensures.notes
+
+pub returns-clause-header_cluster : goal.returns-clause-header_cluster
+returns-clause-header_cluster g c = behind_caches c.flush_rb.ensures.header_cluster.behind

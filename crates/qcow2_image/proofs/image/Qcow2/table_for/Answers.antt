@@ -15,6 +15,7 @@ use Rattle.qcow2_image.proofs.Prepare.Owning.{left_alone}
 use Rattle.qcow2_image.proofs.Grow.Lengths.{kept_length, own_after, own_reached, reaches_told, same_length}
 use Rattle.qcow2_image.specs.NewTables.{IsFaultOrLacksTable}
 use Rattle.qcow2_alloc.specs.KeptNotes.{kept_same, kept_then}
+use Rattle.qcow2_image.proofs.Call.BehindHeader.{behind_none, behind_then}
 use Rattle.qcow2_image.proofs.image.Qcow2.table_for.Goals as goal
 
 pub returns-then-has_own_l2-clause-finds : goal.returns-then-has_own_l2-clause-finds
@@ -188,3 +189,27 @@ returns-clause-notes g c = kept_then _ _ _ (kept_then _ _ _ (kept_then _ _ _ c.r
 
 pub returns-then-has_far_entry-clause-far : goal.returns-then-has_far_entry-clause-far
 returns-then-has_far_entry-clause-far g c = λ needs. (refl, refl)
+
+pub returns-then-has_own_l2-clause-header_cluster : goal.returns-then-has_own_l2-clause-header_cluster
+returns-then-has_own_l2-clause-header_cluster g c = c.ensure_l2.ensures.header_cluster
+
+pub returns-then-has_far_entry-clause-header_cluster : goal.returns-then-has_far_entry-clause-header_cluster
+returns-then-has_far_entry-clause-header_cluster g c = behind_none
+
+pub returns-in_err-reach_entry-clause-header_cluster : goal.returns-in_err-reach_entry-clause-header_cluster
+returns-in_err-reach_entry-clause-header_cluster g c = c.reach_entry.ensures.header_cluster
+
+pub returns-in_err-own_l2-clause-header_cluster : goal.returns-in_err-own_l2-clause-header_cluster
+returns-in_err-own_l2-clause-header_cluster g c = behind_then c.reach_entry.ensures.header_cluster c.own_l2.ensures.header_cluster
+
+pub returns-in_err-free_listed-clause-header_cluster : goal.returns-in_err-free_listed-clause-header_cluster
+returns-in_err-free_listed-clause-header_cluster g c = behind_then (behind_then c.reach_entry.ensures.header_cluster c.own_l2.ensures.header_cluster) c.free_listed.ensures.header_cluster
+
+pub returns-clause-header_cluster : goal.returns-clause-header_cluster
+returns-clause-header_cluster g c = behind_then (behind_then (behind_then c.reach_entry.ensures.header_cluster c.own_l2.ensures.header_cluster) c.free_listed.ensures.header_cluster) c.ensure_l2-2.ensures.header_cluster
+
+pub returns-then-has_own_l2-clause-elsewhere : goal.returns-then-has_own_l2-clause-elsewhere
+returns-then-has_own_l2-clause-elsewhere g c = c.ensure_l2.ensures.elsewhere
+
+pub returns-clause-elsewhere : goal.returns-clause-elsewhere
+returns-clause-elsewhere g c = c.ensure_l2-2.ensures.elsewhere

@@ -7,6 +7,7 @@ use Rattle.qcow2_alloc.specs.declared.clusters_to_free.ClusterKind.TheVariants a
 use Rattle.qcow2_image.proofs.Formats.{lists_grow}
 use Rattle.qcow2_image.proofs.Prepare.Gaining.{takes_data}
 use Rattle.std.proofs.Common.{refl}
+use Rattle.qcow2_image.proofs.Call.BehindHeader.{behind_allocated}
 use Rattle.qcow2_image.proofs.image.Qcow2.take_data.Goals as goal
 
 pub returns-clause-takes : goal.returns-clause-takes
@@ -27,3 +28,6 @@ returns-clause-former g c = record { before = c.in-Some.allocator; after = c.all
 
 pub returns-clause-notes : goal.returns-clause-notes
 returns-clause-notes g c = c.allocate_data.ensures.notes
+
+pub returns-clause-header_cluster : goal.returns-clause-header_cluster
+returns-clause-header_cluster g c = behind_allocated c.in-Some.is c.allocate_data.ensures.header_cluster

@@ -5,6 +5,7 @@ use Rattle.qcow2_alloc.specs.KeptAllocators.{IsAllocatorOf}
 use Rattle.qcow2_image.proofs.Formats.{lists_grow}
 use Rattle.qcow2_image.proofs.Prepare.Gaining.{takes_data_at}
 use Rattle.std.proofs.Common.{refl}
+use Rattle.qcow2_image.proofs.Call.BehindHeader.{behind_allocated}
 use Rattle.qcow2_image.proofs.image.Qcow2.take_data_at.Goals as goal
 
 pub returns-clause-takes : goal.returns-clause-takes
@@ -23,3 +24,6 @@ returns-clause-former g c = record { before = c.in-Some.allocator; after = c.all
 
 pub returns-clause-notes : goal.returns-clause-notes
 returns-clause-notes g c = c.allocate_data_at.ensures.notes
+
+pub returns-clause-header_cluster : goal.returns-clause-header_cluster
+returns-clause-header_cluster g c = behind_allocated c.in-Some.is c.allocate_data_at.ensures.header_cluster

@@ -14,6 +14,7 @@ use Rattle.qcow2_image.proofs.Call.FaultCounts.{counted_marked}
 use Rattle.qcow2_image.proofs.Map.Unmodified.{read_call}
 use Rattle.qcow2_image.proofs.Call.Marked.{may_mark}
 use Rattle.qcow2_image.proofs.Call.OnceWritten.{once_written}
+use Rattle.qcow2_image.proofs.Call.BehindHeader.{behind_call}
 use Rattle.qcow2_image.proofs.image.Qcow2.try_readv_special.Goals as goal
 
 pub returns-clause-sees : goal.returns-clause-sees
@@ -45,3 +46,6 @@ returns-clause-unwritten g c = read_call g.S.Storage.view g.F.BackingDisk.backin
 
 pub returns-clause-once_written : goal.returns-clause-once_written
 returns-clause-once_written g c = λ memory. once_written g.S.Storage.view c.args.self.now c.begin.new.self c.plain_at-plain.new.self c.mark_failure.new.self c.plain_at-plain.result c.begin.ensures.storage c.plain_at-plain.ensures.notes c.mark_failure.ensures.marks c.mark_failure.ensures.rest (sym c.mark_failure.ensures.answer ∙ memory)
+
+pub returns-clause-header_cluster : goal.returns-clause-header_cluster
+returns-clause-header_cluster g c = behind_call c.begin.ensures.begun c.plain_at-plain.ensures.header_cluster c.mark_failure.ensures.rest

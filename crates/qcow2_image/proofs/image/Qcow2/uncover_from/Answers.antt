@@ -13,6 +13,7 @@ use Rattle.qcow2_image.proofs.Clear.ClearCalls.{err_is}
 use Rattle.qcow2_image.proofs.Sizing.RefusedTurns.{failed_other, not_marked, turn_ended, turn_still}
 use Rattle.qcow2_image.proofs.Sizing.Shrinking.{fault_of, written_stops}
 use Rattle.qcow2_image.proofs.Call.OnceWritten.{notes_then}
+use Rattle.qcow2_image.proofs.Call.BehindHeader.{behind_then}
 use Rattle.qcow2_image.proofs.image.Qcow2.uncover_from.Goals as goal
 
 pub returns-in-Ok-clause-uncovers : goal.returns-in-Ok-clause-uncovers
@@ -157,3 +158,15 @@ returns-in_ok-end_freeing-in-Err-clause-since g c = notes_then g.S.Storage.view 
 
 pub returns-in-Ok-clause-idle : goal.returns-in-Ok-clause-idle
 returns-in-Ok-clause-idle g c = c.in-Ok.ensures.idle
+
+pub returns-in-Ok-clause-header_cluster : goal.returns-in-Ok-clause-header_cluster
+returns-in-Ok-clause-header_cluster g c = c.uncover_next.ensures.header_cluster
+
+pub returns-then-is_fault-clause-header_cluster : goal.returns-then-is_fault-clause-header_cluster
+returns-then-is_fault-clause-header_cluster g c = c.uncover_next.ensures.header_cluster
+
+pub returns-in_err-end_freeing-in-Err-clause-header_cluster : goal.returns-in_err-end_freeing-in-Err-clause-header_cluster
+returns-in_err-end_freeing-in-Err-clause-header_cluster g c = behind_then c.uncover_next.ensures.header_cluster c.end_freeing.ensures.header_cluster
+
+pub returns-in_ok-end_freeing-in-Err-clause-header_cluster : goal.returns-in_ok-end_freeing-in-Err-clause-header_cluster
+returns-in_ok-end_freeing-in-Err-clause-header_cluster g c = behind_then c.uncover_next.ensures.header_cluster c.end_freeing.ensures.header_cluster

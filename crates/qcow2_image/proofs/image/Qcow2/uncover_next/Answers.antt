@@ -74,3 +74,12 @@ returns-else-at-next-clause-idle g c =
     let none = none_early _ (refuses_to_clear old c.args.at (c.size-end.result - c.args.at) Uncovered) (c.in_ok-from.from, c.in_ok-from.count) c.clear_range.result c.clear_range.ensures.early c.in_ok-from.was in
     turn_idle g.S.Storage.view g.F.BackingDisk.backing old c.clear_range.new.self c.args.at c.size-end.result c.size-end.ensures c.requires.inside (omega (arith, c.size-end.type_inv)) (c.in_ok-from.from, c.in_ok-from.count) c.in_ok-from.ensures.range
     (λ least. (c.in_ok-from.ensures.nothing none least).1) c.size-end.result (inr refl)
+
+pub returns-in_err-from-clause-header_cluster : goal.returns-in_err-from-clause-header_cluster
+returns-in_err-from-clause-header_cluster g c = c.clear_range.ensures.header_cluster
+
+pub returns-then-next-end-clause-header_cluster : goal.returns-then-next-end-clause-header_cluster
+returns-then-next-end-clause-header_cluster g c = c.clear_range.ensures.header_cluster
+
+pub returns-else-at-next-clause-header_cluster : goal.returns-else-at-next-clause-header_cluster
+returns-else-at-next-clause-header_cluster g c = c.clear_range.ensures.header_cluster

@@ -8,6 +8,7 @@ use Rattle.qcow2_image.proofs.Call.FaultCounts.{counted_as, fewer_then}
 use Rattle.qcow2_image.specs.Faults.{CountsImageFaults}
 use Rattle.qcow2_image.proofs.Call.OnceWritten.{notes_begun, notes_none}
 use Rattle.qcow2_image.proofs.Sizing.IdleTurns.{idle_next}
+use Rattle.qcow2_image.proofs.Call.BehindHeader.{behind_begun, behind_then}
 use Rattle.qcow2_image.proofs.image.Qcow2.uncover_tail.Goals as goal
 
 pub loop-at-init : goal.loop-at-init
@@ -20,6 +21,7 @@ loop-at-init g c =
       faults = c.begin.ensures.faults;
       emptied = λ writable out sound before. inl refl;
       idle = λ least. c.begin.ensures.begun;
+      behind = behind_begun c.begin.ensures.begun;
     }
 
 pub loop-at-preserved : goal.loop-at-preserved
@@ -32,6 +34,7 @@ loop-at-preserved g c = record {
       inr (c.in-Ok.ensures.emptied (subst IsTrue (sym so.image.writable) writable) out (so.so_far out sound).0.sound
       (frees_next g.S.Storage.view g.F.BackingDisk.backing c.args.self.now c.loop-at.self c.args.size c.loop-at.at c.size-end.result so out sound before (c.loop-at.invariant.emptied writable out sound before)));
   idle = idle_next c.args.self.now c.loop-at.self c.uncover_from.new.self c.args.size c.loop-at.at c.in-Ok.next c.loop-at.invariant.turns.from c.in-Ok.ensures.on.0 c.loop-at.invariant.idle c.in-Ok.ensures.idle;
+  behind = behind_then c.loop-at.invariant.behind c.uncover_from.ensures.header_cluster;
 }
 
 pub returns-then-is_fault-clause-uncovers : goal.returns-then-is_fault-clause-uncovers
@@ -104,3 +107,12 @@ returns-in-Err-clause-since g c = λ least. notes_begun g.S.Storage.view c.args.
 
 pub returns-clause-since : goal.returns-clause-since
 returns-clause-since g c = λ least. notes_begun g.S.Storage.view c.args.self.now c.loop-at.self c.loop-at.self (c.loop-at.invariant.idle least) (notes_none g.S.Storage.view c.loop-at.self)
+
+pub returns-then-is_fault-clause-header_cluster : goal.returns-then-is_fault-clause-header_cluster
+returns-then-is_fault-clause-header_cluster g c = behind_then c.loop-at.invariant.behind c.uncover_from.ensures.header_cluster
+
+pub returns-in-Err-clause-header_cluster : goal.returns-in-Err-clause-header_cluster
+returns-in-Err-clause-header_cluster g c = behind_then c.loop-at.invariant.behind c.uncover_from.ensures.header_cluster
+
+pub returns-clause-header_cluster : goal.returns-clause-header_cluster
+returns-clause-header_cluster g c = c.loop-at.invariant.behind

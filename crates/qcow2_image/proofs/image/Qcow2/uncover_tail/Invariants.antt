@@ -1,5 +1,6 @@
 use Rattle.std.proofs.Common.{◌-◌, ◌<◌, ◌≤◌, ◌≡◌, ◌⊎◌, List, Option}
 use Rattle.std.specs.Prelude.{IsTrue}
+use Rattle.qcow2_image.specs.BehindHeader.{StaysBehindHeader}
 use Rattle.qcow2_image.specs.declared.prepared.Prepared.{Prepared}
 use Rattle.qcow2_image.specs.Image.{HasNothingToFree, IsBegun, is_writable}
 use Rattle.qcow2_image.specs.ImageInvariant.{ImageInvariant, pending_in}
@@ -16,6 +17,7 @@ invariant-loop-at g l = record {
   emptied : IsTrue (is_writable l.fn.self) → (out : List (Option Prepared)) → ImageInvariant g.S.Storage.view g.F.BackingDisk.backing (pending_in g.S.Storage.view g.F.BackingDisk.backing l.fn.self out) l.fn.self out
       → boundary_in l.fn.self l.fn.size < l.end → (l.at ≡ l.fn.size) ⊎ HasNothingToFree l.self;
   idle : l.at ≤ boundary_in l.fn.self l.fn.size → IsBegun l.fn.self l.self;
+  behind : StaysBehindHeader l.fn.self l.self;
 }
 
 abbrev pub decreases-loop-at : goal.decreases-loop-at

@@ -13,6 +13,7 @@ use Rattle.qcow2_image.specs.Unwritten.{IsOnlyRead, IsUnmodified}
 use Rattle.qcow2_image.proofs.Map.Unmodified.{read_bytes, read_caches, read_same, read_then}
 use Rattle.qcow2_alloc.specs.KeptNotes.{kept_then}
 use Rattle.qcow2_alloc.proofs.KeptNotes.{read_kept}
+use Rattle.qcow2_image.proofs.Call.BehindHeader.{behind_caches, behind_then}
 use Rattle.qcow2_image.proofs.image.Qcow2.write_back.Goals as goal
 
 pub returns-in_err-free_listed-clause-frees : goal.returns-in_err-free_listed-clause-frees
@@ -119,3 +120,15 @@ pub returns-clause-notes : goal.returns-clause-notes
 returns-clause-notes g c =
     kept_then _ _ _ (kept_then _ _ _ c.free_listed.ensures.notes c.flush_all.ensures.notes)
     (read_kept c.flush_all.new.storage c.flush.new.self c.flush.result c.flush.ensures.calls c.flush.ensures.same c.flush.ensures.unnoted)
+
+pub returns-in_err-free_listed-clause-header_cluster : goal.returns-in_err-free_listed-clause-header_cluster
+returns-in_err-free_listed-clause-header_cluster g c = c.free_listed.ensures.header_cluster
+
+pub returns-in_err-flush_all-clause-header_cluster : goal.returns-in_err-flush_all-clause-header_cluster
+returns-in_err-flush_all-clause-header_cluster g c = behind_then c.free_listed.ensures.header_cluster (behind_caches c.flush_all.ensures.header_cluster.behind)
+
+pub returns-in_err-flush-clause-header_cluster : goal.returns-in_err-flush-clause-header_cluster
+returns-in_err-flush-clause-header_cluster g c = behind_then c.free_listed.ensures.header_cluster (behind_caches c.flush_all.ensures.header_cluster.behind)
+
+pub returns-clause-header_cluster : goal.returns-clause-header_cluster
+returns-clause-header_cluster g c = behind_then c.free_listed.ensures.header_cluster (behind_caches c.flush_all.ensures.header_cluster.behind)

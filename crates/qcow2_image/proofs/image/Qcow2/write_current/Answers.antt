@@ -13,6 +13,7 @@ use Rattle.qcow2_image.specs.ImageInvariant.{pending_in}
 use Rattle.qcow2_image.proofs.Write.PutParts.{mapped_in_place, puts_nothing, puts_refused, puts_then, puts_written}
 use Rattle.qcow2_image.proofs.Call.Called.{Quietly, quiet_sound}
 use Rattle.qcow2_alloc.specs.KeptNotes.{kept_then}
+use Rattle.qcow2_image.proofs.Call.BehindHeader.{behind_then}
 use Rattle.qcow2_image.proofs.image.Qcow2.write_current.Goals as goal
 
 pub returns-in_err-check_in_place-clause-puts : goal.returns-in_err-check_in_place-clause-puts
@@ -69,3 +70,6 @@ returns-clause-mapped g c = λ none p out sound.
     let old = c.args.self.now in
     always_ok c.write_data.result
     (subst (λ o. IsFoundWhole view old (c.args.prepared.now.guest + c.args.at) (Raw Image o true) (length c.args.bytes.now)) c.in-Some.ensures.1 (c.in_ok-check_in_place.ensures.found none p out sound))
+
+pub returns-clause-header_cluster : goal.returns-clause-header_cluster
+returns-clause-header_cluster g c = behind_then c.check_in_place.ensures.header_cluster c.write_data.ensures.header_cluster

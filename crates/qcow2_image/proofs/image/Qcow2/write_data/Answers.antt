@@ -1,4 +1,5 @@
 use Rattle.qcow2_alloc.proofs.KeptNotes.{kept_told, write_kept}
+use Rattle.qcow2_image.proofs.Call.BehindHeader.{behind_none}
 use Rattle.qcow2_image.proofs.image.Qcow2.write_data.Goals as goal
 
 pub returns-in_err-write_data-clause-notes : goal.returns-in_err-write_data-clause-notes
@@ -6,3 +7,9 @@ returns-in_err-write_data-clause-notes g c = kept_told c.args.self.now.file.stor
 
 pub returns-clause-notes : goal.returns-clause-notes
 returns-clause-notes g c = kept_told c.args.self.now.file.storage c.will_write.new.self c.write_data.new.self c.will_write.ensures.storage c.will_write.ensures.changed (write_kept _ _ c.write_data.result _ c.write_data.ensures.written c.write_data.ensures.calls c.write_data.ensures.noted)
+
+pub returns-in_err-write_data-clause-header_cluster : goal.returns-in_err-write_data-clause-header_cluster
+returns-in_err-write_data-clause-header_cluster g c = behind_none
+
+pub returns-clause-header_cluster : goal.returns-clause-header_cluster
+returns-clause-header_cluster g c = behind_none

@@ -5,6 +5,7 @@ use Rattle.qcow2_alloc.proofs.AllocationSteps.{handed_on}
 use Rattle.qcow2_image.specs.LongerTables.{NamesTable}
 use Rattle.qcow2_image.proofs.Grow.Lengthened.{named_then}
 use Rattle.qcow2_alloc.specs.KeptNotes.{kept_then}
+use Rattle.qcow2_image.proofs.Call.BehindHeader.{behind_then}
 use Rattle.qcow2_image.proofs.image.Qcow2.write_l1_table.Goals as goal
 
 pub returns-in_err-place_l1_table-clause-names : goal.returns-in_err-place_l1_table-clause-names
@@ -25,3 +26,9 @@ returns-in_err-place_l1_table-clause-notes g c = c.place_l1_table.ensures.notes
 
 pub returns-clause-notes : goal.returns-clause-notes
 returns-clause-notes g c = kept_then _ _ _ c.place_l1_table.ensures.notes c.name_l1_table.ensures.notes
+
+pub returns-in_err-place_l1_table-clause-header_cluster : goal.returns-in_err-place_l1_table-clause-header_cluster
+returns-in_err-place_l1_table-clause-header_cluster g c = c.place_l1_table.ensures.header_cluster
+
+pub returns-clause-header_cluster : goal.returns-clause-header_cluster
+returns-clause-header_cluster g c = behind_then c.place_l1_table.ensures.header_cluster c.name_l1_table.ensures.header_cluster

@@ -7,6 +7,7 @@ use Rattle.qcow2_image.specs.NewTables.{WritesNew}
 use Rattle.qcow2_image.proofs.Call.Called.{keeps_then}
 use Rattle.qcow2_image.proofs.Prepare.Entering.{may_still, says_still, written_so}
 use Rattle.qcow2_alloc.specs.KeptNotes.{kept_same, kept_then}
+use Rattle.qcow2_image.proofs.Call.BehindHeader.{behind_none, behind_then}
 use Rattle.qcow2_image.proofs.image.Qcow2.write_l2.Goals as goal
 
 pub returns-in_err-store_first-clause-writes : goal.returns-in_err-store_first-clause-writes
@@ -58,3 +59,15 @@ returns-in_err-place_l2-clause-notes g c = kept_then _ _ _ c.store_first.ensures
 
 pub returns-clause-notes : goal.returns-clause-notes
 returns-clause-notes g c = kept_then _ _ _ (kept_then _ _ _ c.store_first.ensures.notes c.place_l2.ensures.notes) c.name_l2.ensures.notes
+
+pub returns-then-not-can_enter-clause-header_cluster : goal.returns-then-not-can_enter-clause-header_cluster
+returns-then-not-can_enter-clause-header_cluster g c = λ some. behind_none
+
+pub returns-in_err-store_first-clause-header_cluster : goal.returns-in_err-store_first-clause-header_cluster
+returns-in_err-store_first-clause-header_cluster g c = λ some. c.store_first.ensures.header_cluster
+
+pub returns-in_err-place_l2-clause-header_cluster : goal.returns-in_err-place_l2-clause-header_cluster
+returns-in_err-place_l2-clause-header_cluster g c = λ some. behind_then c.store_first.ensures.header_cluster (c.place_l2.ensures.header_cluster some)
+
+pub returns-clause-header_cluster : goal.returns-clause-header_cluster
+returns-clause-header_cluster g c = λ some. behind_then (behind_then c.store_first.ensures.header_cluster (c.place_l2.ensures.header_cluster some)) c.name_l2.ensures.header_cluster

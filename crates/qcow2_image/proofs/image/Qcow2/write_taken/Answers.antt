@@ -19,3 +19,6 @@ returns-clause-names g c = λ p out sound noted longer.
 
 pub returns-clause-notes : goal.returns-clause-notes
 returns-clause-notes g c = c.write_l1_table-done.ensures.notes
+
+pub returns-clause-header_cluster : goal.returns-clause-header_cluster
+returns-clause-header_cluster g c = c.write_l1_table-done.ensures.header_cluster

@@ -5,6 +5,7 @@ use Rattle.qcow2_image.specs.Preallocation.{FillsOrRefuses}
 use Rattle.qcow2_image.proofs.Call.Called.{works_none}
 use Rattle.qcow2_image.proofs.Preallocate.Filled.{fills_before, fills_none, fills_or_refuses, refused_after, zeros_from}
 use Rattle.qcow2_image.proofs.Preallocate.Turns.{same_version, still_at}
+use Rattle.qcow2_image.proofs.Call.BehindHeader.{behind_then}
 use Rattle.qcow2_image.proofs.image.Qcow2.zero_between.Goals as goal
 
 pub returns-in_err-next-clause-fills : goal.returns-in_err-next-clause-fills
@@ -50,3 +51,12 @@ returns-clause-fills g c = λ out sound low high whole version.
 
 pub returns-clause-emptied : goal.returns-clause-emptied
 returns-clause-emptied g c = λ none. c.zero_range.ensures.emptied (c.in_ok-fill_range.ensures.emptied (c.in_ok-next.ensures.emptied none))
+
+pub returns-in_err-next-clause-header_cluster : goal.returns-in_err-next-clause-header_cluster
+returns-in_err-next-clause-header_cluster g c = c.zero_first.ensures.header_cluster
+
+pub returns-in_err-fill_range-clause-header_cluster : goal.returns-in_err-fill_range-clause-header_cluster
+returns-in_err-fill_range-clause-header_cluster g c = behind_then c.zero_first.ensures.header_cluster c.fill_range.ensures.header_cluster
+
+pub returns-clause-header_cluster : goal.returns-clause-header_cluster
+returns-clause-header_cluster g c = behind_then (behind_then c.zero_first.ensures.header_cluster c.fill_range.ensures.header_cluster) c.zero_range.ensures.header_cluster

@@ -11,6 +11,7 @@ use Rattle.qcow2_image.proofs.Call.Called.{works_none}
 use Rattle.qcow2_image.proofs.Flush.Freeing.{all_listed, beside, freed_refused, tidy_stays}
 use Rattle.qcow2_image.proofs.Preallocate.Filled.{cleared_fills, fill_unseen, fills_none, fills_refused, fills_stays, next_whole, next_within, taken_here}
 use Rattle.qcow2_image.proofs.Call.MetErrors.{tables_met}
+use Rattle.qcow2_image.proofs.Call.BehindHeader.{behind_none, behind_then}
 use Rattle.qcow2_image.proofs.image.Qcow2.zero_first.Goals as goal
 
 pub returns-then-to-from-clause-fills : goal.returns-then-to-from-clause-fills
@@ -111,3 +112,15 @@ returns-clause-fills g c = λ out sound le whole version.
 
 pub returns-clause-emptied : goal.returns-clause-emptied
 returns-clause-emptied g c = λ none. c.in_ok-free_listed.ensures.emptied (subst IsTrue (sym c.clear_between.ensures.stays.image.writable) c.requires.writable)
+
+pub returns-then-to-from-clause-header_cluster : goal.returns-then-to-from-clause-header_cluster
+returns-then-to-from-clause-header_cluster g c = behind_none
+
+pub returns-in_err-clear_between-clause-header_cluster : goal.returns-in_err-clear_between-clause-header_cluster
+returns-in_err-clear_between-clause-header_cluster g c = c.clear_between.ensures.header_cluster
+
+pub returns-in_err-free_listed-clause-header_cluster : goal.returns-in_err-free_listed-clause-header_cluster
+returns-in_err-free_listed-clause-header_cluster g c = behind_then c.clear_between.ensures.header_cluster c.free_listed.ensures.header_cluster
+
+pub returns-clause-header_cluster : goal.returns-clause-header_cluster
+returns-clause-header_cluster g c = behind_then c.clear_between.ensures.header_cluster c.free_listed.ensures.header_cluster

@@ -5,6 +5,7 @@ use Rattle.qcow2_alloc.specs.declared.error.ImageError.TheVariants.{Overflow, Ve
 use Rattle.qcow2_image.specs.Preallocation.{FillsOrRefuses}
 use Rattle.qcow2_image.proofs.Preallocate.Filled.{refused_here}
 use Rattle.qcow2_image.proofs.Preallocate.Grown.{up_least, up_rising, up_whole}
+use Rattle.qcow2_image.proofs.Call.BehindHeader.{behind_none}
 use Rattle.qcow2_image.proofs.image.Qcow2.zero_grown.Goals as goal
 
 pub returns-then-version-lt3-clause-fills : goal.returns-then-version-lt3-clause-fills
@@ -35,3 +36,15 @@ returns-clause-fills g c = λ out sound le.
     subst (λ n. FillsOrRefuses view below (rounded_up cs c.args.old) c.args.old n old c.zero_between.new.self out c.zero_between.result) end
     (subst (λ n. FillsOrRefuses view below n c.args.old c.in-Some-rounded_up.end old c.zero_between.new.self out c.zero_between.result) from
     (c.zero_between.ensures.fills out sound (omega (arith, from, least)) (omega (arith, from, end, rising)) (subst (λ n. n % cs ≡ 0) (sym from) (up_whole cs c.args.old some), subst (λ n. n % cs ≡ 0) (sym end) (up_whole cs c.args.size some)) version))
+
+pub returns-then-version-lt3-clause-header_cluster : goal.returns-then-version-lt3-clause-header_cluster
+returns-then-version-lt3-clause-header_cluster g c = behind_none
+
+pub returns-in_default-clause-header_cluster : goal.returns-in_default-clause-header_cluster
+returns-in_default-clause-header_cluster g c = behind_none
+
+pub returns-in_default-rounded_up-clause-header_cluster : goal.returns-in_default-rounded_up-clause-header_cluster
+returns-in_default-rounded_up-clause-header_cluster g c = behind_none
+
+pub returns-clause-header_cluster : goal.returns-clause-header_cluster
+returns-clause-header_cluster g c = c.zero_between.ensures.header_cluster

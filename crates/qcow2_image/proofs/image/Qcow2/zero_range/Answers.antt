@@ -3,6 +3,7 @@ use Rattle.qcow2_alloc.proofs.AllocationSteps.{handed_on}
 use Rattle.qcow2_image.specs.Preallocation.{FillsOrRefuses, FillsPart}
 use Rattle.qcow2_image.proofs.Preallocate.Turns.{zeroed_first, zeroed_next, zeroed_refused}
 use Rattle.qcow2_image.proofs.Call.FaultCounts.{counted_ok, counted_on, fewer_then, untouched}
+use Rattle.qcow2_image.proofs.Call.BehindHeader.{behind_none, behind_then}
 use Rattle.qcow2_image.proofs.image.Qcow2.zero_range.Goals as goal
 
 pub loop-at-init : goal.loop-at-init
@@ -10,6 +11,7 @@ loop-at-init g c = record {
   turns = zeroed_first g.S.Storage.view g.F.BackingDisk.backing c.args.from c.args.to c.args.self.now;
   faults = untouched g.S.Storage.view g.F.BackingDisk.backing c.args.self.now c.args.self.now refl refl;
   emptied = λ none. none;
+  behind = behind_none;
 }
 
 pub returns-in_err-at-clause-fills : goal.returns-in_err-at-clause-fills
@@ -28,6 +30,7 @@ loop-at-preserved g c =
           c.in_ok-at.ensures.fills;
       faults = fewer_then g.S.Storage.view g.F.BackingDisk.backing c.args.self.now c.loop-at.self c.zero_first.new.self c.loop-at.invariant.faults c.zero_first.ensures.faults.no_fewer;
       emptied = λ none. c.in_ok-at.ensures.emptied (c.loop-at.invariant.emptied none);
+      behind = behind_then c.loop-at.invariant.behind c.zero_first.ensures.header_cluster;
     }
 
 pub returns-clause-fills : goal.returns-clause-fills
@@ -48,3 +51,9 @@ returns-clause-faults g c = counted_ok g.S.Storage.view g.F.BackingDisk.backing 
 
 pub returns-clause-emptied : goal.returns-clause-emptied
 returns-clause-emptied g c = λ none. c.loop-at.invariant.emptied none
+
+pub returns-in_err-at-clause-header_cluster : goal.returns-in_err-at-clause-header_cluster
+returns-in_err-at-clause-header_cluster g c = behind_then c.loop-at.invariant.behind c.zero_first.ensures.header_cluster
+
+pub returns-clause-header_cluster : goal.returns-clause-header_cluster
+returns-clause-header_cluster g c = c.loop-at.invariant.behind
