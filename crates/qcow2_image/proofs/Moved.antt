@@ -1,9 +1,11 @@
 -- What stays where an image's tables move.
-use Rattle.std.proofs.Common.{◌≡◌, ℕ, ◌+◌, ◌/◌, refl, sym, ap, ◌∙◌, subst}
+use Rattle.std.proofs.Common.{◌≡◌, ℕ, ◌+◌, ◌/◌, ◌%◌, true, refl, sym, ap, ◌∙◌, subst}
 use Rattle.std.specs.Prelude.{Option, None, Some}
 use Rattle.qcow2_metadata.specs.Bytes.{Bytes}
 use Rattle.qcow2_metadata.specs.declared.header.HeaderFields.{HeaderFields}
-use Rattle.qcow2_metadata.specs.Header.{entries_per_cluster, with_l1_table, with_tables_of}
+use Rattle.qcow2_metadata.specs.Header.{cluster_size, entries_per_cluster, with_l1_table, with_tables_of}
+use Rattle.qcow2_metadata.specs.Cover.{cover}
+use Rattle.qcow2_disk.specs.Alike.{IsDataAt}
 use Rattle.qcow2_metadata.specs.Entries.{l1_entry, host_offset, is_copied}
 use Rattle.qcow2_metadata.specs.L2Mapping.{IsInReach, named_run}
 use Rattle.qcow2_laws.specs.CrashInvariant.{SameCovers}
@@ -34,6 +36,12 @@ file_step_format h h' file_step = subst (λ (k : HeaderFields). k ≡ with_place
 -- ---- what stands for guest clusters
 pub stay_then : (a b c : HeaderFields) (known known' known'' : Bytes) → CoversStay a known b known' → CoversStay b known' c known'' → CoversStay a known c known''
 stay_then a b c known known' known'' first then g = first g ∙ then g
+
+-- data stand where they stood, once tables have moved
+pub data_moved : (h h' : HeaderFields) (known known' : Bytes) → MovesTables h h' → CoversStay h known h' known' → (o place : ℕ) → IsDataAt h known true o place → IsDataAt h' known' true o place
+data_moved h h' known known' file_step covers o place is =
+    let size : cluster_size h' ≡ cluster_size h = ap (λ (x : HeaderFields). cluster_size x) file_step in
+    (is.0, ap (λ s. cover h' known' (o / s)) size ∙ sym (covers (o / cluster_size h)) ∙ is.1, ap (λ s. is.0 + o % s) size ∙ is.2)
 
 pub format_stay : (h h' : HeaderFields) (known known' : Bytes) → KeepsFormat h h' → SameCovers h known known' → CoversStay h known h' known'
 format_stay h h' known known' format covers g = covers g ∙ sym (cover_format h h' format known' g)

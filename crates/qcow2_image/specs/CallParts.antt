@@ -55,6 +55,7 @@ pub record IsExisting (p : Prepared) (number guest length : ℕ) : Type 0 where
 
 -- a mapping whose shares were entered: all are in place
 pub record IsEntered (p q : Prepared) : Type 0 where
+  pub mapping : q ≡ record p { shares = q.shares }
   pub table : q.table ≡ p.table
   pub many : length q.shares.items ≡ length p.shares.items
   pub in_place : (j : ℕ) → j < length p.shares.items → slice_get q.shares.items j ≡ Some InPlace

@@ -8,6 +8,10 @@ use Rattle.qcow2_image.specs.declared.prepared.CommitRefused.TheVariants.{Kept, 
 abbrev pub image_of : Prepared → ℕ
 image_of p = p.image
 
+-- where its guest bytes begin
+abbrev pub guest_offset_of : Prepared → ℕ
+guest_offset_of p = p.guest
+
 -- where in the file it is to be written, and for how many bytes
 abbrev pub offset_of : Prepared → ℕ
 offset_of p = p.offset

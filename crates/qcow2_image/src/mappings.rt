@@ -1,10 +1,11 @@
 //! What a guest range is mapped to, and making it writable.
+ghost use Rattle.qcow2_disk.specs.Alike.{AreDataAt};
 ghost use Rattle.qcow2_image.specs.BehindHeader.{StaysBehindHeader};
 ghost use Rattle.std.specs.Prelude.{◌↔◌, ℕ, List, Option, is_some, ◌≡◌, ◌⊎◌, ◌≢◌, ◌+◌, ◌*◌, ◌-◌, ◌/◌, ◌%◌, true, Some, ◌^◌, ◌<◌, ◌≤◌, [], ◌∷◌, ◌++◌, length, slice_get, IfOk, IfErr, IfSome, OnOk, IsOk, IsNone, IsSome, IsTrue, IsFalse, MatchOption, MatchResult, Ok, Err, None, false};
 ghost use Rattle.qcow2_metadata.specs.L2Mapping.{IsInReach, greatest_offset, named_run};
 ghost use Rattle.qcow2_disk.specs.Mappings.{is_copied_data};
 ghost use Rattle.qcow2_image.specs.Image.{HasNothingToFree, ImageStays, IsSameImage, is_failed, is_writable, number_of, size_of};
-ghost use Rattle.qcow2_image.specs.Prepared.{image_of, length_of, offset_of, table_of, IsHandedBackBy};
+ghost use Rattle.qcow2_image.specs.Prepared.{guest_offset_of, image_of, length_of, offset_of, table_of, IsHandedBackBy};
 ghost use Rattle.qcow2_image.specs.Preparing.{IsAnswered, IsOfNothing, IsPlaceOf, IsTaken};
 ghost use Rattle.qcow2_image.specs.Ranges.{ReleasesOneMapping, Reaches};
 ghost use Rattle.qcow2_image.specs.Unwritten.{OnlyReadsImage};
@@ -614,6 +615,8 @@ impl<S: Storage, F: WrappedFormat<S>> Qcow2<S, F> {
         ensures existing { image_of prepared ≡ number_of self.old → is_failed self.old ≡ false → IsNone (table_of prepared) → (result ≡ Ok tt) × ReleasesOneMapping S.view self.old self.new }
         ensures image { IsSameImage self.old self.new }
         ensures sees { Commits S.view F.backing self.old self.new prepared result }
+        ensures copied { (out : List (Option Prepared)) (k : ℕ) → slice_get out k ≡ Some (Some prepared) → (abstract_of S.view F.backing self.old out).is_sound → IsSome (table_of prepared)
+            → OnOk result (AreDataAt self.new.file.header.fields (known_in S.view self.new.file) true (guest_offset_of prepared) (offset_of prepared) (length_of prepared)) }
         ensures emptied { image_of prepared ≡ number_of self.old → IsSome (table_of prepared) → IsTrue (is_writable self.old) → OnOk result (HasNothingToFree self.new) }
         ensures quiet { HasNothingToFree self.old → DropsNothing prepared → storage_of self.new.file.storage ≡ storage_of self.old.file.storage }
         ensures once_written { CommitFailsOnceWritten S.view self.old self.new result }

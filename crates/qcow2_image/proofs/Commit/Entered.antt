@@ -230,6 +230,7 @@ module _ {S F : Type 0} (view : S → StorageView) (backing : F → BackingView)
     pub stays : ImageStays old now
     pub header : now.file.header ≡ old.file.header
     pub none : entered ≡ false → (now ≡ old) × (q ≡ p)
+    pub mapping : q ≡ record p { shares = q.shares }
     pub table : q.table ≡ p.table
     pub count : length q.shares.items ≡ length p.shares.items
     pub in_place : (j : ℕ) → j < n → slice_get q.shares.items j ≡ Some InPlace
@@ -245,6 +246,7 @@ module _ {S F : Type 0} (view : S → StorageView) (backing : F → BackingView)
     stays = record { image = record { number = refl; size = refl; writable = refl; external = refl }; failed = refl };
     header = refl;
     none = λ _. (refl, refl);
+    mapping = refl;
     table = refl;
     count = refl;
     in_place = λ j lt. absurd (omega arith);
@@ -264,6 +266,7 @@ module _ {S F : Type 0} (view : S → StorageView) (backing : F → BackingView)
           stays = first.stays;
           header = first.header;
           none = first.none;
+          mapping = first.mapping;
           table = first.table;
           count = first.count;
           in_place = λ j lt. elim (cases_eq j n) [
@@ -299,6 +302,7 @@ module _ {S F : Type 0} (view : S → StorageView) (backing : F → BackingView)
           };
           header = ap (λ (m : Qcow2 S F). m.file.header) enters.lists ∙ ap (λ (m : Qcow2 S F). m.file.header) enters.enters.rest ∙ first.header;
           none = λ never. absurd (let e : true ≡ false = never in cc);
+          mapping = enters.mapping ∙ ap (λ (x : Prepared). record x { shares = r.shares }) first.mapping;
           table = table ∙ first.table;
           count = ap (λ (l : List Share). length l) enters.shares ∙ length_set q.shares.items n InPlace ∙ first.count;
           in_place = λ j lt. elim (cases_eq j n) [
@@ -333,4 +337,4 @@ module _ {S F : Type 0} (view : S → StorageView) (backing : F → BackingView)
 
   -- and all are in place
   pub entered_whole : (old now : Qcow2 S F) (p q : Prepared) (n : ℕ) (entered : Bool) → EntersFirst old now p q n entered → n ≡ length p.shares.items → IsEntered p q
-  entered_whole old now p q n entered first all = record { table = first.table; many = first.count; in_place = λ j lt. first.in_place j (omega (arith, lt, all)) }
+  entered_whole old now p q n entered first all = record { mapping = first.mapping; table = first.table; many = first.count; in_place = λ j lt. first.in_place j (omega (arith, lt, all)) }

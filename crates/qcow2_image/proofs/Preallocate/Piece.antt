@@ -34,6 +34,7 @@ use Rattle.qcow2_image.specs.L1Entries.{ReachesOffset, StaysAsLong}
 use Rattle.qcow2_image.specs.MovedTables.{CoversStay, MovesTables}
 use Rattle.qcow2_image.specs.Preallocation.{FilledCovers, CommitsWhole, FillsPart, FillsSome, InterruptedGiving, given_by_zeros}
 use Rattle.qcow2_image.specs.Preparing.{IsAnswered}
+use Rattle.qcow2_image.proofs.Moved.{data_moved}
 use Rattle.qcow2_image.proofs.Call.Slots.{get_set_same, set_set}
 use Rattle.qcow2_image.proofs.Commit.CommitCalls.{all_shown, commit_existing}
 use Rattle.qcow2_image.proofs.Free.{free_places}
@@ -76,12 +77,6 @@ byte_in cs some from n g low high more = elim (cases_lt from (g * cs)) [
 by_table : (table : Option ℕ) (n len rest : ℕ) → (IsNone table → len ≡ n) → (IsSome table → n < len → len ≡ rest) → n < len → len ≡ rest
 by_table None n len rest none some past = let all = none refl in absurd (omega (arith, all, past))
 by_table (Some t) n len rest none some past = some refl past
-
--- data stand where they stood, once tables have moved
-data_moved : (h h' : HeaderFields) (known known' : Bytes) → MovesTables h h' → CoversStay h known h' known' → (o place : ℕ) → IsDataAt h known true o place → IsDataAt h' known' true o place
-data_moved h h' known known' file_step covers o place is =
-    let size : cluster_size h' ≡ cluster_size h = ap (λ (x : HeaderFields). cluster_size x) file_step in
-    (is.0, ap (λ s. cover h' known' (o / s)) size ∙ sym (covers (o / cluster_size h)) ∙ is.1, ap (λ s. is.0 + o % s) size ∙ is.2)
 
 -- a cluster that a mapping touches is one of its shares
 touched_share : (cs first guest len many g : ℕ) → 0 < cs → first ≡ guest / cs → guest % cs + len ≤ many * cs → guest < g * cs + cs → g * cs < guest + len → (first ≤ g) × (g - first < many)

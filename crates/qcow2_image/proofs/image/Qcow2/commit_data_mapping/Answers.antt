@@ -17,6 +17,10 @@ use Rattle.qcow2_alloc.specs.KeptNotes.{kept_then}
 use Rattle.qcow2_image.proofs.Call.Notes.{same_kept}
 use Rattle.qcow2_image.proofs.Call.OnceWritten.{written_once}
 use Rattle.qcow2_image.proofs.Call.BehindHeader.{behind_begun, behind_then}
+use Rattle.qcow2_image.proofs.Commit.Copied.{stands_copied}
+use Rattle.std.proofs.Common.{Option}
+use Rattle.std.proofs.Common.{false}
+use Rattle.std.proofs.Common.{true}
 use Rattle.qcow2_image.proofs.image.Qcow2.commit_data_mapping.Goals.{then-entered, else-entered}
 use Rattle.qcow2_image.proofs.image.Qcow2.commit_data_mapping.Goals as goal
 use Rattle.qcow2_disk.proofs.Compose.{rests_none}
@@ -124,3 +128,14 @@ returns-in-Ok-clause-header_cluster g c = behind_then (behind_then (behind_then 
 
 pub returns-after-entered-clause-header_cluster : goal.returns-after-entered-clause-header_cluster
 returns-after-entered-clause-header_cluster g c = behind_then (behind_then (behind_begun c.begin.ensures.begun) c.enter_shares-entered.ensures.header_cluster) c.end_freeing.ensures.header_cluster
+
+pub returns-then-is_none-clause-copied : goal.returns-then-is_none-clause-copied
+returns-then-is_none-clause-copied g c = λ out k placed sound some.
+    let none : c.args.prepared.table ≡ None = search rules in
+    absurd (let e : false ≡ true = subst (λ (x : Option _). IsSome x) none some in cc)
+
+pub returns-in-Ok-clause-copied : goal.returns-in-Ok-clause-copied
+returns-in-Ok-clause-copied g c = λ out k placed sound some.
+    stands_copied g.S.Storage.view g.F.BackingDisk.backing c.args.self.now c.begin.new.self c.enter_shares-entered.new.self c.end_freeing.new.self c.release_prepared-in-Ok.new.self c.args.prepared c.enter_shares-entered.new.prepared c.enter_shares-entered.result some c.end_freeing.result
+    (λ out sound. record { keeps = c.begin.ensures.keeps (pending_in g.S.Storage.view g.F.BackingDisk.backing c.args.self.now out) out sound; list = c.begin.ensures.list }) c.enter_shares-entered.ensures.enters c.enter_shares-entered.ensures.in_place c.end_freeing.ensures.frees c.in-Ok.is
+    c.release_prepared-in-Ok.ensures.rest out k placed sound

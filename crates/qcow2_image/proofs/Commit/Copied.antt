@@ -1,0 +1,64 @@
+-- A committed mapping is copied data, each byte at the place that was told.
+use Rattle.std.proofs.Common.{◌≡◌, ℕ, ◌+◌, ◌/◌, ◌%◌, ◌<◌, Bool, true, false, List, Option, Some, None, length, refl, sym, ap, ◌∙◌, subst, arith}
+use Rattle.std.specs.Prelude.{IsSome, Ok, Result, slice_get, slice_set}
+use Rattle.image_access.specs.Backing.{BackingView}
+use Rattle.image_access.specs.Moments.{StorageView}
+use Rattle.qcow2_metadata.specs.Bytes.{Bytes}
+use Rattle.qcow2_metadata.specs.declared.header.HeaderFields.{HeaderFields}
+use Rattle.qcow2_metadata.specs.Header.{cluster_size}
+use Rattle.qcow2_metadata.specs.Cover.{cover}
+use Rattle.qcow2_disk.specs.Alike.{AreDataAt, IsDataAt}
+use Rattle.qcow2_alloc.specs.declared.error.ImageError.{ImageError}
+use Rattle.qcow2_alloc.specs.ImageFile.{contents_in, known_in}
+use Rattle.qcow2_image.specs.declared.image.Qcow2.{Qcow2}
+use Rattle.qcow2_image.specs.declared.prepared.Prepared.{Prepared}
+use Rattle.qcow2_image.specs.declared.prepared.Share.TheVariants.{InPlace}
+use Rattle.qcow2_image.specs.CallParts.{CommitsAll, EndsFreeing, EntersAll, IsEntered, UnseenCall}
+use Rattle.qcow2_image.specs.ImageInvariant.{cluster_of, host_begin_of, pending_in, IsPending, IsReadyWith, ImageInvariant}
+use Rattle.qcow2_image.specs.Ranges.{ReleasesOneMapping}
+use Rattle.qcow2_image.proofs.Call.Called.{Quietly, quiet_sound}
+use Rattle.qcow2_image.proofs.Call.Slots.{get_set_same}
+use Rattle.qcow2_image.proofs.Moved.{data_moved}
+use Rattle.qcow2_image.proofs.Shares.{byte_cluster, byte_place, byte_share}
+
+-- a byte of a mapping whose shares are all in place
+module _ (h : HeaderFields) (p : Prepared) (known on_storage : Bytes) where
+  module _ (t : ℕ) (pending : IsPending h known on_storage p t) (i : ℕ) (lt : i < p.length) where
+    abbrev index : ℕ
+    index = (p.guest % cluster_size h + 0 + i) / cluster_size h
+
+    here : (p.guest + i) / cluster_size h ≡ cluster_of h p + index
+    here = let none : p.guest + 0 + i ≡ p.guest + i = omega arith in ap (λ o. o / cluster_size h) (sym none) ∙ byte_cluster h p known on_storage t pending 0 i p.length (omega arith) lt
+
+    place : host_begin_of h p index + (p.guest + i) % cluster_size h ≡ p.offset + i
+    place =
+        let none : p.guest + 0 + i ≡ p.guest + i = omega arith in
+        let is = byte_place h p known on_storage t pending 0 i p.length (omega arith) lt in
+        let same : (p.guest + 0 + i) % cluster_size h ≡ (p.guest + i) % cluster_size h = ap (λ o. o % cluster_size h) none in
+        omega (arith, is, same)
+
+    stands : ((j : ℕ) → j < length p.shares.items → slice_get p.shares.items j ≡ Some InPlace) → IsDataAt h known true (p.guest + i) (p.offset + i)
+    stands each = (host_begin_of h p index, ap (cover h known) here ∙ pending.each index InPlace (each index (byte_share h p known on_storage t pending 0 i p.length (omega arith) lt)), place)
+
+  stand_all : ((j : ℕ) → j < length p.shares.items → slice_get p.shares.items j ≡ Some InPlace) → (table : Option ℕ) → IsSome table → IsReadyWith h known on_storage p table → AreDataAt h known true p.guest p.offset p.length
+  stand_all each None some ready = absurd (let e : false ≡ true = some in cc)
+  stand_all each (Some t) some ready = λ i lt. stands t ready i lt each
+
+-- once clusters were freed and it was let go, too
+module _ {S F : Type 0} (view : S → StorageView) (backing : F → BackingView) (old begun entered freed new : Qcow2 S F) (p q : Prepared) (changed : Bool) where
+  pub stands_copied : IsSome p.table → (r : Result (Unit {0}) ImageError) → ((out : List (Option Prepared)) → ImageInvariant view backing (pending_in view backing old out) old out → Quietly view backing out old begun)
+      → EntersAll view backing begun entered p q changed → IsEntered p q → ((out : List (Option Prepared)) → ImageInvariant view backing (pending_in view backing entered out) entered out → EndsFreeing view backing entered freed out r) → r ≡ Ok tt
+      → ReleasesOneMapping view freed new → (out : List (Option Prepared)) (k : ℕ) → slice_get out k ≡ Some (Some p) → ImageInvariant view backing (pending_in view backing old out) old out
+      → AreDataAt new.file.header.fields (known_in view new.file) true p.guest p.offset p.length
+  stands_copied some r begins enters whole ends ok released out k placed sound =
+      let all : CommitsAll view backing begun entered out k p q = (enters out k placed some (quiet_sound view backing out old begun (begins out sound) sound)).0 in
+      let left = slice_set out k (Some q) in
+      let freeing : UnseenCall view backing entered freed (slice_set out k (Some q)) = subst (EndsFreeing view backing entered freed (slice_set out k (Some q))) ok (ends (slice_set out k (Some q)) all.part.sound) in
+      let many = whole.many in
+      let there : AreDataAt entered.file.header.fields (known_in view entered.file) true q.guest q.offset q.length =
+      stand_all entered.file.header.fields q (known_in view entered.file) (contents_in view entered.file) (λ j lt. whole.in_place j (omega (arith, lt, many))) q.table (subst (λ (x : Option ℕ). IsSome x) (sym whole.table) some) (all.part.sound.ready k q (get_set_same out k (Some q) (Some p) placed)).mapped in
+      let told : AreDataAt entered.file.header.fields (known_in view entered.file) true p.guest p.offset p.length = subst (λ (x : Prepared). AreDataAt entered.file.header.fields (known_in view entered.file) true x.guest x.offset x.length) whole.mapping there in
+      let moved : AreDataAt freed.file.header.fields (known_in view freed.file) true p.guest p.offset p.length =
+      λ i lt. data_moved entered.file.header.fields freed.file.header.fields (known_in view entered.file) (known_in view freed.file) freeing.header freeing.covers (p.guest + i) (p.offset + i) (told i lt) in
+      let kept : AreDataAt freed.file.header.fields (known_in view new.file) true p.guest p.offset p.length = subst (λ (b : Bytes). AreDataAt freed.file.header.fields b true p.guest p.offset p.length) (sym released.known) moved in
+      subst (λ (h : HeaderFields). AreDataAt h (known_in view new.file) true p.guest p.offset p.length) (sym (ap (λ (i : Qcow2 S F). i.file.header.fields) released.rest)) kept
