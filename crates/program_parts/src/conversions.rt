@@ -17,8 +17,8 @@ use std::alloc::Global;
 /// Makes an image with the bytes of a raw disk, in clusters of so many bytes that are counted in so many bits, and hands its storage
 /// back. The answer is the number of bytes.
 /// Refused 5 (invalid option) for clusters or counts that images don't have, and then nothing was written. Where the work meets them:
-/// 13 (limit), 14 (memory), 15 (storage). A raw disk whose size changes meanwhile is refused 5 (invalid option) or 15 (storage). Of a
-/// storage that returns other bytes than were written, others come too.
+/// 13 (limit), 14 (memory), 15 (storage). A raw disk whose size changes meanwhile is refused 5 (invalid option). Of a storage that
+/// returns other bytes than were written, others come too.
 pub fn make_image<R: Storage, S: Storage>(
     alloc: Global,
     raw: &mut R,
@@ -65,7 +65,7 @@ fn fill<R: Storage, S: Storage, F: WrappedFormat<S>>(
 {
     let count = to_qcow2(alloc, raw, image)?;
     if raw.size()? != count {
-        return Err(ImageError::Storage);
+        return Err(ImageError::InvalidOption);
     }
     Ok(count)
 }

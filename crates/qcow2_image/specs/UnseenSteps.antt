@@ -4,7 +4,7 @@ use Rattle.std.specs.Prelude.{ℕ, ◌+◌, ◌-◌, ◌*◌, ◌%◌, ◌^◌, 
 use Rattle.image_access.specs.Backing.{BackingView}
 use Rattle.image_access.specs.Moments.{StorageView}
 use Rattle.qcow2_metadata.specs.Entries.{l1_entry, host_offset, is_copied}
-use Rattle.qcow2_laws.specs.CrashInvariant.{Pending}
+use Rattle.qcow2_laws.specs.CrashInvariant.{Pending, SameCovers}
 use Rattle.qcow2_laws.specs.SafeSteps.{DriverState, SafeStep}
 use Rattle.qcow2_disk.specs.Stops.{SafeThroughout}
 use Rattle.qcow2_laws.specs.Unseen.{KeepsFormat, IsUnseen}
@@ -21,7 +21,6 @@ use Rattle.qcow2_alloc.specs.FreeList.{with_listed, pending_then as since_listed
 use Rattle.qcow2_alloc.specs.MetadataCaches.{order_of, l2_at, IsEntryAt, MapsCachedEntry, NotesEntry}
 use Rattle.qcow2_image.specs.declared.prepared.Share.{Share}
 use Rattle.qcow2_image.specs.declared.prepared.Share.TheVariants.{InPlace, Kept, New}
-use Rattle.qcow2_laws.specs.CrashInvariant.{SameCovers}
 use Rattle.qcow2_disk.specs.AbstractImages.{guest_of}
 use Rattle.qcow2_metadata.specs.Cover.{cover}
 use Rattle.qcow2_metadata.specs.Guest.{known_byte}

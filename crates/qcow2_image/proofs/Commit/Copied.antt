@@ -51,7 +51,7 @@ module _ {S F : Type 0} (view : S → StorageView) (backing : F → BackingView)
       → ReleasesOneMapping view freed new → (out : List (Option Prepared)) (k : ℕ) → slice_get out k ≡ Some (Some p) → ImageInvariant view backing (pending_in view backing old out) old out
       → AreDataAt new.file.header.fields (known_in view new.file) true p.guest p.offset p.length
   stands_copied some r begins enters whole ends ok released out k placed sound =
-      let all : CommitsAll view backing begun entered out k p q = (enters out k placed some (quiet_sound view backing out old begun (begins out sound) sound)).0 in
+      let all : CommitsAll view backing begun entered out k p q = (enters out k placed some (quiet_sound view backing out old begun (begins out) sound)).0 in
       let left = slice_set out k (Some q) in
       let freeing : UnseenCall view backing entered freed (slice_set out k (Some q)) = subst (EndsFreeing view backing entered freed (slice_set out k (Some q))) ok (ends (slice_set out k (Some q)) all.part.sound) in
       let many = whole.many in

@@ -14,7 +14,7 @@ use Rattle.qcow2_metadata.specs.Header.{cluster_size}
 use Rattle.qcow2_disk.specs.AbstractImages.{Setting, guest_of}
 use Rattle.qcow2_disk.specs.Alike.{AreDataAt, IsDataAt}
 use Rattle.qcow2_disk.specs.Calls.{EffectOnSound, with_slot}
-use Rattle.qcow2_disk.specs.Mappings.{given_by_commit}
+use Rattle.qcow2_disk.specs.Mappings.{given_by_commit, is_copied_data}
 use Rattle.qcow2_disk.proofs.Compose.{works_then}
 use Rattle.qcow2_alloc.specs.declared.error.ImageError.{ImageError}
 use Rattle.qcow2_alloc.specs.declared.error.ImageError.TheVariants as I
@@ -28,7 +28,6 @@ use Rattle.qcow2_image.specs.CallParts.{AreCopied, EntersAll, IsEntered, IsReadi
 use Rattle.qcow2_image.specs.Calls.{Discards}
 use Rattle.qcow2_image.specs.Ranges.{ReleasesOneMapping}
 use Rattle.qcow2_image.specs.declared.prepared.Share.TheVariants.{InPlace}
-use Rattle.qcow2_disk.specs.Mappings.{is_copied_data}
 use Rattle.qcow2_image.specs.ImageInvariant.{ImageInvariant, IsPending, IsReadyWith, cluster_of, abstract_of, disk_of, image_abstraction, meaning, pending_in}
 use Rattle.qcow2_image.specs.L1Entries.{ReachesOffset, StaysAsLong}
 use Rattle.qcow2_image.specs.MovedTables.{CoversStay, MovesTables}

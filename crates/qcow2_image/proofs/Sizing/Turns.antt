@@ -162,7 +162,7 @@ module _ {S F : Type 0} (view : S → StorageView) (backing : F → BackingView)
   turn_idle is lt near range range_is nothing next branch least = elim (cases_lt (touched_from (cluster_size h) at) (touched_to (cluster_size h) (size_of old) at (end - at))) [
     | inl touched ↦
         let on = passes_boundary (cluster_size h) (pow_pos h.cluster_bits) end at (omega (arith, lt, is)) range (range_is ∙ ap (λ n. answered (cluster_size h) n at (end - at)) (sym is)) near next branch
-            (subst (λ n. touched_from (cluster_size h) at < touched_to (cluster_size h) n at (end - at)) (sym is) touched) in
+        (subst (λ n. touched_from (cluster_size h) at < touched_to (cluster_size h) n at (end - at)) (sym is) touched) in
         absurd (omega (arith, on, least))
     | inr none ↦ nothing none
   ]

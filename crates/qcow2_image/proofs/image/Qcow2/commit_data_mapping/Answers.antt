@@ -1,4 +1,4 @@
-use Rattle.std.proofs.Common.{◌≡◌, inl, inr, ◌++◌, [], None, Err, refl, sym, ap, ◌∙◌, subst, rules}
+use Rattle.std.proofs.Common.{◌≡◌, inl, inr, ◌++◌, [], None, Err, refl, sym, ap, ◌∙◌, subst, rules, Option, false, true}
 use Rattle.std.specs.Prelude.{IsTrue, IsSome}
 use Rattle.qcow2_disk.specs.Calls.{storage}
 use Rattle.qcow2_alloc.specs.ImageStorage.{storage_of}
@@ -18,9 +18,6 @@ use Rattle.qcow2_image.proofs.Call.Notes.{same_kept}
 use Rattle.qcow2_image.proofs.Call.OnceWritten.{written_once}
 use Rattle.qcow2_image.proofs.Call.BehindHeader.{behind_begun, behind_then}
 use Rattle.qcow2_image.proofs.Commit.Copied.{stands_copied}
-use Rattle.std.proofs.Common.{Option}
-use Rattle.std.proofs.Common.{false}
-use Rattle.std.proofs.Common.{true}
 use Rattle.qcow2_image.proofs.image.Qcow2.commit_data_mapping.Goals.{then-entered, else-entered}
 use Rattle.qcow2_image.proofs.image.Qcow2.commit_data_mapping.Goals as goal
 use Rattle.qcow2_disk.proofs.Compose.{rests_none}

@@ -1,4 +1,4 @@
-use Rattle.std.proofs.Common.{Result, true, sym, ap, subst, arith}
+use Rattle.std.proofs.Common.{Result, true, sym, ap, subst, arith, ◌≡◌, ◌∙◌, ◌<◌}
 use Rattle.std.specs.Prelude.{MatchResult}
 use Rattle.qcow2_alloc.specs.declared.error.ImageError.{ImageError}
 use Rattle.qcow2_alloc.specs.ImageError.{of_storage}
@@ -12,9 +12,6 @@ use Rattle.qcow2_image.proofs.Open.Opening.{new_tables_read, new_tables_then, ke
 use Rattle.qcow2_image.proofs.Open.Clearing.{stays_after, kept_after}
 use Rattle.qcow2_metadata.proofs.StillHeader.{autoclear_still}
 use Rattle.qcow2_metadata.proofs.WrittenHeader.{autoclear_after}
-use Rattle.std.proofs.Common.{◌≡◌}
-use Rattle.std.proofs.Common.{◌∙◌}
-use Rattle.std.proofs.Common.{◌<◌}
 use Rattle.qcow2_metadata.specs.Header.{HeaderView}
 use Rattle.qcow2_alloc.specs.declared.image_file.ImageFile.{ImageFile}
 use Rattle.qcow2_image.proofs.Call.BehindHeader.{behind_loaded}

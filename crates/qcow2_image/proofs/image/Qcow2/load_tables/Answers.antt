@@ -1,4 +1,4 @@
-use Rattle.std.proofs.Common.{◌≡◌, ◌∙◌, Bool, Result, Ok, Err, true, false, inl, inr, subst, sym}
+use Rattle.std.proofs.Common.{◌≡◌, ◌∙◌, Bool, Result, Ok, Err, true, false, inl, inr, subst, sym, refl, None}
 use Rattle.std.specs.Prelude.{MatchResult}
 use Rattle.qcow2_alloc.specs.declared.allocation.Allocator.{Allocator}
 use Rattle.qcow2_alloc.specs.declared.error.ImageError.{ImageError}
@@ -10,8 +10,6 @@ use Rattle.qcow2_image.proofs.Open.Left.{file_read, file_refused, file_then, fil
 use Rattle.qcow2_image.specs.Opened.{LeavesFile}
 use Rattle.qcow2_image.proofs.Open.Reading.{so_before}
 use Rattle.qcow2_image.proofs.Open.Opening.{new_tables_then, kept_read, kept_then}
-use Rattle.std.proofs.Common.{refl}
-use Rattle.std.proofs.Common.{None}
 use Rattle.qcow2_alloc.specs.declared.image_file.ImageFile.{ImageFile}
 use Rattle.qcow2_alloc.specs.BehindHeader.{AreBehindHeader}
 use Rattle.qcow2_image.specs.BehindHeader.{TablesBehindHeader}

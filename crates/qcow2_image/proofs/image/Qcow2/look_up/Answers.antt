@@ -1,4 +1,4 @@
-use Rattle.std.proofs.Common.{◌≡◌, ◌-◌, ◌/◌, sym, ap, ◌∙◌, subst, arith, min, is_some, Some, None}
+use Rattle.std.proofs.Common.{◌≡◌, ◌-◌, ◌/◌, sym, ap, ◌∙◌, subst, arith, min, is_some, Some, None, ◌<◌}
 use Rattle.std.proofs.lemmas.Nat.{mod_below}
 use Rattle.qcow2_metadata.specs.Header.{cluster_size, entries_per_cluster}
 use Rattle.qcow2_metadata.specs.Entries.{host_offset}
@@ -14,7 +14,6 @@ use Rattle.qcow2_image.proofs.Map.Looked.{none_found}
 use Rattle.qcow2_image.proofs.Map.Unmodified.{read_caches, read_none}
 use Rattle.qcow2_image.proofs.Call.BehindHeader.{behind_caches}
 use Rattle.std.specs.Prelude.{IfSome}
-use Rattle.std.proofs.Common.{◌<◌}
 use Rattle.qcow2_image.proofs.image.Qcow2.look_up.Goals as goal
 
 pub returns-in_err-l2_get_or_insert-in-Some-clause-keeps :

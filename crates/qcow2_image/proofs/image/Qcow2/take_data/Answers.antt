@@ -1,4 +1,4 @@
-use Rattle.std.proofs.Common.{◌≡◌, subst}
+use Rattle.std.proofs.Common.{◌≡◌, subst, refl}
 use Rattle.std.specs.Prelude.{IfSome, Some}
 use Rattle.qcow2_alloc.specs.Allocation.{Allocates}
 use Rattle.qcow2_alloc.specs.FreeList.{pending_then}
@@ -6,7 +6,6 @@ use Rattle.qcow2_alloc.specs.KeptAllocators.{IsAllocatorOf}
 use Rattle.qcow2_alloc.specs.declared.clusters_to_free.ClusterKind.TheVariants as Kind
 use Rattle.qcow2_image.proofs.Formats.{lists_grow}
 use Rattle.qcow2_image.proofs.Prepare.Gaining.{takes_data}
-use Rattle.std.proofs.Common.{refl}
 use Rattle.qcow2_image.proofs.Call.BehindHeader.{behind_allocated}
 use Rattle.qcow2_image.proofs.image.Qcow2.take_data.Goals as goal
 

@@ -1,10 +1,9 @@
-use Rattle.std.proofs.Common.{subst}
+use Rattle.std.proofs.Common.{subst, refl}
 use Rattle.std.specs.Prelude.{IfSome, Some}
 use Rattle.qcow2_alloc.specs.ImageFile.{AllocatorInvariant}
 use Rattle.qcow2_alloc.specs.KeptAllocators.{IsAllocatorOf}
 use Rattle.qcow2_image.proofs.Formats.{lists_grow}
 use Rattle.qcow2_image.proofs.Prepare.Gaining.{takes_data_at}
-use Rattle.std.proofs.Common.{refl}
 use Rattle.qcow2_image.proofs.Call.BehindHeader.{behind_allocated}
 use Rattle.qcow2_image.proofs.image.Qcow2.take_data_at.Goals as goal
 
