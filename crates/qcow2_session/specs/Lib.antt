@@ -5,3 +5,4 @@ pub mod Sessions
 pub mod Causes
 pub mod Told
 pub mod Opening
+pub mod Boxes

@@ -1,6 +1,7 @@
 //! Commands on a qcow2 image, and what they are answered.
 #![tactic(auto)]
 
+mod boxes;
 mod clearing;
 pub mod convert;
 mod headline;
@@ -9,6 +10,7 @@ mod sizing;
 mod slots;
 mod special;
 
+pub use boxes::run_in_boxes;
 pub use headline::open_and_run;
 pub use qcow2_check::{Breach, Kind, Leak, Report, check};
 pub use session::{Command, Reply, read, read_into, run, write};

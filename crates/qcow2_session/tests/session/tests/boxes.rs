@@ -1,8 +1,9 @@
-//! That the headline's call takes storages and disks below of all types, in boxes.
+//! That calls take storages and disks below of all types, in boxes.
 use super::made;
+use crate::boxes::run_in_boxes;
 use crate::headline::open_and_run;
 use crate::session::{Command, Reply};
-use image_access::{BackingDisk, DynStorage, MemStorage, Storage, TraceStorage};
+use image_access::{BackingDisk, DynStorage, MemBacking, MemStorage, Storage, TraceStorage};
 use qcow2_image::ImageError;
 use std::alloc::{AllocError, Global};
 use std::test::Fail;
@@ -54,6 +55,29 @@ fn storages_of_all_types_run_alike(rt: HostRuntime) -> Result<(), Fail> {
             [Reply::Done, Reply::Done, Reply::Bytes(bytes)].as_slice()
         );
         assert_eq!(rt; storage.name(), name);
+    }
+    Ok(())
+}
+
+#[test]
+fn an_image_in_a_box_shows_the_disk_in_a_box_below(rt: HostRuntime) -> Result<(), Fail> {
+    let alloc = rt.alloc();
+    let commands = commands(alloc)?;
+    for storage in mixed(alloc)? {
+        let below: Box<dyn BackingDisk> = Box::new(
+            alloc,
+            MemBacking::new(vec![in alloc; 0x55; 700]?),
+        )?;
+        let (storage, replies) = run_in_boxes(alloc, storage, Some(below), 1, &commands);
+        let bytes = [0x55, 0x33, 0x33, 0x55].to_vec(alloc)?;
+        assert_eq!(rt;
+            replies?.as_slice(),
+            [Reply::Done, Reply::Done, Reply::Bytes(bytes)].as_slice()
+        );
+        // what was written stays, and is read with no disk below
+        let (_storage, replies) = run_in_boxes(alloc, storage, None, 2, &commands[2..3]);
+        let kept = [0x55, 0x33, 0x33, 0x55].to_vec(alloc)?;
+        assert_eq!(rt; replies?.as_slice(), [Reply::Bytes(kept)].as_slice());
     }
     Ok(())
 }

@@ -1,0 +1,42 @@
+//! Runs over storages and disks below of any types, each in a box.
+ghost use Rattle.qcow2_session.specs.Boxes.{RunsOnceClosed};
+
+use crate::session::{Command, Reply, run};
+use image_access::{BackingDisk, DynStorage, Storage, WrappedFormat};
+use qcow2_image::{ImageError, Qcow2};
+use std::alloc::Global;
+
+/// Opens an image in a storage of any type for writing, over a disk of any type where one is given, answers each command as `run` does,
+/// and hands the storage back. Tables that are still modified then are lost, so that a `flush` comes last. Refused as `open_image` is.
+pub fn run_in_boxes(
+    alloc: Global,
+    storage: Box<dyn DynStorage>,
+    below: Option<Box<dyn BackingDisk>>,
+    number: u64,
+    commands: &[Command],
+) -> (Box<dyn DynStorage>, Result<Vec<Reply>, ImageError>)
+    ensures runs { RunsOnceClosed (λ b. (DynStorage-box b).Storage.view b.value) (λ d. (BackingDisk-box d).backing d.value) ((DynStorage-box storage).Storage.view storage.value) below commands.now result.0 result.1 }
+{
+    run_and_close(alloc, storage, below, number, commands)
+}
+
+// Opens an image over a disk, answers each command, and closes it.
+fn run_and_close<S: Storage, F: WrappedFormat<S>>(
+    alloc: Global,
+    storage: S,
+    below: Option<F>,
+    number: u64,
+    commands: &[Command],
+) -> (S, Result<Vec<Reply>, ImageError>)
+    ensures runs { RunsOnceClosed S.view F.backing (S.view storage) below commands.now result.0 result.1 }
+{
+    let mut image = match Qcow2::open_image(alloc, storage, true, number) {
+        Ok(image) => image,
+        Err((storage, refusal)) => return (storage, Err(refusal)),
+    };
+    if let Err((_below, refusal)) = image.set_backing(below) {
+        return (image.into_storage(), Err(refusal));
+    }
+    let replies = run(alloc, &mut image, commands);
+    (image.into_storage(), Ok(replies))
+}
