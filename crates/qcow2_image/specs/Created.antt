@@ -22,6 +22,8 @@ use Rattle.qcow2_laws.specs.NewImages.{IsNewImage}
 use Rattle.qcow2_laws.specs.Opened.{HasNoLeaks}
 use Rattle.qcow2_alloc.specs.declared.error.ImageError.{ImageError}
 use Rattle.qcow2_alloc.specs.declared.error.ImageError.TheVariants as I
+use Rattle.qcow2_disk.specs.HeaderRest.{KeepsHeaderRest}
+use Rattle.qcow2_image.specs.Opened.{NeedsAnother}
 use Rattle.qcow2_image.specs.Growing.{GrowsDisk, SameFormat, ReachesSize}
 use Rattle.qcow2_image.specs.declared.builder.Qcow2CreateBuilder.{Qcow2CreateBuilder}
 use Rattle.qcow2_image.specs.declared.image.Qcow2.{Qcow2}
@@ -109,6 +111,8 @@ module _ {S : Type 0} where
     pub no_backing_file : (header (byte_at storage.contents)).backing_offset ≡ 0
     pub no_autoclear : (header (byte_at storage.contents)).autoclear ≡ 0
     pub no_compatible : (header (byte_at storage.contents)).compatible ≡ 0
+    -- it names no file of its data either
+    pub alone : ¬ NeedsAnother storage.contents
 
 -- ---- its parts
 
@@ -144,6 +148,7 @@ pub record IsEnlarged (mode : PreallocateMode) (n : ℕ) (old new : StorageView)
   pub format : SameFormat (header (byte_at old.contents)) (header (byte_at new.contents))
   pub no_autoclear : (header (byte_at old.contents)).autoclear ≡ 0 → (header (byte_at new.contents)).autoclear ≡ 0
   pub reaches : ReachesSize (header (byte_at new.contents))
+  pub rest : KeepsHeaderRest (byte_at old.contents) (byte_at new.contents)
 
 -- it is opened, made larger and flushed, or a stop is as said above
 abbrev pub Enlarges : PreallocateMode → ℕ → StorageView → StorageView → Result (Unit {0}) ImageError → Type 0

@@ -1,6 +1,8 @@
 //! Making a new image.
 ghost use Rattle.std.specs.Prelude.{ℕ, ◌≡◌, ◌≢◌, ◌↔◌, ◌^◌, ◌<◌, ◌≤◌, [], None, IfSome, IfNone, IfOk, IfErr, OnOk, IsSome, IsTrue, is_some, false};
 ghost use Rattle.image_access.specs.Moments.{EachMomentSince};
+ghost use Rattle.qcow2_metadata.specs.HeaderLoad.{IsHeaderIn};
+ghost use Rattle.qcow2_metadata.specs.HeaderWrite.{HasNewNames};
 ghost use Rattle.qcow2_metadata.specs.Bytes.{byte_at};
 ghost use Rattle.qcow2_alloc.specs.ImageStorage.{storage_of};
 ghost use Rattle.qcow2_alloc.specs.ImageFile.{view_in};
@@ -275,6 +277,7 @@ fn write_three<S: Storage>(
     requires reftable { IsSome reftable.now.cluster }
     ensures writes { (S.view (storage_of storage.old)).is_honest → (S.view (storage_of storage.old)).contents ≡ [] → IsNewHeader header.now → CountsThree header.now.fields block.now → NamesOne header.now.fields reftable.now
         → WritesThree header.now.fields (S.view (storage_of storage.old)) (S.view (storage_of storage.new)) result }
+    ensures stands { (S.view (storage_of storage.old)).is_honest → HasNewNames header.now → OnOk result (IsHeaderIn header.now (S.view (storage_of storage.new)).contents) }
     ensures cause { IfErr result IsMet }
     ensures faults { CountsFaults S.view storage.old storage.new result }
 {
@@ -294,6 +297,7 @@ fn write_new_image<S: Storage>(
     header: &Header,
 ) -> Result<(), ImageError>
     ensures writes { (S.view (storage_of storage.old)).is_honest → IsNewHeader header.now → WritesThree header.now.fields (S.view (storage_of storage.old)) (S.view (storage_of storage.new)) result }
+    ensures stands { (S.view (storage_of storage.old)).is_honest → HasNewNames header.now → OnOk result (IsHeaderIn header.now (S.view (storage_of storage.new)).contents) }
     ensures cause { IfErr result IsMet }
     ensures faults { CountsFaults S.view storage.old storage.new result }
 {

@@ -1,11 +1,14 @@
 -- An unwritten image is opened, made larger and flushed: what a stop leaves on the way, and what stands then.
-use Rattle.std.proofs.Common.{◌≡◌, ◌⊎◌, inl, inr, ⊎_elim, ℕ, ◌^◌, max, List, [], ◌∷◌, ◌++◌, None, Result, Ok, Err, true, refl, sym, ap, ◌∙◌, subst, arith}
+use Rattle.std.proofs.Common.{◌≡◌, ◌⊎◌, inl, inr, ⊎_elim, ℕ, ◌^◌, max, List, [], ◌∷◌, ◌++◌, None, Result, Ok, Err, true, refl, sym, ap, ◌∙◌, subst, arith, false}
 use Rattle.std.specs.Prelude.{IfOk, OnOk}
 use Rattle.image_access.specs.Backing.{BackingView}
 use Rattle.image_access.specs.Moments.{StorageView}
 use Rattle.image_access.specs.declared.storage.PreallocateMode.{PreallocateMode}
 use Rattle.image_access.specs.declared.storage.PreallocateMode.TheVariants as Mode
 use Rattle.image_access.proofs.EachMomentSince.{passes_on, passes_if}
+use Rattle.qcow2_image.proofs.Open.SameHeaders.{alone_still, not_needed}
+use Rattle.qcow2_metadata.specs.HeaderLoad.{IsHeaderIn}
+use Rattle.qcow2_disk.specs.HeaderRest.{KeepsHeaderRest}
 use Rattle.qcow2_metadata.specs.Bytes.{Bytes, byte_at}
 use Rattle.qcow2_metadata.specs.Consistent.{IsConsistent}
 use Rattle.qcow2_metadata.specs.declared.header.HeaderFields.{HeaderFields}
@@ -25,11 +28,11 @@ use Rattle.qcow2_image.specs.declared.image.Qcow2.{Qcow2}
 use Rattle.qcow2_image.specs.Created.{IsNewDisk, IsPreallocated, IsUnwritten, ShowsZeros, IsStopOfCreating, StopsCreating, StaysCreating, IsNewHeader, IsCreated, Enlarges}
 use Rattle.qcow2_image.specs.Growing.{SameFormat, GrowsWhole, ReachesSize}
 use Rattle.qcow2_image.specs.Image.{size_of, storage_of_image}
-use Rattle.qcow2_image.specs.Opened.{IsKeptSince, LeavesStorage, Opens, storage_after}
+use Rattle.qcow2_image.specs.Opened.{IsKeptSince, LeavesStorage, Opens, storage_after, NeedsAnother, needs_another}
 use Rattle.qcow2_image.specs.ImageInvariant.{abstract_of}
-use Rattle.qcow2_disk.proofs.HeaderRest.{header_rest_same}
+use Rattle.qcow2_disk.proofs.HeaderRest.{header_rest_same, header_rest_then}
 use Rattle.qcow2_image.proofs.Open.Left.{opened_none}
-use Rattle.qcow2_image.proofs.Create.NewDisks.{new_disk_consistent, unwritten_covers, unwritten_new}
+use Rattle.qcow2_image.proofs.Create.NewDisks.{new_disk_consistent, unwritten_covers, unwritten_new, starts_unwritten}
 use Rattle.qcow2_image.proofs.Create.ThreeWrites.{new_unwritten}
 
 disk_size : (b backing : Bytes) → (disk b backing).size ≡ (header b).size
@@ -96,6 +99,11 @@ module _ (size : ℕ) (old new : StorageView) (known : Bytes) (unwritten : IsUnw
   pub grown_unwritten : (header (byte_at new.contents)).size ≡ size → IsUnwritten size (byte_at new.contents)
   grown_unwritten is = unwritten_as 0 (byte_at old.contents) (byte_at new.contents) (size ∷ []) unwritten (λ backing m ok. since.contents backing m ok (as_known backing m ok)) size is
 
+  pub grown_rest : KeepsHeaderRest (byte_at old.contents) (byte_at new.contents)
+  grown_rest =
+      let start = starts_unwritten (λ o. 0) (byte_at old.contents) unwritten in
+      (since.contents (λ o. 0) (checkpoint_at (disk (byte_at old.contents) (λ o. 0)) (byte_at old.contents)) start (as_known (λ o. 0) (checkpoint_at (disk (byte_at old.contents) (λ o. 0)) (byte_at old.contents)) start)).rest
+
 -- the headers on the storages are those of the images
 pub format_stored : (h h' k k' : HeaderFields) → h ≡ k → h' ≡ k' → SameFormat k k' → SameFormat h h'
 format_stored h h' k k' is is' format = subst (λ x. SameFormat x h') (sym is) (subst (λ x. SameFormat k x) (sym is') format)
@@ -116,6 +124,7 @@ module _ {S F : Type 0} (view : S → StorageView) (backing : F → BackingView)
         format = format_stored _ _ old.file.header.fields new.file.header.fields old_is new_is extends.format;
         no_autoclear = λ none. ap (λ (h : HeaderFields). h.autoclear) new_is ∙ extends.autoclear ∙ ap (λ (h : HeaderFields). h.autoclear) (sym old_is) ∙ none;
         reaches = subst ReachesSize (sym new_is) (grows.3 (omega (arith, none)));
+        rest = grown_rest size (view_in view old.file) (view_in view new.file) _ unwritten opened.clean extends.since;
       }
   enlarged (Err e) lasts = growing_stops size (view_in view old.file) (view_in view new.file) _ unwritten opened.clean lasts
 
@@ -129,6 +138,11 @@ module _ {S F : Type 0} (view : S → StorageView) (backing : F → BackingView)
   all_stops : (new : StorageView) → StopsCreating mode size (view_in view mid.file) new → StopsCreating mode size (view start) new
   all_stops new then = passes_on (λ c. IsStopOfCreating mode size (byte_at c)) (opening_stops mode size (view start) (view_in view mid.file) unwritten since) then (λ c is. is)
 
+  opening_rest : KeepsHeaderRest (byte_at (view start).contents) (byte_at (view_in view mid.file).contents)
+  opening_rest =
+      let first = starts_unwritten (λ o. 0) (byte_at (view start).contents) unwritten in
+      (since.contents (λ o. 0) (checkpoint_at (disk (byte_at (view start).contents) (λ o. 0)) (byte_at (view start).contents)) first first).rest
+
   opened_first : (new : StorageView) (r : Result (Unit {0}) ImageError) → Enlarges mode size (view_in view mid.file) new r → Enlarges mode size (view start) new r
   opened_first new (Ok x) done =
       let mid_is = opened.sound.file.caches.kept.kept.crash_invariant.top.header_is in
@@ -139,6 +153,7 @@ module _ {S F : Type 0} (view : S → StorageView) (backing : F → BackingView)
         format = done.format ∙ ap (λ h. with_places h (places_of (header (byte_at new.contents)))) (mid_is ∙ format);
         no_autoclear = λ none. done.no_autoclear (ap (λ (l : List ℕ). (header (byte_at l)).autoclear) (uncleared none) ∙ none);
         reaches = done.reaches;
+        rest = header_rest_then (byte_at (view start).contents) (byte_at (view_in view mid.file).contents) (byte_at new.contents) opening_rest done.rest;
       }
   opened_first new (Err e) stops = all_stops new stops
 
@@ -175,8 +190,8 @@ module _ {S : Type 0} (view : S → StorageView) (builder : Qcow2CreateBuilder S
   header_then : SameFormat (header (byte_at (view mid).contents)) (header (byte_at (view last).contents)) → header (byte_at (view last).contents) ≡ with_places (new_fields bits order None None None) (places_of (header (byte_at (view last).contents)))
   header_then format = format ∙ ap (λ h. with_places h (places_of (header (byte_at (view last).contents)))) (three.1.header_is ∙ ap (λ (w : HeaderView). w.fields) is)
 
-  pub created_so : builder.cluster_size ≡ 2 ^ bits → builder.refcount_width ≡ 2 ^ order → (r : Result (Unit {0}) ImageError) → Enlarges builder.preallocate builder.size (view mid) (view last) r → OnOk r (HasNoLeaks (byte_at (view last).contents)) → IfOk r (λ done. IsCreated builder (view last))
-  created_so clusters counts (Ok x) done exact = let h = header_then done.format in record {
+  pub created_so : builder.cluster_size ≡ 2 ^ bits → builder.refcount_width ≡ 2 ^ order → (r : Result (Unit {0}) ImageError) → Enlarges builder.preallocate builder.size (view mid) (view last) r → OnOk r (HasNoLeaks (byte_at (view last).contents)) → IsHeaderIn v (view mid).contents → IfOk r (λ done. IsCreated builder (view last))
+  created_so clusters counts (Ok x) done exact stands = let h = header_then done.format in record {
     honest = done.stays.honest;
     new_disk = done.new_disk;
     covers = done.covers;
@@ -188,8 +203,11 @@ module _ {S : Type 0} (view : S → StorageView) (builder : Qcow2CreateBuilder S
     no_backing_file = ap (λ (k : HeaderFields). k.backing_offset) h;
     no_autoclear = done.no_autoclear (ap (λ (k : HeaderFields). k.autoclear) (three.1.header_is ∙ ap (λ (w : HeaderView). w.fields) is));
     no_compatible = ap (λ (k : HeaderFields). k.compatible) h;
+    alone =
+        let none : needs_another v ≡ false = ap (λ (w : HeaderView). needs_another w) is in
+        alone_still (view mid).contents (view last).contents unwritten.consistent (new_disk_consistent builder.preallocate builder.size (byte_at (view last).contents) done.new_disk) done.rest (not_needed v (view mid).contents stands none);
   }
-  created_so clusters counts (Err e) stops exact = tt
+  created_so clusters counts (Err e) stops exact stands = tt
 
 -- ---- and is opened then
 new_still : (mode : PreallocateMode) (n : ℕ) (b c : Bytes) → IsNewDisk mode n b → ((backing : Bytes) (m : Checkpoint) → StopOkEverywhere backing m b → StopOkEverywhere backing (checkpoint_with [] [] m) c) → IsNewDisk mode n c
@@ -220,6 +238,7 @@ created_still builder old new made honest same =
       no_backing_file = still (λ b. (header b).backing_offset ≡ 0) made.no_backing_file;
       no_autoclear = still (λ b. (header b).autoclear ≡ 0) made.no_autoclear;
       no_compatible = still (λ b. (header b).compatible ≡ 0) made.no_compatible;
+      alone = λ needs. made.alone (subst (λ (l : List ℕ). NeedsAnother l) same needs);
     }
 
 -- what was created is left so, and so it is on the way

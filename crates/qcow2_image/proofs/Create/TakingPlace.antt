@@ -8,6 +8,7 @@ use Rattle.image_access.specs.Moments.{StorageView}
 use Rattle.image_access.specs.declared.storage.PreallocateMode.{PreallocateMode}
 use Rattle.image_access.specs.declared.storage.PreallocateMode.TheVariants as Mode
 use Rattle.image_access.proofs.EachMomentSince.{passes_if, passes_on}
+use Rattle.qcow2_disk.specs.HeaderRest.{KeepsHeaderRest}
 use Rattle.qcow2_metadata.specs.Bytes.{Bytes, byte_at}
 use Rattle.qcow2_metadata.specs.Cover.{cover}
 use Rattle.qcow2_metadata.specs.Header.{header, cluster_size, rounded_up}
@@ -105,6 +106,9 @@ module _ {S F : Type 0} (view : S → StorageView) (backing : F → BackingView)
         taken_zeros : (header (byte_at (view_in view new.file).contents)).size ≡ size → ShowsZeros size (byte_at (view_in view new.file).contents)
         taken_zeros is = keeps_zeros (byte_at (view_in view new.file).contents) (lasts.contents below so_far stops.contents (stops.known sound)) size is
 
+        taken_rest : KeepsHeaderRest before (byte_at (view_in view new.file).contents)
+        taken_rest = (lasts.contents below so_far stops.contents (stops.known sound)).rest
+
     -- what stands then
     module _ (x : Unit {0}) (takes : TakesPlace view backing mode old mid size (Ok x)) where
       same_none : size ≤ 0 → mid ≡ old
@@ -169,6 +173,7 @@ module _ {S F : Type 0} (view : S → StorageView) (backing : F → BackingView)
               no_autoclear = λ none. ap (λ (h : HeaderFields). h.autoclear) new_is ∙ written.0.autoclear ∙ autoclear_mid ∙ ap (λ (h : HeaderFields). h.autoclear) (sym header_is) ∙ none;
               format = format_stored (header before) (header after) old.file.header.fields new.file.header.fields header_is new_is format_new;
               reaches = subst ReachesSize (sym new_is) (written.1 reaches_mid);
+              rest = taken_rest works sound.0 new written.0.since;
             }
 
       -- by the flush's own answer

@@ -1,9 +1,13 @@
 -- The header that stands in an image's bytes is one alone; and an image that needs another file is refused for that.
-use Rattle.std.proofs.Common.{◌≡◌, ◌⊎◌, ℕ, ◌+◌, List, [], ◌∷◌, true, false, length, Bool, refl, sym, ap, ◌∙◌, subst, inl, inr}
-use Rattle.std.specs.Prelude.{◌&&◌}
+use Rattle.std.proofs.Common.{◌≡◌, ◌⊎◌, ◌<◌, ◌/◌, ◌%◌, ℕ, ◌+◌, is_some, List, [], ◌∷◌, true, false, length, Bool, refl, sym, ap, ◌∙◌, subst, inl, inr}
+use Rattle.std.specs.Prelude.{◌&&◌, ◌||◌, ◌==◌}
 use Rattle.image_access.specs.Moments.{StorageView, ContentsStay}
 use Rattle.qcow2_metadata.specs.Bytes.{Bytes, byte_at, bytes_from}
-use Rattle.qcow2_metadata.specs.Header.{HeaderView, HeaderReads, AreExtensions, IsExtension, behind_extension, first_of_kind, data_file_kind}
+use Rattle.qcow2_metadata.specs.Consistent.{IsConsistent}
+use Rattle.qcow2_disk.specs.HeaderRest.{KeepsHeaderRest}
+use Rattle.qcow2_disk.proofs.HeaderRest.{header_rest_back}
+use Rattle.qcow2_disk.proofs.HeaderNames.{names_stay}
+use Rattle.qcow2_metadata.specs.Header.{header, HeaderView, HeaderReads, AreExtensions, IsExtension, behind_extension, first_of_kind, data_file_kind}
 use Rattle.qcow2_metadata.specs.declared.header.HeaderFields.{HeaderFields}
 use Rattle.qcow2_metadata.specs.HeaderLoad.{IsHeaderIn, IsReasonToRefuse}
 use Rattle.qcow2_metadata.specs.declared.error.MetadataError.{MetadataError}
@@ -77,3 +81,25 @@ not_needed v contents is none needs = let same = needs_so v needs.header content
 -- a storage that was read, as it was handed in and is handed back
 pub stays_so : {S : Type 0} (view : S → StorageView) (old mid last out : S) → mid ≡ old → out ≡ last → ((view mid).is_honest → (view last).contents ≡ (view mid).contents) → ContentsStay (view old) (view out)
 stays_so view old mid last out is at same = subst (λ s. ContentsStay (view s) (view out)) is (subst (λ s. ContentsStay (view mid) (view s)) (sym at) same)
+
+-- A consistent image that needs no other file needs none while the rest of its header stays.
+pub alone_still : (old new : List ℕ) → IsConsistent (byte_at old) → IsConsistent (byte_at new) → KeepsHeaderRest (byte_at old) (byte_at new) → (NeedsAnother old → ⊥) → NeedsAnother new → ⊥
+alone_still old new before after rest alone needs =
+    let v = needs.header in
+    let stands = needs.stands in
+    let read = stands.reads.well_formed in
+    let same = names_stay (byte_at new) (byte_at old) stands.reads (header_rest_back (byte_at old) (byte_at new) rest) in
+    let was = before.header_reads in
+    let none : v.fields.incompatible ≡ 0 = ap (λ (h : HeaderFields). h.incompatible) stands.fields ∙ after.no_data_file in
+    let still : needs_another (record v { fields = header (byte_at old) }) ≡ needs_another v = ap (λ n. n / 4 % 2 == 1 || is_some v.data_file_name || is_some v.backing_name) (before.no_data_file ∙ sym none) in
+    alone (record {
+      header = record v { fields = header (byte_at old) };
+      stands = record {
+        fields = refl;
+        reads = record { well_formed = record was.well_formed { extensions = record { list = read.extensions.list; stand = same.extensions read.extensions.list read.extensions.stand } }; within_limits = was.within_limits };
+        backing_name = stands.backing_name ∙ sym same.backing_name;
+        backing_format = stands.backing_format;
+        data_file_name = stands.data_file_name;
+      };
+      needs = still ∙ needs.needs;
+    })

@@ -1,3 +1,6 @@
+use Rattle.std.proofs.Common.{subst, sym, ◌≡◌, List, ℕ}
+use Rattle.qcow2_metadata.specs.HeaderLoad.{IsHeaderIn}
+use Rattle.qcow2_metadata.specs.HeaderWrite.{header_written}
 use Rattle.qcow2_alloc.specs.ImageError.{of_storage}
 use Rattle.qcow2_alloc.specs.ImageStorage.{storage_of}
 use Rattle.qcow2_alloc.proofs.AllocationSteps.{handed_on}
@@ -41,3 +44,12 @@ returns-clause-writes g c = λ honest empty new counts names.
           c.write_new_refblock.ensures.written c.write_new_refblock.ensures.calls c.in_ok-write_new_refblock.field-0 c.in_ok-write_new_refblock.was (storage_of c.will_write-2.new.self) (storage_of c.write_reftable.new.self) c.will_write-2.ensures.storage c.write_reftable.result c.write_reftable.ensures.written c.write_reftable.ensures.calls c.in_ok-write_reftable.field-0 c.in_ok-write_reftable.was
           c.write_new_refblock.ensures.of_image (storage_of c.will_write-3.new.self) (storage_of c.write_new_header.new.self) c.will_write-3.ensures.storage c.write_new_header.result c.write_new_header.ensures.written c.write_new_header.ensures.calls (c.write_new_header.ensures.reads new.names) c.in_ok-write_new_header.field-0 c.in_ok-write_new_header.was,
     )
+
+pub returns-clause-stands : goal.returns-clause-stands
+returns-clause-stands g c = λ honest names.
+    let view = g.S.Storage.view in
+    let first = c.write_new_refblock.ensures.calls.honest (subst (λ s. (view s).is_honest) (sym c.will_write.ensures.storage) honest) in
+    let second = c.write_reftable.ensures.calls.honest (subst (λ s. (view s).is_honest) (sym c.will_write-2.ensures.storage) first) in
+    let third = subst (λ s. (view s).is_honest) (sym c.will_write-3.ensures.storage) second in
+    let is : (g.S.Storage.view (storage_of c.write_new_header.new.self)).contents ≡ header_written c.args.header.now (g.S.Storage.view (storage_of c.will_write-3.new.self)).contents = rw c.in_ok-write_new_header.was at (c.write_new_header.ensures.written third) in
+    subst (λ (l : List ℕ). IsHeaderIn c.args.header.now l) (sym is) (c.write_new_header.ensures.reads names)

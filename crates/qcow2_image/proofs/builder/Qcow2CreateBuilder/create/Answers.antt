@@ -31,6 +31,7 @@ returns-clause-created g c = λ honest.
     let none = unwritten view builder bits order v c.new-header.ensures.value start mid c.grow_new_image.result.0 c.new-storage.ensures.storage there in
     created_so view builder bits order v c.new-header.ensures.value start mid c.grow_new_image.result.0 c.new-storage.ensures.storage there c.in-Some.ensures.some c.in-Some-power_of_two.ensures.some c.grow_new_image.result.1
     (c.grow_new_image.ensures.enlarges there.0.honest none) (c.grow_new_image.ensures.leaks there.0.honest none (new_image_exact v.fields _ there.1))
+    (c.in_default-write_new_image.ensures.stands (subst (λ s. (view s).is_honest) (sym c.new-storage.ensures.storage) honest) c.new-header.ensures.names)
 
 pub returns-then-not-fits-clause-cause : goal.returns-then-not-fits-clause-cause
 returns-then-not-fits-clause-cause g c = λ honest.
