@@ -328,7 +328,7 @@ def a_raw_disk_that_is_cut():
     os.truncate("raw", 512 * 5)
     os.kill(int(child), signal.SIGCONT)
     text = traced.communicate(timeout=60)[0].decode()
-    equal((traced.returncode, text), STORAGE, "import")
+    equal((traced.returncode, text), (1, "refused 5 invalid option\n"), "import")
     consistent("disk")
     equal(qimg("export", "disk", "back")[0], 0, "export")
     equal(contents("back"), data[:512 * 5] + bytes(512 * 3), "what was imported")

@@ -17,8 +17,8 @@ use std::alloc::Global;
 /// Makes an image with the bytes of a raw disk, in clusters of so many bytes that are counted in so many bits, and hands its storage
 /// back. The answer is the number of bytes.
 /// Refused 5 (invalid option) for clusters or counts that images don't have, and then nothing was written. Where the work meets them:
-/// 13 (limit), 14 (memory), 15 (storage). A raw disk whose size changes meanwhile is refused 5 (invalid option). Of a storage that
-/// returns other bytes than were written, others come too.
+/// 13 (limit), 14 (memory), 15 (storage). A raw disk that has another size at the end is refused 5 too, and the image stands whole then.
+/// Of a storage that returns other bytes than were written, others come too.
 pub fn make_image<R: Storage, S: Storage>(
     alloc: Global,
     raw: &mut R,

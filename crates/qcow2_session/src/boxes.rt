@@ -6,8 +6,9 @@ use image_access::{BackingDisk, DynStorage, Storage, WrappedFormat};
 use qcow2_image::{ImageError, Qcow2};
 use std::alloc::Global;
 
-/// Opens an image in a storage of any type for writing, over a disk of any type where one is given, answers each command as `run` does,
-/// and hands the storage back. Tables that are still modified then are lost, so that a `flush` comes last. Refused as `open_image` is.
+/// Opens an image in a storage of any type for writing, under its number, over a disk of any type where one is given. It answers each
+/// command as `run` does, and hands the storage back; the disk below goes with the image. What isn't flushed is lost, so end the
+/// commands with a flush. Refused as `open_image` is, and 17 (mapping prepared) on contents that no image has.
 pub fn run_in_boxes(
     alloc: Global,
     storage: Box<dyn DynStorage>,
@@ -15,7 +16,7 @@ pub fn run_in_boxes(
     number: u64,
     commands: &[Command],
 ) -> (Box<dyn DynStorage>, Result<Vec<Reply>, ImageError>)
-    ensures runs { RunsOnceClosed (λ b. (DynStorage-box b).Storage.view b.value) (λ d. (BackingDisk-box d).backing d.value) ((DynStorage-box storage).Storage.view storage.value) below commands.now result.0 result.1 }
+    ensures runs { RunsOnceClosed (λ b. (DynStorage-box b).Storage.view b.value) (λ d. (BackingDisk-box d).backing d.value) ((DynStorage-box storage).Storage.view storage.value) below number commands.now result.0 result.1 }
 {
     run_and_close(alloc, storage, below, number, commands)
 }
@@ -28,7 +29,7 @@ fn run_and_close<S: Storage, F: WrappedFormat<S>>(
     number: u64,
     commands: &[Command],
 ) -> (S, Result<Vec<Reply>, ImageError>)
-    ensures runs { RunsOnceClosed S.view F.backing (S.view storage) below commands.now result.0 result.1 }
+    ensures runs { RunsOnceClosed S.view F.backing (S.view storage) below number commands.now result.0 result.1 }
 {
     let mut image = match Qcow2::open_image(alloc, storage, true, number) {
         Ok(image) => image,

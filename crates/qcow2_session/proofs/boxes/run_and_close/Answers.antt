@@ -1,15 +1,49 @@
-use Rattle.std.proofs.Common.{subst}
+use Rattle.std.proofs.Common.{◌≡◌, ◌∙◌, inr, ap, refl, sym, subst, [], None, Option, Some, Err}
+use Rattle.std.specs.Prelude.{IsErr, Result}
+use Rattle.qcow2_alloc.specs.declared.error.ImageError.{ImageError}
+use Rattle.qcow2_image.specs.Backings.{IsOver}
 use Rattle.qcow2_image.specs.declared.image.Qcow2.{Qcow2}
 use Rattle.qcow2_session.specs.Sessions.{RunRefinesDisk}
+use Rattle.qcow2_session.specs.Told.{TellsThrough}
 use Rattle.qcow2_session.proofs.boxes.run_and_close.Goals as goal
 
+pub returns-in-Err-set_backing : goal.returns-in-Err-set_backing
+returns-in-Err-set_backing g c =
+    let works = c.in-Ok.ensures.ok.1 in
+    let refused = c.in-Err-set_backing.ensures.refused works in
+    record {
+      runs = inr (
+        ap (λ (x : Option _ × ImageError). x.1) refused.0,
+        λ honest consistent.
+            let sound = (c.in-Ok.ensures.opens honest consistent).opened.sound in
+            let has = (c.set_backing.ensures.prepared works [] sound).0 (subst (λ (r : Result _ _). IsErr r) (sym c.in-Err-set_backing.is) refl) in
+            absurd (let bad : None ≡ Some (Some has.mapping) = has.there in cc),
+      );
+    }
+
 pub returns : goal.returns
-returns g c = record {
-  runs = record {
-    opened = c.in-Ok.image;
-    opens = c.in-Ok.ensures.opens;
-    last = c.run-replies.new.image;
-    run = subst (λ (i : Qcow2 _ _). RunRefinesDisk g.S.Storage.view g.F.BackingDisk.backing i c.run-replies.new.image c.args.commands.now c.run-replies.result.items) c.in_default.ensures.done c.run-replies.ensures.means;
-    is_left = c.into_storage-2.ensures;
-  };
-}
+returns g c =
+    let view = g.S.Storage.view in
+    let below = g.F.BackingDisk.backing in
+    let done = c.in_default.ensures.done in
+    record {
+      runs = record {
+        opened = c.in-Ok.image;
+        number_is = c.in-Ok.ensures.ok.0;
+        writable = c.in-Ok.ensures.ok.2;
+        works = c.in-Ok.ensures.ok.1;
+        counts = c.in-Ok.ensures.faults;
+        leaves = c.in-Ok.ensures.storage;
+        opens = c.in-Ok.ensures.opens;
+        over = λ honest consistent stays.
+            subst (λ (i : Qcow2 _ _). IsOver view below c.args.below c.in-Ok.image i []) done (c.in_default.ensures.sees [] (c.in-Ok.ensures.opens honest consistent).opened.sound stays);
+        starts = λ honest consistent stays.
+            let was = (c.in-Ok.ensures.opens honest consistent).opened in
+            let over = subst (λ (i : Qcow2 _ _). IsOver view below c.args.below c.in-Ok.image i []) done (c.in_default.ensures.sees [] was.sound stays) in
+            record { sound = over.sound; clean = over.known ∙ was.clean ∙ sym over.contents };
+        last = c.run-replies.new.image;
+        run = subst (λ (i : Qcow2 _ _). RunRefinesDisk view below i c.run-replies.new.image c.args.commands.now c.run-replies.result.items) done c.run-replies.ensures.means;
+        tells = subst (λ (i : Qcow2 _ _). TellsThrough view below i c.run-replies.new.image c.args.commands.now c.run-replies.result.items) done c.run-replies.ensures.tells;
+        is_left = c.into_storage-2.ensures;
+      };
+    }
