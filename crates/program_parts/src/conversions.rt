@@ -1,12 +1,13 @@
 //! New images, images of raw disks, and raw disks of images.
-ghost use Rattle.std.specs.Prelude.{◌≡◌, length, IfOk, IsTrue, Ok};
+ghost use Rattle.qcow2_session.specs.CountedFaults.{ConversionCounts};
+ghost use Rattle.std.specs.Prelude.{◌≡◌, length, IfErr, IfOk, IsTrue, Ok};
 ghost use Rattle.image_access.specs.Moments.{ContentsStay};
 ghost use Rattle.qcow2_metadata.specs.Bytes.{byte_at};
 ghost use Rattle.qcow2_metadata.specs.Consistent.{IsConsistent};
 ghost use Rattle.qcow2_image.specs.Image.{HasNothingToFree, IsSameImage, is_writable};
 ghost use Rattle.qcow2_image.specs.Opened.{NeedsAnother};
 ghost use Rattle.qcow2_image.specs.Unwritten.{HoldsSame};
-ghost use Rattle.qcow2_session.specs.Conversions.{Imports, IsLeft};
+ghost use Rattle.qcow2_session.specs.Conversions.{Imports, IsLeft, IsOfImporting};
 ghost use Rattle.program_parts.specs.Conversions.{IsImageOf, IsExport, KeepsDisk};
 
 use image_access::{Storage, WrappedFormat};
@@ -62,6 +63,8 @@ fn fill<R: Storage, S: Storage, F: WrappedFormat<S>>(
     ensures image { IsSameImage image.old image.new }
     ensures emptied { IsTrue (is_writable image.old) → IfOk result (λ n. HasNothingToFree image.new) }
     ensures raw { IsLeft (R.view raw.old) (R.view raw.new) }
+    ensures cause { IfErr result IsOfImporting }
+    ensures faults { ConversionCounts S.view F.backing image.old image.new (R.view raw.old).faults (R.view raw.new).faults result }
 {
     let count = to_qcow2(alloc, raw, image)?;
     if raw.size()? != count {
