@@ -64,5 +64,5 @@ pub rose_still : (before mid now : ℕ) → Rose before mid → mid ≤ now → 
 rose_still before mid now rose le = omega arith
 
 -- the cause of a later call's refusal
-pub cause_since : {T : Type 0} {result : Result T StorageError} (before mid now : ℕ) → before ≤ mid → HasCause mid now result → HasCause before now result
-cause_since before mid now le cause = record { no_fewer = omega (arith, cause.no_fewer); fault = λ told. rose_since before mid now le (cause.fault told) }
+pub cause_since : {T : Type 0} {result : Result T StorageError} (before mid now : ℕ) → mid ≡ before → HasCause mid now result → HasCause before now result
+cause_since {T} {result} before mid now same cause = subst (λ n. HasCause n now result) same cause

@@ -1,5 +1,5 @@
 -- What a contract sees of a storage, what a call does to it, and the contents that it has in between.
-use Rattle.std.specs.Prelude.{◌≡◌, ◌⊎◌, ℕ, ◌+◌, ◌-◌, ◌^◌, ◌≤◌, min, List, Result, Ok, Err, IsErrOf}
+use Rattle.std.specs.Prelude.{◌≡◌, ◌≢◌, ◌⊎◌, ℕ, ◌+◌, ◌-◌, ◌^◌, ◌≤◌, min, List, Result, Ok, Err, IsErrOf}
 use Rattle.image_access.specs.declared.error.StorageError.{StorageError}
 use Rattle.image_access.specs.declared.error.StorageError.TheVariants.{Fault, Memory}
 
@@ -31,10 +31,16 @@ ContentsBecome (Err Fault) old changed new = (new ≡ old) ⊎ (new ≡ changed)
 abbrev pub Rose : ℕ → ℕ → Type 0
 Rose before now = min (before + 1) (2 ^ 64 - 1) ≤ now
 
--- a fault is told only where the storage failed
+-- where a call isn't refused so, P
+abbrev pub UnlessErr : {T E : Type 0} → Result T E → E → Type 0 → Type 0
+UnlessErr (Ok _) refusal P = P
+UnlessErr (Err e) refusal P = e ≢ refusal → P
+
+-- a fault is told only where the storage failed, and each failure is told: where it isn't, their number stays
 pub record HasCause {T : Type 0} (before now : ℕ) (result : Result T StorageError) : Type 0 where
   pub no_fewer : before ≤ now
   pub fault : IsErrOf result Fault → Rose before now
+  pub told : UnlessErr result Fault (now ≡ before)
 
 -- time goes on: an honest storage stays so, and each content since an earlier moment was there before already, or has P
 pub record EachMomentSince (old new : StorageView) (P : List ℕ → Type 0) : Type 0 where

@@ -5,13 +5,13 @@ use Rattle.image_access.proofs.EachMomentSince.{passes_none, passes_on, cause_si
 use Rattle.qcow2_metadata.specs.declared.error.MetadataError.{MetadataError}
 use Rattle.qcow2_metadata.specs.MetadataError.{OnlyReads}
 
-pub reads_more : {T U : Type 0} {one : Result T MetadataError} {two : Result U MetadataError} (old mid new : StorageView) → OnlyReads old mid one → OnlyReads mid new two → OnlyReads old new two
-reads_more old mid new first next = record {
+pub reads_more : {T U : Type 0} {one : Result T MetadataError} {two : Result U MetadataError} (old mid new : StorageView) → OnlyReads old mid one → mid.faults ≡ old.faults → OnlyReads mid new two → OnlyReads old new two
+reads_more old mid new first counted next = record {
   honest = λ h. next.honest (first.honest h);
   same = λ h. next.same (first.honest h) ∙ first.same h;
   time = λ h. passes_on (λ c. c ≡ old.contents) (first.time h) (next.time (first.honest h)) (λ c is. is ∙ first.same h);
-  cause = cause_since _ _ _ first.cause.no_fewer next.cause;
+  cause = cause_since _ _ _ counted next.cause;
 }
 
 pub reads_none : (view : StorageView) → OnlyReads view view (Ok (tt {0}))
-reads_none view = record { honest = λ h. h; same = λ h. refl; time = λ h. passes_none view _; cause = record { no_fewer = omega arith; fault = λ told. cc } }
+reads_none view = record { honest = λ h. h; same = λ h. refl; time = λ h. passes_none view _; cause = record { no_fewer = omega arith; fault = λ told. cc; told = refl } }

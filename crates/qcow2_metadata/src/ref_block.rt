@@ -23,10 +23,14 @@ pub struct RefBlock {
     is_modified: bool,
     cluster_bits: u32,
     refcount_order: u32,
+    // the counts that a search found above 0: from one index on, up to before another
+    used_from: usize,
+    used_end: usize,
 }
 
 impl Model for RefBlock {
-    ghost use Rattle.qcow2_metadata.specs.RefBlock.{RefBlockView, IsRefBlock};
+    ghost use Rattle.qcow2_metadata.specs.RefBlock.{RefBlockView};
+    ghost use Rattle.qcow2_metadata.specs.FirstZero.{KnowsUsed};
 
     ghost Value = { RefBlockView };
 
@@ -38,13 +42,13 @@ impl Model for RefBlock {
       refcount_order = b.refcount_order;
     } };
 
-    ghost invariant = { λ b. IsRefBlock (record {
+    ghost invariant = { λ b. KnowsUsed (record {
       cluster = b.cluster;
       bytes = b.bytes.items;
       is_modified = b.is_modified;
       cluster_bits = b.cluster_bits;
       refcount_order = b.refcount_order;
-    }) };
+    }) b.used_from b.used_end };
 }
 
 /// Where a count of at most 8 bits stands: its byte, and the lowest of its bits.
@@ -141,6 +145,8 @@ impl RefBlock {
             is_modified: true,
             cluster_bits: header.cluster_bits(),
             refcount_order: header.refcount_order(),
+            used_from: 0,
+            used_end: 0,
         })
     }
 
@@ -171,6 +177,8 @@ impl RefBlock {
             is_modified: false,
             cluster_bits,
             refcount_order: header.refcount_order(),
+            used_from: 0,
+            used_end: 0,
         })
     }
 
@@ -231,8 +239,35 @@ impl RefBlock {
         self.get(index) == 0
     }
 
-    /// The first index from one on whose count is 0, or how many counts there are where none is.
-    pub fn next_zero(&self, from: usize) -> usize
+    /// The first index from one on whose count is 0, or how many counts there are where none is. What it passes isn't passed again, as long as no count of it is lowered.
+    pub fn next_zero(&mut self, from: usize) -> usize
+        requires { from ≤ counts_of self.old }
+        ensures first { IsFirstZero self.old from result }
+        ensures same { self.new ≡ self.old }
+    {
+        let (start, end) = self.used_around(from);
+        let first = self.zero_from(end);
+        self.used_from = start;
+        self.used_end = first;
+        first
+    }
+
+    // Counts around an index that are known to be above 0, from one on up to before another.
+    fn used_around(&self, index: usize) -> (usize, usize)
+        requires { index ≤ counts_of self.now }
+        ensures start { result.0 ≤ index }
+        ensures end { index ≤ result.1 }
+        ensures within { result.1 ≤ counts_of self.now }
+        ensures above { AreAboveZero self.now result.0 result.1 }
+    {
+        if self.used_from <= index && index <= self.used_end {
+            return (self.used_from, self.used_end);
+        }
+        (index, index)
+    }
+
+    // The first index from one on whose count is 0, or how many counts there are where none is.
+    fn zero_from(&self, from: usize) -> usize
         requires { from ≤ counts_of self.now }
         ensures { IsFirstZero self.now from result }
     {
@@ -296,6 +331,9 @@ impl RefBlock {
         }
         write_count(&mut self.bytes, self.refcount_order, index, count - 1);
         self.is_modified = true;
+        if self.used_from <= index {
+            self.used_end = self.used_end.min(index);
+        }
         true
     }
 

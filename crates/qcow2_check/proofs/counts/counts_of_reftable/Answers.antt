@@ -66,7 +66,7 @@ loop-i-preserved g c =
           ∙ ap (λ (e : ℕ × ℕ). e.0) (get_or_from_slice_get places end c.index.result.now (0, 0)
           (slice_get_read places (length places) end c.index.result.now refl (omega (arith, ap length is)) c.index.ensures));
       inside = omega arith;
-      reading = reads_more _ _ _ c.loop-i.invariant.reading c.in_ok-counts_of_block_at.ensures.reading;
+      reading = reads_more _ _ _ c.loop-i.invariant.reading c.loop-i.invariant.reading.cause.told c.in_ok-counts_of_block_at.ensures.reading;
     }
 
 pub returns-clause-counts : goal.returns-clause-counts

@@ -6,7 +6,7 @@ use Rattle.qcow2_metadata.proofs.ref_block.RefBlock.above_zero.Goals as goal
 pub are_ones-requires-clause-inside : goal.are_ones-requires-clause-inside
 are_ones-requires-clause-inside c =
     let narrow = sym (ap (λ b. b.refcount_order) c.self.view_is) ∙ c.if-self-eq0.true in
-    let within = ones_within c.args.self.now c.args.index (subst IsRefBlock c.self.view_is c.self.invariant) narrow c.if-index-eq0.true c.requires in
+    let within = ones_within c.args.self.now c.args.index (subst IsRefBlock c.self.view_is c.self.invariant.whole) narrow c.if-index-eq0.true c.requires in
     let many = within.0 in
     let room = within.1 in
     let bytes = ap length (c.deref.ensures.value ∙ ap (λ b. b.bytes) c.self.view_is) in
@@ -15,7 +15,7 @@ are_ones-requires-clause-inside c =
 pub returns-then-are_ones-clause-within : goal.returns-then-are_ones-clause-within
 returns-then-are_ones-clause-within c =
     let narrow = sym (ap (λ b. b.refcount_order) c.self.view_is) ∙ c.if-self-eq0.true in
-    (ones_within c.args.self.now c.args.index (subst IsRefBlock c.self.view_is c.self.invariant) narrow c.if-index-eq0.true c.requires).1
+    (ones_within c.args.self.now c.args.index (subst IsRefBlock c.self.view_is c.self.invariant.whole) narrow c.if-index-eq0.true c.requires).1
 
 pub returns-then-are_ones-clause-above : goal.returns-then-are_ones-clause-above
 returns-then-are_ones-clause-above c = λ k low high none.

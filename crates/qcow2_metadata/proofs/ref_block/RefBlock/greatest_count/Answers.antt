@@ -7,10 +7,10 @@ use Rattle.qcow2_metadata.proofs.ref_block.RefBlock.greatest_count.Goals as goal
 pub overflow_sub-result : goal.overflow_sub-result
 overflow_sub-result c =
     let order = c.self.inside.refcount_order in
-    omega (arith, one_shl order 32 (omega (arith, c.self.invariant.order)), pow_within order c.self.invariant.order)
+    omega (arith, one_shl order 32 (omega (arith, c.self.invariant.whole.order)), pow_within order c.self.invariant.whole.order)
 
 pub returns : goal.returns
 returns c =
     let order = c.self.inside.refcount_order in
-    ap (λ w. (2 ^ 64 - 1) / 2 ^ (64 - w) + 1) (one_shl order 32 (omega (arith, c.self.invariant.order)))
-    ∙ greatest_of (2 ^ order) (pow_within order c.self.invariant.order) ∙ ap count_limit c.self.view_is
+    ap (λ w. (2 ^ 64 - 1) / 2 ^ (64 - w) + 1) (one_shl order 32 (omega (arith, c.self.invariant.whole.order)))
+    ∙ greatest_of (2 ^ order) (pow_within order c.self.invariant.whole.order) ∙ ap count_limit c.self.view_is

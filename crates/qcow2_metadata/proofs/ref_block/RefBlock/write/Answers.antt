@@ -10,6 +10,6 @@ returns-clause-of_image g c = λ honest.
     let there : t.cluster ≡ Some cluster = sym (ap (λ v. v.cluster) c.self.view_is) ∙ c.in-Some.is in
     let place = c.value-at.ensures ∙ c.offset.ensures ∙ ap (λ v. cluster * 2 ^ v.cluster_bits) c.self.view_is in
     let bytes = c.deref.ensures.value ∙ ap (λ v. v.bytes) c.self.view_is in
-    let is = subst IsRefBlock c.self.view_is c.self.invariant in
+    let is = subst IsRefBlock c.self.view_is c.self.invariant.whole in
     rw there (written_stands c.write.result _ _ _ (cluster * 2 ^ t.cluster_bits) _ t.bytes (λ b. IsRefBlockAt b (cluster * 2 ^ t.cluster_bits) t)
     (λ b stands. ref_block_at b _ t is stands) place bytes (c.write.ensures.written honest))

@@ -10,5 +10,5 @@ returns-in_ok-write-clause-of_image g c = λ honest modified.
     let new = (g.S.Storage.view c.write.new.self).contents in
     let place = c.value.ensures ∙ c.offset.ensures ∙ ap (λ v. c.args.cluster * 2 ^ v.cluster_bits) c.self.view_is in
     let bytes = c.deref.ensures.value ∙ ap (λ v. v.bytes) c.self.view_is in
-    ref_block_at (byte_at new) _ t (subst IsRefBlock c.self.view_is c.self.invariant)
+    ref_block_at (byte_at new) _ t (subst IsRefBlock c.self.view_is c.self.invariant.whole)
     (stand_at-written _ new _ (c.args.cluster * 2 ^ t.cluster_bits) _ t.bytes (c.in_ok-write.ensures.written honest) place bytes)
