@@ -11,8 +11,8 @@ use Rattle.qcow2_disk.specs.HeaderRest.{KeepsHeaderRest}
 use Rattle.qcow2_disk.specs.Stops.{GivenBytes, IsGiven, Checkpoint, checkpoint_at, checkpoint_with, StopOkEverywhere, StopOk}
 use Rattle.qcow2_disk.specs.Mappings.{PreparedMapping}
 use Rattle.qcow2_disk.specs.AbstractImages.{Setting, Guest, Abstraction, AbstractImage, abstract_image, guest_of, stored_bytes, IsWhole}
-use Rattle.qcow2_disk.specs.Calls.{Refusal, CallEffect, AnsweredEffect, RefusedEffect, IsRefusalByFault, EffectOnSound, EffectOnFailed, Stops}
-use Rattle.qcow2_disk.specs.Runs.{Command, Reply, Found, CommandMeaning, IsFaultReply, MayAnswer, IsAnswerOfFailed, IsRightlyTold, ResizesLast, State, CommandStep, Run, IsSafeWhile, IsCommandInterval, RefinesGuest, RefinesAlong, IsStopIn, RefinesState, RefinesCommand, RefinesRun, RefinesWholeRun, RefinesDisk, IsOwnInterval, started, checkpoint_during, checkpoint_after, stepped, given_by, asked_by, flush, shrink, done, number_is}
+use Rattle.qcow2_disk.specs.Calls.{Refusal, memory, storage, not_compressed, another, CallEffect, AnsweredEffect, RefusedEffect, IsRefusalByFault, EffectOnSound, EffectOnFailed, Stops}
+use Rattle.qcow2_disk.specs.Runs.{Command, Reply, Found, CommandMeaning, IsFaultReply, IsStorageReply, MayAnswer, IsAnswerOfFailed, IsRightlyTold, ResizesLast, State, CommandStep, Run, IsSafeWhile, IsCommandInterval, RefinesGuest, RefinesAlong, IsStopIn, RefinesState, RefinesCommand, RefinesRun, RefinesWholeRun, RefinesDisk, IsOwnInterval, started, checkpoint_during, checkpoint_after, stepped, given_by, asked_by, flush, shrink, done, number_is}
 use Rattle.qcow2_disk.proofs.Compose.{works_less, stops_none, rests_none}
 use Rattle.qcow2_disk.proofs.HeaderRest.{header_rest_same}
 use Rattle.qcow2_disk.proofs.Stops.{stop_of_kept, stop_more}
@@ -23,7 +23,7 @@ bool_cases false = inr refl
 
 -- how a call ends on an image that worked
 pub record Ends (found : ℕ → Option Found) (old new : AbstractImage) (command : Command) (reply : Reply) : Type 0 where
-  pub ends : (new.is_sound × CommandMeaning old.setting found (guest_of old) command reply (guest_of new)) ⊎ (IsFaultReply reply × IsTrue new.is_failed)
+  pub ends : (new.is_sound × CommandMeaning old.setting found (guest_of old) command reply (guest_of new) × (¬ IsStorageReply reply)) ⊎ (IsFaultReply reply × IsTrue new.is_failed)
   pub finds : new.is_sound → IsRightlyTold new.setting old.known new command reply
   pub checkpoint : (x : Setting) (s : State) → RefinesState x old s → s.is_failed ≡ false → new.is_sound → (checkpoint_after x s command reply (guest_of new) ≡ checkpoint_during x s command)
       ⊎ (StopOkEverywhere new.setting.backing (checkpoint_after x s command reply (guest_of new)) new.known × StopOkEverywhere new.setting.backing (checkpoint_after x s command reply (guest_of new)) (stored_bytes new))
@@ -119,11 +119,11 @@ module _ (x : Setting) (old new : AbstractImage) (s : State) (command : Command)
           since = λ _. ok;
         }
 
-    going : new.is_sound → CommandMeaning x s.found s.guest command reply (guest_of new) → IsRightlyTold new.setting old.known new command reply
+    going : new.is_sound → CommandMeaning x s.found s.guest command reply (guest_of new) → (¬ IsStorageReply reply) → IsRightlyTold new.setting old.known new command reply
         → ((checkpoint_after x s command reply (guest_of new) ≡ checkpoint_during x s command)
         ⊎ (StopOkEverywhere new.setting.backing (checkpoint_after x s command reply (guest_of new)) new.known × StopOkEverywhere new.setting.backing (checkpoint_after x s command reply (guest_of new)) (stored_bytes new)))
         → RefinesCommand x old new s command reply
-    going sound means finds checkpoint =
+    going sound means works finds checkpoint =
         let after = checkpoint_after x s command reply (guest_of new) in
         let kept : StopOkEverywhere x.backing after (stored_bytes new) =
         ⊎_elim
@@ -133,7 +133,7 @@ module _ (x : Setting) (old new : AbstractImage) (s : State) (command : Command)
         let at = stop_of_kept x.backing after (stored_bytes new) kept in
         record {
           end = stepped x s command reply (guest_of new) false;
-          step = inr (inl (ok, may, ((guest_of new), means, refl)));
+          step = inr (inl (ok, may, works, ((guest_of new), means, refl)));
           stands = record {
             setting = acts.setting ∙ stands.setting;
             works = λ _. sound;
@@ -163,38 +163,53 @@ module _ (x : Setting) (old new : AbstractImage) (s : State) (command : Command)
         subst (λ y. EffectOnSound old new (given_by y s.guest command) (asked_by command)) stands.setting
         (subst (λ h. EffectOnSound old new (given_by old.setting h command) (asked_by command)) (stands.guest ok) (acts.works sound)) in
         ⊎_elim
-        (λ (done : new.is_sound × CommandMeaning old.setting s.found (guest_of old) command reply (guest_of new)).
+        (λ (done : new.is_sound × CommandMeaning old.setting s.found (guest_of old) command reply (guest_of new) × (¬ IsStorageReply reply)).
         going ok may sized worked done.0
-        (subst (λ y. CommandMeaning y s.found s.guest command reply (guest_of new)) stands.setting (subst (λ h. CommandMeaning old.setting s.found h command reply (guest_of new)) (stands.guest ok) done.1))
+        (subst (λ y. CommandMeaning y s.found s.guest command reply (guest_of new)) stands.setting (subst (λ h. CommandMeaning old.setting s.found h command reply (guest_of new)) (stands.guest ok) done.1)) done.2
         ((ends sound).finds done.0) ((ends sound).checkpoint x s stands ok done.0))
         (λ (interruption : IsFaultReply reply × IsTrue new.is_failed). failing ok may sized worked interruption.0 interruption.1)
         (ends sound).ends
   ]
 
+-- a fault of the storage, or none
+storage_cases : (e : Refusal) → (e ≡ storage) ⊎ (e ≡ storage → ⊥)
+storage_cases memory = inr (λ is. absurd cc)
+storage_cases storage = inl refl
+storage_cases (not_compressed offset) = inr (λ is. absurd cc)
+storage_cases (another number) = inr (λ is. absurd cc)
+
+-- how a refusal ends: a fault of the storage fails the image
+refusal_ends : {old new : AbstractImage} {given : List GivenBytes} {asked : List ℕ} {Still : Type 0} (reply : Reply) (error : Refusal) → RefusedEffect old new given asked error Still → (IsRefusalByFault error → IsFaultReply reply) → (IsStorageReply reply → error ≡ storage)
+    → old.is_sound → (new.is_sound × Still × (¬ IsStorageReply reply)) ⊎ (IsFaultReply reply × IsTrue new.is_failed)
+refusal_ends {new = new} {Still = Still} reply error refuses fault by_storage sound = elim (storage_cases error) [
+  | inl is ↦ inr (fault (subst IsRefusalByFault (sym is) tt), refuses.fault is)
+  | inr isnt ↦ ⊎_elim (λ (a : new.is_sound × Still). inl (a.0, a.1, λ h. isnt (by_storage h))) (λ (b : IsRefusalByFault error × IsTrue new.is_failed). inr (fault b.0, b.1)) (refuses.answer sound)
+]
+
 -- a call that was answered, and one that was refused
 pub done_as : (x : Setting) (old new : AbstractImage) (s : State) (command is : Command) (reply : Reply) → command ≡ is → RefinesState x old s → IsAnswer old new is reply
     → AnsweredEffect old new (given_by old.setting (guest_of old) is) (asked_by is) (CommandMeaning old.setting s.found (guest_of old) is reply (guest_of new))
-    → ((x' : Setting) (s' : State) → checkpoint_after x' s' is reply (guest_of new) ≡ checkpoint_during x' s' is) → (old.is_sound → IsRightlyTold new.setting old.known new is reply) → RefinesCommand x old new s command reply
-done_as x old new s command is reply e stands answer does checkpoint finds =
+    → (IsStorageReply reply → ⊥) → ((x' : Setting) (s' : State) → checkpoint_after x' s' is reply (guest_of new) ≡ checkpoint_during x' s' is) → (old.is_sound → IsRightlyTold new.setting old.known new is reply) → RefinesCommand x old new s command reply
+done_as x old new s command is reply e stands answer does answered checkpoint finds =
     subst (λ q. RefinesCommand x old new s q reply) (sym e) (called x old new s is reply stands answer does.acts
-    (λ sound. record { ends = inl (does.answer sound); finds = λ _. finds sound; checkpoint = λ x' s' _ _ _. inl (checkpoint x' s') }))
+    (λ sound. let a = does.answer sound in record { ends = inl (a.0, a.1, answered); finds = λ _. finds sound; checkpoint = λ x' s' _ _ _. inl (checkpoint x' s') }))
 
 pub refused_told : (x : Setting) (old new : AbstractImage) (s : State) (command is : Command) (reply : Reply) (error : Refusal) → command ≡ is → RefinesState x old s → IsAnswer old new is reply
-    → RefusedEffect old new (given_by old.setting (guest_of old) is) (asked_by is) error (CommandMeaning old.setting s.found (guest_of old) is reply (guest_of new)) → (IsRefusalByFault error → IsFaultReply reply)
+    → RefusedEffect old new (given_by old.setting (guest_of old) is) (asked_by is) error (CommandMeaning old.setting s.found (guest_of old) is reply (guest_of new)) → (IsRefusalByFault error → IsFaultReply reply) → (IsStorageReply reply → error ≡ storage)
     → ((x' : Setting) (s' : State) → checkpoint_after x' s' is reply (guest_of new) ≡ checkpoint_during x' s' is) → (old.is_sound → IsRightlyTold new.setting old.known new is reply) → RefinesCommand x old new s command reply
-refused_told x old new s command is reply error e stands answer refuses fault checkpoint finds =
+refused_told x old new s command is reply error e stands answer refuses fault by_storage checkpoint finds =
     subst (λ q. RefinesCommand x old new s q reply) (sym e) (called x old new s is reply stands answer refuses.acts
     (λ sound. record {
-      ends = ⊎_elim (λ h. inl h) (λ (b : IsRefusalByFault error × IsTrue new.is_failed). inr (fault b.0, b.1)) (refuses.answer sound);
+      ends = refusal_ends reply error refuses fault by_storage sound;
       finds = λ _. finds sound;
       checkpoint = λ x' s' _ _ _. inl (checkpoint x' s');
     }))
 
 -- one that tells nothing but its refusal
 pub refused_as : (x : Setting) (old new : AbstractImage) (s : State) (command is : Command) (reply : Reply) (error : Refusal) → command ≡ is → RefinesState x old s → IsAnswer old new is reply
-    → RefusedEffect old new (given_by old.setting (guest_of old) is) (asked_by is) error (CommandMeaning old.setting s.found (guest_of old) is reply (guest_of new)) → (IsRefusalByFault error → IsFaultReply reply)
+    → RefusedEffect old new (given_by old.setting (guest_of old) is) (asked_by is) error (CommandMeaning old.setting s.found (guest_of old) is reply (guest_of new)) → (IsRefusalByFault error → IsFaultReply reply) → (IsStorageReply reply → error ≡ storage)
     → ((x' : Setting) (s' : State) → checkpoint_after x' s' is reply (guest_of new) ≡ checkpoint_during x' s' is) → IsRightlyTold new.setting old.known new is reply → RefinesCommand x old new s command reply
-refused_as x old new s command is reply error e stands answer refuses fault checkpoint finds = refused_told x old new s command is reply error e stands answer refuses fault checkpoint (λ _. finds)
+refused_as x old new s command is reply error e stands answer refuses fault by_storage checkpoint finds = refused_told x old new s command is reply error e stands answer refuses fault by_storage checkpoint (λ _. finds)
 
 -- no call at all
 pub acts_none : (v : AbstractImage) (given : List GivenBytes) (asked : List ℕ) → CallEffect v v given asked
@@ -221,12 +236,12 @@ kept_at_once v header_bytes b whole same rest =
 
 pub flushed_as : (x : Setting) (old new : AbstractImage) (s : State) (command is : Command) (reply : Reply) → command ≡ is → RefinesState x old s → IsAnswer old new is reply
     → AnsweredEffect old new (given_by old.setting (guest_of old) is) (asked_by is) ((new.known ≡ stored_bytes new) × CommandMeaning old.setting s.found (guest_of old) is reply (guest_of new))
-    → (new.is_sound → IsWhole new)
+    → (new.is_sound → IsWhole new) → (IsStorageReply reply → ⊥)
     → ((x' : Setting) (s' : State) → checkpoint_after x' s' is reply (guest_of new) ≡ checkpoint_at (guest_of new).disk s'.checkpoint.header_bytes) → IsRightlyTold new.setting old.known new is reply → RefinesCommand x old new s command reply
-flushed_as x old new s command is reply e stands answer does whole checkpoint finds =
+flushed_as x old new s command is reply e stands answer does whole answered checkpoint finds =
     subst (λ q. RefinesCommand x old new s q reply) (sym e) (called x old new s is reply stands answer does.acts
     (λ sound. let a = does.answer sound in record {
-      ends = inl (a.0, a.1.1);
+      ends = inl (a.0, a.1.1, answered);
       finds = λ _. finds;
       checkpoint = λ x' s' there ok _.
           let below : old.setting.backing ≡ x'.backing = ap (λ (y : Setting). y.backing) there.setting in
@@ -240,9 +255,9 @@ flushed_as x old new s command is reply e stands answer does whole checkpoint fi
 -- One that was answered, and gave less than it might have given. Its mark afterwards has what it gave alone.
 pub gave_less : (x : Setting) (old new : AbstractImage) (s : State) (command is : Command) (reply : Reply) (given : Setting → Guest → List GivenBytes) → command ≡ is → RefinesState x old s → IsAnswer old new is reply
     → (does : AnsweredEffect old new (given old.setting (guest_of old)) (asked_by is) (CommandMeaning old.setting s.found (guest_of old) is reply (guest_of new)))
-    → (old.is_sound → (o : ℕ) (w : Value) → IsGiven (given old.setting (guest_of old)) o w → IsGiven (given_by old.setting (guest_of old) is) o w)
+    → (old.is_sound → (o : ℕ) (w : Value) → IsGiven (given old.setting (guest_of old)) o w → IsGiven (given_by old.setting (guest_of old) is) o w) → (IsStorageReply reply → ⊥)
     → ((x' : Setting) (s' : State) → checkpoint_after x' s' is reply (guest_of new) ≡ checkpoint_with (given x' s'.guest) (asked_by is) s'.checkpoint) → IsRightlyTold new.setting old.known new is reply → RefinesCommand x old new s command reply
-gave_less x old new s command is reply given e stands answer does within checkpoint finds =
+gave_less x old new s command is reply given e stands answer does within answered checkpoint finds =
     let gs = given old.setting (guest_of old) in
     subst (λ q. RefinesCommand x old new s q reply) (sym e) (called x old new s is reply stands answer
     (record {
@@ -251,7 +266,7 @@ gave_less x old new s command is reply given e stands answer does within checkpo
       rests = does.acts.rests;
     })
     (λ sound. record {
-      ends = inl (does.answer sound);
+      ends = (let a = does.answer sound in inl (a.0, a.1, answered));
       finds = λ _. finds;
       checkpoint = λ x' s' there ok sound'.
           let works = does.acts.works sound in
@@ -266,12 +281,12 @@ gave_less x old new s command is reply given e stands answer does within checkpo
 
 -- a command that was misused: nothing is called
 pub none_as : (x : Setting) (v : AbstractImage) (s : State) (command is : Command) (reply : Reply) → command ≡ is → RefinesState x v s → IsAnswer v v is reply
-    → (v.is_sound → CommandMeaning v.setting s.found (guest_of v) is reply (guest_of v))
+    → (v.is_sound → CommandMeaning v.setting s.found (guest_of v) is reply (guest_of v)) → (IsStorageReply reply → ⊥)
     → ((x' : Setting) (s' : State) → checkpoint_after x' s' is reply (guest_of v) ≡ checkpoint_during x' s' is) → IsRightlyTold v.setting v.known v is reply → RefinesCommand x v v s command reply
-none_as x v s command is reply e stands answer means checkpoint finds =
+none_as x v s command is reply e stands answer means answered checkpoint finds =
     subst (λ q. RefinesCommand x v v s q reply) (sym e) (called x v v s is reply stands answer
     (acts_none v (given_by v.setting (guest_of v) is) (asked_by is))
-    (λ sound. record { ends = inl (sound, means sound); finds = λ _. finds; checkpoint = λ x' s' _ _ _. inl (checkpoint x' s') }))
+    (λ sound. record { ends = inl (sound, means sound, answered); finds = λ _. finds; checkpoint = λ x' s' _ _ _. inl (checkpoint x' s') }))
 
 -- where a run begins
 pub begins : (v : AbstractImage) → v.is_sound → IsWhole v → v.known ≡ stored_bytes v → RefinesState v.setting v (started v)

@@ -91,7 +91,7 @@ CommandMeaning x found old (write offset bytes) done new = new ≡ with_disk old
 CommandMeaning x found old (write offset bytes) (write_refused e n) new = MayWrite e old offset bytes n new
 CommandMeaning x found old (get_mapping place offset max) (mapping_is from kind n) new = (from ≡ offset) × (n ≤ max) × (new ≡ old)
 CommandMeaning x found old (read_mapped place at n) (bytes_are bytes) new =
-    (f : Found) × (found place ≡ Some f) × (length bytes ≡ n) × Shows old.disk (f.from + at) bytes × (new ≡ old)
+    (f : Found) × (found place ≡ Some f) × (length bytes ≡ n) × (0 < n → f.from + at + n ≤ old.disk.size) × Shows old.disk (f.from + at) bytes × (new ≡ old)
 CommandMeaning x found old (prepare slot offset n overwrite) (prepared_is host count is_existing) new =
     (old.slots slot ≡ None) × ((m : PreparedMapping) × IsPrepared x.cluster_size old.disk offset n overwrite m × (m.length ≡ count) × (new ≡ with_slot old slot (Some m)))
 CommandMeaning x found old (put slot at bytes) done new =
@@ -154,8 +154,14 @@ IsFaultReply (refused e) = IsRefusalByFault e
 IsFaultReply (write_refused e n) = IsRefusalByFault e
 IsFaultReply reply = ⊥
 
+-- the storage failed
+abbrev pub IsStorageReply : Reply → Type 0
+IsStorageReply (refused e) = e ≡ storage
+IsStorageReply (write_refused e n) = e ≡ storage
+IsStorageReply reply = ⊥
+
 abbrev pub found_after : (ℕ → Option Found) → Command → Reply → ℕ → Option Found
-found_after found (get_mapping place offset max) (mapping_is from kind n) k = if k == place then Some (record { from = offset; length = n }) else found k
+found_after found (get_mapping place offset max) (mapping_is from kind n) k = if k == place then Some (record { from = from; length = n }) else found k
 found_after found command reply k = found k
 
 -- A run so far: what the guest sees, what was found, and what was flushed last with what was given and asked since.
@@ -194,11 +200,11 @@ stepped x old command reply new failed = record {
   checkpoint = checkpoint_after x old command reply new;
 }
 
--- A fault or refused memory alone makes the image fail. From then on it answers as a failed one.
+-- A fault of the storage makes the image fail, and refused memory may; nothing else does. From then on it answers as a failed one.
 abbrev pub CommandStep : Setting → State → Command → Reply → State → Type 0
 CommandStep x old command reply new =
     (IsTrue old.is_failed × IsAnswerOfFailed command reply × (new ≡ old))
-    ⊎ ((old.is_failed ≡ false) × MayAnswer old.guest.disk command reply × ((guest : Guest) × CommandMeaning x old.found old.guest command reply guest × (new ≡ stepped x old command reply guest false))
+    ⊎ ((old.is_failed ≡ false) × MayAnswer old.guest.disk command reply × (¬ IsStorageReply reply) × ((guest : Guest) × CommandMeaning x old.found old.guest command reply guest × (new ≡ stepped x old command reply guest false))
     ⊎ ((old.is_failed ≡ false) × MayAnswer old.guest.disk command reply × IsFaultReply reply × (new ≡ stepped x old command reply old.guest true)))
 
 abbrev pub Run : Setting → State → List Command → List Reply → State → Type 0
