@@ -1,5 +1,5 @@
 -- Loading refblocks, and taking and giving back one cluster.
-use Rattle.std.proofs.Common.{◌≡◌, ◌≢◌, inl, inr, refl, ℕ, ◌+◌, ◌*◌, ◌/◌, ◌%◌, ◌^◌, ◌<◌, ◌≤◌, Bool, true, false, List, length, Option, Some, None, Result, Ok, Err, IsErr, IsErrAnd, IsSome, IsTrue, sym, ap, ◌∙◌, subst, arith}
+use Rattle.std.proofs.Common.{◌≡◌, ◌≢◌, inl, inr, refl, ℕ, ◌+◌, ◌*◌, ◌/◌, ◌%◌, ◌^◌, ◌<◌, ◌≤◌, Bool, true, false, List, length, Option, Some, None, Result, Ok, Err, IsErr, IsErrAnd, IsSome, IsTrue, sym, ap, ◌∙◌, subst, mul-pos, arith}
 use Rattle.std.specs.Option.{is_some}
 use Rattle.std.proofs.lemmas.Bool.{cases_eq}
 use Rattle.std.proofs.Math.Nat.{mul-le-mul_right}
@@ -21,7 +21,7 @@ use Rattle.qcow2_alloc.specs.declared.image_file.ImageFile.{ImageFile}
 use Rattle.qcow2_alloc.specs.declared.clusters_to_free.ClusterKind.{ClusterKind}
 use Rattle.qcow2_alloc.specs.declared.clusters_to_free.ClusterKind.TheVariants.{Data, Metadata}
 use Rattle.qcow2_alloc.specs.declared.clusters_to_free.ClustersToFreeEntry.{ClustersToFreeEntry}
-use Rattle.qcow2_alloc.specs.Allocation.{run_at, is_data, taken_as, Owed, Taken, Listed, owed_as, MayTake, MayLower, HasNone, NamesBehindHeader, KeepsEntries, RefblockAt, UnseenAllocatorStep, UnseenAllocatorGrowth, PlacesBlock, GetsBlock, RefusedGrowth, TakesOne, TakesCluster, Allocates}
+use Rattle.qcow2_alloc.specs.Allocation.{run_at, is_data, taken_as, Owed, Taken, Listed, owed_as, MayTake, MayLower, HasNone, NamesBlock, NamesBehindHeader, KeepsEntries, KeepsNamed, RefblockAt, UnseenAllocatorStep, UnseenAllocatorGrowth, PlacesBlock, GetsBlock, RefusedGrowth, TakesOne, TakesCluster, Allocates}
 use Rattle.qcow2_laws.specs.Caches.{AreNamedBlocks}
 use Rattle.qcow2_alloc.specs.CachePins.{KeepsPinsAndNotes, SameTables}
 use Rattle.qcow2_alloc.specs.ImageFile.{view_in, contents_in, known_in, FileInvariant, AllocatorInvariant, HasReftable, RefusedFileStep}
@@ -101,6 +101,29 @@ entries_then P a b c first second = record {
 
 pub entries_less : (P Q : ℕ → Type 0) (a b : EntryTableView) → ((k : ℕ) → Q k → P k) → KeepsEntries P a b → KeepsEntries Q a b
 entries_less P Q a b fewer keeps = record { cluster = keeps.cluster; bits = keeps.bits; count = keeps.count; others = λ k stays. keeps.others k (fewer k stays); behind = keeps.behind }
+
+-- what is named stays so in two steps
+pub named_then : (a b c : EntryTableView) → KeepsNamed a b → KeepsNamed b c → KeepsNamed a c
+named_then a b c first second = record {
+  cluster = second.cluster ∙ first.cluster;
+  bits = second.bits ∙ first.bits;
+  count = second.count ∙ first.count;
+  others = λ k has. second.others k (λ none. has (ap block_offset (sym (first.others k has)) ∙ none)) ∙ first.others k has;
+  behind = behind_then a b c first.behind second.behind;
+}
+
+-- only a range without a refblock gets one
+pub named_covered : (a b : EntryTableView) (range : ℕ) → HasNone a range → KeepsEntries (λ k. k ≢ range) a b → KeepsNamed a b
+named_covered a b range none keeps = entries_less (λ k. k ≢ range) (λ k. HasNone a k → ⊥) a b (λ k has same. has (subst (HasNone a) (sym same) none)) keeps
+
+-- where no refblock was found, none is named
+pub none_named : (h : HeaderFields) (t : EntryTableView) (range : ℕ) (block : Option ℕ) → is_some block ≡ false → NamesBlock h t range block → HasNone t range
+none_named h t range None none names = names
+none_named h t range (Some block) none names = absurd (let bad = none in cc)
+
+-- an entry that was made names a refblock
+pub entered_has : (t : EntryTableView) (range at bits : ℕ) → 0 < at → block_offset (entry_at t.bytes range) ≡ at * 2 ^ bits → HasNone t range → ⊥
+entered_has t range at bits some offset none = let big = mul-pos some (pow_pos bits) in omega (arith, big, offset, none)
 
 -- one refblock is entered, in a cluster behind the header's
 pub entries_entered : (t t' : EntryTableView) (range at : ℕ) → 0 < at → t' ≡ record t { bytes = t'.bytes } → ChangesEntry t.bytes t'.bytes range (at * 2 ^ t.cluster_bits) → block_offset (entry_at t'.bytes range) ≡ at * 2 ^ t.cluster_bits

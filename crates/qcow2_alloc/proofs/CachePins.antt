@@ -14,6 +14,7 @@ use Rattle.qcow2_alloc.specs.AsyncLruCache.{Cache, slot_of, value_at, set_at, pi
 use Rattle.qcow2_alloc.specs.KeptTables.{cached_table, cached_tables, AllValuesFit}
 use Rattle.qcow2_alloc.specs.TableCaches.{IsTableOf}
 use Rattle.qcow2_alloc.specs.MetadataCaches.{l2_tables}
+use Rattle.qcow2_alloc.specs.CountedChanges.{IsOneChange, counts_none, counts_one, counts_then}
 use Rattle.qcow2_alloc.specs.CachePins.{l2_pins, KeepsPinsAndNotes, SameTables, SetsPins}
 use Rattle.qcow2_alloc.specs.TableLaws.{same_number}
 use Rattle.qcow2_alloc.proofs.CachedEntries.Pins.{set_free}
@@ -21,27 +22,31 @@ use Rattle.qcow2_alloc.proofs.CachedEntries.Pins.{set_free}
 -- ---- calls that keep the marks
 module _ {S : Type 0} where
   pub marks_none : (c : MetadataCaches S) → KeepsPinsAndNotes c c
-  marks_none c = record { pins = λ _. refl; room = λ r. r; changed = λ is. is }
+  marks_none c = record { pins = λ _. refl; room = λ r. r; changes = counts_none c.is_changed c.changes }
 
   pub marks_then : (a b c : MetadataCaches S) → KeepsPinsAndNotes a b → KeepsPinsAndNotes b c → KeepsPinsAndNotes a c
-  marks_then a b c first then = record { pins = λ k. then.pins k ∙ first.pins k; room = λ r. then.room (first.room r); changed = λ is. then.changed (first.changed is) }
+  marks_then a b c first then = record { pins = λ k. then.pins k ∙ first.pins k; room = λ r. then.room (first.room r); changes = counts_then a.is_changed b.is_changed c.is_changed a.changes b.changes c.changes first.changes then.changes }
 
   pub marks_tables : (c : MetadataCaches S) (l2 : Cache (L2CacheBackend S) ℕ L2TableView) → l2 ≡ with_entries c.l2 l2.entries → KeepsPins eqb c.l2.entries l2.entries → KeepsPinsAndNotes c (record c { l2 = l2 })
   marks_tables c l2 others keeps = record {
     pins = keeps.pins;
     room = λ r. record { tables = subst (λ n. 0 < n) (sym (ap (λ (x : Cache (L2CacheBackend S) ℕ L2TableView). x.size) others)) r.tables; some = r.some; free = r.free };
-    changed = λ is. is;
+    changes = counts_none c.is_changed c.changes;
   }
 
   pub marks_blocks : (c : MetadataCaches S) (rb : Cache (RefBlockCacheBackend S) ℕ RefBlockView) → rb ≡ with_entries c.rb rb.entries → KeepsPins eqb c.rb.entries rb.entries → KeepsPinsAndNotes c (record c { rb = rb })
   marks_blocks c rb others keeps = record {
     pins = λ _. refl;
     room = λ r. record { tables = r.tables; some = subst (λ n. 0 < n) (sym (ap (λ (x : Cache (RefBlockCacheBackend S) ℕ RefBlockView). x.size) others)) r.some; free = keeps.free r.free };
-    changed = λ is. is;
+    changes = counts_none c.is_changed c.changes;
   }
 
-  pub marks_noted : (a b : MetadataCaches S) → KeepsPinsAndNotes a b → KeepsPinsAndNotes a (record b { is_changed = true })
-  marks_noted a b keeps = record { pins = keeps.pins; room = λ r. let s = keeps.room r in record { tables = s.tables; some = s.some; free = s.free }; changed = λ _. refl }
+  pub marks_noted : (a b : MetadataCaches S) (n : ℕ) → IsOneChange true b.changes n → KeepsPinsAndNotes a b → KeepsPinsAndNotes a (record b { is_changed = true; changes = n })
+  marks_noted a b n one keeps = record {
+    pins = keeps.pins;
+    room = λ r. let s = keeps.room r in record { tables = s.tables; some = s.some; free = s.free };
+    changes = counts_then a.is_changed b.is_changed true a.changes b.changes n keeps.changes (counts_one b.is_changed true b.changes n one);
+  }
 
 -- ---- values without their pins
 module _ {V : Type 0} where

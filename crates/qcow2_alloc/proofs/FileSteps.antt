@@ -1,4 +1,5 @@
 -- Steps of an image's file, one after another: calls of its caches, and counts that change. What a stop may leave on the way is built here, and in the words of `qcow2_laws`.
+use Rattle.std.proofs.lemmas.Bool.{or_right}
 use Rattle.std.proofs.Common.{◌≡◌, inl, inr, ℕ, ◌+◌, ◌/◌, ◌<◌, ◌≤◌, ◌==◌, Bool, true, false, cond, [], IsTrue, refl, sym, ap, ◌∙◌, subst, arith}
 use mathlib.Core.Path.{fun_ext}
 use Rattle.std.proofs.lemmas.Bool.{cases_eq, eq-eqb, ne_eqb, cond-true, cond-false}
@@ -30,7 +31,7 @@ use Rattle.qcow2_alloc.specs.Allocation.{taken_as, listed_as, Owed, Taken, Liste
 use Rattle.qcow2_alloc.specs.declared.clusters_to_free.ClusterKind.TheVariants.{Data, Metadata}
 use Rattle.qcow2_alloc.specs.CachePins.{KeepsPinsAndNotes}
 use Rattle.qcow2_alloc.specs.ImageFile.{nothing_given, pending_at, view_in, contents_in, known_in, state_in, FileInvariant, HasReftable, UnseenFileStep, UnseenFileGrowth, InterruptedFileStep, RefusedFileStep, IsFault}
-use Rattle.qcow2_alloc.specs.ImageStorage.{storage_of}
+use Rattle.qcow2_alloc.specs.ImageStorage.{storage_of, is_changed_of}
 use Rattle.qcow2_alloc.specs.KeptTables.{IsSafeSince}
 use Rattle.qcow2_alloc.specs.MetadataCaches.{order_of, l2_tables, refblocks, known_of, UnseenCacheStep, Made}
 use Rattle.qcow2_alloc.proofs.CountsStay.{counts_follow}
@@ -128,7 +129,7 @@ module _ {S : Type 0} (view : S → StorageView) where
   pub on_interrupted_after : (p q : Pending) (a b c : ImageFile S) (t : Allocator) (e : ImageError) → UnseenFileGrowth view p q a b → IsFault e → IsTrue c.caches.is_changed → RefusedFileStep view q b t c e → InterruptedFileStep view a c e
   on_interrupted_after p q a b c t e first fault noted second = record {
     fault = fault;
-    noted = λ _. noted;
+    noted = λ _. or_right (is_changed_of c.storage) c.caches.is_changed noted;
     since = elim second [
       | inl sound ↦ safe_throughout_then a b c first.since first.safe_step.known sound.0.since
       | inr interrupted ↦ safe_throughout_then a b c first.since first.safe_step.known interrupted.since

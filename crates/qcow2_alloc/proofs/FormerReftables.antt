@@ -1,5 +1,5 @@
 -- Reftables that gave way to longer ones, and whose clusters are listed to be freed.
-use Rattle.std.proofs.Common.{◌≡◌, ℕ, ◌+◌, ◌-◌, ◌*◌, ◌/◌, ◌%◌, ◌^◌, ◌≤◌, List, [], ◌∷◌, ◌++◌, length, Some, refl, sym, ap, ◌∙◌, subst, append_assoc, arith}
+use Rattle.std.proofs.Common.{◌≡◌, ℕ, ◌+◌, ◌-◌, ◌*◌, ◌/◌, ◌%◌, ◌^◌, ◌<◌, List, [], ◌∷◌, ◌++◌, length, Some, refl, sym, ap, ◌∙◌, subst, append_assoc, arith}
 use Rattle.std.proofs.lemmas.List.{append-nil}
 use Rattle.qcow2_metadata.specs.EntryTable.{EntryTableView, entry_count, IsRefTable}
 use Rattle.qcow2_alloc.specs.Allocation.{NamesBehindHeader, KeepsEntries}
@@ -26,7 +26,7 @@ run_as a b e same run = record {
 
 gave_as : (a b c : EntryTableView) (es : List ClustersToFreeEntry) → SamePlace a b → GaveWay b es c → GaveWay a es c
 gave_as a b c [] same gone = place_then a b c same gone
-gave_as a b c (e ∷ es) same gone = (run_as a b e same gone.0, gone.1, subst (λ n. n ≤ entry_count gone.1) same.count gone.2, gone.3)
+gave_as a b c (e ∷ es) same gone = (run_as a b e same gone.0, gone.1, subst (λ n. n < entry_count gone.1) same.count gone.2, gone.3)
 
 gave_then : (a b c : EntryTableView) (es fs : List ClustersToFreeEntry) → GaveWay a es b → GaveWay b fs c → GaveWay a (es ++ fs) c
 gave_then a b c [] fs first then = gave_as a b c fs first then
@@ -53,7 +53,7 @@ pub former_still : (a b c : EntryTableView) (l m n : List ClustersToFreeEntry) �
 former_still a b c l m n first same_table same_list = subst (λ (t : EntryTableView). ListsReftables a t l n) (sym same_table) (subst (ListsReftables a b l) (sym same_list) first)
 
 -- one goes
-pub former_one : (a b : EntryTableView) (e : ClustersToFreeEntry) (l m : List ClustersToFreeEntry) → IsRunOfTable a e → entry_count a ≤ entry_count b → NamesBehindHeader a b → m ≡ l ++ e ∷ [] → ListsReftables a b l m
+pub former_one : (a b : EntryTableView) (e : ClustersToFreeEntry) (l m : List ClustersToFreeEntry) → IsRunOfTable a e → entry_count a < entry_count b → NamesBehindHeader a b → m ≡ l ++ e ∷ [] → ListsReftables a b l m
 former_one a b e l m run longer behind is = record { more = e ∷ []; is = is; gone = (run, b, longer, place_none b); behind = behind }
 
 -- a reftable has whole entries

@@ -1,5 +1,5 @@
 -- A reftable is made longer: in memory, then where there is room for it, and the former one is listed to be freed.
-use Rattle.std.proofs.Common.{◌≡◌, inl, inr, ℕ, ◌+◌, ◌-◌, ◌*◌, ◌/◌, ◌%◌, ◌^◌, ◌==◌, List, length, [], ◌∷◌, ◌++◌, Some, Result, Ok, Err, refl, sym, ap, ◌∙◌, subst, arith}
+use Rattle.std.proofs.Common.{◌≡◌, ◌⊎◌, inl, inr, IsTrue, ℕ, ◌+◌, ◌-◌, ◌*◌, ◌/◌, ◌%◌, ◌^◌, ◌==◌, List, length, [], ◌∷◌, ◌++◌, Some, Result, Ok, Err, refl, sym, ap, ◌∙◌, subst, arith}
 use Rattle.std.specs.Prelude.{IfErr}
 use Rattle.std.proofs.lemmas.Bool.{cond-true, eq-eqb}
 use Rattle.std.proofs.lemmas.Nat.{div-add-mod'}
@@ -22,18 +22,19 @@ use Rattle.qcow2_alloc.specs.Allocation.{UnseenAllocatorStep, UnseenAllocatorGro
 use Rattle.qcow2_alloc.specs.ClustersToFree.{metadata_entry}
 use Rattle.qcow2_alloc.specs.FreeList.{of_data, of_tables, to_free, pending_then}
 use Rattle.qcow2_alloc.specs.Growing.{IsCloneOf}
-use Rattle.qcow2_alloc.specs.GrownTables.{named_by_reftable_entries, with_run, without_reftable, NamesReftable, EntersReftable}
-use Rattle.qcow2_alloc.specs.ImageFile.{FileInvariant, HasReftable}
+use Rattle.qcow2_alloc.specs.GrownTables.{named_by_reftable_entries, counted_run, with_run, without_reftable, NamesReftable, EntersReftable}
+use Rattle.qcow2_alloc.specs.ImageFile.{FileInvariant, HasReftable, RefusedFileStep}
 use Rattle.qcow2_alloc.specs.Limits.{IsFaultOr}
 use Rattle.qcow2_alloc.specs.LowestRuns.{KeepsUsed}
 use Rattle.qcow2_alloc.specs.Rooms.{IsLonger}
-use Rattle.qcow2_alloc.proofs.AllocationSteps.{on_of, allocator_step_on}
-use Rattle.qcow2_alloc.proofs.FileSteps.{pending_same, interrupted_then}
+use Rattle.qcow2_alloc.proofs.AllocationSteps.{on_of, allocator_step_on, leaves_as}
+use Rattle.qcow2_alloc.proofs.FileSteps.{pending_same}
 use Rattle.qcow2_alloc.proofs.Freeing.{free_more}
 use Rattle.qcow2_alloc.proofs.GrownTables.{whole_clusters}
 use Rattle.qcow2_alloc.proofs.Hints.{used_stays, uses_then}
 use Rattle.qcow2_alloc.proofs.NamedReftables.{reftable_run}
 use Rattle.qcow2_alloc.proofs.PlacedBlocks.{file_sizes}
+use Rattle.qcow2_alloc.proofs.Rooms.{ends_room}
 
 -- ---- in memory: the entries that it has more name nothing
 none_named : (h : HeaderFields) (c e : ℕ) → e ≡ 0 → table_in h c (block_offset e) ≡ 0
@@ -90,11 +91,12 @@ module _ {S : Type 0} (view : S → StorageView) (p : Pending) (a b c : ImageFil
   room_now = subst (λ (h : HeaderFields). UnseenAllocatorStep view p a u b (with_run p h t first n)) (sym fields) room
 
   -- ---- there was room for it
-  pub entered : (result : Result (Unit {0}) ImageError) → NamesReftable view (with_run p b.header.fields t first n) p b u' c result → EntersReftable view p a u' c result
-  entered (Ok done) names =
+  pub entered : (result : Result (Unit {0}) ImageError) → ((k : ℕ) → counted_run a.header.fields t first n k ≡ 0) ⊎ IsTrue c.caches.is_changed → NamesReftable view (with_run p b.header.fields t first n) p b u' c result → EntersReftable view p a u' c result
+  entered (Ok done) noted names =
       allocator_step_on view p (with_run p b.header.fields t first n) (without_reftable p a.header.fields) a b c u u' (λ k some. some) (on_of view p (with_run p b.header.fields t first n) a b u room_now)
       (subst (λ (h : HeaderFields). UnseenAllocatorGrowth view (with_run p b.header.fields t first n) b u' c (without_reftable p h)) fields names)
-  entered (Err e) names = inr (interrupted_then view p (with_run p b.header.fields t first n) a b c e room_now.file_step names)
+  entered (Err e) noted names =
+      leaves_as view p a c u' e (ends_room view p t first n a b c u u' e room noted names.0 (subst (λ (h : HeaderFields). RefusedFileStep view (with_run p h t first n) b u' c e) fields names.1))
 
   pub uses_entered : (result : Result (Unit {0}) ImageError) → KeepsUsed view b c result → KeepsUsed view a c result
   uses_entered result uses = uses_then view a b c result (λ k used. used_stays view p (with_run p a.header.fields t first n) a b u k room (omega arith) used) uses
@@ -102,7 +104,7 @@ module _ {S : Type 0} (view : S → StorageView) (p : Pending) (a b c : ImageFil
 -- once there was room for it, it is refused by a fault alone
 pub names_fault : {S : Type 0} (view : S → StorageView) (q p : Pending) (b c : ImageFile S) (u' : Allocator) (Cause : Type 0) (result : Result (Unit {0}) ImageError) → NamesReftable view q p b u' c result → IfErr result (IsFaultOr Cause)
 names_fault view q p b c u' Cause (Ok done) names = tt
-names_fault view q p b c u' Cause (Err e) names = inl names.fault
+names_fault view q p b c u' Cause (Err e) names = inl names.0
 
 -- ---- the former one is listed
 module _ {S : Type 0} (view : S → StorageView) (p : Pending) (old new : ImageFile S) (allocator : Allocator) (t : EntryTableView) (cluster : ℕ) (former : ClustersToFreeEntry) (sound : FileInvariant view p old) (has : HasReftable view old t)

@@ -4,8 +4,9 @@ use Rattle.std.specs.Option.{IfSome}
 use Rattle.image_access.specs.Moments.{StorageView, Calls, Changes}
 use Rattle.image_access.specs.declared.error.StorageError.{StorageError}
 use Rattle.qcow2_alloc.specs.CachePins.{KeepsPinsAndNotes}
-use Rattle.qcow2_alloc.specs.ImageStorage.{storage_of, is_changed_of, NotesWrite}
-use Rattle.qcow2_alloc.specs.KeptMarks.{KeepMarks}
+use Rattle.qcow2_alloc.specs.ImageStorage.{storage_of, NotesWrite, SameNotes}
+use Rattle.qcow2_alloc.specs.CountedChanges.{counts_none, counts_then}
+use Rattle.qcow2_alloc.specs.KeptMarks.{KeepMarks, KeepNotes}
 use Rattle.qcow2_alloc.specs.KeptNotes.{KeepsNotes, kept_same, kept_then}
 use Rattle.qcow2_alloc.specs.MetadataCaches.{order_of}
 use Rattle.qcow2_alloc.specs.declared.cache.MetadataCaches.{MetadataCaches}
@@ -31,7 +32,7 @@ module _ {S : Type 0} {view : S → StorageView} where
   marks_of_both pins order notes = record { pins = pins; order = order; notes = notes }
 
   -- a write that the storage was told of before
-  module _ (before mid now : ImageStorage S) (r : Result (Unit {0}) StorageError) (same : storage_of mid ≡ storage_of before) (noted : is_changed_of mid ≡ is_changed_of before) where
+  module _ (before mid now : ImageStorage S) (r : Result (Unit {0}) StorageError) (same : storage_of mid ≡ storage_of before) (noted : SameNotes before mid) where
     pub told_kept : (changed : List ℕ) → Changes (view (storage_of mid)) (view (storage_of now)) r changed → Calls (view (storage_of mid)) (view (storage_of now)) r → NotesWrite mid now r → KeepsNotes view before now
     told_kept changed changes calls notes = kept_told before mid now same noted (write_kept mid now r changed changes calls notes)
 
@@ -40,3 +41,23 @@ module _ {S : Type 0} {view : S → StorageView} where
         → NotesWrite mid now r → KeepsNotes view before now
     placed_kept None changed placed changes calls notes = absurd cc
     placed_kept (Some k) changed placed changes calls notes = told_kept (changed k) changes calls notes
+
+  -- ---- what is noted of changes of a file
+  pub notes_none : {s : ImageStorage S} {a : MetadataCaches S} → KeepNotes view s a s a
+  notes_none {s} {a} = record { storage = kept_same s; tables = counts_none a.is_changed a.changes }
+
+  pub notes_then : {r s t : ImageStorage S} {a b c : MetadataCaches S} → KeepNotes view r a s b → KeepNotes view s b t c → KeepNotes view r a t c
+  notes_then {r} {s} {t} {a} {b} {c} first then = record { storage = kept_then r s t first.storage then.storage; tables = counts_then a.is_changed b.is_changed c.is_changed a.changes b.changes c.changes first.tables then.tables }
+
+  -- a call of both, one of the storage alone, and one of the caches alone
+  pub notes_of_marks : {r s : ImageStorage S} {a b : MetadataCaches S} → KeepMarks view r a s b → KeepNotes view r a s b
+  notes_of_marks marks = record { storage = marks.notes; tables = marks.pins.changes }
+
+  pub notes_of_both : {r s : ImageStorage S} {a b : MetadataCaches S} → KeepsPinsAndNotes a b → KeepsNotes view r s → KeepNotes view r a s b
+  notes_of_both pins notes = record { storage = notes; tables = pins.changes }
+
+  pub notes_of_storage : {r s : ImageStorage S} {a : MetadataCaches S} → KeepsNotes view r s → KeepNotes view r a s a
+  notes_of_storage {r} {s} {a} notes = record { storage = notes; tables = counts_none a.is_changed a.changes }
+
+  pub notes_of_caches : {s : ImageStorage S} {a b : MetadataCaches S} → KeepsPinsAndNotes a b → KeepNotes view s a s b
+  notes_of_caches {s} pins = record { storage = kept_same s; tables = pins.changes }

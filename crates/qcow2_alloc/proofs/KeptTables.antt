@@ -5,6 +5,9 @@ pub mod Empty
 pub mod Entries
 pub mod Listing
 pub mod Getting
+pub mod Laying
+pub mod Apart
+pub mod ApartCalls
 pub mod Fitting
 pub mod Flushing
 pub mod Fetching
@@ -20,11 +23,12 @@ pub mod Causes
 pub mod Beside
 pub mod Named
 pub mod Off
-pub mod Laying
 pub mod Putting
 pub mod PuttingBlocks
 pub mod Ordering
 pub mod InOrder
 pub mod Quiet
 pub mod OneChanged
+pub mod ApartOff
+pub mod ApartChanges
 pub mod BehindHeader

@@ -37,4 +37,5 @@ pub mod LoadedTables
 pub mod HeaderClusters
 pub mod SparedHeaders
 pub mod KeptNotes
+pub mod MetFaults
 pub mod KeptMarks

@@ -1,4 +1,6 @@
 -- What a longer reftable changes beside itself: the header says where it stands, and what the old one needed is listed. And what follows one such step after another.
+use Rattle.qcow2_alloc.specs.ImageStorage.{is_changed_of}
+use Rattle.std.proofs.lemmas.Bool.{or_right}
 use Rattle.std.proofs.Common.{◌≡◌, ℕ, ◌+◌, ◌<◌, Bool, true, false, List, [], ◌++◌, append_assoc, append-nil, Result, Ok, Err, IsTrue, inl, inr, refl, sym, ap, ◌∙◌, subst, arith}
 use Rattle.qcow2_metadata.specs.Header.{HeaderView, counts_per_block, with_fields, with_reftable}
 use Rattle.qcow2_laws.specs.Changes.{one_at}
@@ -112,7 +114,7 @@ module _ {S : Type 0} (view : S → StorageView) (d : Bool) (p : Pending) (n : �
   pub ends_taken : (e : ImageError) → UnseenAllocatorGrowth view p a t b so_far → IsFault e → IsTrue c.caches.is_changed → (r : Pending) → RefusedGrowth view so_far b t' c r e → InterruptedFileStep view a c e
   ends_taken e before fault noted r step = record {
     fault = fault;
-    noted = λ _. noted;
+    noted = λ _. or_right (is_changed_of c.storage) c.caches.is_changed noted;
     since = elim step [
       | inl sound ↦ safe_throughout_then view a b c before.file_step.since before.file_step.safe_step.known sound.file_step.since
       | inr interrupted ↦ safe_throughout_then view a b c before.file_step.since before.file_step.safe_step.known interrupted.since

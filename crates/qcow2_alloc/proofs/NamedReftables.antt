@@ -1,7 +1,7 @@
 -- The header is written to name a longer reftable, which is the allocator's own then.
 use Rattle.std.proofs.Common.{◌≡◌, ◌≢◌, ◌⊎◌, inl, inr, ℕ, ◌+◌, ◌-◌, ◌*◌, ◌/◌, ◌^◌, ◌<◌, ◌≤◌, List, [], length, Option, Some, Result, Ok, true, IsTrue, refl, sym, ap, ◌∙◌, subst, arith}
 use Rattle.std.proofs.Math.Nat.{mul-le-mul_left}
-use Rattle.std.proofs.lemmas.Bool.{cases_eq}
+use Rattle.std.proofs.lemmas.Bool.{cases_eq, or_left}
 use Rattle.image_access.specs.Moments.{StorageView, Changes, Calls}
 use Rattle.image_access.specs.declared.error.StorageError.{StorageError}
 use Rattle.qcow2_metadata.specs.Bytes.{Bytes, byte_at}
@@ -28,15 +28,13 @@ use Rattle.qcow2_alloc.specs.declared.image_file.ImageFile.{ImageFile}
 use Rattle.qcow2_alloc.specs.declared.image_storage.ImageStorage.{ImageStorage}
 use Rattle.qcow2_alloc.specs.declared.error.ImageError.{ImageError}
 use Rattle.qcow2_alloc.specs.Allocation.{run_at, UnseenAllocatorStep, UnseenAllocatorGrowth}
-use Rattle.qcow2_alloc.specs.CachePins.{KeepsPinsAndNotes, SameTables}
 use Rattle.qcow2_alloc.specs.GrownTables.{reftable_at, with_run, without_reftable, StandsGrown}
 use Rattle.qcow2_alloc.specs.ImageFile.{nothing_given, view_in, contents_in, known_in, state_in, FileInvariant, AllocatorInvariant, HasReftable, IsFault, UnseenFileGrowth, InterruptedFileStep}
-use Rattle.qcow2_alloc.specs.ImageStorage.{storage_of}
+use Rattle.qcow2_alloc.specs.ImageStorage.{storage_of, is_changed_of}
 use Rattle.qcow2_alloc.specs.KeptTables.{AreLoaded}
 use Rattle.qcow2_alloc.specs.LowestRuns.{IsUsed}
 use Rattle.qcow2_alloc.specs.MetadataCaches.{order_of, l2_tables, refblocks, rb_at, known_of}
-use Rattle.qcow2_alloc.proofs.AllocationSteps.{allocator_step_marked}
-use Rattle.qcow2_alloc.proofs.FileSteps.{pending_same, safe_throughout_then, file_step_on, on_then}
+use Rattle.qcow2_alloc.proofs.FileSteps.{pending_same}
 use Rattle.qcow2_alloc.proofs.GrownTables.{counted_anew, clusters_of_run, run_counted, whole_clusters, new_entries, few_entries, new_reftable}
 use Rattle.qcow2_alloc.proofs.HeaderKept.{same_block, header_named_blocks, header_sound}
 use Rattle.qcow2_alloc.proofs.KeptTables.Named.{AreCurrentIn, current_none}
@@ -249,17 +247,14 @@ module _ {S : Type 0} (view : S → StorageView) (p : Pending) (first blocks clu
       let same : count * entries_per_cluster file.header.fields ≡ clusters * entries_per_cluster file.header.fields = ap (λ n. n * entries_per_cluster file.header.fields) count_is in
       absurd (omega (arith, few, same, more))
 
-  module _ (header : HeaderView) (caches : MetadataCaches S) (storage : ImageStorage S) (asked : S) (result : Result (Unit {0}) StorageError) (is_header : header ≡ with_fields file.header (with_reftable file.header.fields offset count))
-      (noted : caches ≡ record file.caches { is_changed = true }) (tables : SameTables file.caches caches) (marks : KeepsPinsAndNotes file.caches caches) (same : asked ≡ storage_of file.storage)
+  module _ (header : HeaderView) (storage : ImageStorage S) (asked : S) (result : Result (Unit {0}) StorageError) (is_header : header ≡ with_fields file.header (with_reftable file.header.fields offset count))
+      (same : asked ≡ storage_of file.storage)
       (wrote : Changes (view asked) (view (storage_of storage)) result (reftable_pointer_written header.fields (view asked).contents)) (calls : Calls (view asked) (view (storage_of storage)) result) where
     abbrev taken : Pending
     taken = with_run p file.header.fields allocator.reftable first (blocks + clusters)
 
-    abbrev marked : ImageFile S
-    marked = record file { caches = caches }
-
     abbrev written_file : ImageFile S
-    written_file = record marked { storage = storage; header = header }
+    written_file = record file { storage = storage; header = header }
 
     abbrev new_fields : HeaderFields
     new_fields = with_reftable file.header.fields ((first + blocks) * cluster_size file.header.fields) clusters
@@ -269,52 +264,37 @@ module _ {S : Type 0} (view : S → StorageView) (p : Pending) (first blocks clu
         is_header ∙ ap (λ n. with_fields file.header (with_reftable file.header.fields n count)) offset_is
         ∙ ap (λ n. with_fields file.header (with_reftable file.header.fields ((first + blocks) * cluster_size file.header.fields) n)) count_is
 
-    now : UnseenAllocatorStep view taken file allocator marked taken
-    now = allocator_step_marked view taken file allocator caches sound tables marks
-
-    ready_now : StandsGrown view marked allocator.reftable t first blocks clusters
-    ready_now = record {
-      grown = ready.grown;
-      stands = ready.stands;
-      counts = ready.counts;
-      clean = subst AreClean (sym tables.refblocks) ready.clean;
-      may = subst (λ o. BlocksMayGo o (l2_tables caches)) (sym tables.order) (subst (BlocksMayGo (order_of file.caches)) (sym tables.l2_tables) ready.may);
-      uncached = λ c there. ap (λ (x : MetadataCaches S). rb_at x c) noted ∙ ready.uncached c there;
-    }
-
-    changes : Changes (view_in view marked) (view (storage_of storage)) result (reftable_pointer_written new_fields (view_in view marked).contents)
+    changes : Changes (view_in view file) (view (storage_of storage)) result (reftable_pointer_written new_fields (view_in view file).contents)
     changes =
         subst (λ (s : S). Changes (view s) (view (storage_of storage)) result (reftable_pointer_written new_fields (view s).contents)) same
         (subst (λ (v : HeaderView). Changes (view asked) (view (storage_of storage)) result (reftable_pointer_written v.fields (view asked).contents)) header_now wrote)
 
-    calls_now : Calls (view_in view marked) (view (storage_of storage)) result
+    calls_now : Calls (view_in view file) (view (storage_of storage)) result
     calls_now = subst (λ (s : S). Calls (view s) (view (storage_of storage)) result) same calls
 
-    lasts : SafeThroughout (view_in view marked) (view (storage_of storage)) (known_in view marked) nothing_given []
-    lasts = lasts_named view p first blocks clusters marked allocator.reftable t now.file_step.sound now.reftable ready_now is_table result (storage_of storage) changes calls_now
+    lasts : SafeThroughout (view_in view file) (view (storage_of storage)) (known_in view file) nothing_given []
+    lasts = lasts_named view p first blocks clusters file allocator.reftable t sound.sound sound.reftable ready is_table result (storage_of storage) changes calls_now
 
-    pub interrupted_named : IsTrue caches.is_changed → (e : ImageError) → IsFault e → InterruptedFileStep view file written_file e
-    interrupted_named changed e fault = record { fault = fault; noted = λ _. changed; since = safe_throughout_then view file marked written_file now.file_step.since now.file_step.safe_step.known lasts }
+    pub interrupted_named : IsTrue (is_changed_of storage) → (e : ImageError) → IsFault e → InterruptedFileStep view file written_file e
+    interrupted_named changed e fault = record { fault = fault; noted = λ _. or_left (is_changed_of storage) file.caches.is_changed changed; since = lasts }
 
     module _ (x : Unit {0}) (done : result ≡ Ok x) where
       abbrev after : ImageFile S
-      after = record marked { storage = storage; header = with_fields file.header (with_reftable file.header.fields ((first + blocks) * cluster_size file.header.fields) clusters) }
+      after = record file { storage = storage; header = with_fields file.header (with_reftable file.header.fields ((first + blocks) * cluster_size file.header.fields) clusters) }
 
-      is_written : (view (storage_of storage)).contents ≡ reftable_pointer_written new_fields (view_in view marked).contents
+      is_written : (view (storage_of storage)).contents ≡ reftable_pointer_written new_fields (view_in view file).contents
       is_written = rw done at (changes sound.sound.honest)
 
       allocator_step_after : UnseenAllocatorGrowth view taken file (record allocator { reftable = t }) after (without_reftable p file.header.fields)
       allocator_step_after = record {
-        file_step = on_then view taken taken (without_reftable p file.header.fields) file marked after (λ k new_data. new_data) (file_step_on view taken taken file marked now.file_step)
-            (on_named view p first blocks clusters marked allocator.reftable t now.file_step.sound now.reftable ready_now is_table storage is_written (calls_now.honest sound.sound.honest) lasts);
-        reftable = reftable_named view p first blocks clusters marked allocator.reftable t now.file_step.sound now.reftable ready_now is_table storage is_written (calls_now.honest sound.sound.honest);
+        file_step = on_named view p first blocks clusters file allocator.reftable t sound.sound sound.reftable ready is_table storage is_written (calls_now.honest sound.sound.honest) lasts;
+        reftable = reftable_named view p first blocks clusters file allocator.reftable t sound.sound sound.reftable ready is_table storage is_written (calls_now.honest sound.sound.honest);
       }
 
       pub allocator_step_named : UnseenAllocatorGrowth view taken file (record allocator { reftable = t }) written_file (without_reftable p file.header.fields)
-      allocator_step_named = subst (λ (v : HeaderView). UnseenAllocatorGrowth view taken file (record allocator { reftable = t }) (record marked { storage = storage; header = v }) (without_reftable p file.header.fields)) (sym header_now) allocator_step_after
+      allocator_step_named = subst (λ (v : HeaderView). UnseenAllocatorGrowth view taken file (record allocator { reftable = t }) (record file { storage = storage; header = v }) (without_reftable p file.header.fields)) (sym header_now) allocator_step_after
 
       pub keeps_used : (k : ℕ) → IsUsed view file k → IsUsed view written_file k
       keeps_used k used =
-          let still : IsUsed view marked k = λ zero. used (let counts = now.file_step.counts k in omega (arith, counts, zero)) in
-          subst (λ (v : HeaderView). IsUsed view (record marked { storage = storage; header = v }) k) (sym header_now)
-          (uses_named view p first blocks clusters marked allocator.reftable t now.file_step.sound now.reftable ready_now is_table storage is_written (calls_now.honest sound.sound.honest) k still)
+          subst (λ (v : HeaderView). IsUsed view (record file { storage = storage; header = v }) k) (sym header_now)
+          (uses_named view p first blocks clusters file allocator.reftable t sound.sound sound.reftable ready is_table storage is_written (calls_now.honest sound.sound.honest) k used)

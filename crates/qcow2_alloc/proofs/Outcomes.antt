@@ -1,11 +1,9 @@
 -- What holds of the result of a call, whatever the call does.
-use Rattle.std.proofs.Common.{◌≡◌, ℕ, ◌≤◌, Bool, false, Result, Ok, Err, IsErr, IsErrAnd, IsTrue, refl, ap}
+use Rattle.std.proofs.Common.{◌≡◌, ℕ, ◌≤◌, Bool, false, Result, Ok, Err, IsErr, IsErrAnd, IsTrue, refl, ap, sym, subst, arith}
 use Rattle.std.specs.Prelude.{IsErrOf, IfOk, IfErr, OnOk, OnErr}
 use Rattle.qcow2_metadata.specs.EntryTable.{EntryTableView}
 use Rattle.qcow2_alloc.specs.Allocation.{KeepsEntries}
 use Rattle.qcow2_alloc.specs.ImageError.{IsOfTables}
-use Rattle.image_access.proofs.EachMomentSince.{rose_still}
-use Rattle.std.proofs.Math.Nat.{le_trans}
 use Rattle.qcow2_alloc.specs.declared.error.ImageError.{ImageError}
 use Rattle.qcow2_alloc.specs.declared.error.ImageError.TheVariants as I
 use Rattle.qcow2_alloc.specs.Faults.{FaultsTold}
@@ -24,32 +22,28 @@ pub never : {B : Type 0} → IsTrue false → B
 never bad = absurd (cc)
 
 -- a refusal by this call's own
-pub told_limit : {T : Type 0} (before now : ℕ) → before ≤ now → FaultsTold {T = T} before now (Err I.Limit)
-told_limit before now le = record { no_fewer = le; rose = λ bad. absurd (cc) }
+pub told_limit : {T : Type 0} (before now : ℕ) → now ≡ before → FaultsTold {T = T} before now (Err I.Limit)
+told_limit before now same = record { no_fewer = omega arith; rose = λ bad. absurd (cc); told = λ other. same }
 
-pub told_memory : {T : Type 0} (before now : ℕ) → before ≤ now → FaultsTold {T = T} before now (Err I.Memory)
-told_memory before now le = record { no_fewer = le; rose = λ bad. absurd (cc) }
+pub told_memory : {T : Type 0} (before now : ℕ) → now ≡ before → FaultsTold {T = T} before now (Err I.Memory)
+told_memory before now same = record { no_fewer = omega arith; rose = λ bad. absurd (cc); told = λ other. same }
 
 -- a refusal that is answered as it came
 pub told_err : {T A : Type 0} (before now : ℕ) (e : ImageError) → FaultsTold {T = A} before now (Err e) → FaultsTold {T = T} before now (Err e)
-told_err before now e told = record { no_fewer = told.no_fewer; rose = λ is. told.rose (let same : e ≡ I.Storage = cc in ap Err same) }
+told_err before now e told = record { no_fewer = told.no_fewer; rose = λ is. told.rose (let same : e ≡ I.Storage = cc in ap Err same); told = told.told }
 
 -- one that has a name
 pub err_as : {T A : Type 0} (e f : ImageError) → IsErrOf {T = A} (Err e) f → IsErrOf {T = T} (Err e) f
 err_as e f is = ap Err (let same : e ≡ f = cc in same)
 
 -- one that `?` hands on, after others
-pub told_after : {T A : Type 0} (before mid now : ℕ) (answer : Result A ImageError) (e : ImageError) (result : Result T ImageError) → before ≤ mid → FaultsTold mid now answer → answer ≡ Err e
+pub told_after : {T A : Type 0} (before mid now : ℕ) (answer : Result A ImageError) (e : ImageError) (result : Result T ImageError) → mid ≡ before → FaultsTold mid now answer → answer ≡ Err e
     → IsErr result × IsErrAnd result (λ x. x ≡ e) → FaultsTold before now result
-told_after before mid now answer e result le told is on = told_since before mid now le (told_on mid now answer e result told is on)
+told_after before mid now answer e result same told is on = told_since before mid now same (told_on mid now answer e result told is on)
 
 -- a call that is followed by one that tells no more
-pub told_still : {T : Type 0} (before mid now : ℕ) (result : Result T ImageError) → FaultsTold before mid result → mid ≤ now → FaultsTold before now result
-told_still before mid now result told le = record { no_fewer = le_trans told.no_fewer le; rose = λ is. rose_still before mid now (told.rose is) le }
-
-pub told_third : {T A B : Type 0} (before mid late now : ℕ) (one : Result A ImageError) (two : Result B ImageError) (three : Result T ImageError) → FaultsTold before mid one → FaultsTold mid late two
-    → FaultsTold late now three → FaultsTold before now three
-told_third before mid late now one two three first then last = told_since before late now (le_trans first.no_fewer then.no_fewer) last
+pub told_still : {T : Type 0} (before mid now : ℕ) (result : Result T ImageError) → FaultsTold before mid result → now ≡ mid → FaultsTold before now result
+told_still before mid now result told same = subst (λ n. FaultsTold before n result) (sym same) told
 
 -- what `?` hands on is no answer
 pub on_no_ok : {A : Type 0} (P : Type 0) (r : Result A ImageError) (e : ImageError) → IsErr r × IsErrAnd r (λ x. x ≡ e) → OnOk r P

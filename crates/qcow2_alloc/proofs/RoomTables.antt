@@ -19,7 +19,7 @@ use Rattle.qcow2_alloc.specs.GrownTables.{with_run, without_reftable, IsGrown, S
 use Rattle.qcow2_alloc.specs.LowestRuns.{KeepsUsed}
 use Rattle.qcow2_alloc.proofs.Hints.{used_stays}
 use Rattle.qcow2_alloc.proofs.AllocationSteps.{on_of, allocator_step_on}
-use Rattle.qcow2_alloc.proofs.FileSteps.{interrupted_then}
+use Rattle.qcow2_alloc.proofs.FileSteps.{leaves_then}
 use Rattle.qcow2_alloc.specs.ImageFile.{contents_in, IsFault, AllocatorInvariant, RefusedFileStep}
 use Rattle.qcow2_alloc.specs.MetadataCaches.{order_of, l2_tables, refblocks, rb_at}
 use Rattle.qcow2_alloc.specs.Rooms.{WritesTable}
@@ -78,4 +78,4 @@ names_then view p a b c u u' t first n same (Ok x) before names =
     let q : Pending = with_run p a.header.fields t first n in
     allocator_step_on view q q (without_reftable p a.header.fields) a b c u u' (λ k some. some) (on_of view q q a b u before)
     (subst (λ (k : HeaderFields). UnseenAllocatorGrowth view (with_run p k t first n) b u' c (without_reftable p k)) same names)
-names_then view p a b c u u' t first n same (Err e) before names = interrupted_then view (with_run p a.header.fields t first n) (with_run p a.header.fields t first n) a b c e before.file_step names
+names_then view p a b c u u' t first n same (Err e) before names = (names.0, leaves_then view (with_run p a.header.fields t first n) a b c u' e before.file_step (subst (λ (k : HeaderFields). RefusedFileStep view (with_run p k t first n) b u' c e) same names.1))

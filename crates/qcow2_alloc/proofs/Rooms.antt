@@ -138,6 +138,11 @@ run_of_same p h h' t t' first n n' same_header same same_length =
 pub noted_of_same : (h : HeaderFields) (t t' : EntryTableView) (first n : ℕ) (changed : Bool) → t ≡ t' → ((k : ℕ) → counted_run h t first n k ≡ 0) ⊎ IsTrue changed → ((k : ℕ) → counted_run h t' first n k ≡ 0) ⊎ IsTrue changed
 noted_of_same h t t' first n changed same noted = subst (λ (x : EntryTableView). ((k : ℕ) → counted_run h x first n k ≡ 0) ⊎ IsTrue changed) same noted
 
+pub noted_of_room : (h h' : HeaderFields) (t t' : EntryTableView) (first n n' : ℕ) (changed : Bool) → h ≡ h' → t ≡ t' → n ≡ n' → ((k : ℕ) → counted_run h t first n k ≡ 0) ⊎ IsTrue changed → ((k : ℕ) → counted_run h' t' first n' k ≡ 0) ⊎ IsTrue changed
+noted_of_room h h' t t' first n n' changed same_header same_table same_length noted =
+    subst (λ m. ((k : ℕ) → counted_run h' t' first m k ≡ 0) ⊎ IsTrue changed) same_length
+    (subst (λ (x : HeaderFields). ((k : ℕ) → counted_run x t' first n k ≡ 0) ⊎ IsTrue changed) same_header (noted_of_same h t t' first n changed same_table noted))
+
 -- ---- whether a change was noted
 module _ (h : HeaderFields) (t : EntryTableView) (first n : ℕ) (was now : Bool) (stays : IsTrue was → IsTrue now) (noted : ((k : ℕ) → counted_run h t first n k ≡ 0) ⊎ IsTrue was) where
   pub still_noted : ((k : ℕ) → counted_run h t first n k ≡ 0) ⊎ IsTrue now

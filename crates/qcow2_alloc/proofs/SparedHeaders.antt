@@ -48,10 +48,6 @@ placed_above (Some c) above is = let zero : c ≡ 0 = some_is is in omega (arith
     some_is : {a b : ℕ} → Some a ≡ Some b → a ≡ b
     some_is e = cc
 
--- a change is noted
-pub noted_keeps : {S : Type 0} (a b : MetadataCaches S) → b ≡ record a { is_changed = true } → KeepBehindHeader a b
-noted_keeps a b is = subst (KeepBehindHeader a) (sym is) (noted_behind a a (λ bits are. are))
-
 module _ {S : Type 0} {view : S → StorageView} where
   -- ---- nothing, one after another, and less said
   pub spares_none : {K : ℕ → ℕ → Type 0} {r : EntryTableView} {f : ImageFile S} → SparesBytes view K r f r f

@@ -1,5 +1,5 @@
 -- What the allocator's calls take, and what they leave of an image's file.
-use Rattle.std.specs.Prelude.{ℕ, ◌+◌, ◌*◌, ◌%◌, ◌^◌, ◌<◌, ◌≤◌, ◌≡◌, ◌≢◌, ◌⊎◌, ◌&&◌, nat_le, nat_lt, Bool, true, false, List, length, Option, Some, None, Result, Ok, Err, IsSome, IsTrue, if◌then◌else◌}
+use Rattle.std.specs.Prelude.{ℕ, ◌+◌, ◌*◌, ◌/◌, ◌%◌, ◌^◌, ◌<◌, ◌≤◌, ◌≡◌, ◌≢◌, ◌⊎◌, ◌&&◌, nat_le, nat_lt, Bool, true, false, List, length, Option, Some, None, Result, Ok, Err, IsSome, IsTrue, if◌then◌else◌}
 use Rattle.image_access.specs.Moments.{StorageView}
 use Rattle.qcow2_metadata.specs.declared.header.HeaderFields.{HeaderFields}
 use Rattle.qcow2_metadata.specs.Bytes.{Bytes, byte_at}
@@ -20,6 +20,7 @@ use Rattle.qcow2_alloc.specs.declared.clusters_to_free.ClusterKind.{ClusterKind}
 use Rattle.qcow2_alloc.specs.declared.clusters_to_free.ClusterKind.TheVariants.{Data, Metadata}
 use Rattle.qcow2_alloc.specs.declared.clusters_to_free.ClustersToFreeEntry.{ClustersToFreeEntry}
 use Rattle.qcow2_alloc.specs.declared.error.ImageError.{ImageError}
+use Rattle.qcow2_alloc.specs.declared.error.ImageError.TheVariants.{UnalignedTable, Limit}
 use Rattle.qcow2_alloc.specs.declared.image_file.ImageFile.{ImageFile}
 
 -- how often a cluster is one of n from first on
@@ -86,6 +87,16 @@ pub record IsUnaligned (h : HeaderFields) (reftable : EntryTableView) (range : �
   pub within : range < entry_count reftable
   pub off : block_offset (entry_at reftable.bytes range) % cluster_size h ≢ 0
 
+-- a cluster is of the first range, which has no refblock, though the reftable has an entry for it
+pub record LacksFirst (h : HeaderFields) (reftable : EntryTableView) (cluster : ℕ) : Type 0 where
+  pub none : HasNone reftable 0
+  pub some : 0 < entry_count reftable
+  pub first : cluster < counts_per_block h
+
+-- the refblock of a cluster's range can't be had: it isn't on a cluster, or it is the first range's, which would lie in the header's cluster
+abbrev pub LacksBlock : HeaderFields → EntryTableView → ℕ → ImageError → Type 0
+LacksBlock h reftable cluster e = (IsUnaligned h reftable (cluster / counts_per_block h) × (e ≡ UnalignedTable)) ⊎ (LacksFirst h reftable cluster × (e ≡ Limit))
+
 -- a range that has no refblock, which may be placed in the cluster
 pub record HasPlaceFor (counts_itself : Bool) (h : HeaderFields) (reftable : EntryTableView) (range at : ℕ) : Type 0 where
   pub none : HasNone reftable range
@@ -103,6 +114,10 @@ pub record KeepsEntries (Stays : ℕ → Type 0) (old new : EntryTableView) : Ty
   pub count : entry_count new ≡ entry_count old
   pub others : (k : ℕ) → Stays k → entry_at new.bytes k ≡ entry_at old.bytes k
   pub behind : NamesBehindHeader old new
+
+-- each range that has a refblock keeps its entry
+abbrev pub KeepsNamed : EntryTableView → EntryTableView → Type 0
+KeepsNamed old new = KeepsEntries (λ k. HasNone old k → ⊥) old new
 
 module _ {S : Type 0} where
   -- data clusters are taken where refblocks are written before L2 tables

@@ -1,5 +1,5 @@
--- The marks of the caches: pins, and whether a change was noted.
-use Rattle.std.specs.Prelude.{ℕ, ◌≡◌, ◌⊎◌, ◌<◌, ◌≤◌, ◌==◌, false, IsTrue, List, [], length, Vec, Result, Ok, Err}
+-- The marks of the caches: pins, and what is noted of changes.
+use Rattle.std.specs.Prelude.{ℕ, ◌≡◌, ◌⊎◌, ◌<◌, ◌≤◌, ◌==◌, false, List, [], length, Vec, Result, Ok, Err}
 use Rattle.std.specs.Global.{Global}
 use Rattle.std.specs.Option.{option_map_or}
 use Rattle.std.specs.Map.{keys_of, lookup}
@@ -9,6 +9,7 @@ use Rattle.qcow2_laws.specs.CrashInvariant.{Pending}
 use Rattle.qcow2_alloc.specs.AsyncLruCache.{pinned}
 use Rattle.qcow2_alloc.specs.MetadataCaches.{order_of, l2_at, l2_tables, refblocks, known_of, CacheInvariant}
 use Rattle.qcow2_alloc.specs.BehindHeader.{KeepBehindHeader}
+use Rattle.qcow2_alloc.specs.CountedChanges.{CountsChanges}
 use Rattle.qcow2_alloc.specs.ImageError.{IsFault}
 use Rattle.qcow2_alloc.specs.declared.async_lru_cache.slot.Slot.{Slot}
 use Rattle.qcow2_alloc.specs.declared.cache.MetadataCaches.{MetadataCaches}
@@ -26,11 +27,15 @@ module _ {S : Type 0} where
     pub some : 0 < caches.rb.size
     pub free : pinned caches.rb.entries ≡ []
 
-  -- pins stay, and a change that was noted stays noted
+  -- what is noted of changes of the tables goes on
+  abbrev pub CountsTableChanges : MetadataCaches S → MetadataCaches S → Type 0
+  CountsTableChanges old new = CountsChanges old.is_changed old.changes new.is_changed new.changes
+
+  -- pins stay, and so does a change that was noted; one that is noted anew was counted
   pub record KeepsPinsAndNotes (old new : MetadataCaches S) : Type 0 where
     pub pins : (cluster : ℕ) → l2_pins new cluster ≡ l2_pins old cluster
     pub room : CachesHaveRoom old → CachesHaveRoom new
-    pub changed : IsTrue old.is_changed → IsTrue new.is_changed
+    pub changes : CountsTableChanges old new
 
   -- the same tables in the same order
   pub record SameTables (old new : MetadataCaches S) : Type 0 where

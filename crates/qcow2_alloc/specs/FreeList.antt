@@ -1,5 +1,5 @@
 -- The clusters that are listed to be freed.
-use Rattle.std.specs.Prelude.{◌≡◌, ◌⊎◌, ℕ, ◌+◌, ◌-◌, ◌*◌, ◌/◌, ◌^◌, ◌≤◌, ◌++◌, Some, Bool, true, false, List, [], ◌∷◌, if◌then◌else◌}
+use Rattle.std.specs.Prelude.{◌≡◌, ◌⊎◌, ℕ, ◌+◌, ◌-◌, ◌*◌, ◌/◌, ◌^◌, ◌<◌, ◌++◌, Some, Result, Ok, Err, Bool, true, false, List, [], ◌∷◌, if◌then◌else◌}
 use Rattle.qcow2_metadata.specs.EntryTable.{EntryTableView, entry_count}
 use Rattle.qcow2_laws.specs.CrashInvariant.{Pending}
 use Rattle.qcow2_alloc.specs.declared.clusters_to_free.ClusterKind.{ClusterKind}
@@ -7,6 +7,7 @@ use Rattle.qcow2_alloc.specs.declared.clusters_to_free.ClusterKind.TheVariants a
 use Rattle.qcow2_alloc.specs.declared.clusters_to_free.ClustersToFreeEntry.{ClustersToFreeEntry}
 use Rattle.qcow2_alloc.specs.Allocation.{run_at, NamesBehindHeader, KeepsEntries}
 use Rattle.qcow2_alloc.specs.ClustersToFree.{metadata_entry}
+use Rattle.qcow2_alloc.specs.declared.error.ImageError.{ImageError}
 
 -- 1 for each cluster of a run
 abbrev pub run_of : ClustersToFreeEntry → ℕ → ℕ
@@ -67,10 +68,10 @@ pub record IsRunOfTable (t : EntryTableView) (e : ClustersToFreeEntry) : Type 0 
   pub placed : t.cluster ≡ Some cluster
   pub run : e ≡ metadata_entry cluster ((8 * entry_count t + 2 ^ t.cluster_bits - 1) / 2 ^ t.cluster_bits)
 
--- one reftable after the other gave way to one that isn't shorter, and these entries are for the clusters of those that went
+-- one reftable after the other gave way to a longer one, and these entries are for the clusters of those that went
 abbrev pub GaveWay : EntryTableView → List ClustersToFreeEntry → EntryTableView → Type 0
 GaveWay old [] new = SamePlace old new
-GaveWay old (e ∷ es) new = IsRunOfTable old e × (next : EntryTableView) × (entry_count old ≤ entry_count next) × GaveWay next es new
+GaveWay old (e ∷ es) new = IsRunOfTable old e × (next : EntryTableView) × (entry_count old < entry_count next) × GaveWay next es new
 
 -- What is listed behind what was listed are the clusters of former reftables, and nothing else. No refblock comes to lie in cluster 0.
 pub record ListsReftables (old new : EntryTableView) (list list' : List ClustersToFreeEntry) : Type 0 where
@@ -78,3 +79,8 @@ pub record ListsReftables (old new : EntryTableView) (list list' : List Clusters
   pub is : list' ≡ list ++ more
   pub gone : GaveWay old more new
   pub behind : NamesBehindHeader old new
+
+-- a reftable gave way to another one, and just its clusters were listed; refused, it stays, and so does the list
+abbrev pub GivesWay : EntryTableView → EntryTableView → List ClustersToFreeEntry → List ClustersToFreeEntry → Result (Unit {0}) ImageError → Type 0
+GivesWay old new list list' (Ok _) = (e : ClustersToFreeEntry) × IsRunOfTable old e × (list' ≡ list ++ e ∷ []) × NamesBehindHeader old new
+GivesWay old new list list' (Err _) = (new ≡ old) × (list' ≡ list)

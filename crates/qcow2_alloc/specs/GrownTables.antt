@@ -12,7 +12,7 @@ use Rattle.qcow2_laws.specs.Caches.{AreClean, BlocksMayGo}
 use Rattle.qcow2_laws.specs.Changes.{with_new_tables}
 use Rattle.qcow2_laws.specs.CrashInvariant.{Pending}
 use Rattle.qcow2_alloc.specs.Allocation.{run_at, StandAt, HasNone, UnseenAllocatorGrowth, RefusedGrowth}
-use Rattle.qcow2_alloc.specs.ImageFile.{contents_in, InterruptedFileStep}
+use Rattle.qcow2_alloc.specs.ImageFile.{contents_in, IsFault, RefusedFileStep}
 use Rattle.qcow2_alloc.specs.MetadataCaches.{order_of, l2_tables, refblocks, rb_at}
 use Rattle.qcow2_alloc.specs.declared.allocation.Allocator.{Allocator}
 use Rattle.qcow2_alloc.specs.declared.error.ImageError.{ImageError}
@@ -61,10 +61,10 @@ module _ {S : Type 0} (view : S → StorageView) where
     pub may : BlocksMayGo (order_of file.caches) (l2_tables file.caches)
     pub uncached : (c : ℕ) → 0 < run_at first blocks c → rb_at file.caches c ≡ None
 
-  -- the header names it in the place of the reftable, whose clusters are to be freed then; or the storage failed
+  -- the header names it in the place of the reftable, whose clusters are to be freed then; or a fault left all as sound as before, or it broke off
   abbrev pub NamesReftable : Pending → Pending → ImageFile S → Allocator → ImageFile S → Result (Unit {0}) ImageError → Type 0
   NamesReftable q p old allocator' new (Ok _) = UnseenAllocatorGrowth view q old allocator' new (without_reftable p old.header.fields)
-  NamesReftable q p old allocator' new (Err e) = InterruptedFileStep view old new e
+  NamesReftable q p old allocator' new (Err e) = IsFault e × RefusedFileStep view q old allocator' new e
 
   -- so it does, once there was room for it and its refblocks; or all is as sound as before, or it broke off
   abbrev pub EntersReftable : Pending → ImageFile S → Allocator → ImageFile S → Result (Unit {0}) ImageError → Type 0

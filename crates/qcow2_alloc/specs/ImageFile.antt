@@ -1,5 +1,5 @@
 -- What contracts see of an image's file, and of the allocator beside it: where it stands, when it is sound, and steps that no guest sees.
-use Rattle.std.specs.Prelude.{ℕ, ◌+◌, ◌/◌, ◌≡◌, ◌≤◌, ◌⊎◌, IsTrue, List, [], Some}
+use Rattle.std.specs.Prelude.{ℕ, ◌+◌, ◌/◌, ◌≡◌, ◌≤◌, ◌⊎◌, ◌||◌, Bool, IsTrue, List, [], Some}
 use Rattle.image_access.specs.Moments.{StorageView}
 use Rattle.qcow2_metadata.specs.Bytes.{Bytes, byte_at}
 use Rattle.qcow2_metadata.specs.Header.{HeaderView, cluster_size, reftable_entries, with_fields, with_reftable}
@@ -12,7 +12,7 @@ use Rattle.qcow2_laws.specs.SafeSteps.{DriverState, SafeStep}
 use Rattle.qcow2_laws.specs.Unseen.{IsUnseen, SameL1Table}
 pub use Rattle.qcow2_alloc.specs.ImageError.{IsFault}
 pub use Rattle.qcow2_alloc.specs.CachePins.{l2_pins, CachesHaveRoom, KeepsPinsAndNotes}
-use Rattle.qcow2_alloc.specs.ImageStorage.{storage_of}
+use Rattle.qcow2_alloc.specs.ImageStorage.{storage_of, is_changed_of}
 use Rattle.qcow2_alloc.specs.MetadataCaches.{order_of, refblocks, known_of, CacheInvariant}
 use Rattle.qcow2_alloc.specs.declared.allocation.Allocator.{Allocator}
 use Rattle.qcow2_alloc.specs.declared.error.ImageError.{ImageError}
@@ -31,6 +31,10 @@ abbrev pub pending_at : Pending → ℕ → ℕ
 pending_at p k = p.new_data k + p.new_tables k + p.old_tables k + p.old_data k
 
 module _ {S : Type 0} where
+  -- a change of the storage, of a table or of a count was noted since the call began
+  abbrev pub has_noted : ImageFile S → Bool
+  has_noted file = is_changed_of file.storage || file.caches.is_changed
+
   module _ (view : S → StorageView) where
     abbrev pub view_in : ImageFile S → StorageView
     view_in file = view (storage_of file.storage)
@@ -86,7 +90,7 @@ module _ {S : Type 0} where
     -- The storage failed, or memory was refused after a change, which is noted. At each moment what was kept is kept.
     pub record InterruptedFileStep (old new : ImageFile S) (e : ImageError) : Type 0 where
       pub fault : IsFault e
-      pub noted : e ≡ I.Memory → IsTrue new.caches.is_changed
+      pub noted : e ≡ I.Memory → IsTrue (has_noted new)
       pub since : SafeThroughout (view_in old) (view_in new) (known_in old) nothing_given []
 
     -- what a refused call leaves of a sound file with its allocator: all as sound as before; or it broke off

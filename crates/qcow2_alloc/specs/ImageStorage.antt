@@ -1,7 +1,8 @@
 -- What the image's storage is made of.
-use Rattle.std.specs.Prelude.{◌≡◌, Bool, IsTrue, Result, Ok, Err}
+use Rattle.std.specs.Prelude.{◌≡◌, ℕ, Bool, Result, Ok, Err, IsTrue}
 use Rattle.image_access.specs.declared.error.StorageError.{StorageError}
 use Rattle.image_access.specs.declared.error.StorageError.TheVariants.{Fault, Memory}
+use Rattle.qcow2_alloc.specs.CountedChanges.{IsOneChange}
 use Rattle.qcow2_alloc.specs.declared.image_storage.ImageStorage.{ImageStorage}
 use Rattle.qcow2_alloc.specs.declared.image_storage.WriteKind.{WriteKind}
 
@@ -17,8 +18,27 @@ kind_of s = s.kind
 abbrev pub is_changed_of : {S : Type 0} → ImageStorage S → Bool
 is_changed_of s = s.is_changed
 
--- a write is noted that was made, or may have been; where memory was refused nothing is noted anew
+-- how many changes were made in all, or may have been, up to the greatest u64
+abbrev pub changes_of : {S : Type 0} → ImageStorage S → ℕ
+changes_of s = s.changes
+
+-- nothing is noted anew, and nothing is counted
+pub record SameNotes {S : Type 0} (old new : ImageStorage S) : Type 0 where
+  pub note : is_changed_of new ≡ is_changed_of old
+  pub count : changes_of new ≡ changes_of old
+
+-- whether a call failed since faults are watched
+abbrev pub met_fault_of : {S : Type 0} → ImageStorage S → Bool
+met_fault_of s = s.met_fault
+
+-- a write is noted and counted that was made, or may have been; where memory was refused nothing is
 abbrev pub NotesWrite : {S T : Type 0} → ImageStorage S → ImageStorage S → Result T StorageError → Type 0
-NotesWrite old new (Ok _) = IsTrue (is_changed_of new)
-NotesWrite old new (Err Fault) = IsTrue (is_changed_of new)
-NotesWrite old new (Err Memory) = is_changed_of new ≡ is_changed_of old
+NotesWrite old new (Ok _) = IsOneChange (is_changed_of new) (changes_of old) (changes_of new)
+NotesWrite old new (Err Fault) = IsOneChange (is_changed_of new) (changes_of old) (changes_of new)
+NotesWrite old new (Err Memory) = SameNotes old new
+
+-- a failure is noted
+abbrev pub NotesFault : {S T : Type 0} → ImageStorage S → ImageStorage S → Result T StorageError → Type 0
+NotesFault old new (Ok _) = met_fault_of new ≡ met_fault_of old
+NotesFault old new (Err Fault) = IsTrue (met_fault_of new)
+NotesFault old new (Err Memory) = met_fault_of new ≡ met_fault_of old

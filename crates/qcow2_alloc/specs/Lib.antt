@@ -1,6 +1,7 @@
 pub mod AsyncLruCache
 pub mod ImageError
 pub mod RefusalNames
+pub mod CountedChanges
 pub mod ImageStorage
 pub mod KeptNotes
 pub mod ClusterChain
@@ -13,6 +14,7 @@ pub mod TableLaws
 pub mod TableCaches
 pub mod KeptTables
 pub mod MetadataCaches
+pub mod ApartCaches
 pub mod Quiet
 pub mod TableChanges
 pub mod BehindHeader
@@ -32,6 +34,7 @@ pub mod Rooms
 pub mod Limits
 pub mod LoadedTables
 pub mod Faults
+pub mod MetFaults
 pub mod WriteKinds
 pub mod HeaderClusters
 pub mod SparedHeaders

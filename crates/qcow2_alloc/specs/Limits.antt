@@ -1,5 +1,5 @@
 -- What stands in the way of taking clusters where it is no fault: each run has a cluster in use, or the reftable can't grow.
-use Rattle.std.specs.Prelude.{ℕ, ◌+◌, ◌*◌, ◌/◌, ◌^◌, ◌<◌, ◌≤◌, ◌≡◌, ◌⊎◌, Some}
+use Rattle.std.specs.Prelude.{ℕ, ◌+◌, ◌*◌, ◌/◌, ◌^◌, ◌<◌, ◌≤◌, ◌≡◌, ◌⊎◌, Some, Result, Ok, Err}
 use Rattle.image_access.specs.Moments.{StorageView}
 use Rattle.qcow2_metadata.specs.declared.header.HeaderFields.{HeaderFields}
 use Rattle.qcow2_metadata.specs.EntryTable.{EntryTableView, entry_count}
@@ -18,6 +18,11 @@ use Rattle.qcow2_alloc.specs.declared.image_file.ImageFile.{ImageFile}
 -- a refusal is a fault, or 13 for this cause
 abbrev pub IsFaultOr : Type 0 → ImageError → Type 0
 IsFaultOr Cause e = IsFault e ⊎ ((e ≡ I.Limit) × Cause)
+
+-- it is no answer, but a fault or 13
+abbrev pub RefusesByLimit : {A : Type 0} → Result A ImageError → Type 0
+RefusesByLimit (Ok answer) = ⊥
+RefusesByLimit (Err e) = IsFault e ⊎ (e ≡ I.Limit)
 
 -- how many clusters begin at an offset that tables can name
 abbrev pub nameable_clusters : HeaderFields → ℕ

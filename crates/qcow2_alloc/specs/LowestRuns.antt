@@ -3,7 +3,7 @@ use Rattle.std.specs.Prelude.{ℕ, ◌+◌, ◌<◌, ◌≤◌, ◌≡◌, ◌�
 use Rattle.image_access.specs.Moments.{StorageView}
 use Rattle.qcow2_metadata.specs.Entries.{count}
 use Rattle.qcow2_alloc.specs.ImageError.{IsFault}
-use Rattle.qcow2_alloc.specs.ImageFile.{known_in}
+use Rattle.qcow2_alloc.specs.ImageFile.{has_noted, known_in}
 use Rattle.qcow2_alloc.specs.declared.allocation.Allocator.{Allocator}
 use Rattle.qcow2_alloc.specs.declared.error.ImageError.{ImageError}
 use Rattle.qcow2_alloc.specs.declared.error.ImageError.TheVariants as I
@@ -11,14 +11,18 @@ use Rattle.qcow2_alloc.specs.declared.image_file.ImageFile.{ImageFile}
 
 -- a call broke off: after a fault, or for want of memory after a change, which is noted
 abbrev pub BrokeOff : {S : Type 0} → ImageFile S → ImageError → Type 0
-BrokeOff file e = IsFault e × (e ≡ I.Memory → IsTrue file.caches.is_changed)
+BrokeOff file e = IsFault e × (e ≡ I.Memory → IsTrue (has_noted file))
 
 module _ {S : Type 0} (view : S → StorageView) where
   -- the cluster's count isn't 0
   abbrev pub IsUsed : ImageFile S → ℕ → Type 0
   IsUsed file k = count file.header.fields (known_in view file) k ≢ 0
 
-  -- what was in use is in use, unless the call broke off
+  -- what was in use is in use
+  abbrev pub StaysUsed : ImageFile S → ImageFile S → Type 0
+  StaysUsed old new = (k : ℕ) → IsUsed old k → IsUsed new k
+
+  -- so it is, unless the call broke off
   abbrev pub KeepsUsed : {A : Type 0} → ImageFile S → ImageFile S → Result A ImageError → Type 0
   KeepsUsed old new (Ok answer) = (k : ℕ) → IsUsed old k → IsUsed new k
   KeepsUsed old new (Err e) = ((k : ℕ) → IsUsed old k → IsUsed new k) ⊎ BrokeOff new e

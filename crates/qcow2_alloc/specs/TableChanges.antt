@@ -1,9 +1,10 @@
 -- What a change of one held table leaves of the caches, whatever else they hold.
-use Rattle.std.specs.Prelude.{ℕ, ◌+◌, ◌-◌, ◌≡◌, ◌<◌, ◌==◌, Bool, true, false, List, Option, Some, IsTrue}
+use Rattle.std.specs.Prelude.{ℕ, ◌+◌, ◌-◌, ◌≡◌, ◌<◌, ◌==◌, Bool, true, false, List, Option, Some}
 use Rattle.qcow2_metadata.specs.L2Mapping.{old_data_run}
 use Rattle.qcow2_metadata.specs.L2Table.{L2TableView, cover_at}
 use Rattle.qcow2_metadata.specs.RefBlock.{RefBlockView, count_at, counts_of, count_limit, ChangesCount}
 use Rattle.qcow2_metadata.specs.TableBytes.{ChangesEntry}
+use Rattle.qcow2_alloc.specs.CountedChanges.{IsOneChange}
 use Rattle.qcow2_alloc.specs.MetadataCaches.{l2_at, rb_at}
 use Rattle.qcow2_alloc.specs.declared.cache.MetadataCaches.{MetadataCaches}
 
@@ -42,4 +43,4 @@ module _ {S : Type 0} (caches caches' : MetadataCaches S) (cluster index : ℕ) 
     pub change : ChangesHeld (l2_at caches) (l2_at caches') cluster (changed_table t)
         (λ bytes. ChangesEntry t.bytes bytes index entry × (answer ≡ old_data_run t.cluster_bits (cover_at t index) (cover_at (changed_table t bytes) index)))
     pub blocks : caches'.rb ≡ caches.rb
-    pub noted : IsTrue caches'.is_changed
+    pub noted : IsOneChange caches'.is_changed caches.changes caches'.changes

@@ -1,15 +1,20 @@
 -- Clusters in use, which a search for free ones passes over.
-use Rattle.std.specs.Prelude.{ℕ, ◌+◌, ◌<◌, ◌≤◌, ◌==◌, ◌≢◌, if◌then◌else◌, Result, Ok, Err}
+use Rattle.std.specs.Prelude.{ℕ, ◌+◌, ◌/◌, ◌%◌, ◌<◌, ◌≤◌, ◌≡◌, ◌==◌, ◌≢◌, ◌⊎◌, if◌then◌else◌, Result, Ok, Err, Some, IfSome}
 use Rattle.image_access.specs.Moments.{StorageView}
 use Rattle.qcow2_metadata.specs.Bytes.{Bytes}
 use Rattle.qcow2_metadata.specs.declared.header.HeaderFields.{HeaderFields}
 use Rattle.qcow2_metadata.specs.Entries.{count}
+use Rattle.qcow2_metadata.specs.EntryTable.{EntryTableView}
+use Rattle.qcow2_metadata.specs.FirstZero.{IsFirstZero}
+use Rattle.qcow2_metadata.specs.Header.{counts_per_block}
+use Rattle.qcow2_metadata.specs.RefBlock.{RefBlockView, count_at, counts_of}
 use Rattle.qcow2_laws.specs.CrashInvariant.{Pending}
-use Rattle.qcow2_alloc.specs.Allocation.{UnseenAllocatorStep}
+use Rattle.qcow2_alloc.specs.Allocation.{HasNone, NamesBlock, UnseenAllocatorStep}
 use Rattle.qcow2_alloc.specs.ImageError.{IsFault}
 use Rattle.qcow2_alloc.specs.ImageFile.{RefusedFileStep}
 use Rattle.qcow2_alloc.specs.LowestRuns.{IsUsed}
-use Rattle.qcow2_alloc.specs.MetadataCaches.{known_of, CacheInvariant, IsCountedAt}
+use Rattle.qcow2_alloc.specs.TableCaches.{IsBlockOf}
+use Rattle.qcow2_alloc.specs.MetadataCaches.{known_of, rb_at, CacheInvariant, IsCountedAt}
 use Rattle.qcow2_alloc.specs.declared.allocation.Allocator.{Allocator}
 use Rattle.qcow2_alloc.specs.declared.cache.MetadataCaches.{MetadataCaches}
 use Rattle.qcow2_alloc.specs.declared.error.ImageError.{ImageError}
@@ -26,6 +31,19 @@ module _ {S : Type 0} where
   TellsUsed caches block index n =
       (h : HeaderFields) (p : Pending) (on_storage : Bytes) (c i : ℕ) → CacheInvariant h p caches on_storage → IsCountedAt h (known_of h caches on_storage) c block i → index ≤ i → i < index + n
       → count h (known_of h caches on_storage) c ≢ 0
+
+  -- so many counts of a held refblock from an index on are above 0, and then comes one that is 0, or its end
+  abbrev pub TellsFirstFree : MetadataCaches S → ℕ → ℕ → ℕ → Type 0
+  TellsFirstFree caches block index n = IfSome (rb_at caches block) (λ b. index ≤ counts_of b → IsFirstZero b index (index + n))
+
+  -- the refblock of a cluster's range is held, and counts a cluster as 0, or isn't of such an image
+  abbrev pub IsHeldFree : HeaderFields → EntryTableView → MetadataCaches S → ℕ → ℕ → Type 0
+  IsHeldFree h reftable caches cluster next =
+      (block : ℕ) × (b : RefBlockView) × NamesBlock h reftable (cluster / counts_per_block h) (Some block) × (rb_at caches block ≡ Some b) × (IsBlockOf h b → count_at b (next % counts_per_block h) ≡ 0)
+
+  -- a search that stood at a cluster goes on at another: at the same one where its range has no refblock, where a range begins, or at a count of 0
+  abbrev pub GoesFar : HeaderFields → EntryTableView → MetadataCaches S → ℕ → ℕ → Type 0
+  GoesFar h reftable caches cluster next = ((next ≡ cluster) × HasNone reftable (cluster / counts_per_block h)) ⊎ (next % counts_per_block h ≡ 0) ⊎ IsHeldFree h reftable caches cluster next
 
   module _ (view : S → StorageView) where
     -- the clusters from one on, up to before another, are in use

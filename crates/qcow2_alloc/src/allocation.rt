@@ -1,18 +1,18 @@
 //! Taking clusters of the image's file.
-ghost use Rattle.std.specs.Prelude.{◌≡◌, ◌≢◌, false, ◌+◌, ◌*◌, ◌/◌, ◌^◌, ◌<◌, ◌≤◌, ◌⊎◌, Bool, IsNone, IfOk, IfErr, OnOk, IsErrOf, IsSome, IsTrue, MatchResult};
+ghost use Rattle.std.specs.Prelude.{◌≡◌, ◌≢◌, max, ℕ, false, ◌+◌, ◌*◌, ◌/◌, ◌^◌, ◌<◌, ◌≤◌, ◌⊎◌, Bool, IsNone, IfOk, IfErr, OnOk, IsErrOf, IsSome, IsTrue, MatchResult};
 ghost use Rattle.image_access.specs.Moments.{ContentsStay, EachMomentSince};
 ghost use Rattle.qcow2_laws.specs.Clusters.{L2DependsOnRb};
 ghost use Rattle.qcow2_laws.specs.CrashInvariant.{Pending};
-ghost use Rattle.qcow2_alloc.specs.Allocation.{MayTake, IsUnaligned, TakesCluster, TakesRun, TakesSomeRun, is_data, Allocates, AllocatesAt, SameLeaks};
+ghost use Rattle.qcow2_alloc.specs.Allocation.{MayTake, IsUnaligned, LacksFirst, LacksBlock, TakesCluster, TakesRun, TakesSomeRun, is_data, Allocates, AllocatesAt, SameLeaks};
 ghost use Rattle.qcow2_alloc.specs.FreeList.{pending_then, ListsTables, ListsReftables};
 ghost use Rattle.qcow2_alloc.specs.KeptMarks.{KeepsMarks};
 ghost use Rattle.qcow2_alloc.specs.KeptNotes.{KeepsNotes};
 ghost use Rattle.qcow2_alloc.specs.CachePins.{KeepsPinsAndNotes};
 ghost use Rattle.qcow2_alloc.specs.Faults.{CountsFaults};
 ghost use Rattle.qcow2_alloc.specs.SparedHeaders.{AreBehindHeader, StandsBehindHeader, SparesHeaderButPointer};
-ghost use Rattle.qcow2_alloc.specs.Limits.{IsFaultOr, HasNoPlace, CantCount, CantCountRun, nameable_clusters};
+ghost use Rattle.qcow2_alloc.specs.Limits.{IsFaultOr, RefusesByLimit, HasNoPlace, CantCount, CantCountRun, nameable_clusters};
 ghost use Rattle.qcow2_alloc.specs.SoundAllocators.{SoundAllocator};
-ghost use Rattle.qcow2_alloc.specs.LowestRuns.{NoFreeBelowHint, IsLowestRun, IsUsed, KeepsNoFreeBelowHint, KeepsUsed};
+ghost use Rattle.qcow2_alloc.specs.LowestRuns.{NoFreeBelowHint, IsLowestRun, IsUsed, KeepsNoFreeBelowHint, KeepsUsed, StaysUsed};
 ghost use Rattle.qcow2_alloc.specs.ImageError.{IsOfTables, IsFault};
 ghost use Rattle.qcow2_alloc.specs.ImageFile.{view_in, contents_in, HasReftable, AllocatorInvariant, KeepsHeader};
 ghost use Rattle.qcow2_alloc.specs.LoadedTables.{IsReasonAgainstReftable, ReftableReads};
@@ -102,6 +102,8 @@ impl Allocator {
         ensures elsewhere { IfOk result (λ p. 0 < p.first_cluster) }
         ensures cause { IfErr result IsOfTables }
         ensures former { ListsReftables self.old.reftable self.new.reftable file.old.free_list file.new.free_list }
+        ensures unaligned { IsUnaligned file.old.header.fields self.old.reftable (max self.old.first_free_cluster 1 / counts_per_block file.old.header.fields) → 0 < count → OnOk result ⊥ }
+        ensures first_range { LacksFirst file.old.header.fields self.old.reftable (max self.old.first_free_cluster 1) → 0 < count → RefusesByLimit result }
         ensures storage_faults { CountsFaults S.view file.old.storage file.new.storage result }
         ensures leaks { (p : Pending) → AllocatorInvariant S.view self.old p file.old → SameLeaks self.old self.new }
         ensures limit { (p : Pending) → SoundAllocator S.view self.old p file.old → 0 < count → IfErr result (IsFaultOr (HasNoPlace S.view file.new self.new count)) }
@@ -130,6 +132,8 @@ impl Allocator {
         ensures elsewhere { IfOk result (λ p. 0 < p.first_cluster) }
         ensures cause { IfErr result IsOfTables }
         ensures former { ListsReftables self.old.reftable self.new.reftable file.old.free_list file.new.free_list }
+        ensures unaligned { IsUnaligned file.old.header.fields self.old.reftable (max self.old.first_free_cluster 1 / counts_per_block file.old.header.fields) → 0 < count → OnOk result ⊥ }
+        ensures first_range { LacksFirst file.old.header.fields self.old.reftable (max self.old.first_free_cluster 1) → 0 < count → OnOk result ⊥ }
         ensures storage_faults { CountsFaults S.view file.old.storage file.new.storage result }
         ensures leaks { (p : Pending) → AllocatorInvariant S.view self.old p file.old → SameLeaks self.old self.new }
         ensures limit { (p : Pending) → SoundAllocator S.view self.old p file.old → 0 < count → IfErr result (IsFaultOr (HasNoPlace S.view file.new self.new count)) }
@@ -160,11 +164,13 @@ impl Allocator {
         ensures elsewhere { IfOk result (λ run. IsSome run → 0 < cluster) }
         ensures cause { IfErr result IsOfTables }
         ensures unaligned { IsUnaligned file.old.header.fields self.old.reftable (cluster / counts_per_block file.old.header.fields) → 0 < cluster → IsHostCluster file.old.header.fields.cluster_bits cluster → OnOk result ⊥ }
+        ensures first_range { LacksFirst file.old.header.fields self.old.reftable cluster → 0 < cluster → IsHostCluster file.old.header.fields.cluster_bits cluster → OnOk result ⊥ }
         ensures former { ListsReftables self.old.reftable self.new.reftable file.old.free_list file.new.free_list }
         ensures storage_faults { CountsFaults S.view file.old.storage file.new.storage result }
         ensures leaks { (p : Pending) → AllocatorInvariant S.view self.old p file.old → SameLeaks self.old self.new }
         ensures limit { (p : Pending) → SoundAllocator S.view self.old p file.old → IfErr result (IsFaultOr (CantCount S.view file.new (λ k. 0) self.new cluster)) }
         ensures none { (p : Pending) → AllocatorInvariant S.view self.old p file.old → IfOk result (λ run. IsNone run → (IsHostCluster file.old.header.fields.cluster_bits cluster → ⊥) ⊎ IsUsed S.view file.new cluster) }
+        ensures uses { (p : Pending) → AllocatorInvariant S.view self.old p file.old → OnOk result (StaysUsed S.view file.old file.new) }
         ensures hint { (p : Pending) → SoundAllocator S.view self.old p file.old → KeepsNoFreeBelowHint S.view self.new file.new result }
         ensures header_cluster { SparesHeaderButPointer S.view self.old.reftable file.old self.new.reftable file.new }
     {
@@ -209,6 +215,8 @@ impl Allocator {
         ensures elsewhere { IfOk result (λ p. 0 < p.first_cluster) }
         ensures cause { IfErr result IsOfTables }
         ensures former { ListsReftables self.old.reftable self.new.reftable file.old.free_list file.new.free_list }
+        ensures unaligned { IsUnaligned file.old.header.fields self.old.reftable (max self.old.first_free_cluster 1 / counts_per_block file.old.header.fields) → 0 < count → OnOk result ⊥ }
+        ensures first_range { LacksFirst file.old.header.fields self.old.reftable (max self.old.first_free_cluster 1) → 0 < count → RefusesByLimit result }
         ensures storage_faults { CountsFaults S.view file.old.storage file.new.storage result }
         ensures leaks { (p : Pending) → AllocatorInvariant S.view self.old p file.old → SameLeaks self.old self.new }
         ensures limit { (p : Pending) → AllocatorInvariant S.view self.old p file.old → MayTake (is_data kind) file.old → NoFreeBelowHint S.view self.old file.old → 0 < count → IfErr result (IsFaultOr (HasNoPlace S.view file.new self.new count)) }
@@ -244,6 +252,8 @@ impl Allocator {
         ensures elsewhere { IfOk result (λ first. 0 < first) }
         ensures cause { IfErr result IsOfTables }
         ensures former { ListsReftables self.old.reftable self.new.reftable file.old.free_list file.new.free_list }
+        ensures unaligned { IsUnaligned file.old.header.fields self.old.reftable (max self.old.first_free_cluster 1 / counts_per_block file.old.header.fields) → 0 < n → OnOk result ⊥ }
+        ensures first_range { LacksFirst file.old.header.fields self.old.reftable (max self.old.first_free_cluster 1) → 0 < n → IsErrOf result ImageError.Limit }
         ensures storage_faults { CountsFaults S.view file.old.storage file.new.storage result }
         ensures leaks { (p : Pending) → AllocatorInvariant S.view self.old p file.old → SameLeaks self.old self.new }
         ensures limit { (p : Pending) (is_data : Bool) → AllocatorInvariant S.view self.old p file.old → MayTake is_data file.old → NoFreeBelowHint S.view self.old file.old → 0 < n → IfErr result (IsFaultOr (HasNoPlace S.view file.new self.new n)) }
@@ -280,6 +290,7 @@ impl Allocator {
         ensures within { IfOk result (λ taken. taken ≤ n) }
         ensures cause { IfErr result IsOfTables }
         ensures former { ListsReftables self.old.reftable self.new.reftable file.old.free_list file.new.free_list }
+        ensures lacking { (e : ImageError) → LacksBlock file.old.header.fields self.old.reftable first e → 0 < n → IsErrOf result e }
         ensures storage_faults { CountsFaults S.view file.old.storage file.new.storage result }
         ensures leaks { (p : Pending) → AllocatorInvariant S.view self.old p file.old → SameLeaks self.old self.new }
         ensures limit { (p : Pending) (is_data : Bool) → AllocatorInvariant S.view self.old p file.old → MayTake is_data file.old → NoFreeBelowHint S.view self.old file.old → first + n ≤ nameable_clusters file.old.header.fields → IfErr result (IsFaultOr (CantCountRun S.view file.new self.new first n)) }
@@ -320,6 +331,7 @@ impl Allocator {
         ensures list { ListsTables file.old.free_list file.new.free_list }
         ensures cause { IfErr result IsOfTables }
         ensures unaligned { IsUnaligned file.old.header.fields self.old.reftable (cluster / counts_per_block file.old.header.fields) → IsErrOf result ImageError.UnalignedTable }
+        ensures first_range { LacksFirst file.old.header.fields self.old.reftable cluster → IsErrOf result ImageError.Limit × (file.new ≡ file.old) }
         ensures former { ListsReftables self.old.reftable self.new.reftable file.old.free_list file.new.free_list }
         ensures storage_faults { CountsFaults S.view file.old.storage file.new.storage result }
         ensures leaks { (p : Pending) → AllocatorInvariant S.view self.old p file.old → SameLeaks self.old self.new }

@@ -77,6 +77,7 @@ impl<B: AsyncLruCacheBackend> AsyncLruCache<B> {
         key: B::Key,
         may_flush: bool,
     ) -> Result<bool, CacheError<B::Key, B::Error>>
+        ensures distinct { IsDistinct B.Key.eq (keys_of self.old.entries) }
         ensures hit { IsSome (lookup (B.Key.eq key) self.old.entries)
             → (result ≡ Ok true) × (self.new.entries ≡ promoted (B.Key.eq key) self.old.entries) × (store.new ≡ store.old) }
         ensures miss { IsNone (lookup (B.Key.eq key) self.old.entries)
@@ -96,6 +97,7 @@ impl<B: AsyncLruCacheBackend> AsyncLruCache<B> {
         // The bytes of the store, with the modified values laid over, stay.
         ensures known { KeepsKnown B.Key.eq B.is_modified B.bytes (B.stored self.old.backend) B.is_honest store.old self.old.entries store.new self.new.entries }
     {
+        let _count = self.entries.len();
         if self.entries.promote(&key) {
             return Ok(true);
         }
@@ -120,6 +122,7 @@ impl<B: AsyncLruCacheBackend> AsyncLruCache<B> {
         value: &mut Option<B::Value>,
         may_flush: bool,
     ) -> Result<bool, CacheError<B::Key, B::Error>>
+        ensures distinct { IsDistinct B.Key.eq (keys_of self.old.entries) }
         ensures nothing { IsNone value.old → (result ≡ Ok false) × (self.new ≡ self.old) × (store.new ≡ store.old) × (value.new ≡ None) }
         ensures there { IfSome (lookup_entry (B.Key.eq key) self.old.entries) (λ e. IfSome value.old (λ v.
             Replaces (B.steps self.old.backend) key e (remove_entry (B.Key.eq key) self.old.entries) v may_flush store.old self.old.entries result store.new self.new.entries value.new)) }
@@ -137,6 +140,7 @@ impl<B: AsyncLruCacheBackend> AsyncLruCache<B> {
         ensures known { result ≢ Ok true
             → KeepsKnown B.Key.eq B.is_modified B.bytes (B.stored self.old.backend) B.is_honest store.old self.old.entries store.new self.new.entries }
     {
+        let _count = self.entries.len();
         if value.is_none() {
             return Ok(false);
         }
@@ -219,6 +223,7 @@ impl<B: AsyncLruCacheBackend> AsyncLruCache<B> {
 
     /// Flushes each entry, the most recently used first, also past a failure. Refused `Backend` with the first failure.
     pub fn flush(&mut self, store: &mut B::Store) -> Result<(), CacheError<B::Key, B::Error>>
+        ensures distinct { IsDistinct B.Key.eq (keys_of self.old.entries) }
         ensures flushed { Flushes (B.steps self.old.backend) store.old self.old.entries result store.new self.new.entries }
         ensures others { self.new ≡ with_entries self.old self.new.entries }
         ensures keeps { B.keeps store.old store.new }
@@ -264,12 +269,14 @@ impl<B: AsyncLruCacheBackend> AsyncLruCache<B> {
     /// Gives each entry with no pin to the backend, unflushed. Refused `StillInUse` with the keys of those that are pinned, which stay.
     /// Refused `Memory` where the keys have no room, and then nothing changed.
     pub fn invalidate(&mut self) -> Result<(), CacheError<B::Key, B::Error>>
+        ensures distinct { IsDistinct B.Key.eq (keys_of self.old.entries) }
         ensures answer { Invalidates self.old.entries result self.new.entries }
         ensures evicted { result ≢ Err CacheError.Memory
             → All (λ e. is_pinned e.1 ≡ false → B.evicted self.old.backend e.0 e.1.value) self.old.entries }
         ensures others { self.new ≡ with_entries self.old self.new.entries }
         ensures pins { KeepsPins B.Key.eq self.old.entries self.new.entries }
     {
+        let _count = self.entries.len();
         let alloc = *self.entries.allocator();
         let Ok(keys) = pinned_keys(alloc, &self.entries) else {
             return Err(CacheError::Memory);
@@ -284,10 +291,12 @@ impl<B: AsyncLruCacheBackend> AsyncLruCache<B> {
 
     /// Gives the entry under a key to the backend, unflushed. False where there is none, or it is pinned.
     pub fn remove(&mut self, key: B::Key) -> bool
+        ensures distinct { IsDistinct B.Key.eq (keys_of self.old.entries) }
         ensures value { result ≡ can_remove (B.Key.eq key) self.old.entries }
         ensures evicted { IfSome (lookup (B.Key.eq key) self.old.entries) (λ s. result ≡ true → B.evicted self.old.backend key s.value) }
         ensures entries { self.new ≡ with_entries self.old (cond result (remove_entry (B.Key.eq key) self.old.entries) self.old.entries) }
     {
+        let _count = self.entries.len();
         let Some(slot) = self.entries.peek(&key) else {
             return false;
         };
@@ -311,8 +320,10 @@ impl<B: AsyncLruCacheBackend> AsyncLruCache<B> {
         ensures* writes_back { sem 𝓛 (LendsIf
             (the_row B.row B.Key.row B.Value.row B.Error.row B.Store.row B.AsyncLruCacheBackend (record {}) (record { eq = B.Key.eq }) (record { hash_input = B.Key.hash_input }))
             B.Value.row self.entry result (λ w. with_entries self.entry.now (set_at (B.Key.eq key) self.entry.now.entries w)) self.entry.now) }
+        ensures distinct { IsDistinct B.Key.eq (keys_of self.old.entries) }
         ensures value { option_copied_mut result ≡ value_at (B.Key.eq key) self.old.entries }
     {
+        let _count = self.entries.len();
         let slot = self.entries.peek_mut(&key)?;
         Some(&mut slot.value)
     }

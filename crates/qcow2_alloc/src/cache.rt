@@ -7,13 +7,15 @@ ghost use Rattle.qcow2_laws.specs.CrashInvariant.{Pending, CrashInvariant};
 ghost use Rattle.qcow2_laws.specs.Clusters.{Neither, L2DependsOnRb, RbDependsOnL2};
 ghost use Rattle.qcow2_laws.specs.Caches.{IsFreeOf, AreClean, AreNamedBlocks, BlocksMayGo, TablesMayGo};
 ghost use Rattle.qcow2_alloc.specs.ImageError.{IsOfTables, IsFault};
+ghost use Rattle.qcow2_alloc.specs.CountedChanges.{IsOneChange};
 ghost use Rattle.qcow2_alloc.specs.ImageStorage.{storage_of};
 ghost use Rattle.qcow2_alloc.specs.AsyncLruCache.{can_remove};
 ghost use Rattle.qcow2_alloc.specs.TableCaches.{IsTableOf, IsBlockOf};
 ghost use Rattle.qcow2_alloc.specs.MetadataCaches.{order_of, l2_at, rb_at, l2_tables, refblocks, known_of, AreAllWritten, CacheInvariant, KeepSound, PutSound, RefusesBy, PutRefusesBy, RaisesCount, LowersCount, TellsZero, RaisesZero, LowersSome, MapsCachedEntry, ZeroesEntry, DiscardsEntry, NotesEntry, NotesHeld, ShowsKnown, TakesOff, TakesBlock, LaysTable, LaysBlock, WritesInOrder};
+ghost use Rattle.qcow2_alloc.specs.ApartCaches.{KeepsKnownApart, LaysTableApart, LaysBlockApart, TakesOffApart, TakesBlockApart, ChangesTableApart, ChangesBlockApart};
 ghost use Rattle.qcow2_metadata.specs.L2Mapping.{IsHostCluster};
 ghost use Rattle.qcow2_metadata.specs.L2Table.{entries_of, cover_at, copied_entry, zero_entry, copied_host};
-ghost use Rattle.qcow2_alloc.specs.UsedCounts.{TellsUsed};
+ghost use Rattle.qcow2_alloc.specs.UsedCounts.{TellsUsed, TellsFirstFree};
 ghost use Rattle.qcow2_alloc.specs.TableChanges.{CountsMore, CountsLess, SetsEntry};
 ghost use Rattle.qcow2_alloc.specs.Quiet.{WritesNothing, GetsTableQuietly, GetsBlockQuietly, PutsTableQuietly, PutsBlockQuietly, OtherTablesStay, OtherBlocksStay};
 ghost use Rattle.qcow2_alloc.specs.Faults.{CountsFaults};
@@ -24,6 +26,7 @@ ghost use Rattle.qcow2_alloc.specs.CachePins.{l2_pins, CachesHaveRoom, KeepsPins
 mod backends;
 
 use crate::async_lru_cache::AsyncLruCache;
+use crate::image_storage::one_more;
 use crate::{ImageError, ImageStorage};
 pub use backends::{L2CacheBackend, RefBlockCacheBackend};
 use image_access::Storage;
@@ -50,6 +53,7 @@ pub struct MetadataCaches<S: Storage> {
     rb: AsyncLruCache<RefBlockCacheBackend<S>>,
     direction: Direction,
     is_changed: bool,
+    changes: u64,
 }
 
 #[tactic(auto, using(crate::proofs::TableErrors::storage_of_tables, crate::proofs::TableErrors::metadata_of_tables, crate::proofs::TableErrors::cache_of_tables))]
@@ -78,6 +82,7 @@ impl<S: Storage> MetadataCaches<S> {
             rb,
             direction: Direction::None,
             is_changed: false,
+            changes: 0,
         })
     }
 
@@ -92,12 +97,16 @@ impl<S: Storage> MetadataCaches<S> {
         ensures marks { KeepsPinsAndNotes self.old self.new }
         ensures faults { (h : HeaderFields) → RefusesBy IsFault S.view storage.old self.old h result }
         ensures keeps { TablesMayGo (order_of self.old) (refblocks self.old) → KeepSound S.view storage.old self.old storage.new self.new }
+        ensures apart { TablesMayGo (order_of self.old) (refblocks self.old) → KeepsKnownApart S.view storage.old self.old storage.new self.new }
         ensures free { (size cluster : ℕ) → IsFreeOf size (l2_tables self.old) cluster → IsFreeOf size (l2_tables self.new) cluster }
         ensures ordered { TablesMayGo (order_of self.old) (refblocks self.old) → WritesInOrder S.view storage.old self.old storage.new }
         ensures quiet { AreClean (l2_tables self.old) → WritesNothing S.view storage.old storage.new }
         ensures header_cluster { CachesSpareHeader S.view storage.old self.old storage.new self.new }
     {
-        self.l2.flush(storage)?;
+        storage.watch_faults();
+        if let Err(refusal) = self.l2.flush(storage) {
+            return Err(storage.told(refusal.into()));
+        }
         Ok(())
     }
 
@@ -112,12 +121,16 @@ impl<S: Storage> MetadataCaches<S> {
         ensures marks { KeepsPinsAndNotes self.old self.new }
         ensures faults { (h : HeaderFields) → RefusesBy IsFault S.view storage.old self.old h result }
         ensures keeps { BlocksMayGo (order_of self.old) (l2_tables self.old) → KeepSound S.view storage.old self.old storage.new self.new }
+        ensures apart { BlocksMayGo (order_of self.old) (l2_tables self.old) → KeepsKnownApart S.view storage.old self.old storage.new self.new }
         ensures clean { AreClean (refblocks self.old) → AreClean (refblocks self.new) }
         ensures ordered { BlocksMayGo (order_of self.old) (l2_tables self.old) → WritesInOrder S.view storage.old self.old storage.new }
         ensures quiet { AreClean (refblocks self.old) → WritesNothing S.view storage.old storage.new }
         ensures header_cluster { CachesSpareHeader S.view storage.old self.old storage.new self.new }
     {
-        self.rb.flush(storage)?;
+        storage.watch_faults();
+        if let Err(refusal) = self.rb.flush(storage) {
+            return Err(storage.told(refusal.into()));
+        }
         Ok(())
     }
 
@@ -129,9 +142,11 @@ impl<S: Storage> MetadataCaches<S> {
         ensures notes { KeepsNotes S.view storage.old storage.new }
         ensures order { OnOk result (order_of self.new ≡ L2DependsOnRb) }
         ensures refused { OnErr result (order_of self.new ≡ order_of self.old) }
+        ensures written { order_of self.old ≡ RbDependsOnL2 → OnOk result (AreClean (l2_tables self.new)) }
         ensures marks { KeepsPinsAndNotes self.old self.new }
         ensures faults { (h : HeaderFields) → RefusesBy IsFault S.view storage.old self.old h result }
         ensures keeps { KeepSound S.view storage.old self.old storage.new self.new }
+        ensures apart { KeepsKnownApart S.view storage.old self.old storage.new self.new }
         ensures ordered { WritesInOrder S.view storage.old self.old storage.new }
         ensures blocks { self.new.rb ≡ self.old.rb }
         ensures quiet { BlocksMayGo (order_of self.old) (l2_tables self.old) → WritesNothing S.view storage.old storage.new }
@@ -156,9 +171,11 @@ impl<S: Storage> MetadataCaches<S> {
         ensures notes { KeepsNotes S.view storage.old storage.new }
         ensures order { OnOk result (order_of self.new ≡ RbDependsOnL2) }
         ensures refused { OnErr result (order_of self.new ≡ order_of self.old) }
+        ensures written { order_of self.old ≡ L2DependsOnRb → OnOk result (AreClean (refblocks self.new)) }
         ensures marks { KeepsPinsAndNotes self.old self.new }
         ensures faults { (h : HeaderFields) → RefusesBy IsFault S.view storage.old self.old h result }
         ensures keeps { KeepSound S.view storage.old self.old storage.new self.new }
+        ensures apart { KeepsKnownApart S.view storage.old self.old storage.new self.new }
         ensures ordered { WritesInOrder S.view storage.old self.old storage.new }
         ensures tables { self.new.l2 ≡ self.old.l2 }
         ensures quiet { TablesMayGo (order_of self.old) (refblocks self.old) → WritesNothing S.view storage.old storage.new }
@@ -185,6 +202,7 @@ impl<S: Storage> MetadataCaches<S> {
         ensures marks { KeepsPinsAndNotes self.old self.new }
         ensures faults { (h : HeaderFields) → RefusesBy IsFault S.view storage.old self.old h result }
         ensures keeps { KeepSound S.view storage.old self.old storage.new self.new }
+        ensures apart { KeepsKnownApart S.view storage.old self.old storage.new self.new }
         ensures ordered { WritesInOrder S.view storage.old self.old storage.new }
         ensures quiet { AreAllWritten self.old → WritesNothing S.view storage.old storage.new }
         ensures header_cluster { CachesSpareHeader S.view storage.old self.old storage.new self.new }
@@ -213,6 +231,7 @@ impl<S: Storage> MetadataCaches<S> {
         ensures marks { KeepsPinsAndNotes self.old self.new }
         ensures faults { (h : HeaderFields) → RefusesBy IsFault S.view storage.old self.old h result }
         ensures keeps { KeepSound S.view storage.old self.old storage.new self.new }
+        ensures apart { KeepsKnownApart S.view storage.old self.old storage.new self.new }
         ensures ordered { WritesInOrder S.view storage.old self.old storage.new }
         ensures tables { order_of self.old ≢ RbDependsOnL2 → self.new.l2 ≡ self.old.l2 }
         ensures quiet { AreClean (refblocks self.old) → BlocksMayGo (order_of self.old) (l2_tables self.old) → WritesNothing S.view storage.old storage.new }
@@ -239,6 +258,7 @@ impl<S: Storage> MetadataCaches<S> {
         ensures marks { KeepsPinsAndNotes self.old self.new }
         ensures faults { (h : HeaderFields) → RefusesBy IsFault S.view storage.old self.old h result }
         ensures keeps { KeepSound S.view storage.old self.old storage.new self.new }
+        ensures apart { KeepsKnownApart S.view storage.old self.old storage.new self.new }
         ensures ordered { WritesInOrder S.view storage.old self.old storage.new }
         ensures quiet { TablesMayGo (order_of self.old) (refblocks self.old) → WritesNothing S.view storage.old storage.new }
         ensures blocks_stay { order_of self.old ≢ L2DependsOnRb → self.new.rb ≡ self.old.rb }
@@ -262,6 +282,7 @@ impl<S: Storage> MetadataCaches<S> {
         ensures marks { KeepsPinsAndNotes self.old self.new }
         ensures faults { (h : HeaderFields) → RefusesBy IsFault S.view storage.old self.old h result }
         ensures keeps { KeepSound S.view storage.old self.old storage.new self.new }
+        ensures apart { KeepsKnownApart S.view storage.old self.old storage.new self.new }
         ensures ordered { WritesInOrder S.view storage.old self.old storage.new }
         ensures quiet { BlocksMayGo (order_of self.old) (l2_tables self.old) → WritesNothing S.view storage.old storage.new }
         ensures tables_stay { order_of self.old ≢ RbDependsOnL2 → self.new.l2 ≡ self.old.l2 }
@@ -289,6 +310,7 @@ impl<S: Storage> MetadataCaches<S> {
         ensures marks { KeepsPinsAndNotes self.old self.new }
         ensures refusals { (h : HeaderFields) → HasPlace h.cluster_bits cluster → RefusesBy (IsInUseOrFault self.old) S.view storage.old self.old h result }
         ensures keeps { KeepSound S.view storage.old self.old storage.new self.new }
+        ensures apart { KeepsKnownApart S.view storage.old self.old storage.new self.new }
         ensures ordered { WritesInOrder S.view storage.old self.old storage.new }
         ensures quiet { GetsTableQuietly self.old cluster → WritesNothing S.view storage.old storage.new }
         ensures tables_stay { OtherTablesStay self.old self.new cluster }
@@ -319,6 +341,7 @@ impl<S: Storage> MetadataCaches<S> {
         ensures marks { KeepsPinsAndNotes self.old self.new }
         ensures faults { CachesHaveRoom self.old → (h : HeaderFields) → HasPlace h.cluster_bits cluster → RefusesBy IsFault S.view storage.old self.old h result }
         ensures keeps { KeepSound S.view storage.old self.old storage.new self.new }
+        ensures apart { KeepsKnownApart S.view storage.old self.old storage.new self.new }
         ensures ordered { WritesInOrder S.view storage.old self.old storage.new }
         ensures quiet { GetsBlockQuietly self.old cluster → WritesNothing S.view storage.old storage.new }
         ensures blocks_stay { OtherBlocksStay self.old self.new cluster }
@@ -352,6 +375,8 @@ impl<S: Storage> MetadataCaches<S> {
         ensures keeps { PutSound S.view storage.old self.old storage.new self.new (λ h. IsTableOf h table) table.cluster table.bytes table.is_modified }
         ensures laid { OnOk result (LaysTable S.view storage.old self.old storage.new self.new table) }
         ensures refused { OnErr result (KeepSound S.view storage.old self.old storage.new self.new) }
+        ensures laid_apart { OnOk result (LaysTableApart S.view storage.old self.old storage.new self.new table) }
+        ensures apart { OnErr result (KeepsKnownApart S.view storage.old self.old storage.new self.new) }
         ensures ordered { WritesInOrder S.view storage.old self.old storage.new }
         ensures quiet { IfSome table.cluster (λ cluster. PutsTableQuietly self.old cluster → WritesNothing S.view storage.old storage.new) }
         ensures tables_stay { IfSome table.cluster (OtherTablesStay self.old self.new) }
@@ -393,6 +418,8 @@ impl<S: Storage> MetadataCaches<S> {
         ensures keeps { PutSound S.view storage.old self.old storage.new self.new (λ h. IsBlockOf h block) block.cluster block.bytes block.is_modified }
         ensures laid { OnOk result (LaysBlock S.view storage.old self.old storage.new self.new block) }
         ensures refused { OnErr result (KeepSound S.view storage.old self.old storage.new self.new) }
+        ensures laid_apart { OnOk result (LaysBlockApart S.view storage.old self.old storage.new self.new block) }
+        ensures apart { OnErr result (KeepsKnownApart S.view storage.old self.old storage.new self.new) }
         ensures ordered { WritesInOrder S.view storage.old self.old storage.new }
         ensures quiet { IfSome block.cluster (λ cluster. PutsBlockQuietly self.old cluster → WritesNothing S.view storage.old storage.new) }
         ensures blocks_stay { IfSome block.cluster (OtherBlocksStay self.old self.new) }
@@ -432,6 +459,7 @@ impl<S: Storage> MetadataCaches<S> {
     pub fn l2_pin(&mut self, cluster: HostCluster) -> bool
         ensures tables { SameTables self.old self.new }
         ensures changed { self.new.is_changed ≡ self.old.is_changed }
+        ensures counted { self.new.changes ≡ self.old.changes }
         ensures cached { IsTrue result → IsSome (l2_at self.old cluster) }
         ensures pinned { IsTrue result → SetsPins self.old self.new cluster (l2_pins self.old cluster + 1) }
         ensures refused { IsFalse result → IsNone (l2_at self.old cluster) ⊎ (2 ^ 64 - 1 ≤ l2_pins self.old cluster) }
@@ -444,6 +472,7 @@ impl<S: Storage> MetadataCaches<S> {
     pub fn l2_unpin(&mut self, cluster: HostCluster) -> bool
         ensures tables { SameTables self.old self.new }
         ensures changed { self.new.is_changed ≡ self.old.is_changed }
+        ensures counted { self.new.changes ≡ self.old.changes }
         ensures answer { IsTrue result ↔ (0 < l2_pins self.old cluster) }
         ensures unpinned { IsTrue result → SetsPins self.old self.new cluster (l2_pins self.old cluster - 1) }
         ensures same { IsFalse result → self.new ≡ self.old }
@@ -460,6 +489,7 @@ impl<S: Storage> MetadataCaches<S> {
         ensures others { (c : ℕ) → cluster == c ≡ false → rb_at self.new c ≡ rb_at self.old c }
         ensures marks { KeepsPinsAndNotes self.old self.new }
         ensures taken { IsTrue result → TakesBlock self.old self.new cluster }
+        ensures taken_apart { IsTrue result → TakesBlockApart self.old self.new cluster }
         ensures clean { AreClean (refblocks self.old) → AreClean (refblocks self.new) }
         ensures gone { (h : HeaderFields) (p : Pending) (on_storage : Bytes) → CacheInvariant h p self.old on_storage → CachesHaveRoom self.old → rb_at self.new cluster ≡ None }
         ensures header_cluster { KeepBehindHeader self.old self.new }
@@ -476,6 +506,7 @@ impl<S: Storage> MetadataCaches<S> {
         ensures left { LeavesPinned self.old.l2.entries result self.new.l2.entries }
         ensures marks { KeepsPinsAndNotes self.old self.new }
         ensures taken { TakesOff (AreClean (l2_tables self.old)) self.old self.new }
+        ensures taken_apart { TakesOffApart (AreClean (l2_tables self.old)) self.old self.new }
         ensures header_cluster { KeepBehindHeader self.old self.new }
     {
         self.l2.invalidate()?;
@@ -491,6 +522,7 @@ impl<S: Storage> MetadataCaches<S> {
         ensures left { LeavesPinned self.old.rb.entries result self.new.rb.entries }
         ensures marks { KeepsPinsAndNotes self.old self.new }
         ensures taken { TakesOff (AreClean (refblocks self.old)) self.old self.new }
+        ensures taken_apart { TakesOffApart (AreClean (refblocks self.old)) self.old self.new }
         ensures header_cluster { KeepBehindHeader self.old self.new }
     {
         self.rb.invalidate()?;
@@ -521,21 +553,18 @@ impl<S: Storage> MetadataCaches<S> {
         self.is_changed = false;
     }
 
-    /// Notes a change that is none of a cached table.
-    pub fn note_change(&mut self)
-        ensures changed { IsTrue self.new.is_changed }
-        ensures same { self.new ≡ record self.old { is_changed = true } }
-        ensures tables { SameTables self.old self.new }
-        ensures marks { KeepsPinsAndNotes self.old self.new }
-    {
-        self.is_changed = true;
-    }
-
-    /// Whether a change was noted since the last `begin`.
+    /// Whether a table was changed since the last `begin`.
     pub fn is_changed(&self) -> bool
         ensures { result ≡ self.now.is_changed }
     {
         self.is_changed
+    }
+
+    /// How many changes of tables were made in all, up to the greatest u64.
+    pub fn changes(&self) -> u64
+        ensures { result ≡ self.now.changes }
+    {
+        self.changes
     }
 
     /// Makes an entry of a held L2 table copied data at a host cluster. Answers the host clusters that it names no longer.
@@ -550,6 +579,7 @@ impl<S: Storage> MetadataCaches<S> {
         ensures mapped { MapsCachedEntry self.old self.new cluster index host result }
         ensures noted { NotesEntry self.old self.new cluster index host }
         ensures entry { IfSome (l2_at self.old cluster) (λ t. index < entries_of t → IsHostCluster t.cluster_bits host → SetsEntry self.old self.new cluster index t (copied_entry (host * 2 ^ t.cluster_bits)) result) }
+        ensures apart { ChangesTableApart self.old self.new cluster }
         ensures refused { IfSome (l2_at self.old cluster) (λ t. index < entries_of t → IsHostCluster t.cluster_bits host → ⊥) → (result ≡ None) × (self.new ≡ self.old) }
         ensures header_cluster { KeepBehindHeader self.old self.new }
     {
@@ -559,6 +589,7 @@ impl<S: Storage> MetadataCaches<S> {
             return None;
         }
         self.is_changed = true;
+        self.changes = one_more(self.changes);
         table.map_cluster(index, host)
     }
 
@@ -574,6 +605,7 @@ impl<S: Storage> MetadataCaches<S> {
         ensures zeroed { ZeroesEntry self.old self.new cluster index keep result }
         ensures noted { NotesHeld self.old self.new cluster index }
         ensures entry { IfSome (l2_at self.old cluster) (λ t. index < entries_of t → SetsEntry self.old self.new cluster index t (zero_entry (if keep then copied_host (cover_at t index) else None)) result) }
+        ensures apart { ChangesTableApart self.old self.new cluster }
         ensures refused { IfSome (l2_at self.old cluster) (λ t. entries_of t ≤ index) → (result ≡ None) × (self.new ≡ self.old) }
         ensures header_cluster { KeepBehindHeader self.old self.new }
     {
@@ -582,6 +614,7 @@ impl<S: Storage> MetadataCaches<S> {
             return None;
         }
         self.is_changed = true;
+        self.changes = one_more(self.changes);
         table.zero_cluster(index, keep)
     }
 
@@ -596,6 +629,7 @@ impl<S: Storage> MetadataCaches<S> {
         ensures discarded { DiscardsEntry self.old self.new cluster index result }
         ensures noted { NotesHeld self.old self.new cluster index }
         ensures entry { IfSome (l2_at self.old cluster) (λ t. index < entries_of t → SetsEntry self.old self.new cluster index t 0 result) }
+        ensures apart { ChangesTableApart self.old self.new cluster }
         ensures refused { IfSome (l2_at self.old cluster) (λ t. entries_of t ≤ index) → (result ≡ None) × (self.new ≡ self.old) }
         ensures header_cluster { KeepBehindHeader self.old self.new }
     {
@@ -604,6 +638,7 @@ impl<S: Storage> MetadataCaches<S> {
             return None;
         }
         self.is_changed = true;
+        self.changes = one_more(self.changes);
         table.discard_cluster(index)
     }
 
@@ -618,10 +653,12 @@ impl<S: Storage> MetadataCaches<S> {
     }
 
     /// So many counts of a held refblock from an index on are above 0: all up to the first that isn't.
-    pub fn rb_used_from(&self, cluster: HostCluster, index: usize) -> usize
-        ensures { TellsUsed self.now cluster index result }
+    pub fn rb_used_from(&mut self, cluster: HostCluster, index: usize) -> usize
+        ensures used { TellsUsed self.old cluster index result }
+        ensures first { TellsFirstFree self.old cluster index result }
+        ensures same { self.new ≡ self.old }
     {
-        let Some(block) = self.rb.peek(cluster) else {
+        let Some(block) = self.rb.peek_mut(cluster) else {
             return 0;
         };
         if index > block.counts() {
@@ -636,9 +673,10 @@ impl<S: Storage> MetadataCaches<S> {
         ensures counted { IsTrue result → RaisesCount self.old self.new cluster index }
         ensures refused { IsFalse result → self.new ≡ self.old }
         ensures marks { KeepsPinsAndNotes self.old self.new }
-        ensures noted { IsTrue result → IsTrue self.new.is_changed }
+        ensures noted { IsTrue result → IsOneChange self.new.is_changed self.old.changes self.new.changes }
         ensures made { RaisesZero self.old cluster index result }
         ensures counts { IfSome (rb_at self.old cluster) (λ b. CountsMore self.old self.new cluster index b result) }
+        ensures apart { ChangesBlockApart self.old self.new cluster }
         ensures missing { IsNone (rb_at self.old cluster) → IsFalse result }
         ensures header_cluster { KeepBehindHeader self.old self.new }
     {
@@ -649,6 +687,7 @@ impl<S: Storage> MetadataCaches<S> {
             return false;
         }
         self.is_changed = true;
+        self.changes = one_more(self.changes);
         true
     }
 
@@ -658,10 +697,11 @@ impl<S: Storage> MetadataCaches<S> {
         ensures counted { IsTrue result → LowersCount self.old self.new cluster index }
         ensures refused { IsFalse result → self.new ≡ self.old }
         ensures marks { KeepsPinsAndNotes self.old self.new }
-        ensures noted { IsTrue result → IsTrue self.new.is_changed }
+        ensures noted { IsTrue result → IsOneChange self.new.is_changed self.old.changes self.new.changes }
         ensures made { LowersSome self.old cluster index result }
         ensures cached { IsTrue result → IsSome (rb_at self.new cluster) }
         ensures counts { IfSome (rb_at self.old cluster) (λ b. CountsLess self.old self.new cluster index b result) }
+        ensures apart { ChangesBlockApart self.old self.new cluster }
         ensures missing { IsNone (rb_at self.old cluster) → IsFalse result }
         ensures header_cluster { KeepBehindHeader self.old self.new }
     {
@@ -672,6 +712,7 @@ impl<S: Storage> MetadataCaches<S> {
             return false;
         }
         self.is_changed = true;
+        self.changes = one_more(self.changes);
         true
     }
 }

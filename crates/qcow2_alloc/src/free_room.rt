@@ -50,6 +50,7 @@ impl Allocator {
         ensures first { self.new.first_free_cluster ≡ self.old.first_free_cluster }
         ensures sound { (p : Pending) → AllocatorInvariant S.view self.old p file.old → TakesRoom S.view p file.old self.new file.new self.old.reftable result }
         ensures blocks { IfOk result (λ room. room.blocks ≡ opened self.old.reftable (counts_per_block file.old.header.fields) room.first (room_length room)) }
+        ensures noted { IfOk result (λ room. ((k : ℕ) → counted_run file.old.header.fields self.old.reftable room.first (room_length room) k ≡ 0) ⊎ IsTrue file.new.caches.is_changed) }
         ensures clusters { IfOk result (λ room. room.clusters ≡ clusters) }
         ensures above { IfOk result (λ room. 0 < room.first) }
         ensures below { IfOk result (λ room. room.first + room_length room ≤ end) }

@@ -1,5 +1,5 @@
 //! Freeing clusters: those that are listed to be freed, and those that are given back.
-ghost use Rattle.std.specs.Prelude.{◌≡◌, ◌++◌, ◌∷◌, [], ℕ, ◌+◌, ◌^◌, ◌<◌, ◌≤◌, Bool, IfErr, OnOk, IsTrue};
+ghost use Rattle.std.specs.Prelude.{◌≡◌, ◌++◌, ◌∷◌, [], ℕ, ◌+◌, ◌^◌, ◌<◌, ◌≤◌, Bool, IfErr, OnOk, IsOk, IsTrue};
 ghost use Rattle.qcow2_laws.specs.Changes.{one_at};
 ghost use Rattle.qcow2_laws.specs.CrashInvariant.{Pending};
 ghost use Rattle.qcow2_alloc.specs.Allocation.{run_at, taken_as, MayFree, Owed, listed_as, owed_as, MayLower, SameLeaks, Frees, LowersOne, GivesBack, GivesBackRun};
@@ -31,6 +31,7 @@ impl Allocator {
         requires { first + n < 2 ^ 63 }
         ensures marks { KeepsMarks S.view file.old file.new }
         ensures reftable { self.new.reftable ≡ self.old.reftable }
+        ensures none { n ≡ 0 → IsOk result }
         ensures sound { GivesBackRun S.view self.old file.old self.new file.new first n result }
         ensures header { file.new.header ≡ file.old.header }
         ensures list { file.new.free_list ≡ file.old.free_list }
@@ -90,6 +91,7 @@ impl Allocator {
     pub fn free<S: Storage>(&mut self, file: &mut ImageFile<S>) -> Result<(), ImageError>
         ensures marks { KeepsPinsAndNotes file.old.caches file.new.caches }
         ensures notes { KeepsNotes S.view file.old.storage file.new.storage }
+        ensures reftable { self.new.reftable ≡ self.old.reftable }
         ensures emptied { OnOk result (file.new.free_list ≡ []) }
         ensures in_order { GoOffInOrder file.old.free_list file.new.free_list }
         ensures sound { (p : Pending) → AllocatorInvariant S.view self.old (with_listed p file.old.free_list) file.old
@@ -117,6 +119,7 @@ impl Allocator {
         kind: ClusterKind,
     ) -> Result<(), ImageError>
         ensures marks { KeepsMarks S.view file.old file.new }
+        ensures reftable { self.new.reftable ≡ self.old.reftable }
         ensures left { OnOk result (file.new.free_list ≡ but kind file.old.free_list) }
         ensures others { but kind file.new.free_list ≡ but kind file.old.free_list }
         ensures sound { (p : Pending) → AllocatorInvariant S.view self.old (with_listed p file.old.free_list) file.old → MayFree kind file.old
@@ -143,6 +146,7 @@ impl Allocator {
         kind: ClusterKind,
     ) -> Result<(), ImageError>
         ensures marks { KeepsMarks S.view file.old file.new }
+        ensures reftable { self.new.reftable ≡ self.old.reftable }
         ensures all { OnOk result (taken.new ≡ []) }
         ensures left { OnOk result (file.new.free_list ≡ file.old.free_list ++ but kind taken.old) }
         ensures others { but kind (file.new.free_list ++ taken.new) ≡ but kind (file.old.free_list ++ taken.old) }
@@ -170,6 +174,7 @@ impl Allocator {
         kind: ClusterKind,
     ) -> Result<(), ImageError>
         ensures marks { KeepsMarks S.view file.old file.new }
+        ensures reftable { self.new.reftable ≡ self.old.reftable }
         ensures left { OnOk result (file.new.free_list ≡ file.old.free_list ++ but kind (pending ∷ [])) }
         ensures others { but kind file.new.free_list ≡ but kind (file.old.free_list ++ pending ∷ []) }
         ensures sound { (p : Pending) → AllocatorInvariant S.view self.old (with_listed p (file.old.free_list ++ pending ∷ [])) file.old → MayFree kind file.old
@@ -196,6 +201,7 @@ impl Allocator {
         pending: PendingClusters,
     ) -> Result<(), ImageError>
         ensures marks { KeepsMarks S.view file.old file.new }
+        ensures reftable { self.new.reftable ≡ self.old.reftable }
         ensures left { OnOk result (file.new.free_list ≡ file.old.free_list) }
         ensures others { but pending.kind file.new.free_list ≡ but pending.kind file.old.free_list }
         ensures sound { (p : Pending) → AllocatorInvariant S.view self.old (with_listed p (file.old.free_list ++ pending ∷ [])) file.old → MayFree pending.kind file.old
@@ -228,6 +234,7 @@ impl Allocator {
         run: &mut PendingClusters,
     ) -> Result<(), ImageError>
         ensures marks { KeepsMarks S.view file.old file.new }
+        ensures reftable { self.new.reftable ≡ self.old.reftable }
         ensures kind { run.new.kind ≡ run.old.kind }
         ensures all { OnOk result (run.new.count ≡ 0) }
         ensures sound { (p : Pending) → AllocatorInvariant S.view self.old (listed_as run.old.kind p (run_of run.old)) file.old → MayFree run.old.kind file.old

@@ -19,15 +19,18 @@ pub struct ImageFile<S: Storage> {
 }
 
 impl<S: Storage> ImageFile<S> {
-    ghost use Rattle.std.specs.Prelude.{◌≡◌, ◌||◌, false};
+    ghost use Rattle.std.specs.Prelude.{◌≡◌, false};
     ghost use Rattle.qcow2_alloc.specs.CachePins.{SameTables};
-    ghost use Rattle.qcow2_alloc.specs.ImageStorage.{storage_of, is_changed_of};
+    ghost use Rattle.qcow2_alloc.specs.ImageStorage.{storage_of, changes_of, is_changed_of};
+    ghost use Rattle.qcow2_alloc.specs.ImageFile.{has_noted};
+    ghost use Rattle.qcow2_alloc.specs.KeptMarks.{changes_in, NotesSince};
 
     /// From here on it is noted anew whether anything changes.
     pub fn begin(&mut self)
         ensures header { self.new.header ≡ self.old.header }
         ensures storage { storage_of self.new.storage ≡ storage_of self.old.storage }
         ensures unchanged { is_changed_of self.new.storage ≡ false }
+        ensures changes { changes_of self.new.storage ≡ changes_of self.old.storage }
         ensures caches { self.new.caches ≡ record self.old.caches { is_changed = false } }
         ensures tables { SameTables self.old.caches self.new.caches }
         ensures free_list { self.new.free_list ≡ self.old.free_list }
@@ -38,9 +41,28 @@ impl<S: Storage> ImageFile<S> {
 
     /// Whether the storage or a table was changed since the last `begin`.
     pub fn is_changed(&self) -> bool
-        ensures { result ≡ (is_changed_of self.now.storage || self.now.caches.is_changed) }
+        ensures { result ≡ has_noted self.now }
     {
         self.storage.is_changed() || self.caches.is_changed()
+    }
+
+    /// How many changes were counted up to now: of the storage, and of the tables.
+    pub fn changes(&self) -> (u64, u64)
+        ensures { result ≡ changes_in self.now }
+    {
+        (self.storage.changes(), self.caches.changes())
+    }
+
+    /// Notes whether there was a change since so many were counted. Where there was none, nothing is noted anew.
+    pub fn note_since(&mut self, changes: (u64, u64))
+        ensures { NotesSince changes self.old self.new }
+    {
+        let (storage, tables) = changes;
+        if storage.saturating_add(1) <= self.storage.changes()
+            || tables.saturating_add(1) <= self.caches.changes()
+        {
+            self.storage.is_changed = true;
+        }
     }
 
     /// The storage itself. What isn't written yet is forgotten.

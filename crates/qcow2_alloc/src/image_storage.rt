@@ -1,5 +1,7 @@
-ghost use Rattle.std.specs.Prelude.{◌≡◌};
+ghost use Rattle.std.specs.Prelude.{◌≡◌, true};
+ghost use Rattle.qcow2_alloc.specs.CountedChanges.{IsOneChange};
 
+use crate::ImageError;
 use image_access::{Storage, StorageError, StoragePreallocate};
 
 /// What a write to the image's storage is for.
@@ -15,18 +17,28 @@ pub enum WriteKind {
     Other,
 }
 
+// A number of changes with one more, up to the greatest u64.
+pub(crate) fn one_more(changes: u64) -> u64
+    ensures { IsOneChange true changes result }
+{
+    changes.saturating_add(1)
+}
+
 /// The image's storage. Every write to it goes through here, and is told its kind beforehand. Offsets and lengths are in bytes. A call is
 /// refused where the storage refuses it: 15 (storage) for a fault, 14 (memory) for want of memory, and then nothing changed.
 #[derive(Drop)]
 pub struct ImageStorage<S: Storage> {
     pub(crate) storage: S,
     kind: WriteKind,
-    is_changed: bool,
+    pub(crate) is_changed: bool,
+    changes: u64,
+    met_fault: bool,
 }
 
 impl<S: Storage> ImageStorage<S> {
-    ghost use Rattle.qcow2_alloc.specs.ImageStorage.{storage_of, kind_of, is_changed_of, NotesWrite};
+    ghost use Rattle.qcow2_alloc.specs.ImageStorage.{storage_of, kind_of, is_changed_of, changes_of, met_fault_of, NotesFault, NotesWrite, SameNotes};
     ghost use Rattle.std.specs.Prelude.{true, false};
+    ghost use Rattle.qcow2_alloc.specs.declared.error.ImageError.TheVariants.{Storage};
 
     /// The storage of an image. Nothing is written yet.
     pub fn new(storage: S) -> Self
@@ -37,6 +49,8 @@ impl<S: Storage> ImageStorage<S> {
             storage,
             kind: WriteKind::Other,
             is_changed: false,
+            changes: 0,
+            met_fault: false,
         }
     }
 
@@ -48,6 +62,8 @@ impl<S: Storage> ImageStorage<S> {
             storage,
             kind: _,
             is_changed: _,
+            changes: _,
+            met_fault: _,
         } = self;
         storage
     }
@@ -63,7 +79,8 @@ impl<S: Storage> ImageStorage<S> {
     pub fn will_write(&mut self, kind: WriteKind)
         ensures kind { kind_of self.new ≡ kind }
         ensures storage { storage_of self.new ≡ storage_of self.old }
-        ensures changed { is_changed_of self.new ≡ is_changed_of self.old }
+        ensures changed { SameNotes self.old self.new }
+        ensures faults { met_fault_of self.new ≡ met_fault_of self.old }
     {
         self.kind = kind;
     }
@@ -71,36 +88,69 @@ impl<S: Storage> ImageStorage<S> {
     /// From here on it is noted anew whether anything changes.
     pub fn begin(&mut self)
         ensures unchanged { is_changed_of self.new ≡ false }
+        ensures changes { changes_of self.new ≡ changes_of self.old }
         ensures storage { storage_of self.new ≡ storage_of self.old }
     {
         self.is_changed = false;
     }
 
-    /// Whether its bytes were changed since the last `begin`, or a change was noted.
+    /// Whether its bytes were changed since the last `begin`, or may have been.
     pub fn is_changed(&self) -> bool
         ensures { result ≡ is_changed_of self.now }
     {
         self.is_changed
     }
 
-    /// Notes a change, as if its bytes had been changed.
-    pub fn note_change(&mut self)
-        ensures { self.new ≡ record self.old { is_changed = true } }
+    /// How many changes were made in all, or may have been, up to the greatest u64.
+    pub fn changes(&self) -> u64
+        ensures { result ≡ changes_of self.now }
     {
-        self.is_changed = true;
+        self.changes
     }
 
-    // Notes a change that was made, or may have been. Where memory was refused there was none.
+    // Notes and counts a change that was made, or may have been. Where memory was refused there was none.
     pub(crate) fn noted(&mut self, done: Result<(), StorageError>) -> Result<(), StorageError>
         ensures answer { result ≡ done }
         ensures storage { storage_of self.new ≡ storage_of self.old }
         ensures changed { NotesWrite self.old self.new done }
+        ensures faults { NotesFault self.old self.new done }
     {
+        if let Err(StorageError::Fault) = &done {
+            self.met_fault = true;
+        }
         match done {
             Err(StorageError::Memory) => {}
-            Ok(()) | Err(StorageError::Fault) => self.is_changed = true,
+            Ok(()) | Err(StorageError::Fault) => {
+                self.is_changed = true;
+                self.changes = one_more(self.changes);
+            }
         }
         done
+    }
+
+    // From here on it is noted anew whether a table's load or write fails.
+    pub(crate) fn watch_faults(&mut self)
+        ensures { self.new ≡ record self.old { met_fault = false } }
+    {
+        self.met_fault = false;
+    }
+
+    // Notes that a table's load failed.
+    pub(crate) fn note_fault(&mut self)
+        ensures { self.new ≡ record self.old { met_fault = true } }
+    {
+        self.met_fault = true;
+    }
+
+    // What a refusal is told as: a failure that was met since they are watched goes before.
+    pub(crate) fn told(&self, refusal: ImageError) -> ImageError
+        ensures met { met_fault_of self.now ≡ true → result ≡ Storage }
+        ensures unmet { met_fault_of self.now ≡ false → result ≡ refusal }
+    {
+        if self.met_fault {
+            return ImageError::Storage;
+        }
+        refusal
     }
 }
 
@@ -108,7 +158,7 @@ impl<S: Storage> Storage for ImageStorage<S> {
     ghost use Rattle.std.specs.Prelude.{◌≡◌, length, IfOk, OnOk};
     ghost use Rattle.image_access.specs.Contents.{bytes_at, overwritten, resized, zeroed};
     ghost use Rattle.image_access.specs.Moments.{Calls, Changes, ContentsStay, QuietCalls};
-    ghost use Rattle.qcow2_alloc.specs.ImageStorage.{storage_of, is_changed_of, NotesWrite};
+    ghost use Rattle.qcow2_alloc.specs.ImageStorage.{storage_of, NotesWrite, SameNotes};
 
     ghost view = { λ s. S.view s.storage };
 
@@ -124,7 +174,7 @@ impl<S: Storage> Storage for ImageStorage<S> {
         ensures size { (S.view (storage_of self.old)).is_honest → IfOk result (λ size. size ≡ length (S.view (storage_of self.old)).contents) }
         ensures same { ContentsStay (S.view (storage_of self.old)) (S.view (storage_of self.new)) }
         ensures calls { QuietCalls (S.view (storage_of self.old)) (S.view (storage_of self.new)) result }
-        ensures unnoted { is_changed_of self.new ≡ is_changed_of self.old }
+        ensures unnoted { SameNotes self.old self.new }
     {
         self.storage.size()
     }
@@ -133,7 +183,7 @@ impl<S: Storage> Storage for ImageStorage<S> {
         ensures read { (S.view (storage_of self.old)).is_honest → OnOk result (buf.new ≡ bytes_at (S.view (storage_of self.old)).contents at (length buf.old)) }
         ensures same { ContentsStay (S.view (storage_of self.old)) (S.view (storage_of self.new)) }
         ensures calls { QuietCalls (S.view (storage_of self.old)) (S.view (storage_of self.new)) result }
-        ensures unnoted { is_changed_of self.new ≡ is_changed_of self.old }
+        ensures unnoted { SameNotes self.old self.new }
     {
         self.storage.read(at, buf)
     }
@@ -177,7 +227,7 @@ impl<S: Storage> Storage for ImageStorage<S> {
     fn flush(&mut self) -> Result<(), StorageError>
         ensures same { ContentsStay (S.view (storage_of self.old)) (S.view (storage_of self.new)) }
         ensures calls { QuietCalls (S.view (storage_of self.old)) (S.view (storage_of self.new)) result }
-        ensures unnoted { is_changed_of self.new ≡ is_changed_of self.old }
+        ensures unnoted { SameNotes self.old self.new }
     {
         self.storage.flush()
     }
@@ -185,7 +235,7 @@ impl<S: Storage> Storage for ImageStorage<S> {
     fn sync(&mut self) -> Result<(), StorageError>
         ensures same { ContentsStay (S.view (storage_of self.old)) (S.view (storage_of self.new)) }
         ensures calls { QuietCalls (S.view (storage_of self.old)) (S.view (storage_of self.new)) result }
-        ensures unnoted { is_changed_of self.new ≡ is_changed_of self.old }
+        ensures unnoted { SameNotes self.old self.new }
     {
         self.storage.sync()
     }
@@ -193,7 +243,7 @@ impl<S: Storage> Storage for ImageStorage<S> {
     fn invalidate_cache(&mut self) -> Result<(), StorageError>
         ensures same { ContentsStay (S.view (storage_of self.old)) (S.view (storage_of self.new)) }
         ensures calls { QuietCalls (S.view (storage_of self.old)) (S.view (storage_of self.new)) result }
-        ensures unnoted { is_changed_of self.new ≡ is_changed_of self.old }
+        ensures unnoted { SameNotes self.old self.new }
     {
         self.storage.invalidate_cache()
     }

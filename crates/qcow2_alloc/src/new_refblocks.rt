@@ -15,7 +15,8 @@ ghost use Rattle.qcow2_alloc.specs.SparedHeaders.{KeepBehindHeader, SparesHeader
 ghost use Rattle.qcow2_alloc.specs.GrownTables.{with_run, NamesReftable};
 ghost use Rattle.qcow2_alloc.specs.ImageError.{IsOfTables};
 ghost use Rattle.qcow2_alloc.specs.HeaderClusters.{KeepsHeaderCluster};
-ghost use Rattle.qcow2_alloc.specs.ImageFile.{view_in, AllocatorInvariant, KeepsHeader};
+ghost use Rattle.qcow2_alloc.specs.ImageFile.{has_noted, view_in, AllocatorInvariant, KeepsHeader};
+ghost use Rattle.qcow2_alloc.specs.ImageStorage.{is_changed_of};
 ghost use Rattle.qcow2_alloc.specs.LowestRuns.{KeepsUsed};
 ghost use Rattle.qcow2_alloc.specs.MetadataCaches.{order_of, l2_tables, refblocks, rb_at};
 ghost use Rattle.qcow2_alloc.specs.Rooms.{opened, room_length, placed_at, CountsRun, IsLonger, WritesTo, WritesTable, PlacesBlocks};
@@ -98,6 +99,7 @@ pub(crate) fn place_table<S: Storage>(
     requires elsewhere { 0 < cluster }
     ensures caches { file.new.caches ≡ file.old.caches }
     ensures notes { KeepsNotes S.view file.old.storage file.new.storage }
+    ensures noted { OnOk result (IsTrue (is_changed_of file.new.storage)) }
     ensures table { table.new ≡ placed_at table.old cluster }
     ensures sound { (p : Pending) (first n clusters : ℕ) (allocator : AllocatorView) → AllocatorInvariant S.view allocator (with_run p file.old.header.fields allocator.reftable first n) file.old
         → BlocksMayGo (order_of file.old.caches) (l2_tables file.old.caches) → first ≤ cluster → cluster + clusters ≤ first + n → table.old.cluster_bits ≡ file.old.header.fields.cluster_bits
@@ -181,8 +183,8 @@ impl Allocator {
         requires some { 0 < room.clusters }
         requires bits { table.cluster_bits ≡ file.old.header.fields.cluster_bits }
         requires blocks { room.blocks ≡ opened self.old.reftable (counts_per_block file.old.header.fields) room.first (room_length room) }
-        requires noted { IsTrue file.old.caches.is_changed }
         ensures marks { KeepsMarks S.view file.old file.new }
+        ensures noted { OnOk result (IsTrue (has_noted file.new)) }
         ensures table { OnOk result (entry_count self.new.reftable ≡ entry_count table) }
         ensures place { OnOk result (self.new.reftable.cluster ≡ Some (room.first + room.blocks)) }
         ensures behind { OnOk result (NamesBehindHeader table self.new.reftable) }

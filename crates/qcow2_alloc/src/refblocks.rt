@@ -1,18 +1,19 @@
 //! Refblocks: loading one, counting a cluster in it, and making one that is missing.
-ghost use Rattle.std.specs.Prelude.{◌≡◌, ◌≢◌, ◌/◌, false, ℕ, ◌*◌, ◌^◌, ◌<◌, ◌≤◌, Bool, Some, IfSome, IfOk, IfErr, OnOk, IsErrOf, IsSome, IsTrue};
+ghost use Rattle.std.specs.Prelude.{◌≡◌, ◌≢◌, ◌/◌, false, ℕ, ◌*◌, ◌^◌, ◌<◌, ◌≤◌, Bool, None, Some, Ok, IfSome, IfOk, IfErr, OnOk, IsErrOf, IsSome, IsTrue};
 ghost use Rattle.qcow2_laws.specs.CrashInvariant.{Pending};
-ghost use Rattle.qcow2_alloc.specs.Allocation.{placing, first_counts, HasPlaceFor, KeepsEntries, MayTake, LoadsBlock, WritesBlock, PlacesBlock, NamesBlock, IsUnaligned, TakesOne, HasNone, GetsBlock, TakesLowest, GrowsTable, SameLeaks};
-ghost use Rattle.qcow2_alloc.specs.FreeList.{pending_then, ListsTables, SamePlace, ListsReftables};
+ghost use Rattle.qcow2_alloc.specs.Allocation.{placing, first_counts, HasPlaceFor, KeepsEntries, KeepsNamed, KeepsNamed, MayTake, LoadsBlock, WritesBlock, PlacesBlock, NamesBlock, IsUnaligned, LacksFirst, TakesOne, HasNone, GetsBlock, TakesLowest, GrowsTable, SameLeaks};
+ghost use Rattle.qcow2_alloc.specs.FreeList.{pending_then, ListsTables, ListsReftables};
 ghost use Rattle.qcow2_alloc.specs.KeptMarks.{KeepsMarks};
 ghost use Rattle.qcow2_alloc.specs.CachePins.{LeavesPinned};
 ghost use Rattle.qcow2_alloc.specs.Faults.{CountsFaults};
-ghost use Rattle.qcow2_alloc.specs.SparedHeaders.{SparesHeader, SparesHeaderButPointer};
+ghost use Rattle.qcow2_alloc.specs.SparedHeaders.{KeepBehindHeader, SparesHeader, SparesHeaderButPointer};
 ghost use Rattle.qcow2_alloc.specs.Limits.{IsFaultOr, CantCount};
 ghost use Rattle.qcow2_alloc.specs.LowestRuns.{NoFreeBelowHint, IsUsed, KeepsNoFreeBelowHint, KeepsUsed};
 ghost use Rattle.qcow2_alloc.specs.ImageError.{IsOfTables, IsFault};
-ghost use Rattle.qcow2_alloc.specs.ImageFile.{AllocatorInvariant, KeepsHeader};
+ghost use Rattle.qcow2_alloc.specs.ImageFile.{has_noted, AllocatorInvariant, KeepsHeader};
+ghost use Rattle.qcow2_alloc.specs.ImageStorage.{is_changed_of};
 ghost use Rattle.qcow2_laws.specs.Caches.{AreClean, BlocksMayGo};
-ghost use Rattle.qcow2_alloc.specs.MetadataCaches.{order_of, l2_tables, refblocks, TakesOff};
+ghost use Rattle.qcow2_alloc.specs.MetadataCaches.{order_of, l2_tables, refblocks, rb_at, TakesOff};
 ghost use Rattle.qcow2_metadata.specs.L2Mapping.{IsHostCluster};
 ghost use Rattle.qcow2_metadata.specs.Header.{counts_per_block};
 ghost use Rattle.qcow2_metadata.specs.EntryTable.{EntryTableView, entry_count};
@@ -59,6 +60,7 @@ fn write_block<S: Storage>(file: &mut ImageFile<S>, mut block: RefBlock) -> Resu
         → HasPlaceFor counts_itself file.old.header.fields allocator.reftable range at → IsBlockOf file.old.header.fields block → block.cluster ≡ Some at
         → WritesBlock S.view (placing counts_itself p at) file.old allocator file.new block at result }
     ensures counted { OnOk result (AreClean (refblocks file.new.caches)) }
+    ensures noted { OnOk result (IsTrue (is_changed_of file.new.storage)) }
     ensures first { OnOk result (BlocksMayGo (order_of file.new.caches) (l2_tables file.new.caches)) }
     ensures header { file.new.header ≡ file.old.header }
     ensures list { file.new.free_list ≡ file.old.free_list }
@@ -87,6 +89,7 @@ impl Allocator {
         ensures marks { KeepsMarks S.view file.old file.new }
         ensures taken { TakesOff (AreClean (refblocks file.old.caches)) file.old.caches file.new.caches }
         ensures rest { file.new ≡ record file.old { caches = file.new.caches } }
+        ensures header_cluster { KeepBehindHeader file.old.caches file.new.caches }
         ensures anew { self.new ≡ record self.old { first_free_cluster = 0 } }
     {
         self.first_free_cluster = 0;
@@ -106,6 +109,9 @@ impl Allocator {
         ensures cause { IfErr result IsOfTables }
         ensures unaligned { IsUnaligned file.old.header.fields self.now.reftable range → IsErrOf result ImageError.UnalignedTable }
         ensures names { IfOk result (NamesBlock file.old.header.fields self.now.reftable range) }
+        ensures has { IfOk result (λ block. IsSome block → HasNone self.now.reftable range → ⊥) }
+        ensures held { IfOk result (λ block. IfSome block (λ block. IsSome (rb_at file.new.caches block))) }
+        ensures none { HasNone self.now.reftable range → (result ≡ Ok None) × (file.new ≡ file.old) }
         ensures storage_faults { CountsFaults S.view file.old.storage file.new.storage result }
         ensures header_cluster { SparesHeader S.view self.now.reftable file.old self.now.reftable file.new }
     {
@@ -159,11 +165,13 @@ impl Allocator {
         ensures list { ListsTables file.old.free_list file.new.free_list }
         ensures cause { IfErr result IsOfTables }
         ensures unaligned { IsUnaligned file.old.header.fields self.old.reftable (cluster / counts_per_block file.old.header.fields) → IsErrOf result ImageError.UnalignedTable }
+        ensures first_range { LacksFirst file.old.header.fields self.old.reftable cluster → IsErrOf result ImageError.Limit × (file.new ≡ file.old) }
         ensures former { ListsReftables self.old.reftable self.new.reftable file.old.free_list file.new.free_list }
         ensures storage_faults { CountsFaults S.view file.old.storage file.new.storage result }
         ensures leaks { (p : Pending) → AllocatorInvariant S.view self.old p file.old → SameLeaks self.old self.new }
         ensures limit { (p : Pending) → AllocatorInvariant S.view self.old p file.old → NoFreeBelowHint S.view self.old file.old → IsHostCluster file.old.header.fields.cluster_bits cluster → IfErr result (IsFaultOr (CantCount S.view file.new (λ k. 0) self.new cluster)) }
-        ensures has { (p : Pending) → AllocatorInvariant S.view self.old p file.old → OnOk result (HasNone self.new.reftable (cluster / counts_per_block file.old.header.fields) → ⊥) }
+        ensures has { OnOk result (HasNone self.new.reftable (cluster / counts_per_block file.old.header.fields) → ⊥) }
+        ensures named { cluster / counts_per_block file.old.header.fields < entry_count self.old.reftable → KeepsNamed self.old.reftable self.new.reftable }
         ensures hint { (p : Pending) → AllocatorInvariant S.view self.old p file.old → NoFreeBelowHint S.view self.old file.old → KeepsNoFreeBelowHint S.view self.new file.new result }
         ensures uses { (p : Pending) → AllocatorInvariant S.view self.old p file.old → KeepsUsed S.view file.old file.new result }
         ensures header_cluster { SparesHeaderButPointer S.view self.old.reftable file.old self.new.reftable file.new }
@@ -189,11 +197,12 @@ impl Allocator {
         ensures list { file.new.free_list ≡ file.old.free_list }
         ensures cause { IfErr result IsOfTables }
         ensures unaligned { IsUnaligned file.old.header.fields self.old.reftable (cluster / counts_per_block file.old.header.fields) → IsErrOf result ImageError.UnalignedTable }
-        ensures place { SamePlace self.old.reftable self.new.reftable }
+        ensures first_range { LacksFirst file.old.header.fields self.old.reftable cluster → IsErrOf result ImageError.Limit × (file.new ≡ file.old) }
+        ensures named { KeepsNamed self.old.reftable self.new.reftable }
         ensures storage_faults { CountsFaults S.view file.old.storage file.new.storage result }
         ensures leaks { SameLeaks self.old self.new }
         ensures fault { (p : Pending) → AllocatorInvariant S.view self.old p file.old → cluster / counts_per_block file.old.header.fields < entry_count self.old.reftable → IsHostCluster file.old.header.fields.cluster_bits cluster → IfErr result IsFault }
-        ensures has { (p : Pending) → AllocatorInvariant S.view self.old p file.old → OnOk result (HasNone self.new.reftable (cluster / counts_per_block file.old.header.fields) → ⊥) }
+        ensures has { OnOk result (HasNone self.new.reftable (cluster / counts_per_block file.old.header.fields) → ⊥) }
         ensures hint { (p : Pending) → AllocatorInvariant S.view self.old p file.old → NoFreeBelowHint S.view self.old file.old → KeepsNoFreeBelowHint S.view self.new file.new result }
         ensures header_cluster { SparesHeader S.view self.old.reftable file.old self.new.reftable file.new }
     {
@@ -229,6 +238,7 @@ impl Allocator {
         ensures noted { IfOk result (λ at. IsSome at → IsTrue file.new.caches.is_changed) }
         ensures below { IfOk result (λ at. IfSome at (λ at. (0 < at) × (at < end))) }
         ensures entries { KeepsEntries (λ k. end ≤ k * counts_per_block file.old.header.fields) self.old.reftable self.new.reftable }
+        ensures named { KeepsNamed self.old.reftable self.new.reftable }
         ensures sound { (p : Pending) → AllocatorInvariant S.view self.old p file.old → TakesLowest S.view p file.old self.new file.new result }
         ensures header { file.new.header ≡ file.old.header }
         ensures list { file.new.free_list ≡ file.old.free_list }
@@ -270,7 +280,8 @@ impl Allocator {
         ensures leaks { SameLeaks self.old self.new }
         ensures fault { (p : Pending) → AllocatorInvariant S.view self.old p file.old → range < entry_count self.old.reftable → IsHostCluster file.old.header.fields.cluster_bits (range * counts_per_block file.old.header.fields) → IfErr result IsFault }
         ensures first { self.new.first_free_cluster ≡ self.old.first_free_cluster }
-        ensures has { (p : Pending) → AllocatorInvariant S.view self.old p file.old → OnOk result (HasNone self.new.reftable range → ⊥) }
+        ensures has { OnOk result (HasNone self.new.reftable range → ⊥) }
+        ensures named { KeepsNamed self.old.reftable self.new.reftable }
         ensures header_cluster { SparesHeader S.view self.old.reftable file.old self.new.reftable file.new }
     {
         if self.load_block(file, range)?.is_some() {
@@ -299,8 +310,9 @@ impl Allocator {
         requires nameable { IsHostCluster self.old.reftable.cluster_bits at }
         requires nameable_here { IsHostCluster file.old.header.fields.cluster_bits at }
         ensures marks { KeepsMarks S.view file.old file.new }
-        ensures noted { OnOk result (IsTrue file.new.caches.is_changed) }
+        ensures noted { OnOk result (IsTrue (has_noted file.new)) }
         ensures entries { KeepsEntries (λ k. k ≢ range) self.old.reftable self.new.reftable }
+        ensures has { OnOk result (HasNone self.new.reftable range → ⊥) }
         ensures sound { (p : Pending) → AllocatorInvariant S.view self.old (placing counts_itself p at) file.old → HasPlaceFor counts_itself file.old.header.fields self.old.reftable range at
             → PlacesBlock S.view (placing counts_itself p at) file.old self.new file.new p range at result }
         ensures header { file.new.header ≡ file.old.header }
@@ -314,7 +326,6 @@ impl Allocator {
         let cluster = HostCluster::new(at);
         let block = new_block(file.alloc, &file.header, cluster, counts_itself)?;
         write_block(file, block)?;
-        file.caches.note_change();
         self.reftable.enter_refblock(range as usize, cluster);
         file.storage.will_write(WriteKind::Other);
         file.storage

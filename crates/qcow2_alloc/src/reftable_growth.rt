@@ -10,11 +10,11 @@ ghost use Rattle.qcow2_alloc.specs.Faults.{CountsFaults};
 ghost use Rattle.qcow2_alloc.specs.SparedHeaders.{SparesHeaderButPointer};
 ghost use Rattle.qcow2_alloc.specs.ClustersToFree.{metadata_entry};
 ghost use Rattle.qcow2_alloc.specs.declared.clusters_to_free.ClusterKind.TheVariants.{Metadata};
-ghost use Rattle.qcow2_alloc.specs.FreeList.{pending_then, ListsTables, IsRunOfTable, ListsReftables};
+ghost use Rattle.qcow2_alloc.specs.FreeList.{pending_then, ListsTables, IsRunOfTable, GivesWay};
 ghost use Rattle.qcow2_alloc.specs.GrownTables.{EntersReftable};
 ghost use Rattle.qcow2_alloc.specs.Growing.{IsLongEnough, IsLeastLength, IsCloneOf};
 ghost use Rattle.qcow2_alloc.specs.ImageError.{IsOfTables};
-ghost use Rattle.qcow2_alloc.specs.ImageFile.{AllocatorInvariant, KeepsHeader};
+ghost use Rattle.qcow2_alloc.specs.ImageFile.{has_noted, AllocatorInvariant, KeepsHeader};
 ghost use Rattle.qcow2_alloc.specs.Limits.{IsFaultOr, HasNoRoomFor, LiesLowest, CantGrow};
 ghost use Rattle.qcow2_alloc.specs.SoundAllocators.{SoundAllocator};
 ghost use Rattle.qcow2_alloc.specs.LowestRuns.{NoFreeBelowHint, KeepsUsed};
@@ -38,14 +38,15 @@ impl Allocator {
         index: usize,
     ) -> Result<(), ImageError>
         ensures marks { KeepsMarks S.view file.old file.new }
-        ensures noted { OnOk result (IsTrue file.new.caches.is_changed) }
+        ensures noted { OnOk result (IsTrue (has_noted file.new)) }
         ensures sound { (p : Pending) → AllocatorInvariant S.view self.old p file.old → GrowsTable S.view p file.old self.new file.new (pending_then p file.old.free_list file.new.free_list) result }
         ensures header { KeepsHeader file.old.header file.new.header }
         ensures list { ListsTables file.old.free_list file.new.free_list }
         ensures length { OnOk result (IsLeastLength (entry_count self.old.reftable) index (entries_per_cluster file.old.header.fields) (counts_per_block file.old.header.fields) (entry_count self.new.reftable)) }
         ensures lowest { (p : Pending) → SoundAllocator S.view self.old p file.old → OnOk result (LiesLowest S.view file.new self.old.reftable self.new.reftable) }
+        ensures elsewhere { OnOk result (IfSome self.new.reftable.cluster (λ c. 0 < c)) }
         ensures cause { IfErr result IsOfTables }
-        ensures former { ListsReftables self.old.reftable self.new.reftable file.old.free_list file.new.free_list }
+        ensures former { GivesWay self.old.reftable self.new.reftable file.old.free_list file.new.free_list result }
         ensures storage_faults { CountsFaults S.view file.old.storage file.new.storage result }
         ensures leaks { (p : Pending) → AllocatorInvariant S.view self.old p file.old → SameLeaks self.old self.new }
         ensures limit { (p : Pending) → SoundAllocator S.view self.old p file.old → IfErr result (IsFaultOr ((self.new.reftable ≡ self.old.reftable) × CantGrow S.view file.new (λ k. 0) self.old.reftable index)) }
@@ -122,7 +123,7 @@ impl Allocator {
     ) -> Result<(), ImageError>
         requires some { 0 < entry_count table }
         ensures marks { KeepsMarks S.view file.old file.new }
-        ensures noted { OnOk result (IsTrue file.new.caches.is_changed) }
+        ensures noted { OnOk result (IsTrue (has_noted file.new)) }
         ensures enters { (p : Pending) → AllocatorInvariant S.view self.old p file.old → IsCloneOf self.old.reftable table → entry_count table % entries_per_cluster file.old.header.fields ≡ 0 → EntersReftable S.view p file.old self.new file.new result }
         ensures uses { (p : Pending) → AllocatorInvariant S.view self.old p file.old → IsCloneOf self.old.reftable table → entry_count table % entries_per_cluster file.old.header.fields ≡ 0 → KeepsUsed S.view file.old file.new result }
         ensures lowest { (p : Pending) → AllocatorInvariant S.view self.old p file.old → NoFreeBelowHint S.view self.old file.old → IsCloneOf self.old.reftable table → entry_count table % entries_per_cluster file.old.header.fields ≡ 0 → OnOk result (LiesLowest S.view file.new self.old.reftable self.new.reftable) }
@@ -131,6 +132,7 @@ impl Allocator {
         ensures table { OnOk result (entry_count self.new.reftable ≡ entry_count table) }
         ensures behind { OnOk result (NamesBehindHeader table self.new.reftable) }
         ensures first { self.new.first_free_cluster ≡ self.old.first_free_cluster }
+        ensures elsewhere { OnOk result (IfSome self.new.reftable.cluster (λ c. 0 < c)) }
         ensures cause { IfErr result IsOfTables }
         ensures kept { OnErr result (self.new.reftable ≡ self.old.reftable) }
         ensures storage_faults { CountsFaults S.view file.old.storage file.new.storage result }
@@ -146,7 +148,6 @@ impl Allocator {
         let named = (table.len() as u64) << file.header.rb_bits();
         let end = named.min((MAX_HOST_OFFSET >> bits) + 1);
         let room = self.take_room(file, table.cluster_count().value(), end)?;
-        file.caches.note_change();
         self.write_reftable(file, table, room)
     }
 }

@@ -8,6 +8,7 @@ ghost use Rattle.qcow2_alloc.specs.SparedHeaders.{SparesHeaderButPointer};
 ghost use Rattle.qcow2_alloc.specs.GrownTables.{with_run, StandsGrown, NamesReftable};
 ghost use Rattle.qcow2_alloc.specs.ImageError.{IsOfTables};
 ghost use Rattle.qcow2_alloc.specs.ImageFile.{AllocatorInvariant, KeepsHeader};
+ghost use Rattle.qcow2_alloc.specs.ImageStorage.{is_changed_of};
 ghost use Rattle.qcow2_alloc.specs.LowestRuns.{KeepsUsed};
 
 use crate::{Allocator, ImageError, ImageFile, WriteKind};
@@ -21,8 +22,8 @@ impl Allocator {
         file: &mut ImageFile<S>,
         table: RefTable,
     ) -> Result<(), ImageError>
+        requires noted { IsTrue (is_changed_of file.old.storage) }
         ensures marks { KeepsMarks S.view file.old file.new }
-        ensures noted { OnOk result (IsTrue file.new.caches.is_changed) }
         ensures names { (p : Pending) (first blocks clusters : ℕ) → AllocatorInvariant S.view self.old (with_run p file.old.header.fields self.old.reftable first (blocks + clusters)) file.old
             → StandsGrown S.view file.old self.old.reftable table first blocks clusters
             → NamesReftable S.view (with_run p file.old.header.fields self.old.reftable first (blocks + clusters)) p file.old self.new file.new result }
@@ -44,7 +45,6 @@ impl Allocator {
         let offset = cluster.offset(table.cluster_bits());
         let clusters = table.cluster_count().value() as u32;
         file.header.set_reftable(offset, clusters)?;
-        file.caches.note_change();
         file.storage.will_write(WriteKind::Other);
         file.storage.write_reftable_pointer(&file.header)?;
         self.reftable = table;

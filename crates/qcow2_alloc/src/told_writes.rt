@@ -11,7 +11,7 @@ ghost use Rattle.qcow2_metadata.specs.RefBlock.{IsRefBlockAt};
 ghost use Rattle.qcow2_metadata.specs.TableBytes.{HasPlace, entry_at};
 ghost use Rattle.qcow2_metadata.specs.EntryTable.{entry_count, HasRoomIfPlaced};
 ghost use Rattle.qcow2_alloc.specs.HeaderClusters.{KeepsHeaderCluster};
-ghost use Rattle.qcow2_alloc.specs.ImageStorage.{storage_of, NotesWrite};
+ghost use Rattle.qcow2_alloc.specs.ImageStorage.{storage_of, NotesFault, NotesWrite};
 ghost use Rattle.qcow2_alloc.specs.WriteKinds.{IsToldData, IsToldL2Table, IsToldRefBlock, IsToldOther};
 
 use crate::ImageStorage;
@@ -64,6 +64,7 @@ impl<S: Storage> ImageStorage<S> {
         ensures idle { IsFalse table.old.is_modified → IsOk result × (self.new ≡ self.old) }
         ensures calls { Calls (S.view (storage_of self.old)) (S.view (storage_of self.new)) result }
         ensures noted { IsTrue table.old.is_modified → NotesWrite self.old self.new result }
+        ensures faults { IsTrue table.old.is_modified → NotesFault self.old self.new result }
         ensures ok { OnOk result (table.new ≡ record table.old { is_modified = false }) }
         ensures err { OnErr result (table.new ≡ table.old) }
     {
@@ -85,6 +86,7 @@ impl<S: Storage> ImageStorage<S> {
         ensures idle { IsFalse block.old.is_modified → IsOk result × (self.new ≡ self.old) }
         ensures calls { Calls (S.view (storage_of self.old)) (S.view (storage_of self.new)) result }
         ensures noted { IsTrue block.old.is_modified → NotesWrite self.old self.new result }
+        ensures faults { IsTrue block.old.is_modified → NotesFault self.old self.new result }
         ensures ok { OnOk result (block.new ≡ record block.old { is_modified = false }) }
         ensures err { OnErr result (block.new ≡ block.old) }
     {

@@ -7,7 +7,7 @@ ghost use Rattle.qcow2_alloc.specs.SparedHeaders.{SparesHeader};
 ghost use Rattle.qcow2_alloc.specs.ImageError.{IsOfTables};
 ghost use Rattle.qcow2_alloc.specs.ImageFile.{AllocatorInvariant};
 ghost use Rattle.qcow2_alloc.specs.LowestRuns.{NoFreeBelowHint, KeepsNoFreeBelowHint};
-ghost use Rattle.qcow2_alloc.specs.UsedCounts.{passed_hint, PassesUsed};
+ghost use Rattle.qcow2_alloc.specs.UsedCounts.{passed_hint, PassesUsed, GoesFar};
 
 use crate::{Allocator, ImageError, ImageFile};
 use image_access::Storage;
@@ -29,6 +29,7 @@ impl Allocator {
         ensures cause { IfErr result IsOfTables }
         ensures storage_faults { CountsFaults S.view file.old.storage file.new.storage result }
         ensures behind { IfOk result (λ next. cluster ≤ next) }
+        ensures far { IfOk result (GoesFar file.old.header.fields self.old.reftable file.new.caches cluster) }
         ensures hint { (p : Pending) → AllocatorInvariant S.view self.old p file.old → NoFreeBelowHint S.view self.old file.old → KeepsNoFreeBelowHint S.view self.new file.new result }
         ensures header_cluster { SparesHeader S.view self.old.reftable file.old self.new.reftable file.new }
     {
@@ -53,6 +54,7 @@ impl Allocator {
         ensures cause { IfErr result IsOfTables }
         ensures storage_faults { CountsFaults S.view file.old.storage file.new.storage result }
         ensures behind { IfOk result (λ next. cluster ≤ next) }
+        ensures far { IfOk result (GoesFar file.old.header.fields self.now.reftable file.new.caches cluster) }
         ensures header_cluster { SparesHeader S.view self.now.reftable file.old self.now.reftable file.new }
     {
         let bits = file.header.rb_bits();

@@ -255,8 +255,8 @@ module _ {S : Type 0} where
     blocks = no_value (lookup (eqb 0) rb.entries) none;
   }
 
-  pub noted_behind : (a b : MetadataCaches S) → KeepBehindHeader a b → KeepBehindHeader a (record b { is_changed = true })
-  noted_behind a b keeps bits are = let now = keeps bits are in record { l2_bits = now.l2_bits; rb_bits = now.rb_bits; tables = now.tables; blocks = now.blocks }
+  pub noted_behind : (a b : MetadataCaches S) (n : ℕ) → KeepBehindHeader a b → KeepBehindHeader a (record b { is_changed = true; changes = n })
+  noted_behind a b n keeps bits are = let now = keeps bits are in record { l2_bits = now.l2_bits; rb_bits = now.rb_bits; tables = now.tables; blocks = now.blocks }
 
   -- empty caches
   pub empty_behind : (bits : ℕ) (caches : MetadataCaches S) → caches.l2.entries ≡ [] → caches.rb.entries ≡ [] → caches.l2.backend.header.fields.cluster_bits ≡ bits → caches.rb.backend.header.fields.cluster_bits ≡ bits → AreBehindHeader bits caches

@@ -24,7 +24,7 @@ use Rattle.qcow2_alloc.specs.KeptTables.{cached_tables, AllValuesFit, AreElsewhe
 use Rattle.qcow2_alloc.specs.MetadataCaches.{order_of, l2_tables, refblocks, KeepSound}
 use Rattle.qcow2_alloc.proofs.KeptTables.BlocksNamed.{named_blocks_beside, named_blocks_anew, blocks_stand, block_place}
 use Rattle.qcow2_alloc.proofs.KeptTables.Standing.{AreStanding, stand_promoted, get_stands}
-use Rattle.qcow2_alloc.proofs.KeptTables.Writing.{Flushed}
+use Rattle.qcow2_alloc.proofs.KeptTables.Writing.{crash_safety, Flushed}
 use Rattle.qcow2_alloc.proofs.KeptTables.Entries.{AreDistinct}
 use Rattle.qcow2_alloc.proofs.KeptTables.Fitting.{fit_promoted, get_fits}
 use Rattle.qcow2_alloc.proofs.KeptTables.Listing.{loaded_distinct, l2_drop, l2_add, l2_promote, rb_drop, rb_add, rb_promote}
@@ -59,14 +59,14 @@ module _ {S : Type 0} (view : S → StorageView) (old new : ImageStorage S) (cac
         → P (t ∷ ts) on_storage × (all (t ∷ ts) on_storage ≡ all ts on_storage) =
         λ t ts on_storage are aligned away clean current.
         l2_add h (order_of caches) p (refblocks caches) t ts on_storage are (subst (λ n. t.place % 2 ^ n ≡ 0) sound.l2_format.bits aligned) away clean (subst (λ n. HoldsWhatStands all (2 ^ n) t ts on_storage) sound.l2_format.bits current) in
-        let f : Flushed seen bits (λ (t : L2TableView). t.bytes) (λ t. t.is_modified) cleared_l2 (IsTableOf caches.l2.backend.header.fields) (λ v. refl) (λ v. refl) P all old new (l2_tables caches)
+        let f : Flushed seen bits (λ (t : L2TableView). t.bytes) (λ t. t.is_modified) cleared_l2 (IsTableOf caches.l2.backend.header.fields) (λ v. refl) (λ v. refl) P all crash_safety old new (l2_tables caches)
         (cached_tables bits (λ (t : L2TableView). t.bytes) (λ t. t.is_modified) l2.entries) =
         elim (none_or_some (lookup (eqb key) caches.l2.entries)) [
           | inl there ↦
               let is = hit there in
-              rw (is.1, is.2) (hit_done seen bits (λ (t : L2TableView). t.bytes) (λ t. t.is_modified) cleared_l2 (IsTableOf caches.l2.backend.header.fields) (λ v. refl) (λ v. refl) P all distinct (l2_drop h (order_of caches) p (refblocks caches)) add (l2_promote h (order_of caches) p (refblocks caches)) old key caches.l2.entries honest sound.kept)
+              rw (is.1, is.2) (hit_done seen bits (λ (t : L2TableView). t.bytes) (λ t. t.is_modified) cleared_l2 (IsTableOf caches.l2.backend.header.fields) (λ v. refl) (λ v. refl) P all crash_safety distinct (l2_drop h (order_of caches) p (refblocks caches)) add (l2_promote h (order_of caches) p (refblocks caches)) old key caches.l2.entries honest sound.kept)
           | inr missing ↦
-              get_done seen bits (λ (t : L2TableView). t.bytes) (λ t. t.is_modified) cleared_l2 (IsTableOf caches.l2.backend.header.fields) (λ v. refl) (λ v. refl) P all distinct (l2_drop h (order_of caches) p (refblocks caches)) add (l2_promote h (order_of caches) p (refblocks caches)) caches.l2.size may_flush
+              get_done seen bits (λ (t : L2TableView). t.bytes) (λ t. t.is_modified) cleared_l2 (IsTableOf caches.l2.backend.header.fields) (λ v. refl) (λ v. refl) P all crash_safety distinct (l2_drop h (order_of caches) p (refblocks caches)) add (l2_promote h (order_of caches) p (refblocks caches)) caches.l2.size may_flush
               (λ flush. l2_step h (order_of caches) p bits sound.l2_format.bits (refblocks caches) (may flush))
               old new key caches.l2.entries l2.entries answer honest sound.kept (is_none (lookup (eqb key) caches.l2.entries) missing) (miss missing)
         ] in
@@ -98,14 +98,14 @@ module _ {S : Type 0} (view : S → StorageView) (old new : ImageStorage S) (cac
         → P (t ∷ ts) on_storage × (all (t ∷ ts) on_storage ≡ all ts on_storage) =
         λ t ts on_storage are aligned away clean current.
         rb_add h (order_of caches) p (l2_tables caches) t ts on_storage are (subst (λ n. t.place % 2 ^ n ≡ 0) sound.rb_format.bits aligned) away clean (subst (λ n. HoldsWhatStands all (2 ^ n) t ts on_storage) sound.rb_format.bits current) in
-        let f : Flushed seen bits (λ (b : RefBlockView). b.bytes) (λ b. b.is_modified) cleared_rb (IsBlockOf caches.rb.backend.header.fields) (λ v. refl) (λ v. refl) P all old new (refblocks caches)
+        let f : Flushed seen bits (λ (b : RefBlockView). b.bytes) (λ b. b.is_modified) cleared_rb (IsBlockOf caches.rb.backend.header.fields) (λ v. refl) (λ v. refl) P all crash_safety old new (refblocks caches)
         (cached_tables bits (λ (b : RefBlockView). b.bytes) (λ b. b.is_modified) rb.entries) =
         elim (none_or_some (lookup (eqb key) caches.rb.entries)) [
           | inl there ↦
               let is = hit there in
-              rw (is.1, is.2) (hit_done seen bits (λ (b : RefBlockView). b.bytes) (λ b. b.is_modified) cleared_rb (IsBlockOf caches.rb.backend.header.fields) (λ v. refl) (λ v. refl) P all distinct (rb_drop h (order_of caches) p (l2_tables caches)) add (rb_promote h (order_of caches) p (l2_tables caches)) old key caches.rb.entries honest sound.kept)
+              rw (is.1, is.2) (hit_done seen bits (λ (b : RefBlockView). b.bytes) (λ b. b.is_modified) cleared_rb (IsBlockOf caches.rb.backend.header.fields) (λ v. refl) (λ v. refl) P all crash_safety distinct (rb_drop h (order_of caches) p (l2_tables caches)) add (rb_promote h (order_of caches) p (l2_tables caches)) old key caches.rb.entries honest sound.kept)
           | inr missing ↦
-              get_done seen bits (λ (b : RefBlockView). b.bytes) (λ b. b.is_modified) cleared_rb (IsBlockOf caches.rb.backend.header.fields) (λ v. refl) (λ v. refl) P all distinct (rb_drop h (order_of caches) p (l2_tables caches)) add (rb_promote h (order_of caches) p (l2_tables caches)) caches.rb.size may_flush
+              get_done seen bits (λ (b : RefBlockView). b.bytes) (λ b. b.is_modified) cleared_rb (IsBlockOf caches.rb.backend.header.fields) (λ v. refl) (λ v. refl) P all crash_safety distinct (rb_drop h (order_of caches) p (l2_tables caches)) add (rb_promote h (order_of caches) p (l2_tables caches)) caches.rb.size may_flush
               (λ flush. rb_step h (order_of caches) p bits sound.rb_format.bits (l2_tables caches) (may flush))
               old new key caches.rb.entries rb.entries answer honest sound.kept (is_none (lookup (eqb key) caches.rb.entries) missing) (miss missing)
         ] in

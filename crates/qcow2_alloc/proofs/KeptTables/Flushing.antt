@@ -27,7 +27,7 @@ use Rattle.qcow2_alloc.specs.MetadataCaches.{order_of, l2_tables, refblocks, Kee
 use Rattle.qcow2_alloc.proofs.KeptTables.BlocksNamed.{named_blocks_beside, named_blocks_anew, blocks_stand, block_place}
 use Rattle.qcow2_alloc.proofs.KeptTables.Standing.{flush_stands}
 use Rattle.qcow2_alloc.proofs.KeptTables.Fitting.{flush_fits}
-use Rattle.qcow2_alloc.proofs.KeptTables.Writing.{l2_wrote, rb_wrote, flushed_all, flushed_clean}
+use Rattle.qcow2_alloc.proofs.KeptTables.Writing.{crash_safety, l2_wrote, rb_wrote, flushed_all, flushed_clean}
 
 -- the flush of all behind an answer
 pub all_of : {S K V E : Type 0} (steps : _) (s t : S) (es fs : List (K × Slot V)) (r : Result Unit₀ (CacheError K E)) → Flushes steps s es r t fs → (x : Option E) × FlushesAll steps s es x t fs
@@ -74,6 +74,7 @@ module _ {S : Type 0} (view : S → StorageView) (old new : ImageStorage S) (cac
         let f = flushed_all seen bits (λ (t : L2TableView). t.bytes) (λ t. t.is_modified) cleared_l2 (IsTableOf caches.l2.backend.header.fields) (λ v. refl) (λ v. refl)
         (λ ts on_storage. AreKept h (order_of caches) p ts (refblocks caches) on_storage)
         (λ ts on_storage. known_bytes (cluster_size h) ts (refblocks caches) on_storage)
+        crash_safety
         (l2_step h (order_of caches) p bits sound.l2_format.bits (refblocks caches) may)
         old new [] caches.l2.entries l2.entries (all_of (l2_steps seen caches.l2.backend.header.fields) old new caches.l2.entries l2.entries answer flushes).0 honest sound.kept (all_of (l2_steps seen caches.l2.backend.header.fields) old new caches.l2.entries l2.entries answer flushes).1 in
         rw same_backend (record {
@@ -106,6 +107,7 @@ module _ {S : Type 0} (view : S → StorageView) (old new : ImageStorage S) (cac
         let f = flushed_all seen bits (λ (b : RefBlockView). b.bytes) (λ b. b.is_modified) cleared_rb (IsBlockOf caches.rb.backend.header.fields) (λ v. refl) (λ v. refl)
         (λ ts on_storage. AreKept h (order_of caches) p (l2_tables caches) ts on_storage)
         (λ ts on_storage. known_bytes (cluster_size h) (l2_tables caches) ts on_storage)
+        crash_safety
         (rb_step h (order_of caches) p bits sound.rb_format.bits (l2_tables caches) may)
         old new [] caches.rb.entries rb.entries (all_of (rb_steps seen caches.rb.backend.header.fields) old new caches.rb.entries rb.entries answer flushes).0 honest sound.kept (all_of (rb_steps seen caches.rb.backend.header.fields) old new caches.rb.entries rb.entries answer flushes).1 in
         rw same_backend (record {

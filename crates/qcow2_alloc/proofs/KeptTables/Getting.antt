@@ -11,7 +11,6 @@ use Rattle.image_access.proofs.EachMomentSince.{passes_if}
 use Rattle.qcow2_metadata.specs.Bytes.{Bytes, byte_at}
 use Rattle.qcow2_metadata.specs.declared.error.MetadataError.{MetadataError}
 use Rattle.qcow2_metadata.specs.Tables.{CachedTable}
-use Rattle.qcow2_laws.specs.Caches.{IsSafeBetween}
 use Rattle.qcow2_alloc.specs.declared.async_lru_cache.slot.Slot.{Slot}
 use Rattle.qcow2_alloc.specs.declared.async_lru_cache.error.CacheError.{CacheError}
 use Rattle.qcow2_alloc.specs.declared.async_lru_cache.error.CacheError.TheVariants.{InUse, StillInUse, Memory, Backend}
@@ -19,9 +18,9 @@ use Rattle.qcow2_alloc.specs.AsyncLruCache.{slot_of}
 use Rattle.qcow2_alloc.specs.TableSteps.{LoadsTable, FailsToLoad, FlushesTable, FailsToFlush, table_steps}
 use Rattle.qcow2_alloc.specs.CacheAnswers.{Evicts, HasRoomForEntry, HasNoRoom, GetsNew, InsertsNew, Replaces}
 use Rattle.qcow2_alloc.specs.TableLaws.{same_number}
-use Rattle.qcow2_alloc.specs.KeptTables.{cached_table, cached_tables, AreElsewhere, IsCurrent, IsSafeSince}
+use Rattle.qcow2_alloc.specs.KeptTables.{cached_table, cached_tables, AreElsewhere, IsCurrent}
 use Rattle.qcow2_alloc.proofs.CachedEntries.Lists.{lookup_none-removed}
-use Rattle.qcow2_alloc.proofs.KeptTables.Writing.{WritesOne, Flushed, Puts, flushed_none, flushed_then, flushed_entry}
+use Rattle.qcow2_alloc.proofs.KeptTables.Writing.{Safety, WritesOne, Flushed, Puts, flushed_none, flushed_then, flushed_entry}
 use Rattle.qcow2_alloc.proofs.KeptTables.Entries.{AreDistinct, away_from, split_oldest, split_found, tables_at, tables_both, removed_at, elsewhere_of_none}
 
 pub cluster_aligned : (k bits : ℕ) → k * 2 ^ bits % 2 ^ bits ≡ 0
@@ -33,7 +32,7 @@ HoldsWhatStands all size t ts on_storage = IsCurrent size t on_storage ⊎ ((i :
 
 module _ {S V : Type 0} (view : S → StorageView) (bits : ℕ) (bytes : V → List ℕ) (is_modified : V → Bool) (cleared : V → V) (IsFit : V → Type 0)
     (unmodified : (v : V) → is_modified (cleared v) ≡ false) (same_bytes : (v : V) → bytes (cleared v) ≡ bytes v)
-    (P : List CachedTable → Bytes → Type 0) (all : List CachedTable → Bytes → Bytes)
+    (P : List CachedTable → Bytes → Type 0) (all : List CachedTable → Bytes → Bytes) (safety : Safety)
     (distinct : (ts : List CachedTable) (on_storage : Bytes) → P ts on_storage → AreDistinct ts)
     (drop_clean : (front back : List CachedTable) (t : CachedTable) (on_storage : Bytes) → P (front ++ t ∷ back) on_storage → t.is_modified ≡ false → P (front ++ back) on_storage × (all (front ++ back) on_storage ≡ all (front ++ t ∷ back) on_storage))
     (add : (t : CachedTable) (ts : List CachedTable) (on_storage : Bytes) → P ts on_storage → t.place % 2 ^ bits ≡ 0 → AreElsewhere t.place ts → t.is_modified ≡ false → HoldsWhatStands all (2 ^ bits) t ts on_storage
@@ -49,19 +48,19 @@ module _ {S V : Type 0} (view : S → StorageView) (bits : ℕ) (bytes : V → L
   contents s = byte_at (view s).contents
 
   abbrev Done : S → S → List (ℕ × Slot V) → List (ℕ × Slot V) → Type 0
-  Done s t es fs = Flushed view bits bytes is_modified cleared IsFit unmodified same_bytes P all s t (tables es) (tables fs)
+  Done s t es fs = Flushed view bits bytes is_modified cleared IsFit unmodified same_bytes P all safety s t (tables es) (tables fs)
 
   pub done_none : (s t : S) (es fs : List (ℕ × Slot V)) → (view s).is_honest → P (tables es) (contents s) → t ≡ s → fs ≡ es → Done s t es fs
   done_none s t es fs honest kept t_is fs_is =
-      subst (λ x. Done s x es fs) (sym t_is) (subst (λ l. Done s s es l) (sym fs_is) (flushed_none view bits bytes is_modified cleared IsFit unmodified same_bytes P all s (tables es) honest kept))
+      subst (λ x. Done s x es fs) (sym t_is) (subst (λ l. Done s s es l) (sym fs_is) (flushed_none view bits bytes is_modified cleared IsFit unmodified same_bytes P all safety s (tables es) honest kept))
 
   pub done_then : (r s t : S) (xs ys zs : List (ℕ × Slot V)) → Done r s xs ys → Done s t ys zs → Done r t xs zs
-  done_then r s t xs ys zs = flushed_then view bits bytes is_modified cleared IsFit unmodified same_bytes P all r s t (tables xs) (tables ys) (tables zs)
+  done_then r s t xs ys zs = flushed_then view bits bytes is_modified cleared IsFit unmodified same_bytes P all safety r s t (tables xs) (tables ys) (tables zs)
 
   -- the list alone changes
   relisted : (s : S) (es fs : List (ℕ × Slot V)) → (view s).is_honest → P (tables es) (contents s) → P (tables fs) (contents s) × (all (tables fs) (contents s) ≡ all (tables es) (contents s)) → Done s s es fs
   relisted s es fs honest kept new =
-      let none = flushed_none view bits bytes is_modified cleared IsFit unmodified same_bytes P all s (tables es) honest kept in
+      let none = flushed_none view bits bytes is_modified cleared IsFit unmodified same_bytes P all safety s (tables es) honest kept in
       record { honest = honest; kept = new.0; known = new.1; since = none.since; moments = none.moments }
 
   -- ---- a hit
@@ -91,9 +90,9 @@ module _ {S V : Type 0} (view : S → StorageView) (bits : ℕ) (bytes : V → L
       let added = add (table (k, slot_of v 0)) (tables es) (contents t) kept' aligned (elsewhere_of_none bits bytes is_modified k es missing) l.unmodified
       (inl (λ i lt. ap (λ c. byte_at c i) (l.read honest) ∙ byte_at-bytes_at (view s).contents (k * 2 ^ bits) (2 ^ bits) i lt ∙ ap (λ (b : Bytes). b (k * 2 ^ bits + i)) (sym same))) in
       let stays : all (tables es) (contents t) ≡ all (tables es) (contents s) = ap (λ b. all (tables es) b) same in
-      let still : IsSafeBetween (contents s) (all (tables es) (contents s)) (contents t) = λ backing m ok known_ok. rw same ok in
+      let still : safety.Safe (contents s) (all (tables es) (contents s)) (contents t) = safety.same (contents s) (all (tables es) (contents s)) (contents t) same in
       let moments : EachMomentSince (view s) (view t) (λ c. (ts : List CachedTable) × P ts (byte_at c)) = passes_if _ (λ c is. (tables es, subst (λ l'. P (tables es) (byte_at l')) (sym is) kept')) l.calls.time in
-      let since : IsSafeSince (view s) (view t) (all (tables es) (contents s)) = record { moments = passes_if _ (λ c is. subst (λ l'. IsSafeBetween (contents s) (all (tables es) (contents s)) (byte_at l')) (sym is) still) l.calls.time; contents = still } in (
+      let since : safety.Since (view s) (view t) (all (tables es) (contents s)) = safety.one (view s) (view t) (all (tables es) (contents s)) l.calls.time still in (
         record { honest = l.calls.honest honest; kept = kept'; known = stays; since = since; moments = moments },
         record { honest = l.calls.honest honest; kept = added.0; known = added.1 ∙ stays; since = since; moments = moments },
       )
@@ -101,17 +100,17 @@ module _ {S V : Type 0} (view : S → StorageView) (bits : ℕ) (bytes : V → L
   failed_load : (s t : S) (k : ℕ) (x : MetadataError) (es : List (ℕ × Slot V)) → (view s).is_honest → P (tables es) (contents s) → FailsToLoad view bits bytes is_modified cleared IsFit s k x t → Done s t es es
   failed_load s t k x es honest kept l =
       let same : contents t ≡ contents s = ap (λ c. byte_at c) (l.keeps honest) in
-      let still : IsSafeBetween (contents s) (all (tables es) (contents s)) (contents t) = λ backing m ok known_ok. rw same ok in
+      let still : safety.Safe (contents s) (all (tables es) (contents s)) (contents t) = safety.same (contents s) (all (tables es) (contents s)) (contents t) same in
       record {
         honest = l.calls.honest honest;
         kept = subst (λ b. P (tables es) b) (sym same) kept;
         known = ap (λ b. all (tables es) b) same;
-        since = record { moments = passes_if _ (λ c is. subst (λ l'. IsSafeBetween (contents s) (all (tables es) (contents s)) (byte_at l')) (sym is) still) l.calls.time; contents = still };
+        since = safety.one (view s) (view t) (all (tables es) (contents s)) l.calls.time still;
         moments = passes_if _ (λ c is. (tables es, subst (λ l'. P (tables es) (byte_at l')) (sym (is ∙ l.keeps honest)) kept)) l.calls.time;
       }
 
   -- ---- with room for one more, which an eviction may make
-  module _ (size : ℕ) (may_flush : Bool) (step : may_flush ≡ true → WritesOne view bits bytes is_modified cleared IsFit unmodified same_bytes P all) where
+  module _ (size : ℕ) (may_flush : Bool) (step : may_flush ≡ true → WritesOne view bits bytes is_modified cleared IsFit unmodified same_bytes P all safety) where
     evicted : (s t : S) (es fs : List (ℕ × Slot V)) → (view s).is_honest → P (tables es) (contents s)
         → Evicts (table_steps view bits bytes is_modified cleared IsFit) eqb size may_flush s es t fs → Done s t es fs
     evicted s t es fs honest kept v =
@@ -122,7 +121,7 @@ module _ {S V : Type 0} (view : S → StorageView) (bits : ℕ) (bytes : V → L
         let both = tables_both bits bytes is_modified sp.front sp.back in
         let whole : tables es ≡ tables sp.front ++ table e ∷ tables sp.back = ap tables sp.is ∙ at in
         let kept' : P (tables sp.front ++ table e ∷ tables sp.back) (contents s) = subst (λ l. P l (contents s)) whole kept in
-        let one = flushed_entry view bits bytes is_modified cleared IsFit unmodified same_bytes P all (step v.must.may) s t (tables sp.front) (tables sp.back) e None w.1 honest kept' (v.flushed, refl) in
+        let one = flushed_entry view bits bytes is_modified cleared IsFit unmodified same_bytes P all safety (step v.must.may) s t (tables sp.front) (tables sp.back) e None w.1 honest kept' (v.flushed, refl) in
         let clean : is_modified v.clean ≡ false = ap is_modified v.flushed.clean ∙ unmodified e.1.value in
         let old_data = drop_clean (tables sp.front) (tables sp.back) (table w) (contents t) one.kept clean in
         let apart : AreDistinct (tables (sp.front ++ e ∷ sp.back)) = subst (λ l. AreDistinct (tables l)) sp.is (distinct (tables es) (contents s) kept) in
@@ -155,7 +154,7 @@ module _ {S V : Type 0} (view : S → StorageView) (bits : ℕ) (bytes : V → L
         let sp = split_oldest es e h.eviction in
         let whole : tables es ≡ tables sp.front ++ table e ∷ tables sp.back = ap tables sp.is ∙ tables_at bits bytes is_modified sp.front sp.back e in
         let kept' : P (tables sp.front ++ table e ∷ tables sp.back) (contents s) = subst (λ l. P l (contents s)) whole kept in
-        let one = flushed_entry view bits bytes is_modified cleared IsFit unmodified same_bytes P all (step h.must.may) s t (tables sp.front) (tables sp.back) e (Some x) e.1 honest kept' (h.failed, refl) in
+        let one = flushed_entry view bits bytes is_modified cleared IsFit unmodified same_bytes P all safety (step h.must.may) s t (tables sp.front) (tables sp.back) e (Some x) e.1 honest kept' (h.failed, refl) in
         rw (h.same, whole) one
 
     -- a missing key is still missing once there is room
@@ -188,7 +187,7 @@ module _ {S V : Type 0} (view : S → StorageView) (bits : ℕ) (bytes : V → L
     -- ---- a table is put in
     module _ (k : ℕ) (v : V) where
       pub insert_put : (s t : S) (es fs : List (ℕ × Slot V)) (r : Result Bool (CacheError ℕ MetadataError)) (left : Option V) → (view s).is_honest → P (tables es) (contents s) → lookup (eqb k) es ≡ None
-          → InsertsNew (table_steps view bits bytes is_modified cleared IsFit) eqb size may_flush k v s es r t fs left → Puts view bits bytes is_modified cleared IsFit unmodified same_bytes P all k v s t es fs r
+          → InsertsNew (table_steps view bits bytes is_modified cleared IsFit) eqb size may_flush k v s es r t fs left → Puts view bits bytes is_modified cleared IsFit unmodified same_bytes P all safety k v s t es fs r
       insert_put s t es fs (Ok true) left honest kept missing h = record {
         rest = h.0.0;
         pins = 0;
@@ -217,11 +216,11 @@ module _ {S V : Type 0} (view : S → StorageView) (bits : ℕ) (bytes : V → L
         rest_is = let f = split_found (eqb k) es e found in ap tables f.rest ∙ tables_both bits bytes is_modified f.front f.back
 
         pub replace_put : (fs : List (ℕ × Slot V)) (r : Result Bool (CacheError ℕ MetadataError)) (left : Option V)
-            → Replaces (table_steps view bits bytes is_modified cleared IsFit) k e (remove_entry (eqb k) es) v may_flush s es r t fs left → Puts view bits bytes is_modified cleared IsFit unmodified same_bytes P all k v s t es fs r
+            → Replaces (table_steps view bits bytes is_modified cleared IsFit) k e (remove_entry (eqb k) es) v may_flush s es r t fs left → Puts view bits bytes is_modified cleared IsFit unmodified same_bytes P all safety k v s t es fs r
         replace_put fs (Ok true) left h =
             let f = split_found (eqb k) es e found in
             let w : V = h.1.0 in
-            let one = flushed_entry view bits bytes is_modified cleared IsFit unmodified same_bytes P all (step h.0) s t (tables f.front) (tables f.back) e None (record { value = w; pins = e.1.pins }) honest kept'
+            let one = flushed_entry view bits bytes is_modified cleared IsFit unmodified same_bytes P all safety (step h.0) s t (tables f.front) (tables f.back) e None (record { value = w; pins = e.1.pins }) honest kept'
             (subst (λ n. FlushesTable view bits bytes is_modified cleared IsFit s n e.1.value w t) (sym own_key) h.1.1, refl) in
             let gone = drop_clean (tables f.front) (tables f.back) (table (e.0, record { value = w; pins = e.1.pins })) (contents t) one.kept (ap is_modified h.1.1.clean ∙ unmodified e.1.value) in
             let apart : AreDistinct (tables f.front ++ table e ∷ tables f.back) = distinct _ (contents s) kept' in
@@ -242,7 +241,7 @@ module _ {S V : Type 0} (view : S → StorageView) (bits : ℕ) (bytes : V → L
         replace_put fs (Ok false) left h = done_none s t es fs honest kept h.1 h.2
         replace_put fs (Err (Backend x)) left h =
             let f = split_found (eqb k) es e found in
-            let one = flushed_entry view bits bytes is_modified cleared IsFit unmodified same_bytes P all (step h.0) s t (tables f.front) (tables f.back) e (Some x) e.1 honest kept'
+            let one = flushed_entry view bits bytes is_modified cleared IsFit unmodified same_bytes P all safety (step h.0) s t (tables f.front) (tables f.back) e (Some x) e.1 honest kept'
             (subst (λ n. FailsToFlush view bits bytes is_modified cleared IsFit s n e.1.value x t) (sym own_key) h.1, refl) in
             let front = promote (tables f.front) (tables f.back) (table e) (contents t) one.kept in
             let fs_is : tables fs ≡ table e ∷ (tables f.front ++ tables f.back) = ap tables h.2 ∙ ap (λ l. table e ∷ l) rest_is in
@@ -270,7 +269,7 @@ module _ {S V : Type 0} (view : S → StorageView) (bits : ℕ) (bytes : V → L
         still_holds : (s t : S) (es fs : List (ℕ × Slot V)) → Done s t es fs → Holds s es → Holds t fs
         still_holds s t es fs d holds i lt = holds i lt ∙ ap (λ (m : Bytes). m (k * 2 ^ bits + i)) (sym d.known)
 
-        put_done : (s t : S) (es fs : List (ℕ × Slot V)) (r : Result Bool (CacheError ℕ MetadataError)) → Holds s es → Puts view bits bytes is_modified cleared IsFit unmodified same_bytes P all k v s t es fs r → Done s t es fs
+        put_done : (s t : S) (es fs : List (ℕ × Slot V)) (r : Result Bool (CacheError ℕ MetadataError)) → Holds s es → Puts view bits bytes is_modified cleared IsFit unmodified same_bytes P all safety k v s t es fs r → Done s t es fs
         put_done s t es fs (Ok true) holds ready =
             subst (λ l. Done s t es l) (sym ready.is) (done_then s t t es ready.rest ((k, slot_of v ready.pins) ∷ ready.rest) ready.done
             (added t ready.pins ready.rest ready.done.honest ready.done.kept ready.away (still_holds s t es ready.rest ready.done holds)))

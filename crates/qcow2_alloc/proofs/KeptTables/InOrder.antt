@@ -27,7 +27,7 @@ use Rattle.qcow2_alloc.specs.ImageStorage.{storage_of}
 use Rattle.qcow2_alloc.specs.TableCaches.{l2_steps, rb_steps, cleared_l2, cleared_rb, IsTableOf, IsBlockOf}
 use Rattle.qcow2_alloc.specs.KeptTables.{IsInOrderSince}
 use Rattle.qcow2_alloc.specs.MetadataCaches.{order_of, l2_tables, refblocks, known_of, KeepSound, WritesInOrder}
-use Rattle.qcow2_alloc.proofs.KeptTables.Writing.{Flushed, Puts, flushed_all}
+use Rattle.qcow2_alloc.proofs.KeptTables.Writing.{crash_safety, Flushed, Puts, flushed_all}
 use Rattle.qcow2_alloc.proofs.KeptTables.Flushing.{all_of}
 use Rattle.qcow2_alloc.proofs.KeptTables.Fetching.{none_or_some, is_none}
 use Rattle.qcow2_alloc.proofs.KeptTables.Inserting.{found_or_not, lookup_none}
@@ -58,10 +58,10 @@ module _ {S V : Type 0} (view : S → StorageView) (bits : ℕ) (bytes : V → L
     (unmodified : (v : V) → is_modified (cleared v) ≡ false) (same_bytes : (v : V) → bytes (cleared v) ≡ bytes v)
     (P : List CachedTable → Bytes → Type 0) (all : List CachedTable → Bytes → Bytes) (k : ℕ) (v : V) (s t : S) (es fs : List (ℕ × Slot V))
     (h : HeaderFields) (d : Direction) (known : Bytes) (mixed : (ts : List CachedTable) (b : Bytes) → P ts b → IsMixed h d (byte_at (view s).contents) known b) where
-  since_flushed : (ts us : List CachedTable) → Flushed view bits bytes is_modified cleared IsFit unmodified same_bytes P all s t ts us → IsInOrderSince h d (view s) (view t) known
+  since_flushed : (ts us : List CachedTable) → Flushed view bits bytes is_modified cleared IsFit unmodified same_bytes P all crash_safety s t ts us → IsInOrderSince h d (view s) (view t) known
   since_flushed ts us f = record { moments = passes_if _ (λ l now. mixed now.0 (byte_at l) now.1) f.moments; contents = mixed us (byte_at (view t).contents) f.kept }
 
-  since_put : (r : Result Bool (CacheError ℕ MetadataError)) → Puts view bits bytes is_modified cleared IsFit unmodified same_bytes P all k v s t es fs r → IsInOrderSince h d (view s) (view t) known
+  since_put : (r : Result Bool (CacheError ℕ MetadataError)) → Puts view bits bytes is_modified cleared IsFit unmodified same_bytes P all crash_safety k v s t es fs r → IsInOrderSince h d (view s) (view t) known
   since_put (Ok true) ready = since_flushed _ _ ready.done
   since_put (Ok false) f = since_flushed _ _ f
   since_put (Err e) f = since_flushed _ _ f
@@ -79,7 +79,7 @@ module _ {S : Type 0} (view : S → StorageView) (old new : ImageStorage S) (cac
       let all = all_of (l2_steps seen caches.l2.backend.header.fields) old new caches.l2.entries l2.entries answer flushes in
       let f = flushed_all seen bits (λ (t : L2TableView). t.bytes) (λ t. t.is_modified) cleared_l2 (IsTableOf caches.l2.backend.header.fields) (λ v. refl) (λ v. refl)
       (OrderedTables h (order_of caches) p on_storage (known_of h caches on_storage) sound.kept.kept.crash_invariant bits sound.l2_format.bits (refblocks caches))
-      (λ ts on_storage. known_bytes (cluster_size h) ts (refblocks caches) on_storage)
+      (λ ts on_storage. known_bytes (cluster_size h) ts (refblocks caches) on_storage) crash_safety
       (l2_step_ordered h (order_of caches) p on_storage (known_of h caches on_storage) sound.kept.kept.crash_invariant bits sound.l2_format.bits (refblocks caches) may)
       old new [] caches.l2.entries l2.entries all.0 honest (sound.kept, refl, mixed_same h (order_of caches) on_storage (known_of h caches on_storage)) all.1 in
       record { moments = passes_if _ (λ l now. now.1.2) f.moments; contents = f.kept.2 }
@@ -92,7 +92,7 @@ module _ {S : Type 0} (view : S → StorageView) (old new : ImageStorage S) (cac
       let all = all_of (rb_steps seen caches.rb.backend.header.fields) old new caches.rb.entries rb.entries answer flushes in
       let f = flushed_all seen bits (λ (b : RefBlockView). b.bytes) (λ b. b.is_modified) cleared_rb (IsBlockOf caches.rb.backend.header.fields) (λ v. refl) (λ v. refl)
       (OrderedBlocks h (order_of caches) p on_storage (known_of h caches on_storage) sound.kept.kept.crash_invariant bits sound.rb_format.bits (l2_tables caches))
-      (λ ts on_storage. known_bytes (cluster_size h) (l2_tables caches) ts on_storage)
+      (λ ts on_storage. known_bytes (cluster_size h) (l2_tables caches) ts on_storage) crash_safety
       (rb_step_ordered h (order_of caches) p on_storage (known_of h caches on_storage) sound.kept.kept.crash_invariant bits sound.rb_format.bits (l2_tables caches) may)
       old new [] caches.rb.entries rb.entries all.0 honest (sound.kept, refl, mixed_same h (order_of caches) on_storage (known_of h caches on_storage)) all.1 in
       record { moments = passes_if _ (λ l now. now.1.2) f.moments; contents = f.kept.2 }
@@ -108,7 +108,7 @@ module _ {S : Type 0} (view : S → StorageView) (old new : ImageStorage S) (cac
       elim (none_or_some (lookup (eqb key) caches.l2.entries)) [
         | inl there ↦ let is = hit there in rw is.2 (order_none view old caches h p honest sound)
         | inr missing ↦
-            let f = get_done seen bits (λ (t : L2TableView). t.bytes) (λ t. t.is_modified) cleared_l2 (IsTableOf caches.l2.backend.header.fields) (λ v. refl) (λ v. refl) (OrderedTables h (order_of caches) p on_storage (known_of h caches on_storage) sound.kept.kept.crash_invariant bits sound.l2_format.bits (refblocks caches)) (λ ts on_storage. known_bytes (cluster_size h) ts (refblocks caches) on_storage) (λ ts on_storage are. loaded_distinct (cluster_size h) (HasL2 h on_storage) on_storage ts are.0.l2_loaded) (l2_drop_ordered h (order_of caches) p on_storage (known_of h caches on_storage) sound.kept.kept.crash_invariant bits sound.l2_format.bits (refblocks caches)) (l2_add_ordered h (order_of caches) p on_storage (known_of h caches on_storage) sound.kept.kept.crash_invariant bits sound.l2_format.bits (refblocks caches)) (l2_promote_ordered h (order_of caches) p on_storage (known_of h caches on_storage) sound.kept.kept.crash_invariant bits sound.l2_format.bits (refblocks caches)) caches.l2.size may_flush
+            let f = get_done seen bits (λ (t : L2TableView). t.bytes) (λ t. t.is_modified) cleared_l2 (IsTableOf caches.l2.backend.header.fields) (λ v. refl) (λ v. refl) (OrderedTables h (order_of caches) p on_storage (known_of h caches on_storage) sound.kept.kept.crash_invariant bits sound.l2_format.bits (refblocks caches)) (λ ts on_storage. known_bytes (cluster_size h) ts (refblocks caches) on_storage) crash_safety (λ ts on_storage are. loaded_distinct (cluster_size h) (HasL2 h on_storage) on_storage ts are.0.l2_loaded) (l2_drop_ordered h (order_of caches) p on_storage (known_of h caches on_storage) sound.kept.kept.crash_invariant bits sound.l2_format.bits (refblocks caches)) (l2_add_ordered h (order_of caches) p on_storage (known_of h caches on_storage) sound.kept.kept.crash_invariant bits sound.l2_format.bits (refblocks caches)) (l2_promote_ordered h (order_of caches) p on_storage (known_of h caches on_storage) sound.kept.kept.crash_invariant bits sound.l2_format.bits (refblocks caches)) caches.l2.size may_flush
             (λ flush. l2_step_ordered h (order_of caches) p on_storage (known_of h caches on_storage) sound.kept.kept.crash_invariant bits sound.l2_format.bits (refblocks caches) (may flush))
             old new key caches.l2.entries l2.entries answer honest (sound.kept, refl, mixed_same h (order_of caches) on_storage (known_of h caches on_storage)) (is_none (lookup (eqb key) caches.l2.entries) missing) (miss missing) in
             record { moments = passes_if _ (λ l now. now.1.2) f.moments; contents = f.kept.2 }
@@ -123,9 +123,9 @@ module _ {S : Type 0} (view : S → StorageView) (old new : ImageStorage S) (cac
       let on_storage = byte_at (seen old).contents in
       since_put seen bits (λ (t : L2TableView). t.bytes) (λ t. t.is_modified) cleared_l2 (IsTableOf caches.l2.backend.header.fields) (λ v. refl) (λ v. refl) (OrderedTables h (order_of caches) p on_storage (known_of h caches on_storage) sound.kept.kept.crash_invariant bits sound.l2_format.bits (refblocks caches)) (λ ts on_storage. known_bytes (cluster_size h) ts (refblocks caches) on_storage) key v old new caches.l2.entries l2.entries h (order_of caches) (known_of h caches on_storage) (λ ts b now. now.2) answer
       (found_or_not (lookup_entry (eqb key) caches.l2.entries)
-      (λ none. insert_put seen bits (λ (t : L2TableView). t.bytes) (λ t. t.is_modified) cleared_l2 (IsTableOf caches.l2.backend.header.fields) (λ v. refl) (λ v. refl) (OrderedTables h (order_of caches) p on_storage (known_of h caches on_storage) sound.kept.kept.crash_invariant bits sound.l2_format.bits (refblocks caches)) (λ ts on_storage. known_bytes (cluster_size h) ts (refblocks caches) on_storage) (λ ts on_storage are. loaded_distinct (cluster_size h) (HasL2 h on_storage) on_storage ts are.0.l2_loaded) (l2_drop_ordered h (order_of caches) p on_storage (known_of h caches on_storage) sound.kept.kept.crash_invariant bits sound.l2_format.bits (refblocks caches)) (l2_add_ordered h (order_of caches) p on_storage (known_of h caches on_storage) sound.kept.kept.crash_invariant bits sound.l2_format.bits (refblocks caches)) (l2_promote_ordered h (order_of caches) p on_storage (known_of h caches on_storage) sound.kept.kept.crash_invariant bits sound.l2_format.bits (refblocks caches)) caches.l2.size may_flush (λ flush. l2_step_ordered h (order_of caches) p on_storage (known_of h caches on_storage) sound.kept.kept.crash_invariant bits sound.l2_format.bits (refblocks caches) (may flush)) key v
+      (λ none. insert_put seen bits (λ (t : L2TableView). t.bytes) (λ t. t.is_modified) cleared_l2 (IsTableOf caches.l2.backend.header.fields) (λ v. refl) (λ v. refl) (OrderedTables h (order_of caches) p on_storage (known_of h caches on_storage) sound.kept.kept.crash_invariant bits sound.l2_format.bits (refblocks caches)) (λ ts on_storage. known_bytes (cluster_size h) ts (refblocks caches) on_storage) crash_safety (λ ts on_storage are. loaded_distinct (cluster_size h) (HasL2 h on_storage) on_storage ts are.0.l2_loaded) (l2_drop_ordered h (order_of caches) p on_storage (known_of h caches on_storage) sound.kept.kept.crash_invariant bits sound.l2_format.bits (refblocks caches)) (l2_add_ordered h (order_of caches) p on_storage (known_of h caches on_storage) sound.kept.kept.crash_invariant bits sound.l2_format.bits (refblocks caches)) (l2_promote_ordered h (order_of caches) p on_storage (known_of h caches on_storage) sound.kept.kept.crash_invariant bits sound.l2_format.bits (refblocks caches)) caches.l2.size may_flush (λ flush. l2_step_ordered h (order_of caches) p on_storage (known_of h caches on_storage) sound.kept.kept.crash_invariant bits sound.l2_format.bits (refblocks caches) (may flush)) key v
       old new caches.l2.entries l2.entries answer left honest (sound.kept, refl, mixed_same h (order_of caches) on_storage (known_of h caches on_storage)) (lookup_none (eqb key) caches.l2.entries none) (rw is at (missing (rw (lookup_none (eqb key) caches.l2.entries none) refl))))
-      (λ e some. replace_put seen bits (λ (t : L2TableView). t.bytes) (λ t. t.is_modified) cleared_l2 (IsTableOf caches.l2.backend.header.fields) (λ v. refl) (λ v. refl) (OrderedTables h (order_of caches) p on_storage (known_of h caches on_storage) sound.kept.kept.crash_invariant bits sound.l2_format.bits (refblocks caches)) (λ ts on_storage. known_bytes (cluster_size h) ts (refblocks caches) on_storage) (λ ts on_storage are. loaded_distinct (cluster_size h) (HasL2 h on_storage) on_storage ts are.0.l2_loaded) (l2_drop_ordered h (order_of caches) p on_storage (known_of h caches on_storage) sound.kept.kept.crash_invariant bits sound.l2_format.bits (refblocks caches)) (l2_add_ordered h (order_of caches) p on_storage (known_of h caches on_storage) sound.kept.kept.crash_invariant bits sound.l2_format.bits (refblocks caches)) (l2_promote_ordered h (order_of caches) p on_storage (known_of h caches on_storage) sound.kept.kept.crash_invariant bits sound.l2_format.bits (refblocks caches)) caches.l2.size may_flush (λ flush. l2_step_ordered h (order_of caches) p on_storage (known_of h caches on_storage) sound.kept.kept.crash_invariant bits sound.l2_format.bits (refblocks caches) (may flush)) key v
+      (λ e some. replace_put seen bits (λ (t : L2TableView). t.bytes) (λ t. t.is_modified) cleared_l2 (IsTableOf caches.l2.backend.header.fields) (λ v. refl) (λ v. refl) (OrderedTables h (order_of caches) p on_storage (known_of h caches on_storage) sound.kept.kept.crash_invariant bits sound.l2_format.bits (refblocks caches)) (λ ts on_storage. known_bytes (cluster_size h) ts (refblocks caches) on_storage) crash_safety (λ ts on_storage are. loaded_distinct (cluster_size h) (HasL2 h on_storage) on_storage ts are.0.l2_loaded) (l2_drop_ordered h (order_of caches) p on_storage (known_of h caches on_storage) sound.kept.kept.crash_invariant bits sound.l2_format.bits (refblocks caches)) (l2_add_ordered h (order_of caches) p on_storage (known_of h caches on_storage) sound.kept.kept.crash_invariant bits sound.l2_format.bits (refblocks caches)) (l2_promote_ordered h (order_of caches) p on_storage (known_of h caches on_storage) sound.kept.kept.crash_invariant bits sound.l2_format.bits (refblocks caches)) caches.l2.size may_flush (λ flush. l2_step_ordered h (order_of caches) p on_storage (known_of h caches on_storage) sound.kept.kept.crash_invariant bits sound.l2_format.bits (refblocks caches) (may flush)) key v
       old new caches.l2.entries e some honest (sound.kept, refl, mixed_same h (order_of caches) on_storage (known_of h caches on_storage)) l2.entries answer left (rw is at (rw some at there))))
 
   -- ---- a refblock
@@ -139,7 +139,7 @@ module _ {S : Type 0} (view : S → StorageView) (old new : ImageStorage S) (cac
       elim (none_or_some (lookup (eqb key) caches.rb.entries)) [
         | inl there ↦ let is = hit there in rw is.2 (order_none view old caches h p honest sound)
         | inr missing ↦
-            let f = get_done seen bits (λ (b : RefBlockView). b.bytes) (λ b. b.is_modified) cleared_rb (IsBlockOf caches.rb.backend.header.fields) (λ v. refl) (λ v. refl) (OrderedBlocks h (order_of caches) p on_storage (known_of h caches on_storage) sound.kept.kept.crash_invariant bits sound.rb_format.bits (l2_tables caches)) (λ ts on_storage. known_bytes (cluster_size h) (l2_tables caches) ts on_storage) (λ ts on_storage are. loaded_distinct (cluster_size h) (HasBlock h on_storage) on_storage ts are.0.rb_loaded) (rb_drop_ordered h (order_of caches) p on_storage (known_of h caches on_storage) sound.kept.kept.crash_invariant bits sound.rb_format.bits (l2_tables caches)) (rb_add_ordered h (order_of caches) p on_storage (known_of h caches on_storage) sound.kept.kept.crash_invariant bits sound.rb_format.bits (l2_tables caches)) (rb_promote_ordered h (order_of caches) p on_storage (known_of h caches on_storage) sound.kept.kept.crash_invariant bits sound.rb_format.bits (l2_tables caches)) caches.rb.size may_flush
+            let f = get_done seen bits (λ (b : RefBlockView). b.bytes) (λ b. b.is_modified) cleared_rb (IsBlockOf caches.rb.backend.header.fields) (λ v. refl) (λ v. refl) (OrderedBlocks h (order_of caches) p on_storage (known_of h caches on_storage) sound.kept.kept.crash_invariant bits sound.rb_format.bits (l2_tables caches)) (λ ts on_storage. known_bytes (cluster_size h) (l2_tables caches) ts on_storage) crash_safety (λ ts on_storage are. loaded_distinct (cluster_size h) (HasBlock h on_storage) on_storage ts are.0.rb_loaded) (rb_drop_ordered h (order_of caches) p on_storage (known_of h caches on_storage) sound.kept.kept.crash_invariant bits sound.rb_format.bits (l2_tables caches)) (rb_add_ordered h (order_of caches) p on_storage (known_of h caches on_storage) sound.kept.kept.crash_invariant bits sound.rb_format.bits (l2_tables caches)) (rb_promote_ordered h (order_of caches) p on_storage (known_of h caches on_storage) sound.kept.kept.crash_invariant bits sound.rb_format.bits (l2_tables caches)) caches.rb.size may_flush
             (λ flush. rb_step_ordered h (order_of caches) p on_storage (known_of h caches on_storage) sound.kept.kept.crash_invariant bits sound.rb_format.bits (l2_tables caches) (may flush))
             old new key caches.rb.entries rb.entries answer honest (sound.kept, refl, mixed_same h (order_of caches) on_storage (known_of h caches on_storage)) (is_none (lookup (eqb key) caches.rb.entries) missing) (miss missing) in
             record { moments = passes_if _ (λ l now. now.1.2) f.moments; contents = f.kept.2 }
@@ -154,7 +154,7 @@ module _ {S : Type 0} (view : S → StorageView) (old new : ImageStorage S) (cac
       let on_storage = byte_at (seen old).contents in
       since_put seen bits (λ (b : RefBlockView). b.bytes) (λ b. b.is_modified) cleared_rb (IsBlockOf caches.rb.backend.header.fields) (λ v. refl) (λ v. refl) (OrderedBlocks h (order_of caches) p on_storage (known_of h caches on_storage) sound.kept.kept.crash_invariant bits sound.rb_format.bits (l2_tables caches)) (λ ts on_storage. known_bytes (cluster_size h) (l2_tables caches) ts on_storage) key v old new caches.rb.entries rb.entries h (order_of caches) (known_of h caches on_storage) (λ ts b now. now.2) answer
       (found_or_not (lookup_entry (eqb key) caches.rb.entries)
-      (λ none. insert_put seen bits (λ (b : RefBlockView). b.bytes) (λ b. b.is_modified) cleared_rb (IsBlockOf caches.rb.backend.header.fields) (λ v. refl) (λ v. refl) (OrderedBlocks h (order_of caches) p on_storage (known_of h caches on_storage) sound.kept.kept.crash_invariant bits sound.rb_format.bits (l2_tables caches)) (λ ts on_storage. known_bytes (cluster_size h) (l2_tables caches) ts on_storage) (λ ts on_storage are. loaded_distinct (cluster_size h) (HasBlock h on_storage) on_storage ts are.0.rb_loaded) (rb_drop_ordered h (order_of caches) p on_storage (known_of h caches on_storage) sound.kept.kept.crash_invariant bits sound.rb_format.bits (l2_tables caches)) (rb_add_ordered h (order_of caches) p on_storage (known_of h caches on_storage) sound.kept.kept.crash_invariant bits sound.rb_format.bits (l2_tables caches)) (rb_promote_ordered h (order_of caches) p on_storage (known_of h caches on_storage) sound.kept.kept.crash_invariant bits sound.rb_format.bits (l2_tables caches)) caches.rb.size may_flush (λ flush. rb_step_ordered h (order_of caches) p on_storage (known_of h caches on_storage) sound.kept.kept.crash_invariant bits sound.rb_format.bits (l2_tables caches) (may flush)) key v
+      (λ none. insert_put seen bits (λ (b : RefBlockView). b.bytes) (λ b. b.is_modified) cleared_rb (IsBlockOf caches.rb.backend.header.fields) (λ v. refl) (λ v. refl) (OrderedBlocks h (order_of caches) p on_storage (known_of h caches on_storage) sound.kept.kept.crash_invariant bits sound.rb_format.bits (l2_tables caches)) (λ ts on_storage. known_bytes (cluster_size h) (l2_tables caches) ts on_storage) crash_safety (λ ts on_storage are. loaded_distinct (cluster_size h) (HasBlock h on_storage) on_storage ts are.0.rb_loaded) (rb_drop_ordered h (order_of caches) p on_storage (known_of h caches on_storage) sound.kept.kept.crash_invariant bits sound.rb_format.bits (l2_tables caches)) (rb_add_ordered h (order_of caches) p on_storage (known_of h caches on_storage) sound.kept.kept.crash_invariant bits sound.rb_format.bits (l2_tables caches)) (rb_promote_ordered h (order_of caches) p on_storage (known_of h caches on_storage) sound.kept.kept.crash_invariant bits sound.rb_format.bits (l2_tables caches)) caches.rb.size may_flush (λ flush. rb_step_ordered h (order_of caches) p on_storage (known_of h caches on_storage) sound.kept.kept.crash_invariant bits sound.rb_format.bits (l2_tables caches) (may flush)) key v
       old new caches.rb.entries rb.entries answer left honest (sound.kept, refl, mixed_same h (order_of caches) on_storage (known_of h caches on_storage)) (lookup_none (eqb key) caches.rb.entries none) (rw is at (missing (rw (lookup_none (eqb key) caches.rb.entries none) refl))))
-      (λ e some. replace_put seen bits (λ (b : RefBlockView). b.bytes) (λ b. b.is_modified) cleared_rb (IsBlockOf caches.rb.backend.header.fields) (λ v. refl) (λ v. refl) (OrderedBlocks h (order_of caches) p on_storage (known_of h caches on_storage) sound.kept.kept.crash_invariant bits sound.rb_format.bits (l2_tables caches)) (λ ts on_storage. known_bytes (cluster_size h) (l2_tables caches) ts on_storage) (λ ts on_storage are. loaded_distinct (cluster_size h) (HasBlock h on_storage) on_storage ts are.0.rb_loaded) (rb_drop_ordered h (order_of caches) p on_storage (known_of h caches on_storage) sound.kept.kept.crash_invariant bits sound.rb_format.bits (l2_tables caches)) (rb_add_ordered h (order_of caches) p on_storage (known_of h caches on_storage) sound.kept.kept.crash_invariant bits sound.rb_format.bits (l2_tables caches)) (rb_promote_ordered h (order_of caches) p on_storage (known_of h caches on_storage) sound.kept.kept.crash_invariant bits sound.rb_format.bits (l2_tables caches)) caches.rb.size may_flush (λ flush. rb_step_ordered h (order_of caches) p on_storage (known_of h caches on_storage) sound.kept.kept.crash_invariant bits sound.rb_format.bits (l2_tables caches) (may flush)) key v
+      (λ e some. replace_put seen bits (λ (b : RefBlockView). b.bytes) (λ b. b.is_modified) cleared_rb (IsBlockOf caches.rb.backend.header.fields) (λ v. refl) (λ v. refl) (OrderedBlocks h (order_of caches) p on_storage (known_of h caches on_storage) sound.kept.kept.crash_invariant bits sound.rb_format.bits (l2_tables caches)) (λ ts on_storage. known_bytes (cluster_size h) (l2_tables caches) ts on_storage) crash_safety (λ ts on_storage are. loaded_distinct (cluster_size h) (HasBlock h on_storage) on_storage ts are.0.rb_loaded) (rb_drop_ordered h (order_of caches) p on_storage (known_of h caches on_storage) sound.kept.kept.crash_invariant bits sound.rb_format.bits (l2_tables caches)) (rb_add_ordered h (order_of caches) p on_storage (known_of h caches on_storage) sound.kept.kept.crash_invariant bits sound.rb_format.bits (l2_tables caches)) (rb_promote_ordered h (order_of caches) p on_storage (known_of h caches on_storage) sound.kept.kept.crash_invariant bits sound.rb_format.bits (l2_tables caches)) caches.rb.size may_flush (λ flush. rb_step_ordered h (order_of caches) p on_storage (known_of h caches on_storage) sound.kept.kept.crash_invariant bits sound.rb_format.bits (l2_tables caches) (may flush)) key v
       old new caches.rb.entries e some honest (sound.kept, refl, mixed_same h (order_of caches) on_storage (known_of h caches on_storage)) rb.entries answer left (rw is at (rw some at there))))

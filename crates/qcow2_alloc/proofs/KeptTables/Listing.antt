@@ -77,7 +77,7 @@ free_without : (size : ℕ) (front back : List CachedTable) (t : CachedTable) (o
 free_without size [] back t o free = free.1
 free_without size (u ∷ front) back t o free = (free.0, free_without size front back t o free.1)
 
-free_of : (size : ℕ) (front back : List CachedTable) (t : CachedTable) (o : ℕ) → IsFreeAt size (front ++ t ∷ back) o → overlays size t o ≡ false
+pub free_of : (size : ℕ) (front back : List CachedTable) (t : CachedTable) (o : ℕ) → IsFreeAt size (front ++ t ∷ back) o → overlays size t o ≡ false
 free_of size [] back t o free = free.0
 free_of size (u ∷ front) back t o free = free_of size front back t o free.1
 

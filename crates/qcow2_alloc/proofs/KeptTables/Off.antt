@@ -37,6 +37,7 @@ use Rattle.qcow2_alloc.specs.declared.error.ImageError.{ImageError}
 use Rattle.qcow2_alloc.specs.ImageError.{of_cache}
 use Rattle.qcow2_alloc.specs.AsyncLruCache.{Cache, value_at, can_remove, is_pinned, pinned, with_entries}
 use Rattle.qcow2_alloc.specs.CacheAnswers.{Unit₀, Invalidates}
+use Rattle.qcow2_alloc.specs.CountedChanges.{counts_none}
 use Rattle.qcow2_alloc.specs.CachePins.{CachesHaveRoom, KeepsPinsAndNotes, LeavesPinned}
 use Rattle.qcow2_alloc.specs.TableLaws.{same_number}
 use Rattle.qcow2_alloc.specs.TableCaches.{IsTableOf, IsBlockOf}
@@ -108,7 +109,7 @@ some_clean (t ∷ ts) us h all = elim h [
 ]
 
 module _ (size : ℕ) where
-  some_free : (ts us : List CachedTable) (o : ℕ) → SomeOf ts us → IsFreeAt size ts o → IsFreeAt size us o
+  pub some_free : (ts us : List CachedTable) (o : ℕ) → SomeOf ts us → IsFreeAt size ts o → IsFreeAt size us o
   some_free [] us o h all = subst (λ l. IsFreeAt size l o) (sym h) tt
   some_free (t ∷ ts) us o h all = elim h [
     | inl less ↦ some_free ts us o less all.1
@@ -359,7 +360,7 @@ module _ {S : Type 0} (caches : MetadataCaches S) (key : ℕ) (b : Bool) (rb : C
   removed_marks = record {
     pins = λ _. refl;
     room = λ r. record { tables = r.tables; some = subst (λ (c : Cache (RefBlockCacheBackend S) ℕ RefBlockView). 0 < c.size) (sym is) r.some; free = ap pinned entries_is ∙ free_case b r.free };
-    changed = λ noted. noted;
+    changes = counts_none caches.is_changed caches.changes;
   }
 
   found_of : (o : Option (ℕ × Slot RefBlockView)) → lookup_entry (eqb key) caches.rb.entries ≡ o → b ≡ true → TakesBlock caches (record caches { rb = rb }) key

@@ -15,7 +15,7 @@ module _ {V : Type 0} (key : ℕ) (es : List (ℕ × Slot V)) (w : V) where
   abbrev with_value : Option (Slot V) → List (ℕ × Slot V)
   with_value o = option_map_or (λ s. set_value (eqb key) es (slot_of w s.pins)) o es
 
-  here_of : (o : Option (Slot V)) → lookup (eqb key) es ≡ o → (v : V) → value_of o ≡ Some v → value_at (eqb key) (with_value o) ≡ Some w
+  pub here_of : (o : Option (Slot V)) → lookup (eqb key) es ≡ o → (v : V) → value_of o ≡ Some v → value_at (eqb key) (with_value o) ≡ Some w
   here_of None found v is = cc
   here_of (Some s) found v is = ap value_of (set_found key es s (slot_of w s.pins) found key) ∙ ap (λ b. value_of (cond b (Some (slot_of w s.pins)) (lookup (eqb key) es))) (nat_eq_equiv.refl key)
 

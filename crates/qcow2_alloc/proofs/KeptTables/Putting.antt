@@ -25,7 +25,7 @@ use Rattle.qcow2_alloc.specs.KeptTables.{cached_table, cached_tables, AllValuesF
 use Rattle.qcow2_alloc.specs.MetadataCaches.{laid_at, order_of, l2_tables, refblocks, CacheInvariant, UnseenCacheStep, LaidOver}
 use Rattle.qcow2_alloc.proofs.KeptTables.BlocksNamed.{named_blocks_beside}
 use Rattle.qcow2_alloc.proofs.KeptTables.Standing.{own_cluster}
-use Rattle.qcow2_alloc.proofs.KeptTables.Writing.{Flushed, Ready, Puts}
+use Rattle.qcow2_alloc.proofs.KeptTables.Writing.{crash_safety, Ready, Puts, nothing_new, made_ready}
 use Rattle.qcow2_alloc.proofs.KeptTables.Entries.{AreDistinct}
 use Rattle.qcow2_alloc.proofs.KeptTables.Fitting.{insert_fits, replace_fits}
 use Rattle.qcow2_alloc.proofs.KeptTables.Listing.{loaded_distinct, l2_drop, l2_add, l2_promote}
@@ -43,22 +43,6 @@ on_err (Err _) p = p
 pub put_at_last : {V E : Type 0} (key : ℕ) (v : V) (fs : List (ℕ × Slot V)) (answer : Result Bool (CacheError ℕ E)) (left : Option V) (b : Bool) → answer ≡ Ok b → IsTakenOrKept key v true fs answer left → answer ≡ Ok true
 put_at_last key v fs answer left true is taken = is
 put_at_last key v fs answer left false is taken = let e = taken.done is in absurd (cc)
-
--- ---- an answer, with what it leaves
-module _ {S V : Type 0} (view : S → StorageView) (bits : ℕ) (bytes : V → List ℕ) (is_modified : V → Bool) (cleared : V → V) (IsFit : V → Type 0)
-    (unmodified : (v : V) → is_modified (cleared v) ≡ false) (same_bytes : (v : V) → bytes (cleared v) ≡ bytes v)
-    (P : List CachedTable → Bytes → Type 0) (all : List CachedTable → Bytes → Bytes) (k : ℕ) (v : V) (s t : S) (es fs : List (ℕ × Slot V)) where
-  abbrev Leaves : Result Bool (CacheError ℕ MetadataError) → Type 0
-  Leaves = Puts view bits bytes is_modified cleared IsFit unmodified same_bytes P all k v s t es fs
-
-  pub nothing_new : (r : Result Bool (CacheError ℕ MetadataError)) → (r ≡ Ok true → ⊥) → Leaves r
-      → Flushed view bits bytes is_modified cleared IsFit unmodified same_bytes P all s t (cached_tables bits bytes is_modified es) (cached_tables bits bytes is_modified fs)
-  nothing_new (Ok true) isnt h = absurd (isnt refl)
-  nothing_new (Ok false) isnt h = h
-  nothing_new (Err e) isnt h = h
-
-  pub made_ready : (r : Result Bool (CacheError ℕ MetadataError)) → r ≡ Ok true → Leaves r → Ready view bits bytes is_modified cleared IsFit unmodified same_bytes P all k v s t es fs
-  made_ready r is h = subst Leaves is h
 
 -- ---- nothing new, and then a table is laid over
 module _ {S : Type 0} (view : S → StorageView) (h : HeaderFields) (p : Pending) (r s t : ImageStorage S) (a b c : MetadataCaches S) (table : CachedTable) (Stands : Bytes → Bytes → Type 0) (IsNamed : Bytes → Type 0) where
@@ -105,13 +89,13 @@ module _ {S : Type 0} (view : S → StorageView) (old new : ImageStorage S) (cac
     add t ts on_storage are aligned away clean current =
         l2_add h (order_of caches) p (refblocks caches) t ts on_storage are (subst (λ n. t.place % 2 ^ n ≡ 0) sound.l2_format.bits aligned) away clean (subst (λ n. HoldsWhatStands all (2 ^ n) t ts on_storage) sound.l2_format.bits current)
 
-    puts : Puts seen bits (λ (t : L2TableView). t.bytes) (λ t. t.is_modified) cleared_l2 IsFit (λ v. refl) (λ v. refl) P all key v old new caches.l2.entries l2.entries answer
+    puts : Puts seen bits (λ (t : L2TableView). t.bytes) (λ t. t.is_modified) cleared_l2 IsFit (λ v. refl) (λ v. refl) P all crash_safety key v old new caches.l2.entries l2.entries answer
     puts = found_or_not (lookup_entry (eqb key) caches.l2.entries)
-        (λ none. insert_put seen bits (λ (t : L2TableView). t.bytes) (λ t. t.is_modified) cleared_l2 IsFit (λ v. refl) (λ v. refl) P all distinct (l2_drop h (order_of caches) p (refblocks caches)) add (l2_promote h (order_of caches) p (refblocks caches)) caches.l2.size may_flush
+        (λ none. insert_put seen bits (λ (t : L2TableView). t.bytes) (λ t. t.is_modified) cleared_l2 IsFit (λ v. refl) (λ v. refl) P all crash_safety distinct (l2_drop h (order_of caches) p (refblocks caches)) add (l2_promote h (order_of caches) p (refblocks caches)) caches.l2.size may_flush
         (λ flush. l2_step h (order_of caches) p bits sound.l2_format.bits (refblocks caches) (may flush)) key v
         old new caches.l2.entries l2.entries answer left honest sound.kept (lookup_none (eqb key) caches.l2.entries none)
         (rw is at (missing (rw (lookup_none (eqb key) caches.l2.entries none) refl))))
-        (λ e some. replace_put seen bits (λ (t : L2TableView). t.bytes) (λ t. t.is_modified) cleared_l2 IsFit (λ v. refl) (λ v. refl) P all distinct (l2_drop h (order_of caches) p (refblocks caches)) add (l2_promote h (order_of caches) p (refblocks caches)) caches.l2.size may_flush
+        (λ e some. replace_put seen bits (λ (t : L2TableView). t.bytes) (λ t. t.is_modified) cleared_l2 IsFit (λ v. refl) (λ v. refl) P all crash_safety distinct (l2_drop h (order_of caches) p (refblocks caches)) add (l2_promote h (order_of caches) p (refblocks caches)) caches.l2.size may_flush
         (λ flush. l2_step h (order_of caches) p bits sound.l2_format.bits (refblocks caches) (may flush)) key v
         old new caches.l2.entries e some honest sound.kept l2.entries answer left (rw is at (rw some at there)))
 
@@ -123,7 +107,7 @@ module _ {S : Type 0} (view : S → StorageView) (old new : ImageStorage S) (cac
     pub table_kept : (answer ≡ Ok true → ⊥) → UnseenCacheStep h p (seen old) caches (seen new) (record caches { l2 = l2 })
     table_kept isnt =
         let same_backend : l2.backend ≡ caches.l2.backend = ap (λ c. c.backend) others in
-        let f = nothing_new seen bits (λ (t : L2TableView). t.bytes) (λ t. t.is_modified) cleared_l2 IsFit (λ v. refl) (λ v. refl) P all key v old new caches.l2.entries l2.entries answer isnt puts in
+        let f = nothing_new seen bits (λ (t : L2TableView). t.bytes) (λ t. t.is_modified) cleared_l2 IsFit (λ v. refl) (λ v. refl) P all crash_safety key v old new caches.l2.entries l2.entries answer isnt puts in
         rw same_backend (record {
           honest = f.honest;
           sound = record { l2_format = sound.l2_format; rb_format = sound.rb_format; l2_fit = fit (λ went. absurd (isnt went)); rb_fit = sound.rb_fit; kept = f.kept };
@@ -133,8 +117,8 @@ module _ {S : Type 0} (view : S → StorageView) (old new : ImageStorage S) (cac
         })
 
     module _ (went : answer ≡ Ok true) (fits : IsTableOf h v) (marked : v.is_modified ≡ true) where
-      ready : Ready seen bits (λ (t : L2TableView). t.bytes) (λ t. t.is_modified) cleared_l2 IsFit (λ v. refl) (λ v. refl) P all key v old new caches.l2.entries l2.entries
-      ready = made_ready seen bits (λ (t : L2TableView). t.bytes) (λ t. t.is_modified) cleared_l2 IsFit (λ v. refl) (λ v. refl) P all key v old new caches.l2.entries l2.entries answer went puts
+      ready : Ready seen bits (λ (t : L2TableView). t.bytes) (λ t. t.is_modified) cleared_l2 IsFit (λ v. refl) (λ v. refl) P all crash_safety key v old new caches.l2.entries l2.entries
+      ready = made_ready seen bits (λ (t : L2TableView). t.bytes) (λ t. t.is_modified) cleared_l2 IsFit (λ v. refl) (λ v. refl) P all crash_safety key v old new caches.l2.entries l2.entries answer went puts
 
       abbrev entries : List (ℕ × Slot L2TableView)
       entries = (key, slot_of v ready.pins) ∷ ready.rest

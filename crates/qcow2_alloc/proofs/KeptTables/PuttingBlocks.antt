@@ -30,7 +30,7 @@ use Rattle.qcow2_alloc.specs.KeptTables.{cached_table, cached_tables, AllValuesF
 use Rattle.qcow2_alloc.specs.MetadataCaches.{laid_at, order_of, l2_tables, refblocks, CacheInvariant, UnseenCacheStep, LaidOver}
 use Rattle.qcow2_alloc.proofs.KeptTables.BlocksNamed.{top_still, named_blocks_anew, blocks_stand, block_place}
 use Rattle.qcow2_alloc.proofs.KeptTables.Standing.{IsStanding, AreStanding, own_cluster, insert_stands, replace_stands}
-use Rattle.qcow2_alloc.proofs.KeptTables.Writing.{block_named, Ready, Puts}
+use Rattle.qcow2_alloc.proofs.KeptTables.Writing.{crash_safety, block_named, Ready, Puts, nothing_new, made_ready}
 use Rattle.qcow2_alloc.proofs.KeptTables.Entries.{AreDistinct}
 use Rattle.qcow2_alloc.proofs.KeptTables.Fitting.{insert_fits, replace_fits}
 use Rattle.qcow2_alloc.proofs.KeptTables.Listing.{loaded_distinct, rb_drop, rb_add, rb_promote}
@@ -38,7 +38,6 @@ use Rattle.qcow2_alloc.proofs.KeptTables.Getting.{HoldsWhatStands, insert_put, r
 use Rattle.qcow2_alloc.proofs.KeptTables.Flushing.{rb_step, block_still}
 use Rattle.qcow2_alloc.proofs.KeptTables.Inserting.{found_or_not, lookup_none, block_as}
 use Rattle.qcow2_alloc.proofs.KeptTables.Laying.{laid_under, rb_laid}
-use Rattle.qcow2_alloc.proofs.KeptTables.Putting.{nothing_new, made_ready}
 
 module _ {S : Type 0} (view : S → StorageView) (old new : ImageStorage S) (caches : MetadataCaches S) (may_flush : Bool) (key : ℕ) where
   abbrev seen : ImageStorage S → StorageView
@@ -80,13 +79,13 @@ module _ {S : Type 0} (view : S → StorageView) (old new : ImageStorage S) (cac
     add t ts on_storage are aligned away clean current =
         rb_add h (order_of caches) p (l2_tables caches) t ts on_storage are (subst (λ n. t.place % 2 ^ n ≡ 0) sound.rb_format.bits aligned) away clean (subst (λ n. HoldsWhatStands all (2 ^ n) t ts on_storage) sound.rb_format.bits current)
 
-    puts : Puts seen bits (λ (b : RefBlockView). b.bytes) (λ b. b.is_modified) cleared_rb IsFit (λ v. refl) (λ v. refl) P all key v old new caches.rb.entries rb.entries answer
+    puts : Puts seen bits (λ (b : RefBlockView). b.bytes) (λ b. b.is_modified) cleared_rb IsFit (λ v. refl) (λ v. refl) P all crash_safety key v old new caches.rb.entries rb.entries answer
     puts = found_or_not (lookup_entry (eqb key) caches.rb.entries)
-        (λ none. insert_put seen bits (λ (b : RefBlockView). b.bytes) (λ b. b.is_modified) cleared_rb IsFit (λ v. refl) (λ v. refl) P all distinct (rb_drop h (order_of caches) p (l2_tables caches)) add (rb_promote h (order_of caches) p (l2_tables caches)) caches.rb.size may_flush
+        (λ none. insert_put seen bits (λ (b : RefBlockView). b.bytes) (λ b. b.is_modified) cleared_rb IsFit (λ v. refl) (λ v. refl) P all crash_safety distinct (rb_drop h (order_of caches) p (l2_tables caches)) add (rb_promote h (order_of caches) p (l2_tables caches)) caches.rb.size may_flush
         (λ flush. rb_step h (order_of caches) p bits sound.rb_format.bits (l2_tables caches) (may flush)) key v
         old new caches.rb.entries rb.entries answer left honest sound.kept (lookup_none (eqb key) caches.rb.entries none)
         (rw is at (missing (rw (lookup_none (eqb key) caches.rb.entries none) refl))))
-        (λ e some. replace_put seen bits (λ (b : RefBlockView). b.bytes) (λ b. b.is_modified) cleared_rb IsFit (λ v. refl) (λ v. refl) P all distinct (rb_drop h (order_of caches) p (l2_tables caches)) add (rb_promote h (order_of caches) p (l2_tables caches)) caches.rb.size may_flush
+        (λ e some. replace_put seen bits (λ (b : RefBlockView). b.bytes) (λ b. b.is_modified) cleared_rb IsFit (λ v. refl) (λ v. refl) P all crash_safety distinct (rb_drop h (order_of caches) p (l2_tables caches)) add (rb_promote h (order_of caches) p (l2_tables caches)) caches.rb.size may_flush
         (λ flush. rb_step h (order_of caches) p bits sound.rb_format.bits (l2_tables caches) (may flush)) key v
         old new caches.rb.entries e some honest sound.kept rb.entries answer left (rw is at (rw some at there)))
 
@@ -106,7 +105,7 @@ module _ {S : Type 0} (view : S → StorageView) (old new : ImageStorage S) (cac
     pub block_kept : (answer ≡ Ok true → ⊥) → UnseenCacheStep h p (seen old) caches (seen new) (record caches { rb = rb })
     block_kept isnt =
         let same_backend : rb.backend ≡ caches.rb.backend = ap (λ c. c.backend) others in
-        let f = nothing_new seen bits (λ (b : RefBlockView). b.bytes) (λ b. b.is_modified) cleared_rb IsFit (λ v. refl) (λ v. refl) P all key v old new caches.rb.entries rb.entries answer isnt puts in
+        let f = nothing_new seen bits (λ (b : RefBlockView). b.bytes) (λ b. b.is_modified) cleared_rb IsFit (λ v. refl) (λ v. refl) P all crash_safety key v old new caches.rb.entries rb.entries answer isnt puts in
         rw same_backend (record {
           honest = f.honest;
           sound = record { l2_format = sound.l2_format; rb_format = sound.rb_format; l2_fit = sound.l2_fit; rb_fit = fit (λ went. absurd (isnt went)); kept = f.kept };
@@ -118,8 +117,8 @@ module _ {S : Type 0} (view : S → StorageView) (old new : ImageStorage S) (cac
         })
 
     module _ (went : answer ≡ Ok true) (fits : IsBlockOf h v) (marked : v.is_modified ≡ true) where
-      ready : Ready seen bits (λ (b : RefBlockView). b.bytes) (λ b. b.is_modified) cleared_rb IsFit (λ v. refl) (λ v. refl) P all key v old new caches.rb.entries rb.entries
-      ready = made_ready seen bits (λ (b : RefBlockView). b.bytes) (λ b. b.is_modified) cleared_rb IsFit (λ v. refl) (λ v. refl) P all key v old new caches.rb.entries rb.entries answer went puts
+      ready : Ready seen bits (λ (b : RefBlockView). b.bytes) (λ b. b.is_modified) cleared_rb IsFit (λ v. refl) (λ v. refl) P all crash_safety key v old new caches.rb.entries rb.entries
+      ready = made_ready seen bits (λ (b : RefBlockView). b.bytes) (λ b. b.is_modified) cleared_rb IsFit (λ v. refl) (λ v. refl) P all crash_safety key v old new caches.rb.entries rb.entries answer went puts
 
       abbrev entries : List (ℕ × Slot RefBlockView)
       entries = (key, slot_of v ready.pins) ∷ ready.rest

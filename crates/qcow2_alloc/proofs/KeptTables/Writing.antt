@@ -33,6 +33,39 @@ use Rattle.qcow2_alloc.specs.KeptTables.{cached_table, cached_tables, AreElsewhe
 use Rattle.qcow2_alloc.proofs.KeptTables.Loaded.{stays_free, loaded_written, loaded_beside}
 use Rattle.qcow2_alloc.proofs.KeptTables.Turning.{safe_none, safe_then}
 
+-- ---- how safe a stop is while tables are written, as far as it is told
+
+pub record Safety : Type 1 where
+  -- of a write of one table, and of all since an earlier view of the storage, over what is known
+  pub Safe : Bytes → Bytes → Bytes → Type 0
+  pub Since : StorageView → StorageView → Bytes → Type 0
+  pub same : (b known c : Bytes) → c ≡ b → Safe b known c
+  pub none : (v : StorageView) (known : Bytes) → Since v v known
+  pub one : (old new : StorageView) (known : Bytes) → EachMomentSince old new (λ c. c ≡ new.contents) → Safe (byte_at old.contents) known (byte_at new.contents) → Since old new known
+  pub more : (old mid new : StorageView) (known known' : Bytes) → known' ≡ known → Since old mid known → Since mid new known' → Since old new known
+
+-- it is as safe as before
+abbrev pub crash_safety : Safety
+crash_safety = record {
+  Safe = IsSafeBetween;
+  Since = IsSafeSince;
+  same = λ b known c is backing m ok known_ok. subst (StopOkEverywhere backing m) (sym is) ok;
+  none = safe_none;
+  one = λ old new known time safe. record { moments = passes_if _ (λ l is. subst (λ l'. IsSafeBetween (byte_at old.contents) known (byte_at l')) (sym is) safe) time; contents = safe };
+  more = safe_then;
+}
+
+-- nothing is told
+abbrev pub no_safety : Safety
+no_safety = record {
+  Safe = λ b known c. Unit {0};
+  Since = λ old new known. Unit {0};
+  same = λ b known c is. tt;
+  none = λ v known. tt;
+  one = λ old new known time safe. tt;
+  more = λ old mid new known known' same first second. tt;
+}
+
 -- ---- one table of either cache is written
 
 -- where two images are known alike, their header, L1 table and reftable are the same
@@ -175,18 +208,18 @@ module _ {S V : Type 0} (view : S → StorageView) (bits : ℕ) (bytes : V → L
   entry_calls s t e (Some x) d honest f = (f.0.calls.honest honest, f.0.calls.time honest)
 
   -- ---- a whole cache is flushed, where each write of one of its tables keeps P and what is known
-  module _ (P : List CachedTable → Bytes → Type 0) (all : List CachedTable → Bytes → Bytes) where
+  module _ (P : List CachedTable → Bytes → Type 0) (all : List CachedTable → Bytes → Bytes) (safety : Safety) where
     -- what the write of one table does
     abbrev pub WritesOne : Type 0
     WritesOne =
         (front back : List CachedTable) (t t' : CachedTable) (on_storage on_storage' : Bytes) → P (front ++ t ∷ back) on_storage → IsWrittenSo (2 ^ bits) t t' on_storage on_storage'
-        → P (front ++ t' ∷ back) on_storage' × (all (front ++ t' ∷ back) on_storage' ≡ all (front ++ t ∷ back) on_storage) × IsSafeBetween on_storage (all (front ++ t ∷ back) on_storage) on_storage'
+        → P (front ++ t' ∷ back) on_storage' × (all (front ++ t' ∷ back) on_storage' ≡ all (front ++ t ∷ back) on_storage) × safety.Safe on_storage (all (front ++ t ∷ back) on_storage) on_storage'
 
     pub record Flushed (s t : S) (before after : List CachedTable) : Type 0 where
       pub honest : (view t).is_honest
       pub kept : P after (contents t)
       pub known : all after (contents t) ≡ all before (contents s)
-      pub since : IsSafeSince (view s) (view t) (all before (contents s))
+      pub since : safety.Since (view s) (view t) (all before (contents s))
       -- at each moment it is so with some tables
       pub moments : EachMomentSince (view s) (view t) (λ c. (ts : List CachedTable) × P ts (byte_at c))
 
@@ -209,7 +242,7 @@ module _ {S V : Type 0} (view : S → StorageView) (bits : ℕ) (bytes : V → L
       honest = honest;
       kept = kept;
       known = refl;
-      since = safe_none (view s) (all ts (contents s));
+      since = safety.none (view s) (all ts (contents s));
       moments = passes_none (view s) _;
     }
 
@@ -218,7 +251,7 @@ module _ {S V : Type 0} (view : S → StorageView) (bits : ℕ) (bytes : V → L
       honest = g.honest;
       kept = g.kept;
       known = g.known ∙ f.known;
-      since = safe_then (view r) (view s) (view t) _ _ f.known f.since g.since;
+      since = safety.more (view r) (view s) (view t) _ _ f.known f.since g.since;
       moments = passes_on _ f.moments g.moments (λ c now. now);
     }
 
@@ -232,7 +265,7 @@ module _ {S V : Type 0} (view : S → StorageView) (bits : ℕ) (bytes : V → L
             honest = c.0;
             kept = w.0;
             known = w.1;
-            since = record { moments = passes_if _ (λ l is. subst (λ l'. IsSafeBetween (contents s) (all (front ++ table e ∷ back) (contents s)) (byte_at l')) (sym is) w.2) c.1; contents = w.2 };
+            since = safety.one (view s) (view t) (all (front ++ table e ∷ back) (contents s)) c.1 w.2;
             moments = passes_if _ (λ l is. (front ++ table (e.0, d) ∷ back, subst (λ l'. P (front ++ table (e.0, d) ∷ back) (byte_at l')) (sym is) w.0)) c.1;
           }
 
@@ -267,3 +300,19 @@ module _ {S V : Type 0} (view : S → StorageView) (bits : ℕ) (bytes : V → L
       clean_entry : (a : Option MetadataError) (r : S) (d : Slot V) → a ≡ None → FlushesEntry (table_steps view bits bytes is_modified cleared IsFit) s e a r d → is_modified d.value ≡ false
       clean_entry None r d h f = ap is_modified f.0.clean ∙ unmodified e.1.value
       clean_entry (Some y) r d h f = cc
+
+-- ---- an answer, with what it leaves
+module _ {S V : Type 0} (view : S → StorageView) (bits : ℕ) (bytes : V → List ℕ) (is_modified : V → Bool) (cleared : V → V) (IsFit : V → Type 0)
+    (unmodified : (v : V) → is_modified (cleared v) ≡ false) (same_bytes : (v : V) → bytes (cleared v) ≡ bytes v)
+    (P : List CachedTable → Bytes → Type 0) (all : List CachedTable → Bytes → Bytes) (safety : Safety) (k : ℕ) (v : V) (s t : S) (es fs : List (ℕ × Slot V)) where
+  abbrev Leaves : Result Bool (CacheError ℕ MetadataError) → Type 0
+  Leaves = Puts view bits bytes is_modified cleared IsFit unmodified same_bytes P all safety k v s t es fs
+
+  pub nothing_new : (r : Result Bool (CacheError ℕ MetadataError)) → (r ≡ Ok true → ⊥) → Leaves r
+      → Flushed view bits bytes is_modified cleared IsFit unmodified same_bytes P all safety s t (cached_tables bits bytes is_modified es) (cached_tables bits bytes is_modified fs)
+  nothing_new (Ok true) isnt h = absurd (isnt refl)
+  nothing_new (Ok false) isnt h = h
+  nothing_new (Err e) isnt h = h
+
+  pub made_ready : (r : Result Bool (CacheError ℕ MetadataError)) → r ≡ Ok true → Leaves r → Ready view bits bytes is_modified cleared IsFit unmodified same_bytes P all safety k v s t es fs
+  made_ready r is h = subst Leaves is h

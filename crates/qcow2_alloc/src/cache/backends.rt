@@ -1,7 +1,7 @@
 //! What loads and flushes the cached tables.
 use crate::async_lru_cache::AsyncLruCacheBackend;
 use crate::{ImageStorage, WriteKind};
-use image_access::Storage;
+use image_access::{Storage, StorageError};
 use qcow2_metadata::{Header, HostCluster, L2Table, MetadataError, RefBlock};
 use std::alloc::Global;
 use std::marker::PhantomData;
@@ -22,6 +22,7 @@ impl<S: Storage> AsyncLruCacheBackend for L2CacheBackend<S> {
     ghost use Rattle.qcow2_alloc.specs.TableCaches.{l2_steps, cleared_l2, IsTableOf};
     ghost use Rattle.qcow2_alloc.specs.TableLaws.{table_laws};
     ghost use Rattle.qcow2_alloc.specs.KeptNotes.{KeepsNotes, kept_same, kept_then};
+    ghost use Rattle.qcow2_alloc.specs.MetFaults.{NotesFaults, met_same, met_then};
 
     type Key = HostCluster;
 
@@ -43,7 +44,7 @@ impl<S: Storage> AsyncLruCacheBackend for L2CacheBackend<S> {
 
     ghost is_modified = { λ v. v.is_modified };
 
-    ghost keeps = { λ s t. KeepsNotes S.view s t };
+    ghost keeps = { λ s t. KeepsNotes S.view s t × NotesFaults S.view s t };
 
     fn load(
         &self,
@@ -54,7 +55,13 @@ impl<S: Storage> AsyncLruCacheBackend for L2CacheBackend<S> {
         if key.checked_offset(self.header.cluster_bits()).is_none() {
             return Err(MetadataError::Limit);
         }
-        L2Table::load(alloc, &mut store.storage, &self.header, key)
+        match L2Table::load(alloc, &mut store.storage, &self.header, key) {
+            Err(MetadataError::Storage(StorageError::Fault)) => {
+                store.note_fault();
+                Err(MetadataError::Storage(StorageError::Fault))
+            }
+            loaded => loaded,
+        }
     }
 
     fn flush(
@@ -84,9 +91,9 @@ impl<S: Storage> AsyncLruCacheBackend for L2CacheBackend<S> {
 
     ghost lawful = { λ b. table_laws (λ s. S.view (storage_of s)) b.header.fields.cluster_bits (λ (v : L2TableView). v.bytes) (λ v. v.is_modified) cleared_l2 (IsTableOf b.header.fields) (λ _. refl) (λ _. refl) };
 
-    ghost keeps_same = { λ s. kept_same s };
+    ghost keeps_same = { λ s. (kept_same s, met_same s) };
 
-    ghost keeps_then = { λ s t u first then. kept_then s t u first then };
+    ghost keeps_then = { λ s t u first then. (kept_then s t u first.0 then.0, met_then s t u first.1 then.1) };
 }
 
 impl<S> L2CacheBackend<S> {
@@ -119,6 +126,7 @@ impl<S: Storage> AsyncLruCacheBackend for RefBlockCacheBackend<S> {
     ghost use Rattle.qcow2_alloc.specs.TableCaches.{rb_steps, cleared_rb, IsBlockOf};
     ghost use Rattle.qcow2_alloc.specs.TableLaws.{table_laws};
     ghost use Rattle.qcow2_alloc.specs.KeptNotes.{KeepsNotes, kept_same, kept_then};
+    ghost use Rattle.qcow2_alloc.specs.MetFaults.{NotesFaults, met_same, met_then};
 
     type Key = HostCluster;
 
@@ -140,7 +148,7 @@ impl<S: Storage> AsyncLruCacheBackend for RefBlockCacheBackend<S> {
 
     ghost is_modified = { λ v. v.is_modified };
 
-    ghost keeps = { λ s t. KeepsNotes S.view s t };
+    ghost keeps = { λ s t. KeepsNotes S.view s t × NotesFaults S.view s t };
 
     fn load(
         &self,
@@ -151,7 +159,13 @@ impl<S: Storage> AsyncLruCacheBackend for RefBlockCacheBackend<S> {
         if key.checked_offset(self.header.cluster_bits()).is_none() {
             return Err(MetadataError::Limit);
         }
-        RefBlock::load(alloc, &mut store.storage, &self.header, key)
+        match RefBlock::load(alloc, &mut store.storage, &self.header, key) {
+            Err(MetadataError::Storage(StorageError::Fault)) => {
+                store.note_fault();
+                Err(MetadataError::Storage(StorageError::Fault))
+            }
+            loaded => loaded,
+        }
     }
 
     fn flush(
@@ -181,9 +195,9 @@ impl<S: Storage> AsyncLruCacheBackend for RefBlockCacheBackend<S> {
 
     ghost lawful = { λ b. table_laws (λ s. S.view (storage_of s)) b.header.fields.cluster_bits (λ (v : RefBlockView). v.bytes) (λ v. v.is_modified) cleared_rb (IsBlockOf b.header.fields) (λ _. refl) (λ _. refl) };
 
-    ghost keeps_same = { λ s. kept_same s };
+    ghost keeps_same = { λ s. (kept_same s, met_same s) };
 
-    ghost keeps_then = { λ s t u first then. kept_then s t u first then };
+    ghost keeps_then = { λ s t u first then. (kept_then s t u first.0 then.0, met_then s t u first.1 then.1) };
 }
 
 impl<S> RefBlockCacheBackend<S> {

@@ -1,3 +1,4 @@
+use Rattle.qcow2_alloc.proofs.Outcomes.{on_ok}
 use Rattle.std.proofs.Common.{◌≡◌, inl, ℕ, Bool, Option, Some, Result, Ok, Err, IfErr, length, refl, sym, ap, ◌∙◌, ◌+◌, ◌*◌, ◌^◌, subst, ◌<◌}
 use Rattle.std.specs.Prelude.{OnOk, IfSome}
 use Rattle.image_access.specs.Contents.{overwritten}
@@ -95,7 +96,7 @@ returns-in_err-flush_rb-clause-sound g c = λ p d t range at sound place fits is
 
 pub returns-in_err-place_refblock-clause-sound : goal.returns-in_err-place_refblock-clause-sound
 returns-in_err-place_refblock-clause-sound g c = λ p d t range at sound place fits is.
-    let whole = subst (λ (b : RefBlockView). length b.bytes ≡ 2 ^ b.cluster_bits) c.block.view_is c.block.invariant.whole in
+    let whole = subst (λ (b : RefBlockView). length b.bytes ≡ 2 ^ b.cluster_bits) c.block.view_is c.block.invariant.whole.whole in
     let two = still g.S.Storage.view d p range at c.args.file.now t c.flush_rb.new.storage c.flush_rb.new.self sound c.flush_rb.ensures.keeps c.flush_rb.ensures.marks (storage_of c.will_write.new.self) c.place_refblock.new.self
     c.args.block c.place_refblock.result c.in_ok-flush_rb.ensures.first place fits is whole c.will_write.ensures.storage c.place_refblock.ensures.written c.place_refblock.ensures.calls in
     handed_on (WritesBlock g.S.Storage.view (placing d p at) c.args.file.now t (record c.args.file.now { storage = c.place_refblock.new.self; caches = c.flush_rb.new.self }) c.args.block at)
@@ -104,7 +105,7 @@ returns-in_err-place_refblock-clause-sound g c = λ p d t range at sound place f
 pub returns-clause-sound : goal.returns-clause-sound
 returns-clause-sound g c = λ p d t range at sound place fits is.
     let h = c.args.file.now.header.fields in
-    let whole = subst (λ (b : RefBlockView). length b.bytes ≡ 2 ^ b.cluster_bits) c.block.view_is c.block.invariant.whole in
+    let whole = subst (λ (b : RefBlockView). length b.bytes ≡ 2 ^ b.cluster_bits) c.block.view_is c.block.invariant.whole.whole in
     let long = whole ∙ ap (λ n. 2 ^ n) fits.bits in
     let f2 : ImageFile g.row.S.Denot = record c.args.file.now { storage = c.place_refblock.new.self; caches = c.flush_rb.new.self } in
     let two = still g.S.Storage.view d p range at c.args.file.now t c.flush_rb.new.storage c.flush_rb.new.self sound c.flush_rb.ensures.keeps c.flush_rb.ensures.marks (storage_of c.will_write.new.self) c.place_refblock.new.self
@@ -149,3 +150,6 @@ pub returns-clause-marks : goal.returns-clause-marks
 returns-clause-marks g c =
     kept_marks_then (kept_marks_then (marks_of_both c.flush_rb.ensures.marks c.flush_rb.ensures.order c.flush_rb.ensures.notes) (marks_of_storage refl (placed_kept c.flush_rb.new.storage c.will_write.new.self c.place_refblock.new.self c.place_refblock.result c.will_write.ensures.storage c.will_write.ensures.changed c.args.block.cluster _ c.requires.placed c.place_refblock.ensures.written c.place_refblock.ensures.calls c.place_refblock.ensures.noted)))
     (marks_of_both c.rb_insert.ensures.marks c.rb_insert.ensures.order c.rb_insert.ensures.notes)
+
+pub returns-clause-noted : goal.returns-clause-noted
+returns-clause-noted g c = on_ok _ c.rb_insert.result (c.rb_insert.ensures.notes.changes.noted c.in_ok-place_refblock.ensures.noted.0)

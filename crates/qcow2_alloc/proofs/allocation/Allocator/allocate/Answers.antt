@@ -1,4 +1,4 @@
-use Rattle.std.proofs.Common.{sym, ap, ◌∙◌, inl, inr, refl, subst, ◌<◌}
+use Rattle.std.proofs.Common.{ℕ, ◌≡◌, Err, sym, ap, ◌∙◌, inl, inr, refl, subst, ◌<◌}
 use Rattle.qcow2_alloc.specs.declared.clusters_to_free.ClustersToFreeEntry.{ClustersToFreeEntry}
 use Rattle.qcow2_alloc.specs.Allocation.{run_at, taken_as, is_data, UnseenAllocatorGrowth}
 use Rattle.qcow2_alloc.specs.FreeList.{pending_then}
@@ -8,11 +8,17 @@ use Rattle.qcow2_alloc.specs.Limits.{IsFaultOr, HasNoPlace}
 use Rattle.qcow2_alloc.proofs.FormerReftables.{former_none}
 use Rattle.qcow2_alloc.proofs.ListedAfter.{header_same, lists_none}
 use Rattle.qcow2_alloc.proofs.Faults.{told_ok}
-use Rattle.qcow2_alloc.proofs.Outcomes.{told_memory, told_err}
+use Rattle.qcow2_alloc.proofs.Outcomes.{ok_no_err, told_memory, told_err}
 use Rattle.std.proofs.Math.Nat.{le_refl}
 use Rattle.qcow2_alloc.proofs.SparedHeaders.{spares_none}
 use Rattle.qcow2_alloc.proofs.KeptMarks.{kept_marks_none}
+use Rattle.std.specs.Prelude.{IsErrOf}
+use Rattle.qcow2_alloc.specs.declared.error.ImageError.{ImageError}
+use Rattle.qcow2_alloc.specs.declared.error.ImageError.TheVariants as I
 use Rattle.qcow2_alloc.proofs.allocation.Allocator.allocate.Goals as goal
+
+refused_as : {T : Type 0} (e f : ImageError) → IsErrOf {T = T} (Err e) f → e ≡ f
+refused_as e f is = cc
 
 pub returns-in-Ok-lowest_run-clause-sound : goal.returns-in-Ok-lowest_run-clause-sound
 returns-in-Ok-lowest_run-clause-sound g c = λ p sound may.
@@ -83,10 +89,10 @@ pub returns-in_default-clause-list : goal.returns-in_default-clause-list
 returns-in_default-clause-list g c = lists_none _
 
 pub returns-in_default-clause-storage_faults : goal.returns-in_default-clause-storage_faults
-returns-in_default-clause-storage_faults g c = told_memory _ _ (le_refl _)
+returns-in_default-clause-storage_faults g c = told_memory _ _ refl
 
 pub returns-in-Ok-lowest_run-clause-storage_faults : goal.returns-in-Ok-lowest_run-clause-storage_faults
-returns-in-Ok-lowest_run-clause-storage_faults g c = told_ok _ _ _ c.lowest_run.ensures.storage_faults.no_fewer
+returns-in-Ok-lowest_run-clause-storage_faults g c = told_ok _ _ _ c.in-Ok-lowest_run.ensures.storage_faults.told
 
 pub returns-in-Err-clause-storage_faults : goal.returns-in-Err-clause-storage_faults
 returns-in-Err-clause-storage_faults g c = told_err _ _ c.in-Err.refusal c.in-Err.ensures.storage_faults
@@ -108,3 +114,21 @@ returns-in-Err-clause-header_cluster g c = c.lowest_run.ensures.header_cluster
 
 pub returns-in_default-clause-header_cluster : goal.returns-in_default-clause-header_cluster
 returns-in_default-clause-header_cluster g c = spares_none
+
+pub returns-in_default-clause-unaligned : goal.returns-in_default-clause-unaligned
+returns-in_default-clause-unaligned g c = λ u some. tt
+
+pub returns-in-Ok-lowest_run-clause-unaligned : goal.returns-in-Ok-lowest_run-clause-unaligned
+returns-in-Ok-lowest_run-clause-unaligned g c = λ u some. c.in-Ok-lowest_run.ensures.unaligned u (subst (λ n. 0 < n) (sym c.value.ensures) some)
+
+pub returns-in-Err-clause-unaligned : goal.returns-in-Err-clause-unaligned
+returns-in-Err-clause-unaligned g c = λ u some. tt
+
+pub returns-in_default-clause-first_range : goal.returns-in_default-clause-first_range
+returns-in_default-clause-first_range g c = λ l some. inl (inr refl)
+
+pub returns-in-Ok-lowest_run-clause-first_range : goal.returns-in-Ok-lowest_run-clause-first_range
+returns-in-Ok-lowest_run-clause-first_range g c = λ l some. ok_no_err c.in-Ok-lowest_run.first I.Limit (c.in-Ok-lowest_run.ensures.first_range l (subst (λ n. 0 < n) (sym c.value.ensures) some))
+
+pub returns-in-Err-clause-first_range : goal.returns-in-Err-clause-first_range
+returns-in-Err-clause-first_range g c = λ l some. inr (refused_as {T = ℕ} c.in-Err.refusal I.Limit (c.in-Err.ensures.first_range l (subst (λ n. 0 < n) (sym c.value.ensures) some)))

@@ -1,4 +1,4 @@
-use Rattle.std.proofs.Common.{inl, refl, sym, subst, Result, ◌∙◌}
+use Rattle.std.proofs.Common.{Ok, Err, inl, refl, sym, subst, Result, ◌∙◌}
 use Rattle.qcow2_laws.specs.CrashInvariant.{Pending}
 use Rattle.qcow2_alloc.specs.declared.clusters_to_free.ClusterKind.TheVariants.{Data}
 use Rattle.qcow2_alloc.specs.declared.image_file.ImageFile.{ImageFile}
@@ -8,10 +8,10 @@ use Rattle.qcow2_alloc.specs.LowestRuns.{KeepsNoFreeBelowHint}
 use Rattle.qcow2_alloc.proofs.Hints.{hint_stays}
 use Rattle.qcow2_alloc.proofs.AllocationSteps.{handed_on, on_of, allocator_step_cached, is_sound_now, allocates_then}
 use Rattle.qcow2_alloc.proofs.ListedAfter.{listed_after_same, header_same, lists_none}
-use Rattle.std.specs.Prelude.{IfErr}
+use Rattle.std.specs.Prelude.{OnOk, IfErr}
 use Rattle.qcow2_alloc.specs.declared.error.ImageError.{ImageError}
 use Rattle.qcow2_alloc.specs.declared.clusters_to_free.ClustersToFreeEntry.{ClustersToFreeEntry}
-use Rattle.qcow2_alloc.specs.Limits.{IsFaultOr, HasNoPlace}
+use Rattle.qcow2_alloc.specs.Limits.{RefusesByLimit, IsFaultOr, HasNoPlace}
 use Rattle.qcow2_alloc.proofs.FormerReftables.{former_none}
 use Rattle.qcow2_alloc.proofs.CachePins.{marks_then}
 use Rattle.qcow2_alloc.proofs.Faults.{told_on, told_since}
@@ -19,6 +19,10 @@ use Rattle.qcow2_alloc.proofs.Outcomes.{on_no_ok, if_no_ok, handed_cause, on_ok}
 use Rattle.qcow2_alloc.proofs.SparedHeaders.{spares_then, spares_less, spares_cached}
 use Rattle.qcow2_alloc.specs.KeptNotes.{kept_then}
 use Rattle.qcow2_alloc.proofs.allocation.Allocator.allocate_data.Goals as goal
+
+by_limit : {A : Type 0} (r : Result A ImageError) → RefusesByLimit r → OnOk r ⊥
+by_limit (Ok answer) none = none
+by_limit (Err e) why = tt
 
 pub returns-in_err-l2_depends_on_rb-clause-sound : goal.returns-in_err-l2_depends_on_rb-clause-sound
 returns-in_err-l2_depends_on_rb-clause-sound g c = λ p sound.
@@ -125,7 +129,7 @@ pub returns-clause-order : goal.returns-clause-order
 returns-clause-order g c = on_ok _ c.allocate.result (c.allocate.ensures.marks.order ∙ c.in_ok-l2_depends_on_rb.ensures.order)
 
 pub returns-clause-storage_faults : goal.returns-clause-storage_faults
-returns-clause-storage_faults g c = told_since _ _ _ c.l2_depends_on_rb.ensures.storage_faults.no_fewer c.allocate.ensures.storage_faults
+returns-clause-storage_faults g c = told_since _ _ _ c.in_ok-l2_depends_on_rb.ensures.storage_faults.told c.allocate.ensures.storage_faults
 
 pub returns-clause-leaks : goal.returns-clause-leaks
 returns-clause-leaks g c = λ p sound.
@@ -144,3 +148,15 @@ returns-in_err-l2_depends_on_rb-clause-notes g c = c.l2_depends_on_rb.ensures.no
 
 pub returns-clause-notes : goal.returns-clause-notes
 returns-clause-notes g c = kept_then _ _ _ c.l2_depends_on_rb.ensures.notes c.allocate.ensures.marks.notes
+
+pub returns-in_err-l2_depends_on_rb-clause-unaligned : goal.returns-in_err-l2_depends_on_rb-clause-unaligned
+returns-in_err-l2_depends_on_rb-clause-unaligned g c = λ _ _. on_no_ok _ c.from_residual.result c.in_err-l2_depends_on_rb.field-0.0 c.from_residual.ensures
+
+pub returns-in_err-l2_depends_on_rb-clause-first_range : goal.returns-in_err-l2_depends_on_rb-clause-first_range
+returns-in_err-l2_depends_on_rb-clause-first_range g c = λ _ _. on_no_ok _ c.from_residual.result c.in_err-l2_depends_on_rb.field-0.0 c.from_residual.ensures
+
+pub returns-clause-unaligned : goal.returns-clause-unaligned
+returns-clause-unaligned g c = c.allocate.ensures.unaligned
+
+pub returns-clause-first_range : goal.returns-clause-first_range
+returns-clause-first_range g c = λ l some. by_limit _ (c.allocate.ensures.first_range l some)

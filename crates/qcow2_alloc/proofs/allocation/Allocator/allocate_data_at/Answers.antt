@@ -1,9 +1,10 @@
-use Rattle.std.proofs.Common.{inl, inr, true, refl, sym, ap, ◌∙◌, subst, Result, Option}
+use Rattle.std.proofs.Common.{◌≢◌, inl, inr, true, refl, sym, ap, ◌∙◌, subst, Result, Option}
+use Rattle.qcow2_metadata.specs.Entries.{count}
 use Rattle.qcow2_laws.specs.Changes.{one_at}
 use Rattle.qcow2_laws.specs.CrashInvariant.{Pending}
 use Rattle.qcow2_alloc.specs.declared.clusters_to_free.ClustersToFreeEntry.{ClustersToFreeEntry}
 use Rattle.qcow2_alloc.specs.declared.image_file.ImageFile.{ImageFile}
-use Rattle.qcow2_alloc.specs.Allocation.{taken_as, UnseenAllocatorGrowth, AllocatesAt}
+use Rattle.qcow2_alloc.specs.Allocation.{LacksFirst, taken_as, UnseenAllocatorGrowth, AllocatesAt}
 use Rattle.qcow2_alloc.specs.FreeList.{pending_then}
 use Rattle.qcow2_alloc.specs.LowestRuns.{IsUsed, KeepsNoFreeBelowHint}
 use Rattle.qcow2_alloc.proofs.AllocationSteps.{handed_on, on_of, allocator_step_on, allocator_step_cached, is_sound_now, leaves_on, of_equal}
@@ -17,10 +18,11 @@ use Rattle.qcow2_metadata.specs.L2Mapping.{IsHostCluster}
 use Rattle.qcow2_alloc.proofs.FormerReftables.{former_none}
 use Rattle.qcow2_alloc.proofs.CachePins.{marks_then}
 use Rattle.qcow2_alloc.proofs.Faults.{told_on, told_ok, told_since}
-use Rattle.qcow2_alloc.proofs.Outcomes.{told_memory, told_err, on_no_ok, if_no_ok, handed_cause}
+use Rattle.qcow2_alloc.proofs.Outcomes.{ok_no_err, told_memory, told_err, on_no_ok, if_no_ok, handed_cause}
 use Rattle.std.proofs.Math.Nat.{le_trans}
 use Rattle.qcow2_alloc.proofs.SparedHeaders.{spares_then, spares_less, spares_cached}
 use Rattle.qcow2_alloc.specs.KeptNotes.{kept_then}
+use Rattle.qcow2_alloc.specs.declared.error.ImageError.TheVariants as I
 use Rattle.qcow2_alloc.proofs.allocation.Allocator.allocate_data_at.Goals as goal
 
 pub returns-in_err-l2_depends_on_rb-clause-sound : goal.returns-in_err-l2_depends_on_rb-clause-sound
@@ -265,7 +267,7 @@ pub returns-then-at-eq0-clause-order : goal.returns-then-at-eq0-clause-order
 returns-then-at-eq0-clause-order g c = c.in_ok-l2_depends_on_rb.ensures.order
 
 pub returns-then-at-eq0-clause-storage_faults : goal.returns-then-at-eq0-clause-storage_faults
-returns-then-at-eq0-clause-storage_faults g c = told_ok _ _ _ c.l2_depends_on_rb.ensures.storage_faults.no_fewer
+returns-then-at-eq0-clause-storage_faults g c = told_ok _ _ _ c.in_ok-l2_depends_on_rb.ensures.storage_faults.told
 
 pub returns-then-at-eq0-clause-cause : goal.returns-then-at-eq0-clause-cause
 returns-then-at-eq0-clause-cause g c = tt
@@ -274,13 +276,13 @@ pub returns-then-not-is_nameable-clause-order : goal.returns-then-not-is_nameabl
 returns-then-not-is_nameable-clause-order g c = c.in_ok-l2_depends_on_rb.ensures.order
 
 pub returns-then-not-is_nameable-clause-storage_faults : goal.returns-then-not-is_nameable-clause-storage_faults
-returns-then-not-is_nameable-clause-storage_faults g c = told_ok _ _ _ c.l2_depends_on_rb.ensures.storage_faults.no_fewer
+returns-then-not-is_nameable-clause-storage_faults g c = told_ok _ _ _ c.in_ok-l2_depends_on_rb.ensures.storage_faults.told
 
 pub returns-then-not-is_nameable-clause-cause : goal.returns-then-not-is_nameable-clause-cause
 returns-then-not-is_nameable-clause-cause g c = tt
 
 pub returns-in_default-clause-storage_faults : goal.returns-in_default-clause-storage_faults
-returns-in_default-clause-storage_faults g c = told_memory _ _ c.l2_depends_on_rb.ensures.storage_faults.no_fewer
+returns-in_default-clause-storage_faults g c = told_memory _ _ c.in_ok-l2_depends_on_rb.ensures.storage_faults.told
 
 pub returns-in-Ok-true-clause-order : goal.returns-in-Ok-true-clause-order
 returns-in-Ok-true-clause-order g c = c.take.ensures.marks.order ∙ c.in_ok-l2_depends_on_rb.ensures.order
@@ -289,7 +291,7 @@ pub returns-in-Ok-true-clause-cause : goal.returns-in-Ok-true-clause-cause
 returns-in-Ok-true-clause-cause g c = tt
 
 pub returns-in-Ok-true-clause-storage_faults : goal.returns-in-Ok-true-clause-storage_faults
-returns-in-Ok-true-clause-storage_faults g c = told_ok _ _ _ (le_trans c.l2_depends_on_rb.ensures.storage_faults.no_fewer c.take.ensures.storage_faults.no_fewer)
+returns-in-Ok-true-clause-storage_faults g c = told_ok _ _ _ (c.in-Ok-true.ensures.storage_faults.told ∙ c.in_ok-l2_depends_on_rb.ensures.storage_faults.told)
 
 pub returns-in-Ok-false-clause-order : goal.returns-in-Ok-false-clause-order
 returns-in-Ok-false-clause-order g c = c.take.ensures.marks.order ∙ c.in_ok-l2_depends_on_rb.ensures.order
@@ -298,13 +300,13 @@ pub returns-in-Ok-false-clause-cause : goal.returns-in-Ok-false-clause-cause
 returns-in-Ok-false-clause-cause g c = tt
 
 pub returns-in-Ok-false-clause-storage_faults : goal.returns-in-Ok-false-clause-storage_faults
-returns-in-Ok-false-clause-storage_faults g c = told_ok _ _ _ (le_trans c.l2_depends_on_rb.ensures.storage_faults.no_fewer c.take.ensures.storage_faults.no_fewer)
+returns-in-Ok-false-clause-storage_faults g c = told_ok _ _ _ (c.in-Ok-false.ensures.storage_faults.told ∙ c.in_ok-l2_depends_on_rb.ensures.storage_faults.told)
 
 pub returns-in-Err-clause-cause : goal.returns-in-Err-clause-cause
 returns-in-Err-clause-cause g c = c.in-Err.ensures.cause
 
 pub returns-in-Err-clause-storage_faults : goal.returns-in-Err-clause-storage_faults
-returns-in-Err-clause-storage_faults g c = told_since _ _ _ c.l2_depends_on_rb.ensures.storage_faults.no_fewer (told_err _ _ c.in-Err.refusal c.in-Err.ensures.storage_faults)
+returns-in-Err-clause-storage_faults g c = told_since _ _ _ c.in_ok-l2_depends_on_rb.ensures.storage_faults.told (told_err _ _ c.in-Err.refusal c.in-Err.ensures.storage_faults)
 
 pub returns-in-Ok-true-clause-leaks : goal.returns-in-Ok-true-clause-leaks
 returns-in-Ok-true-clause-leaks g c = λ p sound.
@@ -365,3 +367,42 @@ returns-in-Ok-false-clause-notes g c = kept_then _ _ _ c.l2_depends_on_rb.ensure
 
 pub returns-in-Err-clause-notes : goal.returns-in-Err-clause-notes
 returns-in-Err-clause-notes g c = kept_then _ _ _ c.l2_depends_on_rb.ensures.notes c.take.ensures.marks.notes
+
+pub returns-in_err-l2_depends_on_rb-clause-first_range : goal.returns-in_err-l2_depends_on_rb-clause-first_range
+returns-in_err-l2_depends_on_rb-clause-first_range g c = λ _ _ _. on_no_ok _ c.from_residual.result c.in_err-l2_depends_on_rb.field-0.0 c.from_residual.ensures
+
+pub returns-in-Ok-true-clause-first_range : goal.returns-in-Ok-true-clause-first_range
+returns-in-Ok-true-clause-first_range g c = λ l some near. ok_no_err c.in-Ok-true.field-0 I.Limit (c.in-Ok-true.ensures.first_range (subst (LacksFirst c.args.file.now.header.fields c.args.self.now.reftable) (sym c.value.ensures) l)).0
+
+pub returns-in-Ok-false-clause-first_range : goal.returns-in-Ok-false-clause-first_range
+returns-in-Ok-false-clause-first_range g c = λ l some near. ok_no_err c.in-Ok-false.field-0 I.Limit (c.in-Ok-false.ensures.first_range (subst (LacksFirst c.args.file.now.header.fields c.args.self.now.reftable) (sym c.value.ensures) l)).0
+
+pub returns-then-at-eq0-clause-uses : goal.returns-then-at-eq0-clause-uses
+returns-then-at-eq0-clause-uses g c = λ p sound k used.
+    let h = c.args.file.now.header.fields in
+    let known = (c.l2_depends_on_rb.ensures.keeps h p sound.sound.honest sound.sound.caches).known in
+    subst (λ b. count h b k ≢ 0) (sym known) used
+
+pub returns-then-not-is_nameable-clause-uses : goal.returns-then-not-is_nameable-clause-uses
+returns-then-not-is_nameable-clause-uses g c = λ p sound k used.
+    let h = c.args.file.now.header.fields in
+    let known = (c.l2_depends_on_rb.ensures.keeps h p sound.sound.honest sound.sound.caches).known in
+    subst (λ b. count h b k ≢ 0) (sym known) used
+
+pub returns-in-Ok-true-clause-uses : goal.returns-in-Ok-true-clause-uses
+returns-in-Ok-true-clause-uses g c = λ p sound k used.
+    let h = c.args.file.now.header.fields in
+    let known = (c.l2_depends_on_rb.ensures.keeps h p sound.sound.honest sound.sound.caches).known in
+    let one = allocator_step_cached g.S.Storage.view p c.args.file.now c.args.self.now c.l2_depends_on_rb.new.storage c.l2_depends_on_rb.new.self sound (c.l2_depends_on_rb.ensures.keeps c.args.file.now.header.fields p sound.sound.honest sound.sound.caches) c.l2_depends_on_rb.ensures.marks in
+    let file : ImageFile g.row.S.Denot = record c.args.file.now { storage = c.l2_depends_on_rb.new.storage; caches = c.l2_depends_on_rb.new.self } in
+    let now = is_sound_now g.S.Storage.view p p c.args.file.now file c.args.self.now one in
+    c.in-Ok-true.ensures.uses p true now c.in_ok-l2_depends_on_rb.ensures.order k (subst (λ b. count h b k ≢ 0) (sym known) used)
+
+pub returns-in-Ok-false-clause-uses : goal.returns-in-Ok-false-clause-uses
+returns-in-Ok-false-clause-uses g c = λ p sound k used.
+    let h = c.args.file.now.header.fields in
+    let known = (c.l2_depends_on_rb.ensures.keeps h p sound.sound.honest sound.sound.caches).known in
+    let one = allocator_step_cached g.S.Storage.view p c.args.file.now c.args.self.now c.l2_depends_on_rb.new.storage c.l2_depends_on_rb.new.self sound (c.l2_depends_on_rb.ensures.keeps c.args.file.now.header.fields p sound.sound.honest sound.sound.caches) c.l2_depends_on_rb.ensures.marks in
+    let file : ImageFile g.row.S.Denot = record c.args.file.now { storage = c.l2_depends_on_rb.new.storage; caches = c.l2_depends_on_rb.new.self } in
+    let now = is_sound_now g.S.Storage.view p p c.args.file.now file c.args.self.now one in
+    c.in-Ok-false.ensures.uses p true now c.in_ok-l2_depends_on_rb.ensures.order k (subst (λ b. count h b k ≢ 0) (sym known) used)

@@ -14,3 +14,9 @@ returns-clause-limit g c = λ p kept some. c.allocate.ensures.limit p kept.sound
 
 pub returns-clause-header_cluster : goal.returns-clause-header_cluster
 returns-clause-header_cluster g c = c.allocate.ensures.header_cluster
+
+pub returns-clause-unaligned : goal.returns-clause-unaligned
+returns-clause-unaligned g c = c.allocate.ensures.unaligned
+
+pub returns-clause-first_range : goal.returns-clause-first_range
+returns-clause-first_range g c = c.allocate.ensures.first_range

@@ -1,8 +1,20 @@
-use Rattle.std.proofs.Common.{◌≡◌, ℕ, ◌+◌, ◌-◌, ◌*◌, ◌/◌, ◌%◌, ◌^◌, ◌<◌, ◌≤◌, refl, sym, ap, ◌∙◌, arith}
-use Rattle.std.proofs.lemmas.Nat.{one_shl, div-add-mod', div-mul-add, mod-mul-add}
-use Rattle.qcow2_alloc.specs.UsedCounts.{PassesUsed}
+use Rattle.std.proofs.Common.{◌≡◌, ℕ, ◌+◌, ◌-◌, ◌*◌, ◌/◌, ◌%◌, ◌^◌, ◌<◌, ◌≤◌, min, Some, IsSome, inl, inr, refl, sym, ap, subst, ◌∙◌, arith}
+use Rattle.std.specs.Option.{is_some}
+use Rattle.std.proofs.lemmas.Bool.{cases_lt}
+use Rattle.std.proofs.lemmas.Nat.{one_shl, mod_below, pow_pos, div-add-mod', div-mul-add, mod-mul-add}
+use Rattle.qcow2_metadata.specs.declared.header.HeaderFields.{HeaderFields}
+use Rattle.qcow2_metadata.specs.EntryTable.{EntryTableView}
+use Rattle.qcow2_metadata.specs.FirstZero.{IsFirstZero}
+use Rattle.qcow2_metadata.specs.Header.{counts_per_block}
+use Rattle.qcow2_metadata.specs.RefBlock.{count_at, counts_of}
+use Rattle.qcow2_alloc.specs.Allocation.{HasNone, NamesBlock}
+use Rattle.qcow2_alloc.specs.MetadataCaches.{rb_at}
+use Rattle.qcow2_alloc.specs.UsedCounts.{PassesUsed, TellsFirstFree, GoesFar}
+use Rattle.qcow2_alloc.specs.declared.cache.MetadataCaches.{MetadataCaches}
 use Rattle.qcow2_alloc.specs.ImageFile.{contents_in}
-use Rattle.qcow2_alloc.proofs.AllocationSteps.{handed_on, counted_at}
+use Rattle.qcow2_alloc.proofs.AllocationSteps.{handed_on, counted_at, none_named}
+use Rattle.qcow2_alloc.proofs.CachedEntries.Putting.{some_of}
+use Rattle.qcow2_alloc.proofs.Outcomes.{if_no_ok}
 use Rattle.qcow2_alloc.proofs.allocation.Allocator.behind_used.Goals as goal
 
 -- a cluster behind another one in its range
@@ -24,7 +36,8 @@ returns-in_default-clause-sound g c = λ p sound. ((c.in_ok-block.ensures.sound 
 
 pub returns-clause-sound : goal.returns-clause-sound
 returns-clause-sound g c = λ p sound.
-    let l = rw c.in-Some.is at (c.in_ok-block.ensures.sound p sound) in (
+    rw c.rb_used_from-used.ensures.same
+    (let l = rw c.in-Some.is at (c.in_ok-block.ensures.sound p sound) in (
       l.0,
       λ k low high.
           let bits = c.rb_bits-bits.result in
@@ -35,8 +48,8 @@ returns-clause-sound g c = λ p sound.
           let place = in_range c.args.cluster k (2 ^ bits) low (omega (arith, low, high, index, width, least)) in
           let moved = place.1 in
           let at = counted_at g.S.Storage.view c.load_block.new.file c.args.file.now.header.fields (ap (λ x. x.fields) c.load_block.ensures.header) k _ c.in-Some.block (k % 2 ^ bits) bits l.1 c.rb_bits-bits.ensures.counts place.0 refl in
-          c.rb_used_from-used.ensures c.load_block.new.file.header.fields p (contents_in g.S.Storage.view c.load_block.new.file) k (k % 2 ^ bits) l.0.file_step.sound.caches at (omega (arith, index, moved)) (omega (arith, low, high, index, least, moved)),
-    )
+          c.rb_used_from-used.ensures.used c.load_block.new.file.header.fields p (contents_in g.S.Storage.view c.load_block.new.file) k (k % 2 ^ bits) l.0.file_step.sound.caches at (omega (arith, index, moved)) (omega (arith, low, high, index, least, moved)),
+    ))
 
 pub returns-in_err-block-clause-header_cluster : goal.returns-in_err-block-clause-header_cluster
 returns-in_err-block-clause-header_cluster g c = c.load_block.ensures.header_cluster
@@ -44,5 +57,62 @@ returns-in_err-block-clause-header_cluster g c = c.load_block.ensures.header_clu
 pub returns-in_default-clause-header_cluster : goal.returns-in_default-clause-header_cluster
 returns-in_default-clause-header_cluster g c = c.load_block.ensures.header_cluster
 
+-- it goes on at the first count of 0 of its refblock, or where the next range begins
+goes_far : {S : Type 0} (h : HeaderFields) (reftable : EntryTableView) (caches : MetadataCaches S) (cluster block index used per next : ℕ) → counts_per_block h ≡ per → index ≡ cluster % per → index < per
+    → NamesBlock h reftable (cluster / per) (Some block) → IsSome (rb_at caches block) → TellsFirstFree caches block index used → next ≡ cluster + min used (per - index) → GoesFar h reftable caches cluster next
+goes_far h reftable caches cluster block index used per next counts at low names held first is =
+    let split = div-add-mod' cluster per in
+    elim (cases_lt used (per - index)) [
+      | inl near ↦
+          let b = some_of (rb_at caches block) held in
+          let place : next ≡ cluster / per * per + (index + used) = omega (arith, is, near, split, at) in
+          let there : next % per ≡ index + used = ap (λ n. n % per) place ∙ mod-mul-add (cluster / per) per (index + used) (omega (arith, near, low)) in
+          inr (inr (
+            block,
+            b.0,
+            subst (λ n. NamesBlock h reftable (cluster / n) (Some block)) (sym counts) names,
+            b.1,
+            λ of.
+                let many : counts_of b.0 ≡ per = ap (λ n. 2 ^ n * 8 / 2 ^ b.0.refcount_order) of.bits ∙ ap (λ n. 2 ^ h.cluster_bits * 8 / 2 ^ n) of.order ∙ counts in
+                let found : IsFirstZero b.0 index (index + used) = (rw b.1 at first) (omega (arith, many, low)) in
+                ap (count_at b.0) (ap (λ n. next % n) counts ∙ there) ∙ found.zero (omega (arith, many, near, low)),
+          ))
+      | inr far ↦
+          let place : next ≡ cluster / per * per + per = omega (arith, is, far, split, at, low) in
+          inr (inl (ap (λ n. next % n) counts ∙ ap (λ n. n % per) place ∙ ends (cluster / per) per (omega (arith, low))))
+    ]
+  where
+    ends : (q per : ℕ) → 0 < per → (q * per + per) % per ≡ 0
+    ends q per some = let e : q * per + per ≡ (q + 1) * per + 0 = omega arith in ap (λ n. n % per) e ∙ mod-mul-add (q + 1) per 0 some
+
+pub returns-in_err-block-clause-far : goal.returns-in_err-block-clause-far
+returns-in_err-block-clause-far g c = if_no_ok _ c.from_residual.result c.in_err-block.field-0.0 c.from_residual.ensures
+
+pub returns-in_default-clause-far : goal.returns-in_default-clause-far
+returns-in_default-clause-far g c =
+    inl (
+      refl,
+      subst (λ n. HasNone c.args.self.now.reftable (c.args.cluster / n)) (sym c.rb_bits-bits.ensures.counts)
+          (none_named c.args.file.now.header.fields c.args.self.now.reftable (c.args.cluster / 2 ^ c.rb_bits-bits.result) c.in_ok-block.field-0 (ap is_some c.in_default.is) c.in_ok-block.ensures.names),
+    )
+
+pub returns-clause-far : goal.returns-clause-far
+returns-clause-far g c =
+    let bits = c.rb_bits-bits.result in
+    let h = c.args.file.now.header.fields in
+    let t = c.args.self.now.reftable in
+    let index : c.rb_index-index.result ≡ c.args.cluster % 2 ^ bits = c.rb_index-index.ensures.value ∙ ap (λ n. n % 2 ^ bits) c.new.ensures in
+    let few = c.rb_bits-bits.ensures.high in
+    let width = one_shl bits 64 (omega (arith, few)) in
+    let names : NamesBlock h t (c.args.cluster / 2 ^ bits) (Some c.in-Some.block) = subst (NamesBlock h t (c.args.cluster / 2 ^ bits)) c.in-Some.is c.in_ok-block.ensures.names in
+    let held : IsSome (rb_at c.load_block.new.file.caches c.in-Some.block) = rw c.in-Some.is at c.in_ok-block.ensures.held in
+    let least = c.min.ensures in
+    rw c.rb_used_from-used.ensures.same
+    (goes_far h t c.load_block.new.file.caches c.args.cluster c.in-Some.block c.rb_index-index.result c.rb_used_from-used.result (2 ^ bits) _ c.rb_bits-bits.ensures.counts index (let low = mod_below c.args.cluster (2 ^ bits) (pow_pos bits) in omega (arith, index, low))
+    names held c.rb_used_from-used.ensures.first (omega (arith, least, width)))
+
+pub returns-clause-marks : goal.returns-clause-marks
+returns-clause-marks g c = rw c.rb_used_from-used.ensures.same c.load_block.ensures.marks
+
 pub returns-clause-header_cluster : goal.returns-clause-header_cluster
-returns-clause-header_cluster g c = c.load_block.ensures.header_cluster
+returns-clause-header_cluster g c = rw c.rb_used_from-used.ensures.same c.load_block.ensures.header_cluster

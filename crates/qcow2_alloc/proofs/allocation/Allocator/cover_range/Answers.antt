@@ -1,8 +1,8 @@
 use Rattle.std.proofs.Common.{◌≡◌, mul-pos, inl, true, false, ◌*◌, ◌<◌, ◌^◌, sym, ap, ◌∙◌, arith, Result, IsTrue, refl, subst}
 use Rattle.qcow2_metadata.specs.Header.{counts_per_block}
 use Rattle.qcow2_alloc.specs.Allocation.{GetsBlock}
-use Rattle.qcow2_alloc.proofs.Hints.{has_block, lacking_above, placed_block}
-use Rattle.qcow2_alloc.proofs.AllocationSteps.{handed_on, gets_placed, gets_then, is_sound_now, none_in_memory, stands_none}
+use Rattle.qcow2_alloc.proofs.Hints.{lacking_above}
+use Rattle.qcow2_alloc.proofs.AllocationSteps.{named_covered, none_named, handed_on, gets_placed, gets_then, is_sound_now, none_in_memory, stands_none}
 use Rattle.std.specs.Prelude.{IfErr}
 use Rattle.qcow2_alloc.specs.ImageError.{IsFault}
 use Rattle.std.proofs.lemmas.Nat.{pow_pos}
@@ -34,20 +34,6 @@ returns-clause-sound g c = λ p sound.
     gets_then g.S.Storage.view p c.args.file.now c.load_block.new.file c.place_block.new.file c.args.self.now c.place_block.new.self c.place_block.result l.0
     (gets_placed g.S.Storage.view p c.load_block.new.file c.place_block.new.file c.place_block.new.self c.args.range _ c.place_block.result
     (c.place_block.ensures.sound p (is_sound_now g.S.Storage.view p p c.args.file.now c.load_block.new.file c.args.self.now l.0) (record { none = none; first = omega (arith, e, same, c.requires) })))
-
-pub returns-then-is_some-clause-has : goal.returns-then-is_some-clause-has
-returns-then-is_some-clause-has g c = λ p sound.
-    let l = c.in_ok-load_block.ensures.sound p sound in
-    has_block g.S.Storage.view p c.load_block.new.file c.args.self.now.reftable c.args.range c.in_ok-load_block.field-0 l.0.file_step.sound l.0.reftable (sym c.is_some.ensures ∙ c.if-is_some.true) l.1
-
-pub returns-clause-has : goal.returns-clause-has
-returns-clause-has g c = λ p sound.
-    let l = c.in_ok-load_block.ensures.sound p sound in
-    let e : c.args.range * 2 ^ c.rb_bits.result ≡ c.args.range * counts_per_block c.load_block.new.file.header.fields = ap (λ n. c.args.range * n) (sym c.rb_bits.ensures.counts) in
-    let same : c.args.range * counts_per_block c.load_block.new.file.header.fields ≡ c.args.range * counts_per_block c.args.file.now.header.fields = ap (λ h. c.args.range * counts_per_block h.fields) c.load_block.ensures.header in
-    let none = none_in_memory g.S.Storage.view p c.load_block.new.file c.args.self.now.reftable l.0.file_step.sound l.0.reftable c.args.range (stands_none g.S.Storage.view c.load_block.new.file c.args.range c.in_ok-load_block.field-0 (sym c.is_some.ensures ∙ c.if-is_some.false) l.1) in
-    placed_block g.S.Storage.view p p c.load_block.new.file c.place_block.new.file c.place_block.new.self c.args.range _ c.place_block.result
-    (c.place_block.ensures.sound p (is_sound_now g.S.Storage.view p p c.args.file.now c.load_block.new.file c.args.self.now l.0) (record { none = none; first = omega (arith, e, same, c.requires) }))
 
 pub returns-in_err-load_block-clause-fault : goal.returns-in_err-load_block-clause-fault
 returns-in_err-load_block-clause-fault g c = λ p sound within near. handed_on (λ (r : Result (Unit {0}) ImageError). IfErr r IsFault) c.from_residual.result c.in_err-load_block.field-0.0 c.from_residual.ensures (c.in_err-load_block.ensures.sound p sound).0
@@ -82,9 +68,6 @@ returns-in_err-load_block-clause-cause g c = handed_cause c.from_residual.result
 
 pub returns-in_err-load_block-clause-storage_faults : goal.returns-in_err-load_block-clause-storage_faults
 returns-in_err-load_block-clause-storage_faults g c = told_on _ _ c.load_block.result c.in_err-load_block.field-0.0 c.from_residual.result c.load_block.ensures.storage_faults c.in_err-load_block.was c.from_residual.ensures
-
-pub returns-in_err-load_block-clause-has : goal.returns-in_err-load_block-clause-has
-returns-in_err-load_block-clause-has g c = λ _ _. on_no_ok _ c.from_residual.result c.in_err-load_block.field-0.0 c.from_residual.ensures
 
 pub returns-in_err-load_block-clause-header : goal.returns-in_err-load_block-clause-header
 returns-in_err-load_block-clause-header g c = c.load_block.ensures.header
@@ -135,13 +118,10 @@ pub returns-then-not-can_name-clause-cause : goal.returns-then-not-can_name-clau
 returns-then-not-can_name-clause-cause g c = tt
 
 pub returns-then-is_some-clause-storage_faults : goal.returns-then-is_some-clause-storage_faults
-returns-then-is_some-clause-storage_faults g c = told_ok _ _ tt c.load_block.ensures.storage_faults.no_fewer
+returns-then-is_some-clause-storage_faults g c = told_ok _ _ tt c.in_ok-load_block.ensures.storage_faults.told
 
 pub returns-then-not-can_name-clause-storage_faults : goal.returns-then-not-can_name-clause-storage_faults
-returns-then-not-can_name-clause-storage_faults g c = told_limit _ _ c.load_block.ensures.storage_faults.no_fewer
-
-pub returns-then-not-can_name-clause-has : goal.returns-then-not-can_name-clause-has
-returns-then-not-can_name-clause-has g c = λ p sound. tt
+returns-then-not-can_name-clause-storage_faults g c = told_limit _ _ c.in_ok-load_block.ensures.storage_faults.told
 
 pub returns-then-is_some-clause-fault : goal.returns-then-is_some-clause-fault
 returns-then-is_some-clause-fault g c = λ p sound within near. tt
@@ -165,7 +145,7 @@ pub returns-clause-cause : goal.returns-clause-cause
 returns-clause-cause g c = c.place_block.ensures.cause
 
 pub returns-clause-storage_faults : goal.returns-clause-storage_faults
-returns-clause-storage_faults g c = told_since _ _ _ c.load_block.ensures.storage_faults.no_fewer c.place_block.ensures.storage_faults
+returns-clause-storage_faults g c = told_since _ _ _ c.in_ok-load_block.ensures.storage_faults.told c.place_block.ensures.storage_faults
 
 pub place_block-requires-clause-within : goal.place_block-requires-clause-within
 place_block-requires-clause-within g c = c.can_name.ensures.within c.if-not-can_name.false
@@ -190,3 +170,30 @@ returns-then-not-can_name-clause-header_cluster g c = c.load_block.ensures.heade
 
 pub returns-clause-header_cluster : goal.returns-clause-header_cluster
 returns-clause-header_cluster g c = spares_then c.load_block.ensures.header_cluster c.place_block.ensures.header_cluster
+
+pub returns-in_err-load_block-clause-has : goal.returns-in_err-load_block-clause-has
+returns-in_err-load_block-clause-has g c = on_no_ok _ c.from_residual.result c.in_err-load_block.field-0.0 c.from_residual.ensures
+
+pub returns-then-is_some-clause-has : goal.returns-then-is_some-clause-has
+returns-then-is_some-clause-has g c = c.in_ok-load_block.ensures.has (sym c.is_some.ensures ∙ c.if-is_some.true)
+
+pub returns-then-not-can_name-clause-has : goal.returns-then-not-can_name-clause-has
+returns-then-not-can_name-clause-has g c = tt
+
+pub returns-clause-has : goal.returns-clause-has
+returns-clause-has g c = c.place_block.ensures.has
+
+pub returns-in_err-load_block-clause-named : goal.returns-in_err-load_block-clause-named
+returns-in_err-load_block-clause-named g c = entries_none _ c.args.self.now.reftable
+
+pub returns-then-is_some-clause-named : goal.returns-then-is_some-clause-named
+returns-then-is_some-clause-named g c = entries_none _ c.args.self.now.reftable
+
+pub returns-then-not-can_name-clause-named : goal.returns-then-not-can_name-clause-named
+returns-then-not-can_name-clause-named g c = entries_none _ c.args.self.now.reftable
+
+pub returns-clause-named : goal.returns-clause-named
+returns-clause-named g c =
+    named_covered c.args.self.now.reftable c.place_block.new.self.reftable c.args.range
+    (none_named c.args.file.now.header.fields c.args.self.now.reftable c.args.range c.in_ok-load_block.field-0 (sym c.is_some.ensures ∙ c.if-is_some.false) c.in_ok-load_block.ensures.names)
+    c.place_block.ensures.entries

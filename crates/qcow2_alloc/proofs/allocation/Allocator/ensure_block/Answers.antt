@@ -1,27 +1,27 @@
-use Rattle.std.proofs.Common.{◌≡◌, mul-pos, ◌≤◌, ◌<◌, inl, ◌*◌, ◌/◌, ◌%◌, ◌^◌, false, sym, ap, ◌∙◌, refl, arith, Result, IsTrue, subst, ℕ}
+use Rattle.std.proofs.Common.{Option, Some, None, Ok, Err, true, ◌≡◌, mul-pos, ◌≤◌, ◌<◌, inl, ◌*◌, ◌/◌, ◌%◌, ◌^◌, false, sym, ap, ◌∙◌, refl, arith, Result, IsTrue, subst, ℕ}
 use Rattle.qcow2_metadata.specs.Entries.{block_offset}
 use Rattle.qcow2_metadata.specs.Header.{counts_per_block}
 use Rattle.qcow2_laws.specs.Changes.{one_at}
-use Rattle.qcow2_alloc.specs.Allocation.{taken_as, HasNone, GetsBlock, IsUnaligned}
+use Rattle.qcow2_alloc.specs.Allocation.{LacksFirst, taken_as, HasNone, GetsBlock, IsUnaligned}
 use Rattle.qcow2_alloc.specs.ImageFile.{IsFault}
 use Rattle.qcow2_alloc.specs.LowestRuns.{KeepsNoFreeBelowHint}
 use Rattle.qcow2_alloc.proofs.FileSteps.{leaves_then}
 use Rattle.qcow2_alloc.proofs.Hints.{has_block, lacking_above, hint_got, hint_placed, hint_refused, hint_stays, ok_as, placed_block, range_as, not_broken}
-use Rattle.qcow2_alloc.proofs.AllocationSteps.{handed_on, allocator_step_then, gets_then, gets_taken, is_sound_now, none_in_memory, stands_none, still_sound}
+use Rattle.qcow2_alloc.proofs.AllocationSteps.{named_then, named_covered, none_named, handed_on, allocator_step_then, gets_then, gets_taken, is_sound_now, none_in_memory, stands_none, still_sound}
 use Rattle.std.specs.Prelude.{IfErr, IsSome}
-use Rattle.std.proofs.Math.Nat.{div-mul-le_self}
+use Rattle.std.proofs.Math.Nat.{div-eq_of_lt, div-mul-le_self}
 use Rattle.std.proofs.lemmas.Nat.{pow_pos}
 use Rattle.qcow2_alloc.specs.declared.error.ImageError.{ImageError}
 use Rattle.qcow2_alloc.proofs.Limits.{host_below, is_able, placed_fault, range_near}
-use Rattle.qcow2_alloc.proofs.FormerReftables.{place_none, place_as, place_then}
-use Rattle.qcow2_alloc.proofs.Faults.{told_on, told_ok, told_since}
-use Rattle.qcow2_alloc.proofs.Outcomes.{ok_no_err, not_both, told_limit, told_err, told_third, on_no_ok, handed_cause, handed_unaligned}
+use Rattle.qcow2_alloc.proofs.Faults.{stays_else, told_on, told_ok, told_since}
+use Rattle.qcow2_alloc.proofs.Outcomes.{ok_no_err, not_both, told_limit, told_err, on_no_ok, handed_cause, handed_unaligned, entries_none}
 use Rattle.qcow2_metadata.specs.EntryTable.{EntryTableView}
 use Rattle.qcow2_metadata.specs.declared.header.HeaderFields.{HeaderFields}
 use Rattle.qcow2_alloc.specs.declared.error.ImageError.TheVariants as I
 use Rattle.qcow2_metadata.specs.L2Mapping.{IsHostCluster}
 use Rattle.qcow2_alloc.proofs.SparedHeaders.{spares_then}
 use Rattle.qcow2_alloc.proofs.KeptMarks.{kept_marks_then}
+use Rattle.std.specs.Option.{is_some}
 use Rattle.qcow2_alloc.proofs.allocation.Allocator.ensure_block.Goals as goal
 
 is_unaligned : (h : HeaderFields) (t : EntryTableView) (cluster counts n : ℕ) → n ≡ counts → IsUnaligned h t (cluster / n) → IsUnaligned h t (cluster / counts)
@@ -63,7 +63,7 @@ returns-in-Ok-Some-clause-sound g c = λ p sound.
     let past : c.args.cluster / 2 ^ c.rb_bits-bits.result * 2 ^ c.rb_bits-bits.result % 18446744073709551616 ≤ c.args.cluster / 2 ^ c.rb_bits-bits.result * counts_per_block c.load_block.new.file.header.fields = omega (arith, e) in
     let still : HasNone c.take_lowest_below.new.self.reftable (c.args.cluster / 2 ^ c.rb_bits-bits.result) = ap block_offset (c.in-Ok-Some.ensures.entries.others (c.args.cluster / 2 ^ c.rb_bits-bits.result) past) ∙ none in
     let taken = allocator_step_then g.S.Storage.view p (taken_as false p (one_at c.in-Ok-Some.at)) c.args.file.now c.load_block.new.file c.take_lowest_below.new.file c.args.self.now c.take_lowest_below.new.self l.0 two in
-    gets_taken g.S.Storage.view p c.args.file.now c.take_lowest_below.new.file c.place_block.new.file c.take_lowest_below.new.self c.place_block.new.self _ c.in-Ok-Some.at c.place_block.result taken (c.place_block.ensures.marks.pins.changed (noted refl))
+    gets_taken g.S.Storage.view p c.args.file.now c.take_lowest_below.new.file c.place_block.new.file c.take_lowest_below.new.self c.place_block.new.self _ c.in-Ok-Some.at c.place_block.result taken (c.place_block.ensures.marks.pins.changes.noted (noted refl))
     (c.place_block.ensures.sound p (is_sound_now g.S.Storage.view p (taken_as false p (one_at c.in-Ok-Some.at)) c.args.file.now c.take_lowest_below.new.file c.take_lowest_below.new.self taken) (record { none = still; first = tt }))
 
 pub returns-in-Ok-None-clause-sound : goal.returns-in-Ok-None-clause-sound
@@ -88,24 +88,11 @@ returns-in_err-load_block-clause-hint g c = λ p sound hint.
     handed_on (KeepsNoFreeBelowHint g.S.Storage.view c.args.self.now c.load_block.new.file) c.from_residual.result c.in_err-load_block.field-0.0 c.from_residual.ensures
     (hint_refused g.S.Storage.view p c.args.file.now c.load_block.new.file c.args.self.now c.args.self.now c.in_err-load_block.field-0.0 refl (c.in_err-load_block.ensures.sound p sound).1 hint)
 
-pub returns-then-is_some-clause-has : goal.returns-then-is_some-clause-has
-returns-then-is_some-clause-has g c = λ p sound.
-    let l = c.in_ok-load_block.ensures.sound p sound in
-    range_as c.args.self.now.reftable c.args.cluster (2 ^ c.rb_bits-bits.result) (counts_per_block c.args.file.now.header.fields) c.rb_bits-bits.ensures.counts
-    (has_block g.S.Storage.view p c.load_block.new.file c.args.self.now.reftable (c.args.cluster / 2 ^ c.rb_bits-bits.result) c.in_ok-load_block.field-0 l.0.file_step.sound l.0.reftable (sym c.is_some.ensures ∙ c.if-is_some.true) l.1)
-
 pub returns-then-is_some-clause-hint : goal.returns-then-is_some-clause-hint
 returns-then-is_some-clause-hint g c = λ p sound hint. hint_stays g.S.Storage.view p c.args.file.now c.load_block.new.file c.args.self.now c.args.self.now (c.in_ok-load_block.ensures.sound p sound).0 refl hint
 
 pub returns-then-not-can_name-clause-hint : goal.returns-then-not-can_name-clause-hint
 returns-then-not-can_name-clause-hint g c = λ p sound hint. inl (hint_stays g.S.Storage.view p c.args.file.now c.load_block.new.file c.args.self.now c.args.self.now (c.in_ok-load_block.ensures.sound p sound).0 refl hint)
-
-pub returns-in-Ok-None-clause-has : goal.returns-in-Ok-None-clause-has
-returns-in-Ok-None-clause-has g c = λ p sound.
-    let one = (c.in_ok-load_block.ensures.sound p sound).0 in
-    let two = rw c.in-Ok-None.field-0-is at (c.in-Ok-None.ensures.sound p (is_sound_now g.S.Storage.view p p c.args.file.now c.load_block.new.file c.args.self.now one)) in
-    ok_as _ _ c.cover_range.result (range_as c.cover_range.new.self.reftable c.args.cluster (2 ^ c.rb_bits-bits.result) (counts_per_block c.args.file.now.header.fields) c.rb_bits-bits.ensures.counts)
-    (c.cover_range.ensures.has p (is_sound_now g.S.Storage.view p p c.load_block.new.file c.take_lowest_below.new.file c.take_lowest_below.new.self two))
 
 pub returns-in-Ok-None-clause-hint : goal.returns-in-Ok-None-clause-hint
 returns-in-Ok-None-clause-hint g c = λ p sound hint.
@@ -122,14 +109,6 @@ returns-then-is_fault-clause-hint g c = λ p sound hint.
     let now = is_sound_now g.S.Storage.view p p c.args.file.now c.load_block.new.file c.args.self.now one in
     c.in-Err.ensures.hint p now (hint_stays g.S.Storage.view p c.args.file.now c.load_block.new.file c.args.self.now c.args.self.now one refl hint)
 
-pub returns-else-is_fault-clause-has : goal.returns-else-is_fault-clause-has
-returns-else-is_fault-clause-has g c = λ p sound.
-    let one = (c.in_ok-load_block.ensures.sound p sound).0 in
-    let two = still_sound g.S.Storage.view p c.load_block.new.file c.take_lowest_below.new.file c.take_lowest_below.new.self c.in-Err.refusal (λ fault. not_both c.is_fault.result (c.is_fault.ensures.1 fault) c.if-is_fault.false)
-    (c.in-Err.ensures.sound p (is_sound_now g.S.Storage.view p p c.args.file.now c.load_block.new.file c.args.self.now one)) in
-    ok_as _ _ c.cover_range-in-Err.result (range_as c.cover_range-in-Err.new.self.reftable c.args.cluster (2 ^ c.rb_bits-bits.result) (counts_per_block c.args.file.now.header.fields) c.rb_bits-bits.ensures.counts)
-    (c.cover_range-in-Err.ensures.has p (is_sound_now g.S.Storage.view p p c.load_block.new.file c.take_lowest_below.new.file c.take_lowest_below.new.self two))
-
 pub returns-else-is_fault-clause-hint : goal.returns-else-is_fault-clause-hint
 returns-else-is_fault-clause-hint g c = λ p sound hint.
     let one = (c.in_ok-load_block.ensures.sound p sound).0 in
@@ -139,20 +118,6 @@ returns-else-is_fault-clause-hint g c = λ p sound hint.
     let still = hint_stays g.S.Storage.view p c.args.file.now c.load_block.new.file c.args.self.now c.args.self.now one refl hint in
     hint_got g.S.Storage.view p c.take_lowest_below.new.file c.cover_range-in-Err.new.file c.take_lowest_below.new.self c.cover_range-in-Err.new.self c.cover_range-in-Err.result c.cover_range-in-Err.ensures.first
     (c.cover_range-in-Err.ensures.sound p (is_sound_now g.S.Storage.view p p c.load_block.new.file c.take_lowest_below.new.file c.take_lowest_below.new.self two)) (not_broken c.take_lowest_below.new.file c.in-Err.refusal no_fault (c.in-Err.ensures.hint p now still))
-
-pub returns-in-Ok-Some-clause-has : goal.returns-in-Ok-Some-clause-has
-returns-in-Ok-Some-clause-has g c = λ p sound.
-    let l = c.in_ok-load_block.ensures.sound p sound in
-    let none = none_in_memory g.S.Storage.view p c.load_block.new.file c.args.self.now.reftable l.0.file_step.sound l.0.reftable _ (stands_none g.S.Storage.view c.load_block.new.file _ c.in_ok-load_block.field-0 (sym c.is_some.ensures ∙ c.if-is_some.false) l.1) in
-    let two = rw c.in-Ok-Some.field-0-is at (c.in-Ok-Some.ensures.sound p (is_sound_now g.S.Storage.view p p c.args.file.now c.load_block.new.file c.args.self.now l.0)) in
-    let counts : counts_per_block c.load_block.new.file.header.fields ≡ 2 ^ c.rb_bits-bits.result = ap (λ h. counts_per_block h.fields) c.load_block.ensures.header ∙ c.rb_bits-bits.ensures.counts in
-    let e = ap (λ n. c.args.cluster / 2 ^ c.rb_bits-bits.result * n) counts in
-    let past : c.args.cluster / 2 ^ c.rb_bits-bits.result * 2 ^ c.rb_bits-bits.result % 18446744073709551616 ≤ c.args.cluster / 2 ^ c.rb_bits-bits.result * counts_per_block c.load_block.new.file.header.fields = omega (arith, e) in
-    let still : HasNone c.take_lowest_below.new.self.reftable (c.args.cluster / 2 ^ c.rb_bits-bits.result) = ap block_offset (c.in-Ok-Some.ensures.entries.others (c.args.cluster / 2 ^ c.rb_bits-bits.result) past) ∙ none in
-    let taken = allocator_step_then g.S.Storage.view p (taken_as false p (one_at c.in-Ok-Some.at)) c.args.file.now c.load_block.new.file c.take_lowest_below.new.file c.args.self.now c.take_lowest_below.new.self l.0 two in
-    ok_as _ _ c.place_block.result (range_as c.place_block.new.self.reftable c.args.cluster (2 ^ c.rb_bits-bits.result) (counts_per_block c.args.file.now.header.fields) c.rb_bits-bits.ensures.counts)
-    (placed_block g.S.Storage.view (taken_as false p (one_at c.in-Ok-Some.at)) p c.take_lowest_below.new.file c.place_block.new.file c.place_block.new.self (c.args.cluster / 2 ^ c.rb_bits-bits.result) c.in-Ok-Some.at c.place_block.result
-    (c.place_block.ensures.sound p (is_sound_now g.S.Storage.view p (taken_as false p (one_at c.in-Ok-Some.at)) c.args.file.now c.take_lowest_below.new.file c.take_lowest_below.new.self taken) (record { none = still; first = tt })))
 
 pub returns-in-Ok-Some-clause-hint : goal.returns-in-Ok-Some-clause-hint
 returns-in-Ok-Some-clause-hint g c = λ p sound hint.
@@ -221,27 +186,6 @@ returns-in-Ok-Some-clause-fault g c = λ p sound within near.
     let taken = allocator_step_then g.S.Storage.view p (taken_as false p (one_at c.in-Ok-Some.at)) c.args.file.now c.load_block.new.file c.take_lowest_below.new.file c.args.self.now c.take_lowest_below.new.self l.0 two in
     placed_fault g.S.Storage.view (taken_as false p (one_at c.in-Ok-Some.at)) p c.take_lowest_below.new.file c.place_block.new.file c.place_block.new.self (c.args.cluster / 2 ^ c.rb_bits-bits.result) c.in-Ok-Some.at c.place_block.result
     (c.place_block.ensures.sound p (is_sound_now g.S.Storage.view p (taken_as false p (one_at c.in-Ok-Some.at)) c.args.file.now c.take_lowest_below.new.file c.take_lowest_below.new.self taken) (record { none = still; first = tt }))
-
-pub returns-in_err-load_block-clause-place : goal.returns-in_err-load_block-clause-place
-returns-in_err-load_block-clause-place g c = place_none c.args.self.now.reftable
-
-pub returns-then-is_some-clause-place : goal.returns-then-is_some-clause-place
-returns-then-is_some-clause-place g c = place_none c.args.self.now.reftable
-
-pub returns-then-not-can_name-clause-place : goal.returns-then-not-can_name-clause-place
-returns-then-not-can_name-clause-place g c = place_none c.args.self.now.reftable
-
-pub returns-in-Ok-Some-clause-place : goal.returns-in-Ok-Some-clause-place
-returns-in-Ok-Some-clause-place g c = place_then c.args.self.now.reftable c.take_lowest_below.new.self.reftable c.place_block.new.self.reftable (place_as _ c.args.self.now.reftable c.take_lowest_below.new.self.reftable c.take_lowest_below.ensures.entries) (place_as _ c.take_lowest_below.new.self.reftable c.place_block.new.self.reftable c.place_block.ensures.entries)
-
-pub returns-in-Ok-None-clause-place : goal.returns-in-Ok-None-clause-place
-returns-in-Ok-None-clause-place g c = place_then c.args.self.now.reftable c.take_lowest_below.new.self.reftable c.cover_range.new.self.reftable (place_as _ c.args.self.now.reftable c.take_lowest_below.new.self.reftable c.take_lowest_below.ensures.entries) (place_as _ c.take_lowest_below.new.self.reftable c.cover_range.new.self.reftable c.cover_range.ensures.entries)
-
-pub returns-then-is_fault-clause-place : goal.returns-then-is_fault-clause-place
-returns-then-is_fault-clause-place g c = place_as _ c.args.self.now.reftable c.take_lowest_below.new.self.reftable c.take_lowest_below.ensures.entries
-
-pub returns-else-is_fault-clause-place : goal.returns-else-is_fault-clause-place
-returns-else-is_fault-clause-place g c = place_then c.args.self.now.reftable c.take_lowest_below.new.self.reftable c.cover_range-in-Err.new.self.reftable (place_as _ c.args.self.now.reftable c.take_lowest_below.new.self.reftable c.take_lowest_below.ensures.entries) (place_as _ c.take_lowest_below.new.self.reftable c.cover_range-in-Err.new.self.reftable c.cover_range-in-Err.ensures.entries)
 
 pub returns-in_err-load_block-clause-marks : goal.returns-in_err-load_block-clause-marks
 returns-in_err-load_block-clause-marks g c = c.load_block.ensures.marks
@@ -315,9 +259,6 @@ returns-in_err-load_block-clause-cause g c = handed_cause c.from_residual.result
 pub returns-in_err-load_block-clause-storage_faults : goal.returns-in_err-load_block-clause-storage_faults
 returns-in_err-load_block-clause-storage_faults g c = told_on _ _ c.load_block.result c.in_err-load_block.field-0.0 c.from_residual.result c.load_block.ensures.storage_faults c.in_err-load_block.was c.from_residual.ensures
 
-pub returns-in_err-load_block-clause-has : goal.returns-in_err-load_block-clause-has
-returns-in_err-load_block-clause-has g c = λ _ _. on_no_ok _ c.from_residual.result c.in_err-load_block.field-0.0 c.from_residual.ensures
-
 pub returns-then-is_some-clause-cause : goal.returns-then-is_some-clause-cause
 returns-then-is_some-clause-cause g c = tt
 
@@ -328,31 +269,31 @@ pub returns-in-Ok-Some-clause-cause : goal.returns-in-Ok-Some-clause-cause
 returns-in-Ok-Some-clause-cause g c = c.place_block.ensures.cause
 
 pub returns-in-Ok-Some-clause-storage_faults : goal.returns-in-Ok-Some-clause-storage_faults
-returns-in-Ok-Some-clause-storage_faults g c = told_third _ _ _ _ _ _ c.place_block.result c.load_block.ensures.storage_faults c.take_lowest_below.ensures.storage_faults c.place_block.ensures.storage_faults
+returns-in-Ok-Some-clause-storage_faults g c = told_since _ _ _ (c.in-Ok-Some.ensures.storage_faults.told ∙ c.in_ok-load_block.ensures.storage_faults.told) c.place_block.ensures.storage_faults
 
 pub returns-in-Ok-None-clause-cause : goal.returns-in-Ok-None-clause-cause
 returns-in-Ok-None-clause-cause g c = c.cover_range.ensures.cause
 
 pub returns-in-Ok-None-clause-storage_faults : goal.returns-in-Ok-None-clause-storage_faults
-returns-in-Ok-None-clause-storage_faults g c = told_third _ _ _ _ _ _ c.cover_range.result c.load_block.ensures.storage_faults c.take_lowest_below.ensures.storage_faults c.cover_range.ensures.storage_faults
+returns-in-Ok-None-clause-storage_faults g c = told_since _ _ _ (c.in-Ok-None.ensures.storage_faults.told ∙ c.in_ok-load_block.ensures.storage_faults.told) c.cover_range.ensures.storage_faults
 
 pub returns-else-is_fault-clause-cause : goal.returns-else-is_fault-clause-cause
 returns-else-is_fault-clause-cause g c = c.cover_range-in-Err.ensures.cause
 
 pub returns-else-is_fault-clause-storage_faults : goal.returns-else-is_fault-clause-storage_faults
-returns-else-is_fault-clause-storage_faults g c = told_third _ _ _ _ _ _ c.cover_range-in-Err.result c.load_block.ensures.storage_faults c.take_lowest_below.ensures.storage_faults c.cover_range-in-Err.ensures.storage_faults
+returns-else-is_fault-clause-storage_faults g c = told_since _ _ _ (stays_else _ _ c.in-Err.refusal c.in-Err.ensures.storage_faults (λ fault. not_both c.is_fault.result (c.is_fault.ensures.1 fault) c.if-is_fault.false) ∙ c.in_ok-load_block.ensures.storage_faults.told) c.cover_range-in-Err.ensures.storage_faults
 
 pub returns-then-is_fault-clause-cause : goal.returns-then-is_fault-clause-cause
 returns-then-is_fault-clause-cause g c = c.in-Err.ensures.cause
 
 pub returns-then-is_fault-clause-storage_faults : goal.returns-then-is_fault-clause-storage_faults
-returns-then-is_fault-clause-storage_faults g c = told_since _ _ _ c.load_block.ensures.storage_faults.no_fewer (told_err _ _ c.in-Err.refusal c.in-Err.ensures.storage_faults)
+returns-then-is_fault-clause-storage_faults g c = told_since _ _ _ c.in_ok-load_block.ensures.storage_faults.told (told_err _ _ c.in-Err.refusal c.in-Err.ensures.storage_faults)
 
 pub returns-then-is_some-clause-storage_faults : goal.returns-then-is_some-clause-storage_faults
-returns-then-is_some-clause-storage_faults g c = told_ok _ _ tt c.load_block.ensures.storage_faults.no_fewer
+returns-then-is_some-clause-storage_faults g c = told_ok _ _ tt c.in_ok-load_block.ensures.storage_faults.told
 
 pub returns-then-not-can_name-clause-storage_faults : goal.returns-then-not-can_name-clause-storage_faults
-returns-then-not-can_name-clause-storage_faults g c = told_limit _ _ c.load_block.ensures.storage_faults.no_fewer
+returns-then-not-can_name-clause-storage_faults g c = told_limit _ _ c.in_ok-load_block.ensures.storage_faults.told
 
 pub returns-then-is_some-clause-unaligned : goal.returns-then-is_some-clause-unaligned
 returns-then-is_some-clause-unaligned g c = λ u. ok_no_err _ I.UnalignedTable (c.in_ok-load_block.ensures.unaligned (is_unaligned c.args.file.now.header.fields c.args.self.now.reftable c.args.cluster (2 ^ c.rb_bits-bits.result) (counts_per_block c.args.file.now.header.fields) c.rb_bits-bits.ensures.counts u))
@@ -371,12 +312,6 @@ returns-then-is_fault-clause-unaligned g c = λ u. ok_no_err _ I.UnalignedTable 
 
 pub returns-else-is_fault-clause-unaligned : goal.returns-else-is_fault-clause-unaligned
 returns-else-is_fault-clause-unaligned g c = λ u. ok_no_err _ I.UnalignedTable (c.in_ok-load_block.ensures.unaligned (is_unaligned c.args.file.now.header.fields c.args.self.now.reftable c.args.cluster (2 ^ c.rb_bits-bits.result) (counts_per_block c.args.file.now.header.fields) c.rb_bits-bits.ensures.counts u))
-
-pub returns-then-not-can_name-clause-has : goal.returns-then-not-can_name-clause-has
-returns-then-not-can_name-clause-has g c = λ p sound. tt
-
-pub returns-then-is_fault-clause-has : goal.returns-then-is_fault-clause-has
-returns-then-is_fault-clause-has g c = λ p sound. tt
 
 pub returns-then-is_some-clause-fault : goal.returns-then-is_some-clause-fault
 returns-then-is_some-clause-fault g c = λ p sound within near. tt
@@ -425,3 +360,97 @@ returns-then-is_fault-clause-header_cluster g c = spares_then c.load_block.ensur
 
 pub returns-else-is_fault-clause-header_cluster : goal.returns-else-is_fault-clause-header_cluster
 returns-else-is_fault-clause-header_cluster g c = spares_then (spares_then c.load_block.ensures.header_cluster c.take_lowest_below.ensures.header_cluster) (c.cover_range-in-Err.ensures.header_cluster)
+
+pub returns-in_err-load_block-clause-has : goal.returns-in_err-load_block-clause-has
+returns-in_err-load_block-clause-has g c = on_no_ok _ c.from_residual.result c.in_err-load_block.field-0.0 c.from_residual.ensures
+
+pub returns-then-is_some-clause-has : goal.returns-then-is_some-clause-has
+returns-then-is_some-clause-has g c =
+    range_as c.args.self.now.reftable c.args.cluster (2 ^ c.rb_bits-bits.result) (counts_per_block c.args.file.now.header.fields) c.rb_bits-bits.ensures.counts
+    (c.in_ok-load_block.ensures.has (sym c.is_some.ensures ∙ c.if-is_some.true))
+
+pub returns-then-not-can_name-clause-has : goal.returns-then-not-can_name-clause-has
+returns-then-not-can_name-clause-has g c = tt
+
+pub returns-then-is_fault-clause-has : goal.returns-then-is_fault-clause-has
+returns-then-is_fault-clause-has g c = tt
+
+pub returns-in-Ok-Some-clause-has : goal.returns-in-Ok-Some-clause-has
+returns-in-Ok-Some-clause-has g c = ok_as _ _ c.place_block.result (range_as c.place_block.new.self.reftable c.args.cluster (2 ^ c.rb_bits-bits.result) (counts_per_block c.args.file.now.header.fields) c.rb_bits-bits.ensures.counts) c.place_block.ensures.has
+
+pub returns-in-Ok-None-clause-has : goal.returns-in-Ok-None-clause-has
+returns-in-Ok-None-clause-has g c = ok_as _ _ c.cover_range.result (range_as c.cover_range.new.self.reftable c.args.cluster (2 ^ c.rb_bits-bits.result) (counts_per_block c.args.file.now.header.fields) c.rb_bits-bits.ensures.counts) c.cover_range.ensures.has
+
+pub returns-else-is_fault-clause-has : goal.returns-else-is_fault-clause-has
+returns-else-is_fault-clause-has g c = ok_as _ _ c.cover_range-in-Err.result (range_as c.cover_range-in-Err.new.self.reftable c.args.cluster (2 ^ c.rb_bits-bits.result) (counts_per_block c.args.file.now.header.fields) c.rb_bits-bits.ensures.counts) c.cover_range-in-Err.ensures.has
+
+pub returns-in_err-load_block-clause-named : goal.returns-in_err-load_block-clause-named
+returns-in_err-load_block-clause-named g c = entries_none _ c.args.self.now.reftable
+
+pub returns-then-is_some-clause-named : goal.returns-then-is_some-clause-named
+returns-then-is_some-clause-named g c = entries_none _ c.args.self.now.reftable
+
+pub returns-then-not-can_name-clause-named : goal.returns-then-not-can_name-clause-named
+returns-then-not-can_name-clause-named g c = entries_none _ c.args.self.now.reftable
+
+pub returns-then-is_fault-clause-named : goal.returns-then-is_fault-clause-named
+returns-then-is_fault-clause-named g c = c.take_lowest_below.ensures.named
+
+pub returns-in-Ok-None-clause-named : goal.returns-in-Ok-None-clause-named
+returns-in-Ok-None-clause-named g c = named_then c.args.self.now.reftable c.take_lowest_below.new.self.reftable c.cover_range.new.self.reftable c.take_lowest_below.ensures.named c.cover_range.ensures.named
+
+pub returns-else-is_fault-clause-named : goal.returns-else-is_fault-clause-named
+returns-else-is_fault-clause-named g c = named_then c.args.self.now.reftable c.take_lowest_below.new.self.reftable c.cover_range-in-Err.new.self.reftable c.take_lowest_below.ensures.named c.cover_range-in-Err.ensures.named
+
+pub returns-in-Ok-Some-clause-named : goal.returns-in-Ok-Some-clause-named
+returns-in-Ok-Some-clause-named g c =
+    let range = c.args.cluster / 2 ^ c.rb_bits-bits.result in
+    let none = none_named c.args.file.now.header.fields c.args.self.now.reftable range c.in_ok-load_block.field-0 (sym c.is_some.ensures ∙ c.if-is_some.false) c.in_ok-load_block.ensures.names in
+    let counts : counts_per_block c.load_block.new.file.header.fields ≡ 2 ^ c.rb_bits-bits.result = ap (λ h. counts_per_block h.fields) c.load_block.ensures.header ∙ c.rb_bits-bits.ensures.counts in
+    let e = ap (λ n. c.args.cluster / 2 ^ c.rb_bits-bits.result * n) counts in
+    let past : c.args.cluster / 2 ^ c.rb_bits-bits.result * 2 ^ c.rb_bits-bits.result % 18446744073709551616 ≤ c.args.cluster / 2 ^ c.rb_bits-bits.result * counts_per_block c.load_block.new.file.header.fields = omega (arith, e) in
+    let still : HasNone c.take_lowest_below.new.self.reftable range = ap block_offset (c.in-Ok-Some.ensures.entries.others range past) ∙ none in
+    named_then c.args.self.now.reftable c.take_lowest_below.new.self.reftable c.place_block.new.self.reftable c.take_lowest_below.ensures.named
+    (named_covered c.take_lowest_below.new.self.reftable c.place_block.new.self.reftable range still c.place_block.ensures.entries)
+
+-- a cluster of the first range
+range_first : (h : HeaderFields) (cluster n : ℕ) → n ≡ counts_per_block h → cluster < counts_per_block h → cluster / n ≡ 0
+range_first h cluster n is low = subst (λ k. cluster / k ≡ 0) (sym is) (div-eq_of_lt low)
+
+-- that range begins with the header's cluster
+not_first : {A : Type 0} (h : HeaderFields) (t : EntryTableView) (cluster n value : ℕ) → n ≡ counts_per_block h → LacksFirst h t cluster → value ≡ cluster / n * n % 18446744073709551616 → 0 < value → A
+not_first h t cluster n value is lacks at some =
+    let zero : value ≡ 0 * n % 18446744073709551616 = at ∙ ap (λ k. k * n % 18446744073709551616) (range_first h cluster n is lacks.first) in
+    absurd (omega (arith, zero, some))
+
+no_answer : {A : Type 0} (r : Result (Option ℕ) ImageError) (e : ImageError) → r ≡ Err e → r ≡ Ok None → A
+no_answer r e is none = absurd (cc)
+
+no_block : {A : Type 0} (r : Result (Option ℕ) ImageError) (block : Option ℕ) → r ≡ Ok block → r ≡ Ok None → is_some block ≡ true → A
+no_block r None is none some = absurd (let bad : false ≡ true = some in cc)
+no_block r (Some block) is none some = absurd (cc)
+
+pub returns-in_err-load_block-clause-first_range : goal.returns-in_err-load_block-clause-first_range
+returns-in_err-load_block-clause-first_range g c = λ lacks. no_answer (Err c.in_err-load_block.field-0.0) c.in_err-load_block.field-0.0 refl (c.in_err-load_block.ensures.none (subst (HasNone c.args.self.now.reftable) (sym (range_first c.args.file.now.header.fields c.args.cluster (2 ^ c.rb_bits-bits.result) (sym c.rb_bits-bits.ensures.counts) lacks.first)) lacks.none)).0
+
+pub returns-then-is_some-clause-first_range : goal.returns-then-is_some-clause-first_range
+returns-then-is_some-clause-first_range g c = λ lacks. no_block (Ok c.in_ok-load_block.field-0) c.in_ok-load_block.field-0 refl (c.in_ok-load_block.ensures.none (subst (HasNone c.args.self.now.reftable) (sym (range_first c.args.file.now.header.fields c.args.cluster (2 ^ c.rb_bits-bits.result) (sym c.rb_bits-bits.ensures.counts) lacks.first)) lacks.none)).0 (sym c.is_some.ensures ∙ c.if-is_some.true)
+
+pub returns-then-not-can_name-clause-first_range : goal.returns-then-not-can_name-clause-first_range
+returns-then-not-can_name-clause-first_range g c = λ lacks. (refl, (c.in_ok-load_block.ensures.none (subst (HasNone c.args.self.now.reftable) (sym (range_first c.args.file.now.header.fields c.args.cluster (2 ^ c.rb_bits-bits.result) (sym c.rb_bits-bits.ensures.counts) lacks.first)) lacks.none)).1)
+
+pub returns-in-Ok-Some-clause-first_range : goal.returns-in-Ok-Some-clause-first_range
+returns-in-Ok-Some-clause-first_range g c = λ lacks.
+    not_first c.args.file.now.header.fields c.args.self.now.reftable c.args.cluster (2 ^ c.rb_bits-bits.result) c.new-first.result (sym c.rb_bits-bits.ensures.counts) lacks c.new-first.ensures (c.can_name.ensures.elsewhere c.if-not-can_name.false)
+
+pub returns-in-Ok-None-clause-first_range : goal.returns-in-Ok-None-clause-first_range
+returns-in-Ok-None-clause-first_range g c = λ lacks.
+    not_first c.args.file.now.header.fields c.args.self.now.reftable c.args.cluster (2 ^ c.rb_bits-bits.result) c.new-first.result (sym c.rb_bits-bits.ensures.counts) lacks c.new-first.ensures (c.can_name.ensures.elsewhere c.if-not-can_name.false)
+
+pub returns-then-is_fault-clause-first_range : goal.returns-then-is_fault-clause-first_range
+returns-then-is_fault-clause-first_range g c = λ lacks.
+    not_first c.args.file.now.header.fields c.args.self.now.reftable c.args.cluster (2 ^ c.rb_bits-bits.result) c.new-first.result (sym c.rb_bits-bits.ensures.counts) lacks c.new-first.ensures (c.can_name.ensures.elsewhere c.if-not-can_name.false)
+
+pub returns-else-is_fault-clause-first_range : goal.returns-else-is_fault-clause-first_range
+returns-else-is_fault-clause-first_range g c = λ lacks.
+    not_first c.args.file.now.header.fields c.args.self.now.reftable c.args.cluster (2 ^ c.rb_bits-bits.result) c.new-first.result (sym c.rb_bits-bits.ensures.counts) lacks c.new-first.ensures (c.can_name.ensures.elsewhere c.if-not-can_name.false)

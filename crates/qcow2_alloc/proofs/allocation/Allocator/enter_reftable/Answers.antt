@@ -1,7 +1,7 @@
-use Rattle.std.proofs.Common.{◌≡◌, ℕ, ◌+◌, ◌*◌, ◌/◌, ◌%◌, ◌^◌, ◌<◌, ◌≤◌, min, Result, ◌∙◌, sym, ap, subst, arith, refl}
+use Rattle.std.proofs.Common.{Option, Some, Ok, Err, ◌≡◌, ℕ, ◌+◌, ◌*◌, ◌/◌, ◌%◌, ◌^◌, ◌<◌, ◌≤◌, min, Result, ◌∙◌, sym, ap, subst, arith, refl}
 use Rattle.std.proofs.Math.Nat.{mul-le-mul_left}
 use Rattle.std.proofs.Math.Pow.{pow_mono}
-use Rattle.std.specs.Prelude.{IfErr, OnOk}
+use Rattle.std.specs.Prelude.{IfSome, IfErr, OnOk}
 use Rattle.qcow2_metadata.specs.Header.{HeaderView, counts_per_block, entries_per_cluster}
 use Rattle.qcow2_metadata.specs.EntryTable.{EntryTableView, entry_count}
 use Rattle.qcow2_metadata.specs.L2Mapping.{greatest_offset}
@@ -15,17 +15,17 @@ use Rattle.qcow2_alloc.specs.ImageFile.{AllocatorInvariant, KeepsHeader}
 use Rattle.qcow2_alloc.specs.Limits.{IsFaultOr, nameable_clusters, HasNoRoomBelow, HasNoRoomFor, LiesLowest}
 use Rattle.qcow2_alloc.specs.LowestRuns.{KeepsUsed}
 use Rattle.qcow2_alloc.specs.Rooms.{IsLonger, room_length, opened}
-use Rattle.qcow2_alloc.proofs.AllocationSteps.{handed_on, allocator_step_marked, is_sound_now, leaves_as}
-use Rattle.qcow2_alloc.proofs.Freeing.{allocator_step_on}
-use Rattle.qcow2_alloc.proofs.FullRooms.{no_room_for, lies_lowest, lowest_room_stays, lowest_entered}
+use Rattle.qcow2_alloc.proofs.AllocationSteps.{handed_on, is_sound_now, leaves_as}
+use Rattle.qcow2_alloc.proofs.FullRooms.{no_room_for, lies_lowest, lowest_entered}
 use Rattle.qcow2_alloc.proofs.Limits.{cause_as}
 use Rattle.qcow2_alloc.proofs.GrownReftables.{clone_clusters, clone_is_longer, entered, uses_entered, names_fault, room_now}
-use Rattle.qcow2_alloc.proofs.Hints.{uses_refused, used_stays}
+use Rattle.qcow2_alloc.proofs.Hints.{uses_refused}
 use Rattle.qcow2_alloc.proofs.ListedAfter.{header_same, header_then, header_counts}
 use Rattle.qcow2_alloc.proofs.Faults.{told_on, told_since}
-use Rattle.qcow2_alloc.proofs.Outcomes.{on_no_ok, handed_cause, on_err, on_ok}
-use Rattle.qcow2_alloc.proofs.SparedHeaders.{spares_then, spares_less, spares_tables, noted_keeps}
-use Rattle.qcow2_alloc.proofs.KeptMarks.{kept_marks_then, marks_of_caches}
+use Rattle.qcow2_alloc.proofs.Outcomes.{on_no_ok, handed_cause, on_err}
+use Rattle.qcow2_alloc.proofs.SparedHeaders.{spares_then, spares_less}
+use Rattle.qcow2_alloc.proofs.KeptMarks.{kept_marks_then}
+use Rattle.qcow2_alloc.proofs.Rooms.{still_noted}
 use Rattle.qcow2_alloc.proofs.allocation.Allocator.enter_reftable.Goals as goal
 
 -- the clusters that a reftable has entries for, as 64 bits hold them
@@ -34,6 +34,11 @@ few_clusters n bits few high = let pow : 2 ^ bits ≤ 2 ^ 24 = pow_mono high in 
 
 lesser : (a a' b b' end e : ℕ) → a < 2 ^ 64 → a ≡ a' → b ≡ b' → end ≡ min (a % 2 ^ 64) b → e ≤ a' → e ≤ b' → e ≤ end
 lesser a a' b b' end e fits same_a same_b is low near = omega arith
+
+-- where room lies behind the header's cluster, the table in it does
+lies_above : (r : Result (Unit {0}) ImageError) (o : Option ℕ) (first blocks : ℕ) → 0 < first → OnOk r (o ≡ Some (first + blocks)) → OnOk r (IfSome o (λ c. 0 < c))
+lies_above (Ok done) o first blocks above is = subst (λ (v : Option ℕ). IfSome v (λ c. 0 < c)) (sym is) (omega (arith, above))
+lies_above (Err e) o first blocks above is = tt
 
 pub returns-in_err-room-clause-enters : goal.returns-in_err-room-clause-enters
 returns-in_err-room-clause-enters g c = λ p sound clone whole.
@@ -54,10 +59,8 @@ returns-clause-enters g c = λ p sound clone whole.
     let first = c.in_ok-room.room.first in
     let n = room_length c.in_ok-room.room in
     let q : Pending = with_run p c.args.file.now.header.fields c.args.self.now.reftable first n in
-    let b : ImageFile g.row.S.Denot = record c.take_room.new.file { caches = c.note_change.new.self } in
-    let taken = c.in_ok-room.ensures.sound p sound in
-    let marked = allocator_step_marked view q c.take_room.new.file u c.note_change.new.self (is_sound_now view p q a c.take_room.new.file u taken) c.note_change.ensures.tables c.note_change.ensures.marks in
-    let room : UnseenAllocatorStep view p a c.take_room.new.self b q = allocator_step_on view p q q a c.take_room.new.file b u u (λ k some. some) taken marked in
+    let b : ImageFile g.row.S.Denot = c.take_room.new.file in
+    let room : UnseenAllocatorStep view p a c.take_room.new.self b q = c.in_ok-room.ensures.sound p sound in
     let now = is_sound_now view p (with_run p b.header.fields t first n) a b u (room_now view p a b c.write_reftable.new.file u c.write_reftable.new.self t first n c.take_room.ensures.header room) in
     let same = c.take_room.ensures.reftable in
     let longer : IsLonger b.header.fields c.take_room.new.self.reftable c.args.table c.in_ok-room.room.clusters =
@@ -65,6 +68,7 @@ returns-clause-enters g c = λ p sound clone whole.
     (ap (λ (h : HeaderView). entry_count c.args.table % entries_per_cluster h.fields) c.take_room.ensures.header ∙ whole) (c.in_ok-room.ensures.clusters ∙ c.value.ensures ∙ c.cluster_count.ensures) in
     let sound_now = subst (λ (x : EntryTableView). AllocatorInvariant view u (with_run p b.header.fields x first n) b) (sym same) now in
     entered view p a b c.write_reftable.new.file u c.write_reftable.new.self t first n c.take_room.ensures.header room c.write_reftable.result
+    (still_noted a.header.fields t first n b.caches.is_changed c.write_reftable.new.file.caches.is_changed c.write_reftable.ensures.marks.pins.changes.noted c.in_ok-room.ensures.noted)
     (subst (λ (x : EntryTableView). NamesReftable view (with_run p b.header.fields x first n) p b c.write_reftable.new.self c.write_reftable.new.file c.write_reftable.result) same (c.write_reftable.ensures.sound p sound_now longer))
 
 pub returns-clause-uses : goal.returns-clause-uses
@@ -76,10 +80,8 @@ returns-clause-uses g c = λ p sound clone whole.
     let first = c.in_ok-room.room.first in
     let n = room_length c.in_ok-room.room in
     let q : Pending = with_run p c.args.file.now.header.fields c.args.self.now.reftable first n in
-    let b : ImageFile g.row.S.Denot = record c.take_room.new.file { caches = c.note_change.new.self } in
-    let taken = c.in_ok-room.ensures.sound p sound in
-    let marked = allocator_step_marked view q c.take_room.new.file u c.note_change.new.self (is_sound_now view p q a c.take_room.new.file u taken) c.note_change.ensures.tables c.note_change.ensures.marks in
-    let room : UnseenAllocatorStep view p a c.take_room.new.self b q = allocator_step_on view p q q a c.take_room.new.file b u u (λ k some. some) taken marked in
+    let b : ImageFile g.row.S.Denot = c.take_room.new.file in
+    let room : UnseenAllocatorStep view p a c.take_room.new.self b q = c.in_ok-room.ensures.sound p sound in
     let now = is_sound_now view p (with_run p b.header.fields t first n) a b u (room_now view p a b c.write_reftable.new.file u c.write_reftable.new.self t first n c.take_room.ensures.header room) in
     let same = c.take_room.ensures.reftable in
     let longer : IsLonger b.header.fields c.take_room.new.self.reftable c.args.table c.in_ok-room.room.clusters =
@@ -118,10 +120,8 @@ returns-clause-limit g c = λ p sound hint clone whole.
     let first = c.in_ok-room.room.first in
     let n = room_length c.in_ok-room.room in
     let q : Pending = with_run p c.args.file.now.header.fields c.args.self.now.reftable first n in
-    let b : ImageFile g.row.S.Denot = record c.take_room.new.file { caches = c.note_change.new.self } in
-    let taken = c.in_ok-room.ensures.sound p sound in
-    let marked = allocator_step_marked view q c.take_room.new.file u c.note_change.new.self (is_sound_now view p q a c.take_room.new.file u taken) c.note_change.ensures.tables c.note_change.ensures.marks in
-    let room : UnseenAllocatorStep view p a c.take_room.new.self b q = allocator_step_on view p q q a c.take_room.new.file b u u (λ k some. some) taken marked in
+    let b : ImageFile g.row.S.Denot = c.take_room.new.file in
+    let room : UnseenAllocatorStep view p a c.take_room.new.self b q = c.in_ok-room.ensures.sound p sound in
     let now = is_sound_now view p (with_run p b.header.fields t first n) a b u (room_now view p a b c.write_reftable.new.file u c.write_reftable.new.self t first n c.take_room.ensures.header room) in
     let same = c.take_room.ensures.reftable in
     let longer : IsLonger b.header.fields c.take_room.new.self.reftable c.args.table c.in_ok-room.room.clusters =
@@ -143,10 +143,8 @@ returns-clause-lowest g c = λ p sound hint clone whole.
     let first = c.in_ok-room.room.first in
     let n = room_length c.in_ok-room.room in
     let q : Pending = with_run p c.args.file.now.header.fields c.args.self.now.reftable first n in
-    let b : ImageFile g.row.S.Denot = record c.take_room.new.file { caches = c.note_change.new.self } in
-    let taken = c.in_ok-room.ensures.sound p sound in
-    let marked = allocator_step_marked view q c.take_room.new.file u c.note_change.new.self (is_sound_now view p q a c.take_room.new.file u taken) c.note_change.ensures.tables c.note_change.ensures.marks in
-    let room : UnseenAllocatorStep view p a c.take_room.new.self b q = allocator_step_on view p q q a c.take_room.new.file b u u (λ k some. some) taken marked in
+    let b : ImageFile g.row.S.Denot = c.take_room.new.file in
+    let room : UnseenAllocatorStep view p a c.take_room.new.self b q = c.in_ok-room.ensures.sound p sound in
     let now = is_sound_now view p (with_run p b.header.fields t first n) a b u (room_now view p a b c.write_reftable.new.file u c.write_reftable.new.self t first n c.take_room.ensures.header room) in
     let same = c.take_room.ensures.reftable in
     let longer : IsLonger b.header.fields c.take_room.new.self.reftable c.args.table c.in_ok-room.room.clusters =
@@ -168,7 +166,7 @@ returns-clause-lowest g c = λ p sound hint clone whole.
     let fits = few_clusters c.len.result c.rb_bits.result c.len.ensures.limit c.rb_bits.ensures.high in
     let lacks : c.in_ok-room.room.blocks ≡ opened t (counts_per_block new.header.fields) first (c.in_ok-room.room.blocks + c.value.result) =
     c.in_ok-room.ensures.blocks ∙ ap (λ m. opened t m first n) (sym per) ∙ ap (λ m. opened t (counts_per_block new.header.fields) first (c.in_ok-room.room.blocks + m)) c.in_ok-room.ensures.clusters in
-    let lowest = lowest_room_stays view c.take_room.new.file b t c.value.result c.min-end.result first refl (λ k used. used_stays view q q c.take_room.new.file b u k marked (omega arith) used) (c.in_ok-room.ensures.lowest p sound hint) in
+    let lowest = c.in_ok-room.ensures.lowest p sound hint in
     lies_lowest view new t c.write_reftable.new.self.reftable first c.in_ok-room.room.blocks c.value.result c.min-end.result c.write_reftable.result length c.in_ok-room.ensures.above c.write_reftable.ensures.place c.write_reftable.ensures.table clusters lacks
     (λ e low near. lesser (c.len.result * 2 ^ c.rb_bits.result) (length * counts_per_block new.header.fields) (greatest_offset / 2 ^ c.cluster_bits-bits.result + 1) (nameable_clusters new.header.fields) c.min-end.result e fits named nameable end low near)
     (lowest_entered view b new t c.value.result c.min-end.result first c.write_reftable.result (per ∙ ap (λ (h : HeaderView). counts_per_block h.fields) (sym c.take_room.ensures.header)) uses lowest)
@@ -201,10 +199,10 @@ pub returns-in_err-room-clause-kept : goal.returns-in_err-room-clause-kept
 returns-in_err-room-clause-kept g c = on_err _ c.from_residual.result c.take_room.ensures.reftable
 
 pub returns-clause-marks : goal.returns-clause-marks
-returns-clause-marks g c = kept_marks_then (kept_marks_then c.take_room.ensures.marks (marks_of_caches c.note_change.ensures.marks c.note_change.ensures.tables.order)) c.write_reftable.ensures.marks
+returns-clause-marks g c = kept_marks_then c.take_room.ensures.marks c.write_reftable.ensures.marks
 
 pub returns-clause-noted : goal.returns-clause-noted
-returns-clause-noted g c = on_ok _ c.write_reftable.result (c.write_reftable.ensures.marks.pins.changed c.note_change.ensures.changed)
+returns-clause-noted g c = c.write_reftable.ensures.noted
 
 pub returns-clause-header : goal.returns-clause-header
 returns-clause-header g c = header_then c.args.file.now.header c.take_room.new.file.header c.write_reftable.new.file.header (header_same c.args.file.now.header c.take_room.new.file.header c.take_room.ensures.header) c.write_reftable.ensures.header
@@ -222,7 +220,7 @@ pub returns-clause-cause : goal.returns-clause-cause
 returns-clause-cause g c = c.write_reftable.ensures.cause
 
 pub returns-clause-storage_faults : goal.returns-clause-storage_faults
-returns-clause-storage_faults g c = told_since _ _ _ c.take_room.ensures.storage_faults.no_fewer c.write_reftable.ensures.storage_faults
+returns-clause-storage_faults g c = told_since _ _ _ c.in_ok-room.ensures.storage_faults.told c.write_reftable.ensures.storage_faults
 
 pub returns-in_err-room-clause-behind : goal.returns-in_err-room-clause-behind
 returns-in_err-room-clause-behind g c = on_no_ok _ c.from_residual.result c.in_err-room.field-0.0 c.from_residual.ensures
@@ -240,4 +238,10 @@ pub returns-in_err-room-clause-header_cluster : goal.returns-in_err-room-clause-
 returns-in_err-room-clause-header_cluster g c = spares_less (c.take_room.ensures.header_cluster)
 
 pub returns-clause-header_cluster : goal.returns-clause-header_cluster
-returns-clause-header_cluster g c = spares_then (spares_less (spares_then c.take_room.ensures.header_cluster (spares_tables c.take_room.new.self.reftable c.take_room.new.file c.note_change.new.self (noted_keeps c.take_room.new.file.caches c.note_change.new.self c.note_change.ensures.same)))) c.write_reftable.ensures.header_cluster
+returns-clause-header_cluster g c = spares_then (spares_less c.take_room.ensures.header_cluster) c.write_reftable.ensures.header_cluster
+
+pub returns-in_err-room-clause-elsewhere : goal.returns-in_err-room-clause-elsewhere
+returns-in_err-room-clause-elsewhere g c = on_no_ok _ c.from_residual.result c.in_err-room.field-0.0 c.from_residual.ensures
+
+pub returns-clause-elsewhere : goal.returns-clause-elsewhere
+returns-clause-elsewhere g c = lies_above c.write_reftable.result c.write_reftable.new.self.reftable.cluster c.in_ok-room.room.first c.in_ok-room.room.blocks c.in_ok-room.ensures.above c.write_reftable.ensures.place

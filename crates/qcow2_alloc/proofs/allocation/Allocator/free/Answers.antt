@@ -140,7 +140,7 @@ pub returns-in_err-rb_depends_on_l2-clause-cause : goal.returns-in_err-rb_depend
 returns-in_err-rb_depends_on_l2-clause-cause g c = handed_cause c.from_residual-in_err-rb_depends_on_l2.result c.in_err-rb_depends_on_l2.field-0.0 c.from_residual-in_err-rb_depends_on_l2.ensures c.in_err-rb_depends_on_l2.ensures.cause
 
 pub returns-in_err-rb_depends_on_l2-clause-storage_faults : goal.returns-in_err-rb_depends_on_l2-clause-storage_faults
-returns-in_err-rb_depends_on_l2-clause-storage_faults g c = told_after _ _ _ c.rb_depends_on_l2.result c.in_err-rb_depends_on_l2.field-0.0 c.from_residual-in_err-rb_depends_on_l2.result c.free_kind.ensures.storage_faults.no_fewer c.rb_depends_on_l2.ensures.storage_faults c.in_err-rb_depends_on_l2.was c.from_residual-in_err-rb_depends_on_l2.ensures
+returns-in_err-rb_depends_on_l2-clause-storage_faults g c = told_after _ _ _ c.rb_depends_on_l2.result c.in_err-rb_depends_on_l2.field-0.0 c.from_residual-in_err-rb_depends_on_l2.result c.in_ok-free_kind.ensures.storage_faults.told c.rb_depends_on_l2.ensures.storage_faults c.in_err-rb_depends_on_l2.was c.from_residual-in_err-rb_depends_on_l2.ensures
 
 pub returns-in_err-rb_depends_on_l2-clause-emptied : goal.returns-in_err-rb_depends_on_l2-clause-emptied
 returns-in_err-rb_depends_on_l2-clause-emptied g c = on_no_ok _ c.from_residual-in_err-rb_depends_on_l2.result c.in_err-rb_depends_on_l2.field-0.0 c.from_residual-in_err-rb_depends_on_l2.ensures
@@ -170,7 +170,7 @@ pub returns-then-is_empty-clause-cause : goal.returns-then-is_empty-clause-cause
 returns-then-is_empty-clause-cause g c = tt
 
 pub returns-then-is_empty-clause-storage_faults : goal.returns-then-is_empty-clause-storage_faults
-returns-then-is_empty-clause-storage_faults g c = told_ok _ _ tt c.free_kind.ensures.storage_faults.no_fewer
+returns-then-is_empty-clause-storage_faults g c = told_ok _ _ tt c.in_ok-free_kind.ensures.storage_faults.told
 
 pub returns-clause-marks : goal.returns-clause-marks
 returns-clause-marks g c = marks_then _ _ _ (marks_then _ _ _ c.free_kind.ensures.marks.pins c.rb_depends_on_l2.ensures.marks) c.free_kind-2.ensures.marks.pins
@@ -185,7 +185,7 @@ pub returns-clause-grows : goal.returns-clause-grows
 returns-clause-grows g c = le_trans c.free_kind.ensures.grows c.free_kind-2.ensures.grows
 
 pub returns-clause-storage_faults : goal.returns-clause-storage_faults
-returns-clause-storage_faults g c = told_since _ _ _ (le_trans c.free_kind.ensures.storage_faults.no_fewer c.rb_depends_on_l2.ensures.storage_faults.no_fewer) c.free_kind-2.ensures.storage_faults
+returns-clause-storage_faults g c = told_since _ _ _ (c.in_ok-rb_depends_on_l2.ensures.storage_faults.told ∙ c.in_ok-free_kind.ensures.storage_faults.told) c.free_kind-2.ensures.storage_faults
 
 pub returns-in_err-free_kind-clause-header_cluster : goal.returns-in_err-free_kind-clause-header_cluster
 returns-in_err-free_kind-clause-header_cluster g c = c.free_kind.ensures.header_cluster
@@ -210,3 +210,15 @@ returns-then-is_empty-clause-notes g c = c.free_kind.ensures.marks.notes
 
 pub returns-clause-notes : goal.returns-clause-notes
 returns-clause-notes g c = kept_then _ _ _ (kept_then _ _ _ c.free_kind.ensures.marks.notes c.rb_depends_on_l2.ensures.notes) c.free_kind-2.ensures.marks.notes
+
+pub returns-in_err-free_kind-clause-reftable : goal.returns-in_err-free_kind-clause-reftable
+returns-in_err-free_kind-clause-reftable g c = c.free_kind.ensures.reftable
+
+pub returns-then-is_empty-clause-reftable : goal.returns-then-is_empty-clause-reftable
+returns-then-is_empty-clause-reftable g c = c.free_kind.ensures.reftable
+
+pub returns-in_err-rb_depends_on_l2-clause-reftable : goal.returns-in_err-rb_depends_on_l2-clause-reftable
+returns-in_err-rb_depends_on_l2-clause-reftable g c = c.free_kind.ensures.reftable
+
+pub returns-clause-reftable : goal.returns-clause-reftable
+returns-clause-reftable g c = c.free_kind-2.ensures.reftable ∙ c.free_kind.ensures.reftable

@@ -73,7 +73,7 @@ pub returns-in-Ok-clause-cause : goal.returns-in-Ok-clause-cause
 returns-in-Ok-clause-cause g c = tt
 
 pub returns-in-Ok-clause-storage_faults : goal.returns-in-Ok-clause-storage_faults
-returns-in-Ok-clause-storage_faults g c = told_ok _ _ tt c.free_run.ensures.storage_faults.no_fewer
+returns-in-Ok-clause-storage_faults g c = told_ok _ _ tt c.in-Ok.ensures.storage_faults.told
 
 pub returns-in-Err-clause-cause : goal.returns-in-Err-clause-cause
 returns-in-Err-clause-cause g c = c.in-Err.ensures.cause
@@ -89,3 +89,9 @@ returns-in-Ok-clause-header_cluster g c = c.free_run.ensures.header_cluster
 
 pub returns-in-Err-clause-header_cluster : goal.returns-in-Err-clause-header_cluster
 returns-in-Err-clause-header_cluster g c = spares_listed c.hand_back.new.list c.free_run.ensures.header_cluster
+
+pub returns-in-Ok-clause-reftable : goal.returns-in-Ok-clause-reftable
+returns-in-Ok-clause-reftable g c = c.free_run.ensures.reftable
+
+pub returns-in-Err-clause-reftable : goal.returns-in-Err-clause-reftable
+returns-in-Err-clause-reftable g c = c.free_run.ensures.reftable

@@ -37,3 +37,6 @@ returns-clause-leaks g c = λ p sound may.
 
 pub returns-clause-header_cluster : goal.returns-clause-header_cluster
 returns-clause-header_cluster g c = spares_listed c.hand_back.new.list (spares_then (spares_listed c.take-taken.new.self spares_none) c.free_taken-done.ensures.header_cluster)
+
+pub returns-clause-reftable : goal.returns-clause-reftable
+returns-clause-reftable g c = c.free_taken-done.ensures.reftable

@@ -60,10 +60,16 @@ pub returns-clause-cause : goal.returns-clause-cause
 returns-clause-cause g c = tt
 
 pub returns-clause-storage_faults : goal.returns-clause-storage_faults
-returns-clause-storage_faults g c = told_ok _ _ tt (le_refl _)
+returns-clause-storage_faults g c = told_ok _ _ tt refl
 
 pub returns-then-eq-clause-header_cluster : goal.returns-then-eq-clause-header_cluster
 returns-then-eq-clause-header_cluster g c = c.free_entry.ensures.header_cluster
 
 pub returns-clause-header_cluster : goal.returns-clause-header_cluster
 returns-clause-header_cluster g c = spares_listed c.hand_back.new.list spares_none
+
+pub returns-then-eq-clause-reftable : goal.returns-then-eq-clause-reftable
+returns-then-eq-clause-reftable g c = c.free_entry.ensures.reftable
+
+pub returns-clause-reftable : goal.returns-clause-reftable
+returns-clause-reftable g c = refl

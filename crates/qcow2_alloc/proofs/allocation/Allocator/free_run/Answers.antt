@@ -1,4 +1,4 @@
-use Rattle.std.proofs.Common.{◌<◌, ◌∙◌, arith}
+use Rattle.std.proofs.Common.{refl, ◌<◌, ◌∙◌, arith}
 use Rattle.qcow2_laws.specs.CrashInvariant.{Pending}
 use Rattle.qcow2_alloc.specs.Allocation.{Listed, listed_as, Frees}
 use Rattle.qcow2_alloc.specs.FreeList.{run_of}
@@ -29,9 +29,10 @@ returns-in_err-lower-clause-sound g c = λ p sound may.
 pub freeing-preserved : goal.freeing-preserved
 freeing-preserved g c = record {
   header = c.lower.ensures.header ∙ c.freeing.invariant.header;
+  reftable = c.lower.ensures.reftable ∙ c.freeing.invariant.reftable;
   list = c.lower.ensures.list ∙ c.freeing.invariant.list;
   marks = kept_marks_then c.freeing.invariant.marks c.lower.ensures.marks;
-  faults = le_trans c.freeing.invariant.faults c.lower.ensures.storage_faults.no_fewer;
+  faults = c.in_ok-lower.ensures.storage_faults.told ∙ c.freeing.invariant.faults;
   spared = spares_then c.freeing.invariant.spared c.lower.ensures.header_cluster;
   kind = c.drop_first.ensures.kind ∙ c.freeing.invariant.kind;
   sound = λ p sound may.
@@ -149,3 +150,9 @@ returns-in_err-lower-clause-header_cluster g c = spares_then c.freeing.invariant
 
 pub returns-clause-header_cluster : goal.returns-clause-header_cluster
 returns-clause-header_cluster g c = c.freeing.invariant.spared
+
+pub returns-in_err-lower-clause-reftable : goal.returns-in_err-lower-clause-reftable
+returns-in_err-lower-clause-reftable g c = c.lower.ensures.reftable ∙ c.freeing.invariant.reftable
+
+pub returns-clause-reftable : goal.returns-clause-reftable
+returns-clause-reftable g c = c.freeing.invariant.reftable

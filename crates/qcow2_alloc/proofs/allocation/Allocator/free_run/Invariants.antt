@@ -13,9 +13,10 @@ use Rattle.qcow2_alloc.proofs.allocation.Allocator.free_run.Given as goal
 abbrev pub invariant-freeing : goal.invariant-freeing
 invariant-freeing g l = record {
   header : l.file.header ≡ l.fn.file.header;
+  reftable : l.self.reftable ≡ l.fn.self.reftable;
   list : l.file.free_list ≡ l.fn.file.free_list;
   marks : KeepsMarks g.S.Storage.view l.fn.file l.file;
-  faults : faults_of g.S.Storage.view l.fn.file.storage ≤ faults_of g.S.Storage.view l.file.storage;
+  faults : faults_of g.S.Storage.view l.file.storage ≡ faults_of g.S.Storage.view l.fn.file.storage;
   spared : SparesHeader g.S.Storage.view l.fn.self.reftable l.fn.file l.self.reftable l.file;
   kind : l.run.kind ≡ l.fn.run.kind;
   sound : (p : Pending) → AllocatorInvariant g.S.Storage.view l.fn.self (listed_as l.fn.run.kind p (run_of l.fn.run)) l.fn.file → MayFree l.fn.run.kind l.fn.file

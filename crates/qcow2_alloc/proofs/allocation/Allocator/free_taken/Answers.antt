@@ -15,8 +15,9 @@ use Rattle.qcow2_alloc.proofs.allocation.Allocator.free_taken.Goals as goal
 pub freeing-preserved : goal.freeing-preserved
 freeing-preserved g c = record {
   header = c.free_or_list.ensures.header ∙ c.freeing.invariant.header;
+  reftable = c.free_or_list.ensures.reftable ∙ c.freeing.invariant.reftable;
   marks = kept_marks_then c.freeing.invariant.marks c.free_or_list.ensures.marks;
-  faults = le_trans c.freeing.invariant.faults c.free_or_list.ensures.storage_faults.no_fewer;
+  faults = c.in_ok-free_or_list.ensures.storage_faults.told ∙ c.freeing.invariant.faults;
   spared = spares_then c.freeing.invariant.spared c.free_or_list.ensures.header_cluster;
   others = but_step c.args.kind c.free_or_list.new.file.free_list c.freeing.file.free_list c.freeing.taken c.next_pending.new.self c.in-Some.pending c.in-Some.ensures.some c.free_or_list.ensures.others ∙ c.freeing.invariant.others;
   left =
@@ -134,3 +135,9 @@ returns-in_err-free_or_list-clause-header_cluster g c = spares_then c.freeing.in
 
 pub returns-clause-header_cluster : goal.returns-clause-header_cluster
 returns-clause-header_cluster g c = c.freeing.invariant.spared
+
+pub returns-in_err-free_or_list-clause-reftable : goal.returns-in_err-free_or_list-clause-reftable
+returns-in_err-free_or_list-clause-reftable g c = c.free_or_list.ensures.reftable ∙ c.freeing.invariant.reftable
+
+pub returns-clause-reftable : goal.returns-clause-reftable
+returns-clause-reftable g c = c.freeing.invariant.reftable

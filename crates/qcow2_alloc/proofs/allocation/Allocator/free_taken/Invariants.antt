@@ -13,8 +13,9 @@ use Rattle.qcow2_alloc.proofs.allocation.Allocator.free_taken.Given as goal
 abbrev pub invariant-freeing : goal.invariant-freeing
 invariant-freeing g l = record {
   header : l.file.header ≡ l.fn.file.header;
+  reftable : l.self.reftable ≡ l.fn.self.reftable;
   marks : KeepsMarks g.S.Storage.view l.fn.file l.file;
-  faults : faults_of g.S.Storage.view l.fn.file.storage ≤ faults_of g.S.Storage.view l.file.storage;
+  faults : faults_of g.S.Storage.view l.file.storage ≡ faults_of g.S.Storage.view l.fn.file.storage;
   spared : SparesHeader g.S.Storage.view l.fn.self.reftable l.fn.file l.self.reftable l.file;
   others : but l.fn.kind (l.file.free_list ++ l.taken) ≡ but l.fn.kind (l.fn.file.free_list ++ l.fn.taken);
   left : l.file.free_list ++ but l.fn.kind l.taken ≡ l.fn.file.free_list ++ but l.fn.kind l.fn.taken;

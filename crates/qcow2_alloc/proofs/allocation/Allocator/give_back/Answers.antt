@@ -23,7 +23,7 @@ lowering-init g c = record {
   header = refl;
   list = refl;
   marks = kept_marks_none;
-  faults = omega arith;
+  faults = refl;
   spared = spares_none;
   reftable = refl;
   sound = λ p p' d start new_data b.
@@ -47,7 +47,7 @@ returns-in_err-lower-clause-sound g c = λ p p' d start new_data b noted.
     handed_on (GivesBackAs g.S.Storage.view p start c.lower.new.self c.lower.new.file p') c.from_residual.result c.in_err-lower.field-0.0 c.from_residual.ensures (
       low.0,
       inr (on_interrupted_after g.S.Storage.view p (taken_as d q (one_at c.lowering.cluster)) start c.lowering.file c.lower.new.file c.lower.new.self c.in_err-lower.field-0.0 moved low.0
-          (c.lower.ensures.marks.pins.changed (c.lowering.invariant.marks.pins.changed (noted (let lt = c.lowering-test.true in let le = c.lowering.auto.cluster in omega arith)))) low.1),
+          (c.lower.ensures.marks.pins.changes.noted (c.lowering.invariant.marks.pins.changes.noted (noted (let lt = c.lowering-test.true in let le = c.lowering.auto.cluster in omega arith)))) low.1),
     )
 
 pub lowering-preserved : goal.lowering-preserved
@@ -55,7 +55,7 @@ lowering-preserved g c = record {
   header = c.lower.ensures.header ∙ c.lowering.invariant.header;
   list = c.lower.ensures.list ∙ c.lowering.invariant.list;
   marks = kept_marks_then c.lowering.invariant.marks c.lower.ensures.marks;
-  faults = le_trans c.lowering.invariant.faults c.lower.ensures.storage_faults.no_fewer;
+  faults = c.in_ok-lower.ensures.storage_faults.told ∙ c.lowering.invariant.faults;
   spared = spares_then c.lowering.invariant.spared c.lower.ensures.header_cluster;
   reftable = c.lower.ensures.reftable ∙ c.lowering.invariant.reftable;
   sound = λ p p' d start new_data b.
@@ -154,7 +154,7 @@ pub returns-then-n-eq0-clause-cause : goal.returns-then-n-eq0-clause-cause
 returns-then-n-eq0-clause-cause g c = tt
 
 pub returns-then-n-eq0-clause-storage_faults : goal.returns-then-n-eq0-clause-storage_faults
-returns-then-n-eq0-clause-storage_faults g c = told_ok _ _ tt (le_refl _)
+returns-then-n-eq0-clause-storage_faults g c = told_ok _ _ tt refl
 
 pub returns-clause-marks : goal.returns-clause-marks
 returns-clause-marks g c = c.lowering.invariant.marks

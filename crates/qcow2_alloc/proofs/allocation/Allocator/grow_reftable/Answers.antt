@@ -6,7 +6,7 @@ use Rattle.qcow2_laws.specs.CrashInvariant.{Pending}
 use Rattle.qcow2_alloc.specs.declared.clusters_to_free.ClustersToFreeEntry.{ClustersToFreeEntry}
 use Rattle.qcow2_alloc.specs.Allocation.{UnseenAllocatorGrowth, RefusedGrowth}
 use Rattle.qcow2_alloc.specs.declared.error.ImageError.{ImageError}
-use Rattle.qcow2_alloc.specs.FreeList.{pending_then}
+use Rattle.qcow2_alloc.specs.FreeList.{pending_then, GivesWay}
 use Rattle.qcow2_alloc.specs.Growing.{IsLongEnough}
 use Rattle.qcow2_alloc.specs.Limits.{IsFaultOr, HasNoRoomFor, CantGrow}
 use Rattle.qcow2_alloc.proofs.AllocationSteps.{handed_on, behind_same, behind_then}
@@ -14,9 +14,9 @@ use Rattle.qcow2_alloc.proofs.FullRooms.{cant_grow}
 use Rattle.qcow2_alloc.proofs.Limits.{cause_as}
 use Rattle.qcow2_alloc.proofs.ListedAfter.{listed_after_same}
 use Rattle.qcow2_alloc.proofs.GrownReftables.{grown}
-use Rattle.qcow2_alloc.proofs.FormerReftables.{former_none, former_one, former_still}
 use Rattle.qcow2_alloc.proofs.SparedHeaders.{spares_none, spares_listed}
 use Rattle.qcow2_alloc.proofs.KeptMarks.{kept_marks_none}
+use Rattle.qcow2_alloc.proofs.Outcomes.{on_no_ok}
 use Rattle.qcow2_alloc.proofs.allocation.Allocator.grow_reftable.Goals as goal
 
 pub returns-in-Ok-clause-sound : goal.returns-in-Ok-clause-sound
@@ -80,22 +80,6 @@ returns-in-Ok-clause-lowest g c = λ p kept.
     let lies = c.in-Ok.ensures.lowest p kept.sound kept.hint c.in_ok-table.ensures.entries c.in_ok-table.ensures.length.enough.whole in
     record { first = lies.first; blocks = lies.blocks; above = lies.above; behind = lies.behind; lacked = lies.lacked; lowest = lies.lowest }
 
-pub returns-in_err-table-clause-former : goal.returns-in_err-table-clause-former
-returns-in_err-table-clause-former g c = former_none c.args.self.now.reftable c.args.file.now.free_list
-
-pub returns-in_err-former-clause-former : goal.returns-in_err-former-clause-former
-returns-in_err-former-clause-former g c = former_none c.args.self.now.reftable c.args.file.now.free_list
-
-pub returns-in-Ok-clause-former : goal.returns-in-Ok-clause-former
-returns-in-Ok-clause-former g c =
-    former_one c.args.self.now.reftable c.enter_reftable.new.self.reftable c.in_ok-former.former c.args.file.now.free_list c.hand_back.new.list c.in_ok-former.ensures.of_table
-    (let long = c.in_ok-table.ensures.length.enough.longer in let same = c.in-Ok.ensures.table in omega (arith, long, same))
-    (let clone = c.in_ok-table.ensures.entries in behind_then c.args.self.now.reftable c.in_ok-table.table c.enter_reftable.new.self.reftable (behind_same c.args.self.now.reftable c.in_ok-table.table clone.bits clone.entries) c.in-Ok.ensures.behind)
-    (c.hand_back.ensures ∙ ap (λ (l : List ClustersToFreeEntry). l ++ c.in_ok-former.former ∷ []) c.enter_reftable.ensures.list)
-
-pub returns-in-Err-clause-former : goal.returns-in-Err-clause-former
-returns-in-Err-clause-former g c = former_still c.args.self.now.reftable c.args.self.now.reftable c.enter_reftable.new.self.reftable c.args.file.now.free_list c.args.file.now.free_list c.enter_reftable.new.file.free_list (former_none c.args.self.now.reftable c.args.file.now.free_list) c.in-Err.ensures.kept c.enter_reftable.ensures.list
-
 pub returns-in_err-table-clause-header_cluster : goal.returns-in_err-table-clause-header_cluster
 returns-in_err-table-clause-header_cluster g c = spares_none
 
@@ -113,3 +97,35 @@ returns-in_err-table-clause-marks g c = kept_marks_none
 
 pub returns-in_err-former-clause-marks : goal.returns-in_err-former-clause-marks
 returns-in_err-former-clause-marks g c = kept_marks_none
+
+pub returns-in_err-table-clause-former : goal.returns-in_err-table-clause-former
+returns-in_err-table-clause-former g c =
+    handed_on (GivesWay c.args.self.now.reftable c.args.self.now.reftable c.args.file.now.free_list c.args.file.now.free_list) c.from_residual.result c.in_err-table.field-0.0 c.from_residual.ensures (refl, refl)
+
+pub returns-in_err-former-clause-former : goal.returns-in_err-former-clause-former
+returns-in_err-former-clause-former g c =
+    handed_on (GivesWay c.args.self.now.reftable c.args.self.now.reftable c.args.file.now.free_list c.args.file.now.free_list) c.from_residual-in_err-former.result c.in_err-former.field-0.0 c.from_residual-in_err-former.ensures (refl, refl)
+
+pub returns-in-Ok-clause-former : goal.returns-in-Ok-clause-former
+returns-in-Ok-clause-former g c =
+    let clone = c.in_ok-table.ensures.entries in (
+      c.in_ok-former.former,
+      c.in_ok-former.ensures.of_table,
+      c.hand_back.ensures ∙ ap (λ (l : List ClustersToFreeEntry). l ++ c.in_ok-former.former ∷ []) c.enter_reftable.ensures.list,
+      behind_then c.args.self.now.reftable c.in_ok-table.table c.enter_reftable.new.self.reftable (behind_same c.args.self.now.reftable c.in_ok-table.table clone.bits clone.entries) c.in-Ok.ensures.behind,
+    )
+
+pub returns-in-Err-clause-former : goal.returns-in-Err-clause-former
+returns-in-Err-clause-former g c = (c.in-Err.ensures.kept, c.enter_reftable.ensures.list)
+
+pub returns-in_err-table-clause-elsewhere : goal.returns-in_err-table-clause-elsewhere
+returns-in_err-table-clause-elsewhere g c = on_no_ok _ c.from_residual.result c.in_err-table.field-0.0 c.from_residual.ensures
+
+pub returns-in_err-former-clause-elsewhere : goal.returns-in_err-former-clause-elsewhere
+returns-in_err-former-clause-elsewhere g c = on_no_ok _ c.from_residual-in_err-former.result c.in_err-former.field-0.0 c.from_residual-in_err-former.ensures
+
+pub returns-in-Ok-clause-elsewhere : goal.returns-in-Ok-clause-elsewhere
+returns-in-Ok-clause-elsewhere g c = c.in-Ok.ensures.elsewhere
+
+pub returns-in-Err-clause-elsewhere : goal.returns-in-Err-clause-elsewhere
+returns-in-Err-clause-elsewhere g c = tt

@@ -25,7 +25,7 @@ leaving-init g c = record {
   header = refl;
   list = refl;
   marks = kept_marks_none;
-  faults = omega arith;
+  faults = refl;
   spared = spares_none;
   reftable = refl;
   first = refl;
@@ -50,7 +50,7 @@ returns-in_err-lower-clause-sound g c = λ p start same b noted.
     let low = c.in_err-lower.ensures.sound (with_run p start.header.fields t (at + 1) (end - (at + 1))) (Taken false) (owed_now view p t at end start c.leaving.file c.lower.new.file c.leaving.self c.lower.new.self c.leaving-test.true has before) tt in
     handed_on (GivesBack view p start c.lower.new.self c.lower.new.file p) c.from_residual.result c.in_err-lower.field-0.0 c.from_residual.ensures
     (left_fault view p t at end start c.leaving.file c.lower.new.file c.leaving.self c.lower.new.self c.leaving-test.true has before c.args.first c.args.n c.in_err-lower.field-0.0 c.leaving.auto.cluster c.leaving-test.true
-    (elim noted [ inl none ↦ inl none | inr changed ↦ inr (c.lower.ensures.marks.pins.changed (c.leaving.invariant.marks.pins.changed changed)) ]) low)
+    (elim noted [ inl none ↦ inl none | inr changed ↦ inr (c.lower.ensures.marks.pins.changes.noted (c.leaving.invariant.marks.pins.changes.noted changed)) ]) low)
 
 pub leaving-preserved : goal.leaving-preserved
 leaving-preserved g c =
@@ -63,7 +63,7 @@ leaving-preserved g c =
         header = ap (λ f. f.header) w.file-is ∙ w.lower.ensures.header ∙ c.leaving.invariant.header;
         list = ap (λ f. f.free_list) w.file-is ∙ w.lower.ensures.list ∙ c.leaving.invariant.list;
         marks = subst (λ f. KeepsMarks g.S.Storage.view c.args.file.now f) (sym w.file-is) (kept_marks_then c.leaving.invariant.marks w.lower.ensures.marks);
-        faults = subst (λ f. faults_of g.S.Storage.view c.args.file.now.storage ≤ faults_of g.S.Storage.view f.storage) (sym w.file-is) (le_trans c.leaving.invariant.faults w.lower.ensures.storage_faults.no_fewer);
+        faults = subst (λ f. faults_of g.S.Storage.view f.storage ≡ faults_of g.S.Storage.view c.args.file.now.storage) (sym w.file-is) (w.in_ok-lower.ensures.storage_faults.told ∙ c.leaving.invariant.faults);
         spared = of_equal (λ a f. SparesHeader g.S.Storage.view c.args.self.now.reftable c.args.file.now a.reftable f) c.if-not-lacks_block.self w.lower.new.self c.if-not-lacks_block.file w.lower.new.file w.self-is w.file-is (spares_then c.leaving.invariant.spared w.lower.ensures.header_cluster);
         reftable = ap (λ a. a.reftable) w.self-is ∙ w.lower.ensures.reftable ∙ c.leaving.invariant.reftable;
         first = ap (λ a. a.first_free_cluster) w.self-is
@@ -101,7 +101,7 @@ leaving-preserved g c =
         header = ap (λ f. f.header) w.file-is ∙ c.leaving.invariant.header;
         list = ap (λ f. f.free_list) w.file-is ∙ c.leaving.invariant.list;
         marks = subst (λ f. KeepsMarks g.S.Storage.view c.args.file.now f) (sym w.file-is) c.leaving.invariant.marks;
-        faults = subst (λ f. faults_of g.S.Storage.view c.args.file.now.storage ≤ faults_of g.S.Storage.view f.storage) (sym w.file-is) c.leaving.invariant.faults;
+        faults = subst (λ f. faults_of g.S.Storage.view f.storage ≡ faults_of g.S.Storage.view c.args.file.now.storage) (sym w.file-is) c.leaving.invariant.faults;
         spared = of_equal (λ a f. SparesHeader g.S.Storage.view c.args.self.now.reftable c.args.file.now a.reftable f) c.if-not-lacks_block.self c.leaving.self c.if-not-lacks_block.file c.leaving.file w.self-is w.file-is (c.leaving.invariant.spared);
         reftable = ap (λ a. a.reftable) w.self-is ∙ c.leaving.invariant.reftable;
         first = ap (λ a. a.first_free_cluster) w.self-is ∙ c.leaving.invariant.first;

@@ -1,4 +1,4 @@
-use Rattle.std.proofs.Common.{inl, ◌^◌}
+use Rattle.std.proofs.Common.{refl, inl, ◌^◌}
 use Rattle.qcow2_alloc.specs.Allocation.{LoadsBlock}
 use Rattle.qcow2_alloc.proofs.FileSteps.{file_step_cached, reftable_cached}
 use Rattle.qcow2_alloc.proofs.AllocationSteps.{handed_on, place_fits, stands}
@@ -36,3 +36,6 @@ returns-in_err-rb_get_or_insert-clause-marks g c = marks_of_both c.rb_get_or_ins
 
 pub returns-clause-marks : goal.returns-clause-marks
 returns-clause-marks g c = marks_of_both c.rb_get_or_insert.ensures.marks c.rb_get_or_insert.ensures.order c.rb_get_or_insert.ensures.notes
+
+pub returns-in_default-clause-none : goal.returns-in_default-clause-none
+returns-in_default-clause-none g c = λ none. (refl, refl)

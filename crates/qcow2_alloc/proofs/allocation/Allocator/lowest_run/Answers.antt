@@ -1,15 +1,15 @@
-use Rattle.std.proofs.Common.{inl, false, refl, sym, ap, ◌+◌, ◌/◌, ◌^◌, ◌∙◌, subst, arith, inr, Result, ℕ, ◌≤◌, ◌<◌}
+use Rattle.std.proofs.Common.{◌≡◌, max, inl, false, refl, sym, ap, ◌+◌, ◌/◌, ◌^◌, ◌∙◌, subst, arith, inr, Result, ℕ, ◌≤◌, ◌<◌}
 use Rattle.qcow2_metadata.specs.L2Mapping.{greatest_offset}
 use Rattle.std.proofs.Math.Nat.{div-le_self, le_trans}
 use Rattle.qcow2_laws.specs.CrashInvariant.{Pending}
 use Rattle.qcow2_alloc.specs.LowestRuns.{KeepsNoFreeBelowHint}
 use Rattle.qcow2_alloc.specs.declared.allocation.Allocator.{Allocator}
 use Rattle.qcow2_alloc.proofs.Hints.{hint_header, lowest_behind, lowest_first, lowest_passed, lowest_stays, not_broken, used_stays}
-use Rattle.qcow2_alloc.specs.Allocation.{run_at, UnseenAllocatorGrowth, TakesSomeRun, RefusedGrowth}
+use Rattle.qcow2_alloc.specs.Allocation.{LacksBlock, run_at, UnseenAllocatorGrowth, TakesSomeRun, RefusedGrowth}
 use Rattle.qcow2_alloc.specs.FreeList.{pending_then}
 use Rattle.qcow2_alloc.proofs.AllocationSteps.{handed_on, may_still, on_none, on_of, leaves_as, is_sound_on}
 use Rattle.qcow2_alloc.proofs.ListedAfter.{header_same, header_then, lists_none, lists_same, lists_then, listed_after_same, then_none, then_taken, then_leaves, header_bits}
-use Rattle.std.specs.Prelude.{IfErr}
+use Rattle.std.specs.Prelude.{IsErrOf, IfErr}
 use Rattle.qcow2_alloc.specs.declared.error.ImageError.{ImageError}
 use Rattle.qcow2_alloc.specs.Limits.{IsFaultOr, HasNoPlace, nameable_clusters}
 use Rattle.qcow2_alloc.proofs.Limits.{full_behind, limit_is_no_fault}
@@ -17,8 +17,12 @@ use Rattle.qcow2_alloc.proofs.KeptMarks.{kept_marks_none, kept_marks_then}
 use Rattle.qcow2_alloc.proofs.allocation.Allocator.lowest_run.Goals.{then-search-test+then-n-limit+else-first-limit, then-search-test+else-n-limit, else-search-test}
 use Rattle.qcow2_alloc.proofs.FormerReftables.{former_none, former_still, former_then}
 use Rattle.qcow2_alloc.proofs.Faults.{told_ok}
-use Rattle.qcow2_alloc.proofs.Outcomes.{told_limit, told_after, on_no_ok, if_no_ok, handed_cause}
+use Rattle.qcow2_alloc.proofs.Outcomes.{ok_no_err, err_as, told_limit, told_after, on_no_ok, if_no_ok, handed_cause}
 use Rattle.qcow2_alloc.proofs.SparedHeaders.{spares_none, spares_then, spares_less}
+use Rattle.qcow2_metadata.specs.Header.{HeaderView}
+use Rattle.qcow2_metadata.specs.EntryTable.{EntryTableView}
+use Rattle.qcow2_metadata.specs.declared.header.HeaderFields.{HeaderFields}
+use Rattle.qcow2_alloc.specs.declared.error.ImageError.TheVariants as I
 use Rattle.qcow2_alloc.proofs.allocation.Allocator.lowest_run.Goals as goal
 
 pub returns-in_err-taken-clause-sound : goal.returns-in_err-taken-clause-sound
@@ -37,6 +41,11 @@ returns-then-taken-n-clause-sound g c = λ p d sound may.
     then_taken g.S.Storage.view p c.args.file.now c.search.file c.take_run.new.file c.search.self c.take_run.new.self c.search.invariant.list c.take_run.ensures.list before d (run_at c.search.first c.args.n)
     ((c.in_ok-taken.ensures.sound q d now (may_still d c.args.file.now c.search.file c.search.invariant.marks.order may)).0 c.if-taken-n.true)
 
+-- what is lacking at first is lacking where nothing moved
+lacks_here : (h h' : HeaderFields) (t t' : EntryTableView) (from first : ℕ) (e : ImageError) → h' ≡ h → t' ≡ t → first ≡ from → LacksBlock h t from e → LacksBlock h' t' first e
+lacks_here h h' t t' from first e same_header same_table place lacks =
+    subst (λ x. LacksBlock x t' first e) (sym same_header) (subst (λ (y : EntryTableView). LacksBlock h y first e) (sym same_table) (subst (λ n. LacksBlock h t n e) (sym place) lacks))
+
 pub search-init : goal.search-init
 search-init g c = record {
   header = header_same c.args.file.now.header c.args.file.now.header refl;
@@ -45,12 +54,13 @@ search-init g c = record {
   limit = ap (λ n. greatest_offset / 2 ^ n + 1) c.cluster_bits.ensures.value;
   near = let le = div-le_self greatest_offset (2 ^ c.cluster_bits.result) in omega (arith, le);
   marks = kept_marks_none;
-  faults = omega arith;
+  faults = refl;
   spared = spares_none;
   sound = λ p sound.
       subst (λ (r : Pending). UnseenAllocatorGrowth g.S.Storage.view p c.args.file.now (record c.args.self.now { first_free_cluster = c.max-self.result }) c.args.file.now r) (sym (listed_after_same p c.args.file.now.free_list c.args.file.now.free_list refl))
       (on_none g.S.Storage.view p c.args.file.now (record c.args.self.now { first_free_cluster = c.max-self.result }) (record { sound = sound.sound; reftable = sound.reftable }));
   above = let first = c.max-self.ensures in omega (arith, first);
+  lacking = λ e lacks. (c.max-self.ensures, refl, refl);
   leaks = λ p sound. refl;
   hint = λ p d sound may hint. hint_header g.S.Storage.view p c.args.file.now c.args.self.now (record c.args.self.now { first_free_cluster = c.max-self.result }) sound.sound (λ k some below. let first = c.max-self.ensures in omega (arith, first, some, below)) hint;
   lowest = λ p d sound may hint some.
@@ -68,7 +78,7 @@ search-preserved g c = record {
   near = c.search.invariant.near;
   above = let behind = c.in_ok-first.ensures.behind in omega (arith, behind);
   marks = kept_marks_then (kept_marks_then c.search.invariant.marks c.take_run.ensures.marks) c.pass_used.ensures.marks;
-  faults = le_trans (le_trans c.search.invariant.faults c.take_run.ensures.storage_faults.no_fewer) c.pass_used.ensures.storage_faults.no_fewer;
+  faults = c.in_ok-first.ensures.storage_faults.told ∙ (c.in_ok-taken.ensures.storage_faults.told ∙ c.search.invariant.faults);
   spared = spares_then (spares_then c.search.invariant.spared c.take_run.ensures.header_cluster) (spares_less (c.pass_used.ensures.header_cluster));
   sound = λ p sound.
       let before = c.search.invariant.sound p sound in
@@ -81,6 +91,9 @@ search-preserved g c = record {
       then_none g.S.Storage.view p c.args.file.now c.take_run.new.file c.pass_used.new.file c.take_run.new.self c.pass_used.new.self lists (lists_same c.take_run.new.file.free_list c.pass_used.new.file.free_list c.pass_used.ensures.list) mid
       (subst (λ (s : Pending). UnseenAllocatorGrowth g.S.Storage.view r c.take_run.new.file c.pass_used.new.self c.pass_used.new.file s) (sym (listed_after_same r c.take_run.new.file.free_list c.pass_used.new.file.free_list c.pass_used.ensures.list))
       (on_of g.S.Storage.view r r c.take_run.new.file c.pass_used.new.file c.pass_used.new.self (c.in_ok-first.ensures.sound r there).0));
+  lacking = λ e lacks.
+      let at = c.search.invariant.lacking e lacks in
+      ok_no_err c.in_ok-taken.taken e (c.in_ok-taken.ensures.lacking e (lacks_here c.args.file.now.header.fields c.search.file.header.fields c.args.self.now.reftable c.search.self.reftable (max c.args.self.now.first_free_cluster 1) c.search.first e (ap (λ (h : HeaderView). h.fields) at.2) at.1 at.0 lacks) c.search-test.true);
   leaks = λ p sound.
       let q : Pending = pending_then p c.args.file.now.free_list c.search.file.free_list in
       let now = is_sound_on g.S.Storage.view p q c.args.file.now c.search.file c.search.self (c.search.invariant.sound p sound) in
@@ -169,7 +182,7 @@ returns-in_err-first-clause-cause g c = handed_cause c.from_residual-in_err-firs
 
 pub returns-in_err-first-clause-storage_faults : goal.returns-in_err-first-clause-storage_faults
 returns-in_err-first-clause-storage_faults g c =
-    told_after _ _ _ c.pass_used.result c.in_err-first.field-0.0 c.from_residual-in_err-first.result (le_trans c.search.invariant.faults c.take_run.ensures.storage_faults.no_fewer) c.pass_used.ensures.storage_faults c.in_err-first.was c.from_residual-in_err-first.ensures
+    told_after _ _ _ c.pass_used.result c.in_err-first.field-0.0 c.from_residual-in_err-first.result (c.in_ok-taken.ensures.storage_faults.told ∙ c.search.invariant.faults) c.pass_used.ensures.storage_faults c.in_err-first.was c.from_residual-in_err-first.ensures
 
 pub returns-in_err-first-clause-nameable : goal.returns-in_err-first-clause-nameable
 returns-in_err-first-clause-nameable g c = if_no_ok _ c.from_residual-in_err-first.result c.in_err-first.field-0.0 c.from_residual-in_err-first.ensures
@@ -289,7 +302,7 @@ pub returns-then-taken-n-clause-cause : goal.returns-then-taken-n-clause-cause
 returns-then-taken-n-clause-cause g c = tt
 
 pub returns-then-taken-n-clause-storage_faults : goal.returns-then-taken-n-clause-storage_faults
-returns-then-taken-n-clause-storage_faults g c = told_ok _ _ _ (le_trans c.search.invariant.faults c.take_run.ensures.storage_faults.no_fewer)
+returns-then-taken-n-clause-storage_faults g c = told_ok _ _ _ (c.in_ok-taken.ensures.storage_faults.told ∙ c.search.invariant.faults)
 
 pub returns-then-taken-n-clause-elsewhere : goal.returns-then-taken-n-clause-elsewhere
 returns-then-taken-n-clause-elsewhere g c = c.search.invariant.above
@@ -344,3 +357,27 @@ returns-in_err-first-clause-header_cluster g c = spares_then (spares_then c.sear
 
 pub returns-clause-header_cluster : goal.returns-clause-header_cluster
 returns-clause-header_cluster g c = c.search.invariant.spared
+
+pub returns-in_err-first-clause-unaligned : goal.returns-in_err-first-clause-unaligned
+returns-in_err-first-clause-unaligned g c = λ u some. on_no_ok _ c.from_residual-in_err-first.result c.in_err-first.field-0.0 c.from_residual-in_err-first.ensures
+
+pub returns-in_err-taken-clause-unaligned : goal.returns-in_err-taken-clause-unaligned
+returns-in_err-taken-clause-unaligned g c = λ u some. on_no_ok _ c.from_residual.result c.in_err-taken.field-0.0 c.from_residual.ensures
+
+pub returns-then-taken-n-clause-unaligned : goal.returns-then-taken-n-clause-unaligned
+returns-then-taken-n-clause-unaligned g c = λ u some. let e : ImageError = I.UnalignedTable in let lacks : LacksBlock c.args.file.now.header.fields c.args.self.now.reftable (max c.args.self.now.first_free_cluster 1) e = inl (u, refl) in let at = c.search.invariant.lacking e lacks in ok_no_err c.in_ok-taken.taken e (c.in_ok-taken.ensures.lacking e (lacks_here c.args.file.now.header.fields c.search.file.header.fields c.args.self.now.reftable c.search.self.reftable (max c.args.self.now.first_free_cluster 1) c.search.first e (ap (λ (h : HeaderView). h.fields) at.2) at.1 at.0 lacks) some)
+
+pub returns-clause-unaligned : goal.returns-clause-unaligned
+returns-clause-unaligned g c = λ u some. tt
+
+pub returns-in_err-first-clause-first_range : goal.returns-in_err-first-clause-first_range
+returns-in_err-first-clause-first_range g c = λ l some. let e : ImageError = I.Limit in let lacks : LacksBlock c.args.file.now.header.fields c.args.self.now.reftable (max c.args.self.now.first_free_cluster 1) e = inr (l, refl) in let at = c.search.invariant.lacking e lacks in ok_no_err c.in_ok-taken.taken e (c.in_ok-taken.ensures.lacking e (lacks_here c.args.file.now.header.fields c.search.file.header.fields c.args.self.now.reftable c.search.self.reftable (max c.args.self.now.first_free_cluster 1) c.search.first e (ap (λ (h : HeaderView). h.fields) at.2) at.1 at.0 lacks) some)
+
+pub returns-in_err-taken-clause-first_range : goal.returns-in_err-taken-clause-first_range
+returns-in_err-taken-clause-first_range g c = λ l some. let e : ImageError = I.Limit in let lacks : LacksBlock c.args.file.now.header.fields c.args.self.now.reftable (max c.args.self.now.first_free_cluster 1) e = inr (l, refl) in let at = c.search.invariant.lacking e lacks in handed_on (λ r. IsErrOf r I.Limit) c.from_residual.result c.in_err-taken.field-0.0 c.from_residual.ensures (err_as c.in_err-taken.field-0.0 e (c.in_err-taken.ensures.lacking e (lacks_here c.args.file.now.header.fields c.search.file.header.fields c.args.self.now.reftable c.search.self.reftable (max c.args.self.now.first_free_cluster 1) c.search.first e (ap (λ (h : HeaderView). h.fields) at.2) at.1 at.0 lacks) some))
+
+pub returns-then-taken-n-clause-first_range : goal.returns-then-taken-n-clause-first_range
+returns-then-taken-n-clause-first_range g c = λ l some. let e : ImageError = I.Limit in let lacks : LacksBlock c.args.file.now.header.fields c.args.self.now.reftable (max c.args.self.now.first_free_cluster 1) e = inr (l, refl) in let at = c.search.invariant.lacking e lacks in ok_no_err c.in_ok-taken.taken e (c.in_ok-taken.ensures.lacking e (lacks_here c.args.file.now.header.fields c.search.file.header.fields c.args.self.now.reftable c.search.self.reftable (max c.args.self.now.first_free_cluster 1) c.search.first e (ap (λ (h : HeaderView). h.fields) at.2) at.1 at.0 lacks) some)
+
+pub returns-clause-first_range : goal.returns-clause-first_range
+returns-clause-first_range g c = λ l some. refl

@@ -1,13 +1,14 @@
-use Rattle.std.proofs.Common.{◌≡◌, ◌+◌, ◌-◌, ◌/◌, ◌^◌, ◌<◌, ◌≤◌, Bool}
+use Rattle.std.proofs.Common.{max, ◌≡◌, ◌+◌, ◌-◌, ◌/◌, ◌^◌, ◌<◌, ◌≤◌, Bool}
 use Rattle.qcow2_metadata.specs.L2Mapping.{greatest_offset}
 use Rattle.qcow2_laws.specs.CrashInvariant.{Pending}
-use Rattle.qcow2_alloc.specs.Allocation.{UnseenAllocatorGrowth, MayTake, SameLeaks}
+use Rattle.qcow2_alloc.specs.Allocation.{LacksBlock, UnseenAllocatorGrowth, MayTake, SameLeaks}
 use Rattle.qcow2_alloc.specs.KeptMarks.{KeepsMarks}
 use Rattle.qcow2_alloc.specs.Faults.{faults_of}
 use Rattle.qcow2_alloc.specs.ImageFile.{AllocatorInvariant, KeepsHeader}
 use Rattle.qcow2_alloc.specs.FreeList.{pending_then, ListsTables, ListsReftables}
 use Rattle.qcow2_alloc.specs.LowestRuns.{NoFreeBelowHint, IsLowestRun}
 use Rattle.qcow2_alloc.specs.SparedHeaders.{SparesHeaderButPointer}
+use Rattle.qcow2_alloc.specs.declared.error.ImageError.{ImageError}
 use Rattle.qcow2_alloc.proofs.allocation.Allocator.lowest_run.Given as goal
 
 -- nothing is taken yet
@@ -20,11 +21,12 @@ invariant-search g l = record {
   near : l.limit ≤ 2 ^ 57;
   above : 0 < l.first;
   marks : KeepsMarks g.S.Storage.view l.fn.file l.file;
-  faults : faults_of g.S.Storage.view l.fn.file.storage ≤ faults_of g.S.Storage.view l.file.storage;
+  faults : faults_of g.S.Storage.view l.file.storage ≡ faults_of g.S.Storage.view l.fn.file.storage;
   spared : SparesHeaderButPointer g.S.Storage.view l.fn.self.reftable l.fn.file l.self.reftable l.file;
   sound : (p : Pending) → AllocatorInvariant g.S.Storage.view l.fn.self p l.fn.file → UnseenAllocatorGrowth g.S.Storage.view p l.fn.file l.self l.file (pending_then p l.fn.file.free_list l.file.free_list);
   leaks : (p : Pending) → AllocatorInvariant g.S.Storage.view l.fn.self p l.fn.file → SameLeaks l.fn.self l.self;
   hint : (p : Pending) (d : Bool) → AllocatorInvariant g.S.Storage.view l.fn.self p l.fn.file → MayTake d l.fn.file → NoFreeBelowHint g.S.Storage.view l.fn.self l.fn.file → NoFreeBelowHint g.S.Storage.view l.self l.file;
+  lacking : (e : ImageError) → LacksBlock l.fn.file.header.fields l.fn.self.reftable (max l.fn.self.first_free_cluster 1) e → (l.first ≡ max l.fn.self.first_free_cluster 1) × (l.self.reftable ≡ l.fn.self.reftable) × (l.file.header ≡ l.fn.file.header);
   lowest : (p : Pending) (d : Bool) → AllocatorInvariant g.S.Storage.view l.fn.self p l.fn.file → MayTake d l.fn.file → NoFreeBelowHint g.S.Storage.view l.fn.self l.fn.file → 0 < l.fn.n → IsLowestRun g.S.Storage.view l.file l.first l.fn.n;
 }
 

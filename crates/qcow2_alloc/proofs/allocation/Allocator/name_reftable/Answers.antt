@@ -1,4 +1,4 @@
-use Rattle.std.proofs.Common.{◌+◌, ◌*◌, ◌^◌, sym, ap, ◌∙◌, refl, subst}
+use Rattle.std.proofs.Common.{inr, ◌+◌, ◌*◌, ◌^◌, sym, ap, ◌∙◌, refl, subst}
 use Rattle.qcow2_alloc.specs.GrownTables.{with_run, NamesReftable}
 use Rattle.qcow2_alloc.specs.ImageError.{of_storage, of_metadata}
 use Rattle.qcow2_alloc.specs.ImageStorage.{storage_of}
@@ -7,11 +7,12 @@ use Rattle.qcow2_alloc.proofs.NamedReftables.{within_limit, interrupted_named, a
 use Rattle.qcow2_alloc.proofs.ListedAfter.{header_same}
 use Rattle.qcow2_alloc.proofs.Outcomes.{told_limit, on_no_ok, handed_cause, on_err}
 use Rattle.std.proofs.Math.Nat.{le_refl}
+use Rattle.qcow2_alloc.proofs.KeptNotes.{note_kept}
 use Rattle.qcow2_alloc.proofs.TableErrors.{storage_of_tables, metadata_of_tables}
-use Rattle.qcow2_alloc.proofs.SparedHeaders.{spares_none, spares_pointer, noted_keeps, placed_above}
+use Rattle.qcow2_alloc.proofs.SparedHeaders.{spares_none, spares_pointer, placed_above}
 use Rattle.qcow2_alloc.specs.SparedHeaders.{SparesHeaderButPointer}
 use Rattle.qcow2_metadata.specs.Header.{HeaderView}
-use Rattle.qcow2_alloc.proofs.KeptMarks.{kept_marks_none, kept_marks_then, marks_of_caches, told_kept, marks_of_storage}
+use Rattle.qcow2_alloc.proofs.KeptMarks.{kept_marks_none, told_kept, marks_of_storage}
 use Rattle.qcow2_alloc.proofs.allocation.Allocator.name_reftable.Goals as goal
 
 pub returns-in_err-set_reftable-clause-names : goal.returns-in_err-set_reftable-clause-names
@@ -23,28 +24,30 @@ returns-in_err-set_reftable-clause-names g c = λ p first blocks clusters sound 
 pub returns-in_err-write_reftable_pointer-clause-names : goal.returns-in_err-write_reftable_pointer-clause-names
 returns-in_err-write_reftable_pointer-clause-names g c = λ p first blocks clusters sound ready.
     handed_on (NamesReftable g.S.Storage.view (with_run p c.args.file.now.header.fields c.args.self.now.reftable first (blocks + clusters)) p c.args.file.now c.args.self.now
-    (record c.args.file.now { storage = c.write_reftable_pointer.new.self; header = c.set_reftable.new.self; caches = c.note_change.new.self }))
-    c.from_residual-in_err-write_reftable_pointer.result (of_storage c.in_err-write_reftable_pointer.field-0.0) c.from_residual-in_err-write_reftable_pointer.ensures
-    (interrupted_named g.S.Storage.view p first blocks clusters c.args.file.now c.args.self.now c.args.table c.in-Some.cluster c.offset-offset.result c.value-clusters.result
-    sound ready c.in-Some.ensures.is_table (sym c.in-Some.ensures.value) (c.offset-offset.ensures ∙ ap (λ b. c.in-Some.cluster * 2 ^ b) c.cluster_bits.ensures.value) (c.value-clusters.ensures ∙ c.cluster_count.ensures)
-    c.set_reftable.new.self c.note_change.new.self c.write_reftable_pointer.new.self (storage_of c.will_write.new.self) c.write_reftable_pointer.result c.in_ok-set_reftable.ensures.ok
-    c.note_change.ensures.same c.note_change.ensures.tables c.note_change.ensures.marks c.will_write.ensures.storage c.write_reftable_pointer.ensures.written c.write_reftable_pointer.ensures.calls
-    c.note_change.ensures.changed (of_storage c.in_err-write_reftable_pointer.field-0.0) (fault_of_storage c.in_err-write_reftable_pointer.field-0.0))
+    (record c.args.file.now { storage = c.write_reftable_pointer.new.self; header = c.set_reftable.new.self }))
+    c.from_residual-in_err-write_reftable_pointer.result (of_storage c.in_err-write_reftable_pointer.field-0.0) c.from_residual-in_err-write_reftable_pointer.ensures (
+      fault_of_storage c.in_err-write_reftable_pointer.field-0.0,
+      inr (interrupted_named g.S.Storage.view p first blocks clusters c.args.file.now c.args.self.now c.args.table c.in-Some.cluster c.offset-offset.result c.value-clusters.result
+          sound ready c.in-Some.ensures.is_table (sym c.in-Some.ensures.value) (c.offset-offset.ensures ∙ ap (λ b. c.in-Some.cluster * 2 ^ b) c.cluster_bits.ensures.value) (c.value-clusters.ensures ∙ c.cluster_count.ensures)
+          c.set_reftable.new.self c.write_reftable_pointer.new.self (storage_of c.will_write.new.self) c.write_reftable_pointer.result c.in_ok-set_reftable.ensures.ok
+          c.will_write.ensures.storage c.write_reftable_pointer.ensures.written c.write_reftable_pointer.ensures.calls
+          (note_kept c.will_write.new.self c.write_reftable_pointer.new.self c.write_reftable_pointer.result c.write_reftable_pointer.ensures.noted (c.will_write.ensures.changed.note ∙ c.requires.noted)) (of_storage c.in_err-write_reftable_pointer.field-0.0) (fault_of_storage c.in_err-write_reftable_pointer.field-0.0)),
+    )
 
 pub returns-clause-names : goal.returns-clause-names
 returns-clause-names g c = λ p first blocks clusters sound ready.
     allocator_step_named g.S.Storage.view p first blocks clusters c.args.file.now c.args.self.now c.args.table c.in-Some.cluster c.offset-offset.result c.value-clusters.result
     sound ready c.in-Some.ensures.is_table (sym c.in-Some.ensures.value) (c.offset-offset.ensures ∙ ap (λ b. c.in-Some.cluster * 2 ^ b) c.cluster_bits.ensures.value) (c.value-clusters.ensures ∙ c.cluster_count.ensures)
-    c.set_reftable.new.self c.note_change.new.self c.write_reftable_pointer.new.self (storage_of c.will_write.new.self) c.write_reftable_pointer.result c.in_ok-set_reftable.ensures.ok
-    c.note_change.ensures.same c.note_change.ensures.tables c.note_change.ensures.marks c.will_write.ensures.storage c.write_reftable_pointer.ensures.written c.write_reftable_pointer.ensures.calls
+    c.set_reftable.new.self c.write_reftable_pointer.new.self (storage_of c.will_write.new.self) c.write_reftable_pointer.result c.in_ok-set_reftable.ensures.ok
+    c.will_write.ensures.storage c.write_reftable_pointer.ensures.written c.write_reftable_pointer.ensures.calls
     c.in_ok-write_reftable_pointer.field-0 c.in_ok-write_reftable_pointer.was
 
 pub returns-clause-uses : goal.returns-clause-uses
 returns-clause-uses g c = λ p first blocks clusters sound ready.
     keeps_used g.S.Storage.view p first blocks clusters c.args.file.now c.args.self.now c.args.table c.in-Some.cluster c.offset-offset.result c.value-clusters.result
     sound ready c.in-Some.ensures.is_table (sym c.in-Some.ensures.value) (c.offset-offset.ensures ∙ ap (λ b. c.in-Some.cluster * 2 ^ b) c.cluster_bits.ensures.value) (c.value-clusters.ensures ∙ c.cluster_count.ensures)
-    c.set_reftable.new.self c.note_change.new.self c.write_reftable_pointer.new.self (storage_of c.will_write.new.self) c.write_reftable_pointer.result c.in_ok-set_reftable.ensures.ok
-    c.note_change.ensures.same c.note_change.ensures.tables c.note_change.ensures.marks c.will_write.ensures.storage c.write_reftable_pointer.ensures.written c.write_reftable_pointer.ensures.calls
+    c.set_reftable.new.self c.write_reftable_pointer.new.self (storage_of c.will_write.new.self) c.write_reftable_pointer.result c.in_ok-set_reftable.ensures.ok
+    c.will_write.ensures.storage c.write_reftable_pointer.ensures.written c.write_reftable_pointer.ensures.calls
     c.in_ok-write_reftable_pointer.field-0 c.in_ok-write_reftable_pointer.was
 
 pub returns-in_default-clause-marks : goal.returns-in_default-clause-marks
@@ -66,7 +69,7 @@ pub returns-in_default-clause-cause : goal.returns-in_default-clause-cause
 returns-in_default-clause-cause g c = tt
 
 pub returns-in_default-clause-storage_faults : goal.returns-in_default-clause-storage_faults
-returns-in_default-clause-storage_faults g c = told_limit _ _ (le_refl _)
+returns-in_default-clause-storage_faults g c = told_limit _ _ refl
 
 pub returns-in_err-set_reftable-clause-marks : goal.returns-in_err-set_reftable-clause-marks
 returns-in_err-set_reftable-clause-marks g c = kept_marks_none
@@ -83,9 +86,6 @@ returns-in_err-set_reftable-clause-first g c = refl
 pub returns-in_err-set_reftable-clause-kept : goal.returns-in_err-set_reftable-clause-kept
 returns-in_err-set_reftable-clause-kept g c = on_err _ c.from_residual.result refl
 
-pub returns-in_err-set_reftable-clause-noted : goal.returns-in_err-set_reftable-clause-noted
-returns-in_err-set_reftable-clause-noted g c = on_no_ok _ c.from_residual.result (of_metadata c.in_err-set_reftable.field-0.0) c.from_residual.ensures
-
 pub returns-in_err-set_reftable-clause-table : goal.returns-in_err-set_reftable-clause-table
 returns-in_err-set_reftable-clause-table g c = on_no_ok _ c.from_residual.result (of_metadata c.in_err-set_reftable.field-0.0) c.from_residual.ensures
 
@@ -94,7 +94,6 @@ returns-in_err-set_reftable-clause-cause g c = handed_cause c.from_residual.resu
 
 pub returns-in_err-write_reftable_pointer-clause-marks : goal.returns-in_err-write_reftable_pointer-clause-marks
 returns-in_err-write_reftable_pointer-clause-marks g c =
-    kept_marks_then (marks_of_caches c.note_change.ensures.marks c.note_change.ensures.tables.order)
     (marks_of_storage refl (told_kept c.args.file.now.storage c.will_write.new.self c.write_reftable_pointer.new.self c.write_reftable_pointer.result c.will_write.ensures.storage c.will_write.ensures.changed _ c.write_reftable_pointer.ensures.written c.write_reftable_pointer.ensures.calls c.write_reftable_pointer.ensures.noted))
 
 pub returns-in_err-write_reftable_pointer-clause-list : goal.returns-in_err-write_reftable_pointer-clause-list
@@ -106,9 +105,6 @@ returns-in_err-write_reftable_pointer-clause-first g c = refl
 pub returns-in_err-write_reftable_pointer-clause-kept : goal.returns-in_err-write_reftable_pointer-clause-kept
 returns-in_err-write_reftable_pointer-clause-kept g c = on_err _ c.from_residual-in_err-write_reftable_pointer.result refl
 
-pub returns-in_err-write_reftable_pointer-clause-noted : goal.returns-in_err-write_reftable_pointer-clause-noted
-returns-in_err-write_reftable_pointer-clause-noted g c = on_no_ok _ c.from_residual-in_err-write_reftable_pointer.result (of_storage c.in_err-write_reftable_pointer.field-0.0) c.from_residual-in_err-write_reftable_pointer.ensures
-
 pub returns-in_err-write_reftable_pointer-clause-table : goal.returns-in_err-write_reftable_pointer-clause-table
 returns-in_err-write_reftable_pointer-clause-table g c = on_no_ok _ c.from_residual-in_err-write_reftable_pointer.result (of_storage c.in_err-write_reftable_pointer.field-0.0) c.from_residual-in_err-write_reftable_pointer.ensures
 
@@ -117,7 +113,6 @@ returns-in_err-write_reftable_pointer-clause-cause g c = handed_cause c.from_res
 
 pub returns-clause-marks : goal.returns-clause-marks
 returns-clause-marks g c =
-    kept_marks_then (marks_of_caches c.note_change.ensures.marks c.note_change.ensures.tables.order)
     (marks_of_storage refl (told_kept c.args.file.now.storage c.will_write.new.self c.write_reftable_pointer.new.self c.write_reftable_pointer.result c.will_write.ensures.storage c.will_write.ensures.changed _ c.write_reftable_pointer.ensures.written c.write_reftable_pointer.ensures.calls c.write_reftable_pointer.ensures.noted))
 
 pub returns-clause-list : goal.returns-clause-list
@@ -142,7 +137,7 @@ pub returns-in_err-set_reftable-clause-header_cluster : goal.returns-in_err-set_
 returns-in_err-set_reftable-clause-header_cluster g c = λ above bits. subst (λ (x : HeaderView). SparesHeaderButPointer g.S.Storage.view c.args.self.now.reftable c.args.file.now c.args.self.now.reftable (record c.args.file.now { header = x })) (sym c.in_err-set_reftable.ensures.same) spares_none
 
 pub returns-in_err-write_reftable_pointer-clause-header_cluster : goal.returns-in_err-write_reftable_pointer-clause-header_cluster
-returns-in_err-write_reftable_pointer-clause-header_cluster g c = λ above bits. spares_pointer g.S.Storage.view c.args.self.now.reftable c.args.file.now c.set_reftable.new.self c.note_change.new.self (storage_of c.will_write.new.self) c.write_reftable_pointer.new.self _ _ c.write_reftable_pointer.result c.in_ok-set_reftable.ensures.ok (noted_keeps c.args.file.now.caches c.note_change.new.self c.note_change.ensures.same) c.will_write.ensures.storage c.write_reftable_pointer.ensures.written c.write_reftable_pointer.ensures.calls c.args.self.now.reftable (λ n stands. (stands.reftable_bits, stands.elsewhere))
+returns-in_err-write_reftable_pointer-clause-header_cluster g c = λ above bits. spares_pointer g.S.Storage.view c.args.self.now.reftable c.args.file.now c.set_reftable.new.self c.args.file.now.caches (storage_of c.will_write.new.self) c.write_reftable_pointer.new.self _ _ c.write_reftable_pointer.result c.in_ok-set_reftable.ensures.ok (λ bits are. are) c.will_write.ensures.storage c.write_reftable_pointer.ensures.written c.write_reftable_pointer.ensures.calls c.args.self.now.reftable (λ n stands. (stands.reftable_bits, stands.elsewhere))
 
 pub returns-clause-header_cluster : goal.returns-clause-header_cluster
-returns-clause-header_cluster g c = λ above bits. spares_pointer g.S.Storage.view c.args.self.now.reftable c.args.file.now c.set_reftable.new.self c.note_change.new.self (storage_of c.will_write.new.self) c.write_reftable_pointer.new.self _ _ c.write_reftable_pointer.result c.in_ok-set_reftable.ensures.ok (noted_keeps c.args.file.now.caches c.note_change.new.self c.note_change.ensures.same) c.will_write.ensures.storage c.write_reftable_pointer.ensures.written c.write_reftable_pointer.ensures.calls c.args.table (λ n stands. (bits ∙ stands.header, placed_above c.args.table.cluster above))
+returns-clause-header_cluster g c = λ above bits. spares_pointer g.S.Storage.view c.args.self.now.reftable c.args.file.now c.set_reftable.new.self c.args.file.now.caches (storage_of c.will_write.new.self) c.write_reftable_pointer.new.self _ _ c.write_reftable_pointer.result c.in_ok-set_reftable.ensures.ok (λ bits are. are) c.will_write.ensures.storage c.write_reftable_pointer.ensures.written c.write_reftable_pointer.ensures.calls c.args.table (λ n stands. (bits ∙ stands.header, placed_above c.args.table.cluster above))

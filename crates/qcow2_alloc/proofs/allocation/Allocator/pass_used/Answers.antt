@@ -6,6 +6,7 @@ use Rattle.qcow2_alloc.proofs.AllocationSteps.{handed_on, allocator_step_as}
 use Rattle.qcow2_alloc.proofs.Hints.{hint_passed, hint_stays, hint_refused}
 use Rattle.qcow2_alloc.proofs.allocation.Allocator.pass_used.Goals.{then-cluster-self, else-cluster-self}
 use Rattle.qcow2_alloc.proofs.SparedHeaders.{spares_as}
+use Rattle.qcow2_alloc.proofs.Outcomes.{if_no_ok}
 use Rattle.qcow2_alloc.proofs.allocation.Allocator.pass_used.Goals as goal
 
 pub returns-in_err-next-clause-sound : goal.returns-in_err-next-clause-sound
@@ -46,3 +47,6 @@ returns-clause-header_cluster g c =
       | else-cluster-self w ↦ ap (λ (t : Allocator). t.reftable) w.self-is
     ] in
     spares_as same c.behind_used.ensures.header_cluster
+
+pub returns-in_err-next-clause-far : goal.returns-in_err-next-clause-far
+returns-in_err-next-clause-far g c = if_no_ok _ c.from_residual.result c.in_err-next.field-0.0 c.from_residual.ensures

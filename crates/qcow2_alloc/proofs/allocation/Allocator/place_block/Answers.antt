@@ -14,25 +14,25 @@ use Rattle.qcow2_metadata.specs.Entries.{block_offset}
 use Rattle.qcow2_laws.specs.CrashInvariant.{Pending}
 use Rattle.qcow2_laws.specs.Caches.{AreClean, BlocksMayGo}
 use Rattle.qcow2_alloc.specs.declared.allocation.Allocator.{Allocator}
-use Rattle.qcow2_alloc.specs.declared.cache.MetadataCaches.{MetadataCaches}
 use Rattle.qcow2_alloc.specs.declared.error.ImageError.{ImageError}
 use Rattle.qcow2_alloc.specs.declared.image_storage.ImageStorage.{ImageStorage}
-use Rattle.qcow2_alloc.specs.CachePins.{KeepsPinsAndNotes, SameTables}
 use Rattle.qcow2_alloc.specs.declared.image_file.ImageFile.{ImageFile}
 use Rattle.qcow2_alloc.specs.Allocation.{placing, first_counts, HasPlaceFor, RefblockAt, UnseenAllocatorStep, HoldsBlock, PlacesBlock}
 use Rattle.qcow2_alloc.specs.ImageError.{of_storage, IsFault}
-use Rattle.qcow2_alloc.specs.ImageFile.{view_in}
-use Rattle.qcow2_alloc.specs.ImageStorage.{storage_of}
+use Rattle.qcow2_alloc.specs.ImageFile.{view_in, AllocatorInvariant}
+use Rattle.qcow2_alloc.specs.ImageStorage.{storage_of, is_changed_of}
 use Rattle.qcow2_alloc.specs.MetadataCaches.{order_of, l2_tables, refblocks, rb_at}
 use Rattle.qcow2_alloc.specs.TableCaches.{cleared_rb, IsBlockOf}
 use Rattle.qcow2_alloc.proofs.FileSteps.{file_step_then, interrupted_then}
-use Rattle.qcow2_alloc.proofs.AllocationSteps.{handed_on, entries_entered, fault_of_storage, allocator_step_then, allocator_step_marked, is_sound_now, stands}
+use Rattle.qcow2_alloc.proofs.AllocationSteps.{entered_has, handed_on, entries_entered, fault_of_storage, is_sound_now, stands}
 use Rattle.qcow2_alloc.proofs.NamedBlocks.{entry_write_as, real, safe_throughout_named, named_so}
 use Rattle.qcow2_alloc.proofs.Faults.{told_on}
 use Rattle.qcow2_alloc.proofs.Outcomes.{on_no_ok, handed_cause, entries_none}
 use Rattle.qcow2_alloc.proofs.TableErrors.{storage_of_tables}
-use Rattle.qcow2_alloc.proofs.SparedHeaders.{spares_then, spares_entry, noted_keeps}
-use Rattle.qcow2_alloc.proofs.KeptMarks.{kept_marks_then, marks_of_caches, placed_kept, marks_of_storage}
+use Rattle.qcow2_alloc.proofs.SparedHeaders.{spares_then, spares_entry}
+use Rattle.qcow2_alloc.proofs.KeptMarks.{kept_marks_then, placed_kept, marks_of_storage}
+use Rattle.qcow2_alloc.proofs.KeptNotes.{note_kept}
+use Rattle.std.proofs.lemmas.Bool.{or_left}
 use Rattle.qcow2_alloc.proofs.allocation.Allocator.place_block.Goals as goal
 
 pub returns-in_err-write_block-clause-sound : goal.returns-in_err-write_block-clause-sound
@@ -42,9 +42,9 @@ returns-in_err-write_block-clause-sound g c = λ p sound place.
     (c.in_err-write_block.ensures.sound p c.args.counts_itself c.args.self.now c.args.range c.args.at sound place c.in_ok-block.ensures.format (c.in_ok-block.ensures.cluster ∙ ap Some c.new-cluster.ensures))
 
 -- the last step: the entry is written, or is not
-module _ {S : Type 0} (view : S → StorageView) (d : Bool) (p : Pending) (range at : ℕ) (old file : ImageFile S) (t : Allocator) (t' : EntryTableView) (caches : MetadataCaches S) (storage : ImageStorage S) (asked : S) (block : RefBlockView)
+module _ {S : Type 0} (view : S → StorageView) (d : Bool) (p : Pending) (range at : ℕ) (old file : ImageFile S) (t : Allocator) (t' : EntryTableView) (storage : ImageStorage S) (asked : S) (block : RefBlockView)
     (result : Result (Unit {0}) StorageError) (before : UnseenAllocatorStep view (placing d p at) old t file (placing d p at) × HoldsBlock view (placing d p at) old t file block at) (counted : AreClean (refblocks file.caches)) (first : BlocksMayGo (order_of file.caches) (l2_tables file.caches))
-    (noted : caches ≡ record file.caches { is_changed = true }) (tables : SameTables file.caches caches) (marks : KeepsPinsAndNotes file.caches caches) (place : HasPlaceFor d file.header.fields t.reftable range at) (within : range < entry_count t.reftable)
+    (place : HasPlaceFor d file.header.fields t.reftable range at) (within : range < entry_count t.reftable)
     (rest : t' ≡ record t.reftable { bytes = t'.bytes }) (enters : ChangesEntry t.reftable.bytes t'.bytes range (at * 2 ^ t.reftable.cluster_bits)) (offset : block_offset (entry_at t'.bytes range) ≡ at * 2 ^ t.reftable.cluster_bits)
     (fits : entry_at t'.bytes range < 2 ^ 64) (whole : IsRefBlock block) (format : IsBlockOf file.header.fields block) (counts : (i : ℕ) → count_at block i ≡ first_counts d i) (same : asked ≡ storage_of file.storage)
     (written : IfSome t'.cluster (λ k. Changes (view asked) (view (storage_of storage)) result (overwritten (view asked).contents (k * 2 ^ t'.cluster_bits + 8 * range) (to_be_bytes w64 (entry_at t'.bytes range)))))
@@ -55,37 +55,25 @@ module _ {S : Type 0} (view : S → StorageView) (d : Bool) (p : Pending) (range
   abbrev h : HeaderFields
   h = file.header.fields
 
-  abbrev marked : ImageFile S
-  marked = record file { caches = caches }
-
   abbrev named : ImageFile S
-  named = record marked { storage = storage }
+  named = record file { storage = storage }
 
-  now : UnseenAllocatorStep view q file t marked q
-  now = allocator_step_marked view q file t caches (is_sound_now view q q old file t before.0) tables marks
+  now : AllocatorInvariant view t q file
+  now = is_sound_now view q q old file t before.0
 
-  four : UnseenAllocatorStep view q old t marked q
-  four = allocator_step_then view q q old file marked t t before.0 now
-
-  changes : Changes (view_in view marked) (view (storage_of storage)) result (overwritten (view_in view marked).contents (h.reftable_offset + 8 * range) (to_be_bytes w64 (entry_at t'.bytes range)))
+  changes : Changes (view_in view file) (view (storage_of storage)) result (overwritten (view_in view file).contents (h.reftable_offset + 8 * range) (to_be_bytes w64 (entry_at t'.bytes range)))
   changes =
-      let aligned = now.file_step.sound.caches.kept.kept.crash_invariant.top.reftable_aligned in
+      let aligned = now.sound.caches.kept.kept.crash_invariant.top.reftable_aligned in
       let e = div-add-mod' h.reftable_offset (cluster_size h) in
       let begins : h.reftable_offset / cluster_size h * cluster_size h ≡ h.reftable_offset = omega (arith, e, aligned) in
       entry_write_as view (storage_of file.storage) asked (storage_of storage) t'.cluster (h.reftable_offset / cluster_size h) t'.cluster_bits h.cluster_bits h.reftable_offset (8 * range) (to_be_bytes w64 (entry_at t'.bytes range)) result same
       (ap (λ (x : EntryTableView). x.cluster) rest ∙ now.reftable.cluster) (ap (λ (x : EntryTableView). x.cluster_bits) rest ∙ now.reftable.bits) begins written
 
-  calls_now : Calls (view_in view marked) (view (storage_of storage)) result
+  calls_now : Calls (view_in view file) (view (storage_of storage)) result
   calls_now = subst (λ s. Calls (view s) (view (storage_of storage)) result) same calls
 
-  new_data : (v : RefBlockView) × (rb_at caches at ≡ Some v) × (v.bytes ≡ block.bytes)
-  new_data = (cleared_rb block, ap (λ (c : MetadataCaches S). rb_at c at) noted ∙ before.1.new_data, refl)
-
-  clean : AreClean (refblocks caches)
-  clean = subst AreClean (sym tables.refblocks) counted
-
-  may : BlocksMayGo (order_of caches) (l2_tables caches)
-  may = subst (λ o. BlocksMayGo o (l2_tables caches)) (sym tables.order) (subst (BlocksMayGo (order_of file.caches)) (sym tables.l2_tables) first)
+  new_data : (v : RefBlockView) × (rb_at file.caches at ≡ Some v) × (v.bytes ≡ block.bytes)
+  new_data = (cleared_rb block, before.1.new_data, refl)
 
   there : HasPlaceFor d h t.reftable range at
   there = place
@@ -96,21 +84,21 @@ module _ {S : Type 0} (view : S → StorageView) (d : Bool) (p : Pending) (range
   at_place : block_offset (entry_at t'.bytes range) ≡ at * cluster_size h
   at_place = offset ∙ ap (λ n. at * 2 ^ n) now.reftable.bits
 
-  not_placed : IsTrue caches.is_changed → (e : ImageError) → IsFault e → PlacesBlock view q old (record t { reftable = t' }) named p range at (Err e)
+  not_placed : IsTrue (is_changed_of storage) → (e : ImageError) → IsFault e → PlacesBlock view q old (record t { reftable = t' }) named p range at (Err e)
   not_placed changed e fault = (
     fault,
-    inr (interrupted_then view q q old marked named e four.file_step (record {
+    inr (interrupted_then view q q old file named e before.0.file_step (record {
       fault = fault;
-      noted = λ _. changed;
-      since = safe_throughout_named view d p range at marked t.reftable t' block now.file_step.sound now.reftable clean may there within rest entered at_place fits whole format counts new_data before.1.stands storage result calls_now changes;
+      noted = λ _. or_left (is_changed_of storage) file.caches.is_changed changed;
+      since = safe_throughout_named view d p range at file t.reftable t' block now.sound now.reftable counted first there within rest entered at_place fits whole format counts new_data before.1.stands storage result calls_now changes;
     })),
   )
 
   is_placed : (x : Unit {0}) → result ≡ Ok x → UnseenAllocatorStep view q old (record t { reftable = t' }) named p × RefblockAt view named range (Some at)
   is_placed x done =
-      let so = named_so view d p range at marked t.reftable t' block now.file_step.sound now.reftable clean may there within rest entered at_place fits whole format counts new_data before.1.stands storage result calls_now changes x done in
-      let some : 0 < at * cluster_size h = real view d p range at marked t.reftable t' block now.file_step.sound now.reftable clean may there within rest entered at_place fits whole format counts new_data before.1.stands in (
-        record { file_step = file_step_then view q q p old marked named (λ k some. some) four.file_step so.0; reftable = so.1 },
+      let so = named_so view d p range at file t.reftable t' block now.sound now.reftable counted first there within rest entered at_place fits whole format counts new_data before.1.stands storage result calls_now changes x done in
+      let some : 0 < at * cluster_size h = real view d p range at file t.reftable t' block now.sound now.reftable counted first there within rest entered at_place fits whole format counts new_data before.1.stands in (
+        record { file_step = file_step_then view q q p old file named (λ k some. some) before.0.file_step so.0; reftable = so.1 },
         stands view p named t' so.0.sound so.1 range (at * cluster_size h) at h.cluster_bits (sym at_place) some refl refl (rw new_data.1 refl),
       )
 
@@ -118,20 +106,20 @@ pub returns-in_err-write_reftable_entry-clause-sound : goal.returns-in_err-write
 returns-in_err-write_reftable_entry-clause-sound g c = λ p sound place.
     let is = c.in_ok-block.ensures.cluster ∙ ap Some c.new-cluster.ensures in
     let three = c.in_ok-write_block.ensures.sound p c.args.counts_itself c.args.self.now c.args.range c.args.at sound place c.in_ok-block.ensures.format is in
-    handed_on (PlacesBlock g.S.Storage.view (placing c.args.counts_itself p c.args.at) c.args.file.now (record c.args.self.now { reftable = c.enter_refblock.new.self }) (record c.write_block.new.file { storage = c.write_reftable_entry.new.self; caches = c.note_change.new.self }) p c.args.range c.args.at)
+    handed_on (PlacesBlock g.S.Storage.view (placing c.args.counts_itself p c.args.at) c.args.file.now (record c.args.self.now { reftable = c.enter_refblock.new.self }) (record c.write_block.new.file { storage = c.write_reftable_entry.new.self }) p c.args.range c.args.at)
     c.from_residual-in_err-write_reftable_entry.result (of_storage c.in_err-write_reftable_entry.field-0.0) c.from_residual-in_err-write_reftable_entry.ensures
-    (not_placed g.S.Storage.view c.args.counts_itself p c.args.range c.args.at c.args.file.now c.write_block.new.file c.args.self.now c.enter_refblock.new.self c.note_change.new.self c.write_reftable_entry.new.self (storage_of c.will_write.new.self) c.in_ok-block.block c.write_reftable_entry.result
-    three c.in_ok-write_block.ensures.counted c.in_ok-write_block.ensures.first c.note_change.ensures.same c.note_change.ensures.tables c.note_change.ensures.marks (subst (λ h. HasPlaceFor c.args.counts_itself h c.args.self.now.reftable c.args.range c.args.at) (sym (ap (λ x. x.fields) c.write_block.ensures.header)) place)
+    (not_placed g.S.Storage.view c.args.counts_itself p c.args.range c.args.at c.args.file.now c.write_block.new.file c.args.self.now c.enter_refblock.new.self c.write_reftable_entry.new.self (storage_of c.will_write.new.self) c.in_ok-block.block c.write_reftable_entry.result
+    three c.in_ok-write_block.ensures.counted c.in_ok-write_block.ensures.first (subst (λ h. HasPlaceFor c.args.counts_itself h c.args.self.now.reftable c.args.range c.args.at) (sym (ap (λ x. x.fields) c.write_block.ensures.header)) place)
     c.requires.within c.enter_refblock.ensures.rest (subst (λ k. ChangesEntry c.args.self.now.reftable.bytes c.enter_refblock.new.self.bytes c.args.range (k * 2 ^ c.args.self.now.reftable.cluster_bits)) c.new-cluster.ensures c.enter_refblock.ensures.entry)
     (c.enter_refblock.ensures.offset ∙ ap (λ k. k * 2 ^ c.args.self.now.reftable.cluster_bits) c.new-cluster.ensures) c.write_reftable_entry.ensures.fits c.in_ok-block.ensures.whole (subst (λ h. IsBlockOf h c.in_ok-block.block) (sym (ap (λ x. x.fields) c.write_block.ensures.header)) c.in_ok-block.ensures.format)
-    c.in_ok-block.ensures.counts c.will_write.ensures.storage c.write_reftable_entry.ensures.written c.write_reftable_entry.ensures.calls c.note_change.ensures.changed (of_storage c.in_err-write_reftable_entry.field-0.0) (fault_of_storage c.in_err-write_reftable_entry.field-0.0))
+    c.in_ok-block.ensures.counts c.will_write.ensures.storage c.write_reftable_entry.ensures.written c.write_reftable_entry.ensures.calls (note_kept c.will_write.new.self c.write_reftable_entry.new.self c.write_reftable_entry.result c.write_reftable_entry.ensures.noted (c.will_write.ensures.changed.note ∙ c.in_ok-write_block.ensures.noted)) (of_storage c.in_err-write_reftable_entry.field-0.0) (fault_of_storage c.in_err-write_reftable_entry.field-0.0))
 
 pub returns-clause-sound : goal.returns-clause-sound
 returns-clause-sound g c = λ p sound place.
     let is = c.in_ok-block.ensures.cluster ∙ ap Some c.new-cluster.ensures in
     let three = c.in_ok-write_block.ensures.sound p c.args.counts_itself c.args.self.now c.args.range c.args.at sound place c.in_ok-block.ensures.format is in
-    is_placed g.S.Storage.view c.args.counts_itself p c.args.range c.args.at c.args.file.now c.write_block.new.file c.args.self.now c.enter_refblock.new.self c.note_change.new.self c.write_reftable_entry.new.self (storage_of c.will_write.new.self) c.in_ok-block.block c.write_reftable_entry.result
-    three c.in_ok-write_block.ensures.counted c.in_ok-write_block.ensures.first c.note_change.ensures.same c.note_change.ensures.tables c.note_change.ensures.marks (subst (λ h. HasPlaceFor c.args.counts_itself h c.args.self.now.reftable c.args.range c.args.at) (sym (ap (λ x. x.fields) c.write_block.ensures.header)) place)
+    is_placed g.S.Storage.view c.args.counts_itself p c.args.range c.args.at c.args.file.now c.write_block.new.file c.args.self.now c.enter_refblock.new.self c.write_reftable_entry.new.self (storage_of c.will_write.new.self) c.in_ok-block.block c.write_reftable_entry.result
+    three c.in_ok-write_block.ensures.counted c.in_ok-write_block.ensures.first (subst (λ h. HasPlaceFor c.args.counts_itself h c.args.self.now.reftable c.args.range c.args.at) (sym (ap (λ x. x.fields) c.write_block.ensures.header)) place)
     c.requires.within c.enter_refblock.ensures.rest (subst (λ k. ChangesEntry c.args.self.now.reftable.bytes c.enter_refblock.new.self.bytes c.args.range (k * 2 ^ c.args.self.now.reftable.cluster_bits)) c.new-cluster.ensures c.enter_refblock.ensures.entry)
     (c.enter_refblock.ensures.offset ∙ ap (λ k. k * 2 ^ c.args.self.now.reftable.cluster_bits) c.new-cluster.ensures) c.write_reftable_entry.ensures.fits c.in_ok-block.ensures.whole (subst (λ h. IsBlockOf h c.in_ok-block.block) (sym (ap (λ x. x.fields) c.write_block.ensures.header)) c.in_ok-block.ensures.format)
     c.in_ok-block.ensures.counts c.will_write.ensures.storage c.write_reftable_entry.ensures.written c.write_reftable_entry.ensures.calls c.in_ok-write_reftable_entry.field-0 c.in_ok-write_reftable_entry.was
@@ -162,7 +150,7 @@ returns-in_err-write_block-clause-entries g c = entries_none _ c.args.self.now.r
 
 pub returns-in_err-write_reftable_entry-clause-marks : goal.returns-in_err-write_reftable_entry-clause-marks
 returns-in_err-write_reftable_entry-clause-marks g c =
-    kept_marks_then (kept_marks_then c.write_block.ensures.marks (marks_of_caches c.note_change.ensures.marks c.note_change.ensures.tables.order))
+    kept_marks_then c.write_block.ensures.marks
     (marks_of_storage refl (placed_kept c.write_block.new.file.storage c.will_write.new.self c.write_reftable_entry.new.self c.write_reftable_entry.result c.will_write.ensures.storage c.will_write.ensures.changed c.enter_refblock.new.self.cluster _
     (subst (λ (x : EntryTableView). IsSome x.cluster) (sym c.enter_refblock.ensures.rest) c.requires.placed) c.write_reftable_entry.ensures.written c.write_reftable_entry.ensures.calls c.write_reftable_entry.ensures.noted))
 
@@ -177,7 +165,7 @@ returns-in_err-write_reftable_entry-clause-first g c = refl
 
 pub returns-clause-marks : goal.returns-clause-marks
 returns-clause-marks g c =
-    kept_marks_then (kept_marks_then c.write_block.ensures.marks (marks_of_caches c.note_change.ensures.marks c.note_change.ensures.tables.order))
+    kept_marks_then c.write_block.ensures.marks
     (marks_of_storage refl (placed_kept c.write_block.new.file.storage c.will_write.new.self c.write_reftable_entry.new.self c.write_reftable_entry.result c.will_write.ensures.storage c.will_write.ensures.changed c.enter_refblock.new.self.cluster _
     (subst (λ (x : EntryTableView). IsSome x.cluster) (sym c.enter_refblock.ensures.rest) c.requires.placed) c.write_reftable_entry.ensures.written c.write_reftable_entry.ensures.calls c.write_reftable_entry.ensures.noted))
 
@@ -209,7 +197,19 @@ pub returns-in_err-write_block-clause-header_cluster : goal.returns-in_err-write
 returns-in_err-write_block-clause-header_cluster g c = c.write_block.ensures.header_cluster c.args.self.now.reftable c.in_ok-block.ensures.format.bits
 
 pub returns-in_err-write_reftable_entry-clause-header_cluster : goal.returns-in_err-write_reftable_entry-clause-header_cluster
-returns-in_err-write_reftable_entry-clause-header_cluster g c = spares_then (c.write_block.ensures.header_cluster c.args.self.now.reftable c.in_ok-block.ensures.format.bits) (spares_entry g.S.Storage.view c.args.self.now.reftable c.enter_refblock.new.self c.write_block.new.file c.note_change.new.self (storage_of c.will_write.new.self) c.write_reftable_entry.new.self _ _ c.write_reftable_entry.result (noted_keeps c.write_block.new.file.caches c.note_change.new.self c.note_change.ensures.same) (ap (λ (t : EntryTableView). t.cluster_bits) c.enter_refblock.ensures.rest) (ap (λ (t : EntryTableView). t.cluster) c.enter_refblock.ensures.rest) c.will_write.ensures.storage c.write_reftable_entry.ensures.written c.write_reftable_entry.ensures.calls (subst (λ (t : EntryTableView). IsSome t.cluster) (sym c.enter_refblock.ensures.rest) c.requires.placed))
+returns-in_err-write_reftable_entry-clause-header_cluster g c = spares_then (c.write_block.ensures.header_cluster c.args.self.now.reftable c.in_ok-block.ensures.format.bits) (spares_entry g.S.Storage.view c.args.self.now.reftable c.enter_refblock.new.self c.write_block.new.file c.write_block.new.file.caches (storage_of c.will_write.new.self) c.write_reftable_entry.new.self _ _ c.write_reftable_entry.result (λ bits are. are) (ap (λ (t : EntryTableView). t.cluster_bits) c.enter_refblock.ensures.rest) (ap (λ (t : EntryTableView). t.cluster) c.enter_refblock.ensures.rest) c.will_write.ensures.storage c.write_reftable_entry.ensures.written c.write_reftable_entry.ensures.calls (subst (λ (t : EntryTableView). IsSome t.cluster) (sym c.enter_refblock.ensures.rest) c.requires.placed))
 
 pub returns-clause-header_cluster : goal.returns-clause-header_cluster
-returns-clause-header_cluster g c = spares_then (c.write_block.ensures.header_cluster c.args.self.now.reftable c.in_ok-block.ensures.format.bits) (spares_entry g.S.Storage.view c.args.self.now.reftable c.enter_refblock.new.self c.write_block.new.file c.note_change.new.self (storage_of c.will_write.new.self) c.write_reftable_entry.new.self _ _ c.write_reftable_entry.result (noted_keeps c.write_block.new.file.caches c.note_change.new.self c.note_change.ensures.same) (ap (λ (t : EntryTableView). t.cluster_bits) c.enter_refblock.ensures.rest) (ap (λ (t : EntryTableView). t.cluster) c.enter_refblock.ensures.rest) c.will_write.ensures.storage c.write_reftable_entry.ensures.written c.write_reftable_entry.ensures.calls (subst (λ (t : EntryTableView). IsSome t.cluster) (sym c.enter_refblock.ensures.rest) c.requires.placed))
+returns-clause-header_cluster g c = spares_then (c.write_block.ensures.header_cluster c.args.self.now.reftable c.in_ok-block.ensures.format.bits) (spares_entry g.S.Storage.view c.args.self.now.reftable c.enter_refblock.new.self c.write_block.new.file c.write_block.new.file.caches (storage_of c.will_write.new.self) c.write_reftable_entry.new.self _ _ c.write_reftable_entry.result (λ bits are. are) (ap (λ (t : EntryTableView). t.cluster_bits) c.enter_refblock.ensures.rest) (ap (λ (t : EntryTableView). t.cluster) c.enter_refblock.ensures.rest) c.will_write.ensures.storage c.write_reftable_entry.ensures.written c.write_reftable_entry.ensures.calls (subst (λ (t : EntryTableView). IsSome t.cluster) (sym c.enter_refblock.ensures.rest) c.requires.placed))
+
+pub returns-in_err-write_block-clause-has : goal.returns-in_err-write_block-clause-has
+returns-in_err-write_block-clause-has g c = on_no_ok _ c.from_residual-in_err-write_block.result c.in_err-write_block.field-0.0 c.from_residual-in_err-write_block.ensures
+
+pub returns-in_err-write_reftable_entry-clause-has : goal.returns-in_err-write_reftable_entry-clause-has
+returns-in_err-write_reftable_entry-clause-has g c = on_no_ok _ c.from_residual-in_err-write_reftable_entry.result (of_storage c.in_err-write_reftable_entry.field-0.0) c.from_residual-in_err-write_reftable_entry.ensures
+
+pub returns-clause-has : goal.returns-clause-has
+returns-clause-has g c = entered_has c.enter_refblock.new.self c.args.range c.new-cluster.result c.args.self.now.reftable.cluster_bits (subst (λ n. 0 < n) (sym c.new-cluster.ensures) c.requires.elsewhere) c.enter_refblock.ensures.offset
+
+pub returns-clause-noted : goal.returns-clause-noted
+returns-clause-noted g c = or_left (is_changed_of c.write_reftable_entry.new.self) c.write_block.new.file.caches.is_changed (note_kept c.will_write.new.self c.write_reftable_entry.new.self c.write_reftable_entry.result c.write_reftable_entry.ensures.noted (c.will_write.ensures.changed.note ∙ c.in_ok-write_block.ensures.noted))

@@ -20,7 +20,7 @@ invariant-placing g l = record {
   header : l.file.header ≡ l.fn.file.header;
   list : l.file.free_list ≡ l.fn.file.free_list;
   marks : KeepsMarks g.S.Storage.view l.fn.file l.file;
-  faults : faults_of g.S.Storage.view l.fn.file.storage ≤ faults_of g.S.Storage.view l.file.storage;
+  faults : faults_of g.S.Storage.view l.file.storage ≡ faults_of g.S.Storage.view l.fn.file.storage;
   spared : KeepBehindHeader l.fn.file.caches l.file.caches;
   tables : l2_tables l.file.caches ≡ l2_tables l.fn.file.caches;
   clean : AreClean (refblocks l.fn.file.caches) → AreClean (refblocks l.file.caches);

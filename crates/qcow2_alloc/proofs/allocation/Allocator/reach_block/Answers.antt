@@ -1,4 +1,4 @@
-use Rattle.std.proofs.Common.{sym, ap, subst, ◌/◌, arith, ◌^◌, ◌∙◌, Result}
+use Rattle.std.proofs.Common.{◌≡◌, sym, ap, subst, ◌/◌, arith, ◌^◌, ◌∙◌, Result}
 use Rattle.qcow2_laws.specs.CrashInvariant.{Pending}
 use Rattle.qcow2_metadata.specs.Header.{counts_per_block}
 use Rattle.qcow2_alloc.specs.Allocation.{GrowsTable}
@@ -13,11 +13,12 @@ use Rattle.std.specs.Prelude.{IfErr}
 use Rattle.qcow2_metadata.specs.L2Mapping.{IsHostCluster}
 use Rattle.qcow2_metadata.specs.EntryTable.{entry_count}
 use Rattle.qcow2_alloc.specs.declared.error.ImageError.{ImageError}
-use Rattle.qcow2_alloc.proofs.FormerReftables.{former_same, former_then}
+use Rattle.qcow2_alloc.proofs.FormerReftables.{former_none, former_one, former_still, former_same, former_then, place_as}
 use Rattle.qcow2_alloc.proofs.Faults.{told_on, told_since}
 use Rattle.qcow2_alloc.proofs.Outcomes.{on_no_ok, handed_cause}
 use Rattle.qcow2_alloc.proofs.SparedHeaders.{spares_then, spares_less}
 use Rattle.qcow2_alloc.proofs.KeptMarks.{kept_marks_then}
+use Rattle.std.proofs.Math.Nat.{div-eq_of_lt}
 use Rattle.qcow2_alloc.proofs.allocation.Allocator.reach_block.Goals as goal
 
 pub returns-then-in_bounds-clause-sound : goal.returns-then-in_bounds-clause-sound
@@ -51,14 +52,6 @@ returns-clause-sound g c = λ p sound.
     (ap (pending_then p c.args.file.now.free_list) (sym c.ensure_block-2.ensures.list))
     (grows_on g.S.Storage.view p q c.args.file.now c.grow_reftable.new.file c.ensure_block-2.new.file c.grow_reftable.new.self c.ensure_block-2.new.self c.ensure_block-2.result (λ k some. some) grown
     (c.ensure_block-2.ensures.sound q (is_sound_on g.S.Storage.view p q c.args.file.now c.grow_reftable.new.file c.grow_reftable.new.self grown)))
-
-pub returns-clause-has : goal.returns-clause-has
-returns-clause-has g c = λ p sound.
-    let q : Pending = pending_then p c.args.file.now.free_list c.grow_reftable.new.file.free_list in
-    ok_as _ _ c.ensure_block-2.result
-    (range_as c.ensure_block-2.new.self.reftable c.args.cluster (counts_per_block c.grow_reftable.new.file.header.fields) (counts_per_block c.args.file.now.header.fields)
-    (sym (header_counts c.args.file.now.header c.grow_reftable.new.file.header c.grow_reftable.ensures.header)))
-    (c.ensure_block-2.ensures.has q (is_sound_on g.S.Storage.view p q c.args.file.now c.grow_reftable.new.file c.grow_reftable.new.self (c.in_ok-grow_reftable.ensures.sound p sound)))
 
 pub returns-clause-hint : goal.returns-clause-hint
 returns-clause-hint g c = λ p sound hint.
@@ -94,10 +87,16 @@ returns-clause-limit g c = λ p sound hint near.
     (subst (λ n. IsHostCluster n c.args.cluster) (sym (header_bits c.args.file.now.header c.grow_reftable.new.file.header c.grow_reftable.ensures.header)) near))
 
 pub returns-then-in_bounds-clause-former : goal.returns-then-in_bounds-clause-former
-returns-then-in_bounds-clause-former g c = former_same c.args.self.now.reftable c.ensure_block.new.self.reftable c.args.file.now.free_list c.ensure_block.new.file.free_list c.ensure_block.ensures.place c.ensure_block.ensures.list
+returns-then-in_bounds-clause-former g c = former_same c.args.self.now.reftable c.ensure_block.new.self.reftable c.args.file.now.free_list c.ensure_block.new.file.free_list (place_as _ _ _ c.ensure_block.ensures.named) c.ensure_block.ensures.list
 
 pub returns-clause-former : goal.returns-clause-former
-returns-clause-former g c = former_then c.args.self.now.reftable c.grow_reftable.new.self.reftable c.ensure_block-2.new.self.reftable c.args.file.now.free_list c.grow_reftable.new.file.free_list c.ensure_block-2.new.file.free_list c.grow_reftable.ensures.former (former_same c.grow_reftable.new.self.reftable c.ensure_block-2.new.self.reftable c.grow_reftable.new.file.free_list c.ensure_block-2.new.file.free_list c.ensure_block-2.ensures.place c.ensure_block-2.ensures.list)
+returns-clause-former g c =
+    let gave = c.in_ok-grow_reftable.ensures.former in
+    let past = not_below (c.args.cluster / 2 ^ c.rb_bits.result) (entry_count c.args.self.now.reftable) c.in_bounds.result c.in_bounds.ensures c.if-in_bounds.false in
+    let within = c.in_ok-grow_reftable.ensures.length.enough.above in
+    former_then c.args.self.now.reftable c.grow_reftable.new.self.reftable c.ensure_block-2.new.self.reftable c.args.file.now.free_list c.grow_reftable.new.file.free_list c.ensure_block-2.new.file.free_list
+    (former_one c.args.self.now.reftable c.grow_reftable.new.self.reftable gave.0 c.args.file.now.free_list c.grow_reftable.new.file.free_list gave.1 (omega (arith, past, within)) gave.3 gave.2)
+    (former_same c.grow_reftable.new.self.reftable c.ensure_block-2.new.self.reftable c.grow_reftable.new.file.free_list c.ensure_block-2.new.file.free_list (place_as _ _ _ c.ensure_block-2.ensures.named) c.ensure_block-2.ensures.list)
 
 pub returns-then-in_bounds-clause-marks : goal.returns-then-in_bounds-clause-marks
 returns-then-in_bounds-clause-marks g c = c.ensure_block.ensures.marks
@@ -132,9 +131,6 @@ returns-in_err-grow_reftable-clause-cause g c = handed_cause c.from_residual.res
 pub returns-in_err-grow_reftable-clause-storage_faults : goal.returns-in_err-grow_reftable-clause-storage_faults
 returns-in_err-grow_reftable-clause-storage_faults g c = told_on _ _ c.grow_reftable.result c.in_err-grow_reftable.field-0.0 c.from_residual.result c.grow_reftable.ensures.storage_faults c.in_err-grow_reftable.was c.from_residual.ensures
 
-pub returns-in_err-grow_reftable-clause-has : goal.returns-in_err-grow_reftable-clause-has
-returns-in_err-grow_reftable-clause-has g c = λ _ _. on_no_ok _ c.from_residual.result c.in_err-grow_reftable.field-0.0 c.from_residual.ensures
-
 pub returns-in_err-grow_reftable-clause-header : goal.returns-in_err-grow_reftable-clause-header
 returns-in_err-grow_reftable-clause-header g c = c.grow_reftable.ensures.header
 
@@ -142,7 +138,9 @@ pub returns-in_err-grow_reftable-clause-list : goal.returns-in_err-grow_reftable
 returns-in_err-grow_reftable-clause-list g c = c.grow_reftable.ensures.list
 
 pub returns-in_err-grow_reftable-clause-former : goal.returns-in_err-grow_reftable-clause-former
-returns-in_err-grow_reftable-clause-former g c = c.grow_reftable.ensures.former
+returns-in_err-grow_reftable-clause-former g c =
+    let stays = c.in_err-grow_reftable.ensures.former in
+    former_still c.args.self.now.reftable c.args.self.now.reftable c.grow_reftable.new.self.reftable c.args.file.now.free_list c.args.file.now.free_list c.grow_reftable.new.file.free_list (former_none c.args.self.now.reftable c.args.file.now.free_list) stays.0 stays.1
 
 pub returns-clause-marks : goal.returns-clause-marks
 returns-clause-marks g c = kept_marks_then c.grow_reftable.ensures.marks c.ensure_block-2.ensures.marks
@@ -157,7 +155,7 @@ pub returns-clause-cause : goal.returns-clause-cause
 returns-clause-cause g c = c.ensure_block-2.ensures.cause
 
 pub returns-clause-storage_faults : goal.returns-clause-storage_faults
-returns-clause-storage_faults g c = told_since _ _ _ c.grow_reftable.ensures.storage_faults.no_fewer c.ensure_block-2.ensures.storage_faults
+returns-clause-storage_faults g c = told_since _ _ _ c.in_ok-grow_reftable.ensures.storage_faults.told c.ensure_block-2.ensures.storage_faults
 
 pub returns-then-in_bounds-clause-leaks : goal.returns-then-in_bounds-clause-leaks
 returns-then-in_bounds-clause-leaks g c = λ p sound. c.ensure_block.ensures.leaks
@@ -176,3 +174,33 @@ returns-in_err-grow_reftable-clause-header_cluster g c = c.grow_reftable.ensures
 
 pub returns-clause-header_cluster : goal.returns-clause-header_cluster
 returns-clause-header_cluster g c = spares_then (c.grow_reftable.ensures.header_cluster) (spares_less (c.ensure_block-2.ensures.header_cluster))
+
+pub returns-in_err-grow_reftable-clause-has : goal.returns-in_err-grow_reftable-clause-has
+returns-in_err-grow_reftable-clause-has g c = on_no_ok _ c.from_residual.result c.in_err-grow_reftable.field-0.0 c.from_residual.ensures
+
+pub returns-clause-has : goal.returns-clause-has
+returns-clause-has g c =
+    ok_as _ _ c.ensure_block-2.result
+    (range_as c.ensure_block-2.new.self.reftable c.args.cluster (counts_per_block c.grow_reftable.new.file.header.fields) (counts_per_block c.args.file.now.header.fields)
+    (sym (header_counts c.args.file.now.header c.grow_reftable.new.file.header c.grow_reftable.ensures.header)))
+    c.ensure_block-2.ensures.has
+
+pub returns-then-in_bounds-clause-named : goal.returns-then-in_bounds-clause-named
+returns-then-in_bounds-clause-named g c = λ within. c.ensure_block.ensures.named
+
+pub returns-then-in_bounds-clause-first_range : goal.returns-then-in_bounds-clause-first_range
+returns-then-in_bounds-clause-first_range g c = c.ensure_block.ensures.first_range
+
+pub returns-in_err-grow_reftable-clause-first_range : goal.returns-in_err-grow_reftable-clause-first_range
+returns-in_err-grow_reftable-clause-first_range g c = λ lacks.
+    let past = not_below (c.args.cluster / 2 ^ c.rb_bits.result) (entry_count c.args.self.now.reftable) c.in_bounds.result c.in_bounds.ensures c.if-in_bounds.false in
+    let first : c.args.cluster / 2 ^ c.rb_bits.result ≡ 0 = subst (λ n. c.args.cluster / n ≡ 0) c.rb_bits.ensures.counts (div-eq_of_lt lacks.first) in
+    let some = lacks.some in
+    absurd (omega (arith, past, first, some))
+
+pub returns-clause-first_range : goal.returns-clause-first_range
+returns-clause-first_range g c = λ lacks.
+    let past = not_below (c.args.cluster / 2 ^ c.rb_bits.result) (entry_count c.args.self.now.reftable) c.in_bounds.result c.in_bounds.ensures c.if-in_bounds.false in
+    let first : c.args.cluster / 2 ^ c.rb_bits.result ≡ 0 = subst (λ n. c.args.cluster / n ≡ 0) c.rb_bits.ensures.counts (div-eq_of_lt lacks.first) in
+    let some = lacks.some in
+    absurd (omega (arith, past, first, some))

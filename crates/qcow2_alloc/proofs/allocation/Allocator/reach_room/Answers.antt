@@ -19,7 +19,7 @@ reaching-init g c = record {
   header = refl;
   list = refl;
   marks = kept_marks_none;
-  faults = omega arith;
+  faults = refl;
   spared = spares_none;
   same = refl;
   counts = c.rb_bits-bits.ensures.counts;
@@ -44,7 +44,7 @@ returns-in_err-take_if_free-clause-sound g c = λ p sound.
     handed_on (ReachesRoom g.S.Storage.view p c.args.file.now c.take_if_free.new.self c.take_if_free.new.file c.args.self.now.reftable c.args.first) c.from_residual.result c.in_err-take_if_free.field-0.0 c.from_residual.ensures (
       back.0,
       ends_room g.S.Storage.view p c.args.self.now.reftable c.args.first c.reaching.taken c.args.file.now c.reaching.file c.take_if_free.new.file c.reaching.self c.take_if_free.new.self c.in_err-take_if_free.field-0.0 before
-          (still_noted c.args.file.now.header.fields c.args.self.now.reftable c.args.first c.reaching.taken c.reaching.file.caches.is_changed c.take_if_free.new.file.caches.is_changed c.take_if_free.ensures.marks.pins.changed c.reaching.invariant.noted) back.0 back.1,
+          (still_noted c.args.file.now.header.fields c.args.self.now.reftable c.args.first c.reaching.taken c.reaching.file.caches.is_changed c.take_if_free.new.file.caches.is_changed c.take_if_free.ensures.marks.pins.changes.noted c.reaching.invariant.noted) back.0 back.1,
     )
 
 pub returns-then-not-branch-clause-sound : goal.returns-then-not-branch-clause-sound
@@ -66,7 +66,7 @@ reaching-preserved g c =
       header = c.take_if_free.ensures.header ∙ c.reaching.invariant.header;
       list = c.take_if_free.ensures.list ∙ c.reaching.invariant.list;
       marks = kept_marks_then c.reaching.invariant.marks c.take_if_free.ensures.marks;
-      faults = le_trans c.reaching.invariant.faults c.take_if_free.ensures.storage_faults.no_fewer;
+      faults = c.in_ok-take_if_free.ensures.storage_faults.told ∙ c.reaching.invariant.faults;
       spared = spares_then c.reaching.invariant.spared c.take_if_free.ensures.header_cluster;
       same = c.take_if_free.ensures.same ∙ c.reaching.invariant.same;
       counts = c.reaching.invariant.counts;
@@ -76,7 +76,7 @@ reaching-preserved g c =
           let q : Pending = with_run p h t c.args.first c.reaching.taken in
           run_taken g.S.Storage.view p t c.reaching.self.reftable c.args.first c.reaching.taken c.args.file.now c.reaching.file c.take_if_free.new.file c.reaching.self c.take_if_free.new.self c.in_ok-take_if_free.field-0
           (ap (λ x. x.fields) c.reaching.invariant.header) same before c.if-not-branch.false (c.in_ok-take_if_free.ensures.sound q (is_sound_now g.S.Storage.view p q c.args.file.now c.reaching.file c.reaching.self before));
-      noted = noted_more h t c.args.first c.reaching.taken c.reaching.file.caches.is_changed c.take_if_free.new.file.caches.is_changed c.take_if_free.ensures.marks.pins.changed c.reaching.invariant.noted
+      noted = noted_more h t c.args.first c.reaching.taken c.reaching.file.caches.is_changed c.take_if_free.new.file.caches.is_changed c.take_if_free.ensures.marks.pins.changes.noted c.reaching.invariant.noted
           (λ has. c.in_ok-take_if_free.ensures.noted c.if-not-branch.false
           (ap (λ x. lacks x ((c.args.first + c.reaching.taken) / 2 ^ c.rb_bits-bits.result)) same ∙ ap (λ n. lacks t ((c.args.first + c.reaching.taken) / n)) (sym c.reaching.invariant.counts) ∙ has));
       blocks = opened_more t (counts_per_block h) c.args.first c.reaching.taken c.reaching.blocks c.from.result c.opens_range.result opens_now (c.from.ensures ∙ is_flag c.opens_range.result) c.reaching.invariant.blocks;
@@ -161,7 +161,7 @@ pub returns-then-not-branch-clause-cause : goal.returns-then-not-branch-clause-c
 returns-then-not-branch-clause-cause g c = tt
 
 pub returns-then-not-branch-clause-storage_faults : goal.returns-then-not-branch-clause-storage_faults
-returns-then-not-branch-clause-storage_faults g c = told_ok _ _ _ (le_trans c.reaching.invariant.faults c.take_if_free.ensures.storage_faults.no_fewer)
+returns-then-not-branch-clause-storage_faults g c = told_ok _ _ _ (c.in_ok-take_if_free.ensures.storage_faults.told ∙ c.reaching.invariant.faults)
 
 pub returns-then-not-branch-clause-blocks : goal.returns-then-not-branch-clause-blocks
 returns-then-not-branch-clause-blocks g c = c.reaching.invariant.blocks

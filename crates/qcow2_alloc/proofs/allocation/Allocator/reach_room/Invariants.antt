@@ -16,7 +16,7 @@ invariant-reaching g l = record {
   header : l.file.header ≡ l.fn.file.header;
   list : l.file.free_list ≡ l.fn.file.free_list;
   marks : KeepsMarks g.S.Storage.view l.fn.file l.file;
-  faults : faults_of g.S.Storage.view l.fn.file.storage ≤ faults_of g.S.Storage.view l.file.storage;
+  faults : faults_of g.S.Storage.view l.file.storage ≡ faults_of g.S.Storage.view l.fn.file.storage;
   spared : SparesHeader g.S.Storage.view l.fn.self.reftable l.fn.file l.self.reftable l.file;
   same : l.self ≡ l.fn.self;
   counts : counts_per_block l.fn.file.header.fields ≡ 2 ^ l.bits;

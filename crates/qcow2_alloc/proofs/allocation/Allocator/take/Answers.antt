@@ -10,12 +10,12 @@ use Rattle.qcow2_alloc.proofs.AllocationSteps.{handed_on, leaves_as, leaves_on, 
 use Rattle.qcow2_alloc.proofs.ListedAfter.{header_counts, header_then, header_same, lists_then, lists_same}
 use Rattle.qcow2_alloc.proofs.KeptMarks.{kept_marks_then}
 use Rattle.qcow2_alloc.proofs.allocation.Allocator.take.Goals.{then-cluster-self, else-cluster-self}
-use Rattle.std.specs.Prelude.{IfErr}
+use Rattle.std.specs.Prelude.{IsErrOf, IfErr}
 use Rattle.qcow2_alloc.specs.declared.error.ImageError.{ImageError}
 use Rattle.qcow2_alloc.specs.Limits.{CantCount, IsFaultOr}
 use Rattle.qcow2_alloc.proofs.FormerReftables.{former_still}
 use Rattle.qcow2_alloc.proofs.Faults.{told_on, told_ok}
-use Rattle.qcow2_alloc.proofs.Outcomes.{ok_no_err, told_after, if_no_ok, handed_cause, handed_unaligned}
+use Rattle.qcow2_alloc.proofs.Outcomes.{err_as, ok_no_err, told_after, if_no_ok, handed_cause, handed_unaligned}
 use Rattle.std.proofs.Math.Nat.{le_trans}
 use Rattle.qcow2_alloc.specs.declared.error.ImageError.TheVariants as I
 use Rattle.qcow2_alloc.proofs.SparedHeaders.{spares_then, spares_less, spares_as}
@@ -65,7 +65,7 @@ returns-clause-used g c = λ p d sound may.
     let q : Pending = pending_then p c.args.file.now.free_list c.reach_block.new.file.free_list in
     let now = is_sound_on g.S.Storage.view p q c.args.file.now c.reach_block.new.file c.reach_block.new.self (c.in_ok-reach_block.ensures.sound p sound) in
     c.in_ok-taken.ensures.used q now (range_as c.reach_block.new.self.reftable c.args.cluster (counts_per_block c.args.file.now.header.fields) (counts_per_block c.reach_block.new.file.header.fields)
-    (header_counts c.args.file.now.header c.reach_block.new.file.header c.reach_block.ensures.header) (c.in_ok-reach_block.ensures.has p sound))
+    (header_counts c.args.file.now.header c.reach_block.new.file.header c.reach_block.ensures.header) c.in_ok-reach_block.ensures.has)
 
 pub returns-clause-hint : goal.returns-clause-hint
 returns-clause-hint g c = λ p d sound may hint.
@@ -165,7 +165,7 @@ pub returns-in_err-taken-clause-cause : goal.returns-in_err-taken-clause-cause
 returns-in_err-taken-clause-cause g c = handed_cause c.from_residual-in_err-taken.result c.in_err-taken.field-0.0 c.from_residual-in_err-taken.ensures c.in_err-taken.ensures.cause
 
 pub returns-in_err-taken-clause-storage_faults : goal.returns-in_err-taken-clause-storage_faults
-returns-in_err-taken-clause-storage_faults g c = told_after _ _ _ c.raise.result c.in_err-taken.field-0.0 c.from_residual-in_err-taken.result c.reach_block.ensures.storage_faults.no_fewer c.raise.ensures.storage_faults c.in_err-taken.was c.from_residual-in_err-taken.ensures
+returns-in_err-taken-clause-storage_faults g c = told_after _ _ _ c.raise.result c.in_err-taken.field-0.0 c.from_residual-in_err-taken.result c.in_ok-reach_block.ensures.storage_faults.told c.raise.ensures.storage_faults c.in_err-taken.was c.from_residual-in_err-taken.ensures
 
 pub returns-in_err-taken-clause-noted : goal.returns-in_err-taken-clause-noted
 returns-in_err-taken-clause-noted g c = if_no_ok _ c.from_residual-in_err-taken.result c.in_err-taken.field-0.0 c.from_residual-in_err-taken.ensures
@@ -204,7 +204,7 @@ pub returns-clause-cause : goal.returns-clause-cause
 returns-clause-cause g c = tt
 
 pub returns-clause-storage_faults : goal.returns-clause-storage_faults
-returns-clause-storage_faults g c = told_ok _ _ _ (le_trans c.reach_block.ensures.storage_faults.no_fewer c.raise.ensures.storage_faults.no_fewer)
+returns-clause-storage_faults g c = told_ok _ _ _ (c.in_ok-taken.ensures.storage_faults.told ∙ c.in_ok-reach_block.ensures.storage_faults.told)
 
 pub returns-clause-limit : goal.returns-clause-limit
 returns-clause-limit g c = λ p is_data sound may hint near. tt
@@ -234,3 +234,14 @@ returns-clause-header_cluster g c =
       | else-cluster-self w ↦ ap (λ (t : Allocator). t.reftable) w.self-is
     ] in
     spares_as same (spares_then (c.reach_block.ensures.header_cluster) (spares_less (c.raise.ensures.header_cluster)))
+
+pub returns-in_err-reach_block-clause-first_range : goal.returns-in_err-reach_block-clause-first_range
+returns-in_err-reach_block-clause-first_range g c = λ lacks.
+    let refused = c.in_err-reach_block.ensures.first_range lacks in
+    (handed_on (λ r. IsErrOf r I.Limit) c.from_residual.result c.in_err-reach_block.field-0.0 c.from_residual.ensures (err_as c.in_err-reach_block.field-0.0 I.Limit refused.0), refused.1)
+
+pub returns-in_err-taken-clause-first_range : goal.returns-in_err-taken-clause-first_range
+returns-in_err-taken-clause-first_range g c = λ lacks. ok_no_err _ I.Limit (c.in_ok-reach_block.ensures.first_range lacks).0
+
+pub returns-clause-first_range : goal.returns-clause-first_range
+returns-clause-first_range g c = λ lacks. ok_no_err _ I.Limit (c.in_ok-reach_block.ensures.first_range lacks).0

@@ -8,7 +8,7 @@ use Rattle.qcow2_alloc.specs.Allocation.{UnseenAllocatorStep}
 use Rattle.qcow2_alloc.specs.Rooms.{lacks}
 use Rattle.qcow2_alloc.proofs.AllocationSteps.{allocator_step_none, still_sound}
 use Rattle.qcow2_alloc.proofs.Rooms.{one_none, free_taken}
-use Rattle.qcow2_alloc.proofs.Faults.{told_ok}
+use Rattle.qcow2_alloc.proofs.Faults.{stays_else, told_ok}
 use Rattle.std.proofs.Math.Nat.{le_refl}
 use Rattle.qcow2_alloc.proofs.Outcomes.{not_both}
 use Rattle.qcow2_alloc.proofs.SparedHeaders.{spares_none}
@@ -95,13 +95,13 @@ pub returns-then-lacks_block-clause-list : goal.returns-then-lacks_block-clause-
 returns-then-lacks_block-clause-list g c = refl
 
 pub returns-then-lacks_block-clause-storage_faults : goal.returns-then-lacks_block-clause-storage_faults
-returns-then-lacks_block-clause-storage_faults g c = told_ok _ _ _ (le_refl _)
+returns-then-lacks_block-clause-storage_faults g c = told_ok _ _ _ refl
 
 pub returns-in-Ok-clause-storage_faults : goal.returns-in-Ok-clause-storage_faults
-returns-in-Ok-clause-storage_faults g c = told_ok _ _ _ c.raise.ensures.storage_faults.no_fewer
+returns-in-Ok-clause-storage_faults g c = told_ok _ _ _ c.in-Ok.ensures.storage_faults.told
 
 pub returns-else-is_fault-clause-storage_faults : goal.returns-else-is_fault-clause-storage_faults
-returns-else-is_fault-clause-storage_faults g c = told_ok _ _ _ c.raise.ensures.storage_faults.no_fewer
+returns-else-is_fault-clause-storage_faults g c = told_ok _ _ _ (stays_else _ _ c.in-Err.refusal c.in-Err.ensures.storage_faults (λ fault. not_both c.is_fault.result (c.is_fault.ensures.1 fault) c.if-is_fault.false))
 
 pub returns-then-is_fault-clause-storage_faults : goal.returns-then-is_fault-clause-storage_faults
 returns-then-is_fault-clause-storage_faults g c = c.in-Err.ensures.storage_faults

@@ -1,12 +1,12 @@
 use Rattle.std.proofs.Common.{ℕ, ap, ◌+◌, arith, ◌*◌, ◌^◌, ◌≤◌, false, refl, sym, ◌∙◌, subst, ◌<◌, ◌/◌, ◌≡◌}
 use Rattle.qcow2_metadata.specs.Header.{counts_per_block}
 use Rattle.qcow2_laws.specs.Changes.{one_at}
-use Rattle.qcow2_alloc.specs.Allocation.{taken_as, KeepsEntries, TakesLowest}
+use Rattle.qcow2_alloc.specs.Allocation.{taken_as, KeepsEntries, KeepsNamed, TakesLowest}
 use Rattle.qcow2_alloc.specs.declared.allocation.Allocator.{Allocator}
 use Rattle.qcow2_alloc.specs.LowestRuns.{KeepsNoFreeBelowHint}
 use Rattle.qcow2_alloc.proofs.FileSteps.{one_here, leaves_then}
 use Rattle.qcow2_alloc.proofs.Hints.{hint_header, hint_stays, hint_taken, hint_more, hint_passed, hint_refused, range_as, taken_used}
-use Rattle.qcow2_alloc.proofs.AllocationSteps.{allocator_step_none, behind_none, handed_on, entries_then, entries_less, other_range, allocator_step_as, allocator_step_then, is_sound_now}
+use Rattle.qcow2_alloc.proofs.AllocationSteps.{allocator_step_none, behind_none, handed_on, entries_then, entries_less, named_then, other_range, allocator_step_as, allocator_step_then, is_sound_now}
 use Rattle.qcow2_alloc.proofs.Faults.{told_ok}
 use Rattle.qcow2_alloc.proofs.Outcomes.{told_after, if_no_ok, handed_cause}
 use Rattle.std.proofs.Math.Nat.{le_trans}
@@ -47,10 +47,11 @@ search-init g c = record {
   header = refl;
   list = refl;
   marks = kept_marks_none;
-  faults = omega arith;
+  faults = refl;
   spared = spares_none;
   above = let first = c.max-self.ensures in omega (arith, first);
   entries = record { cluster = refl; bits = refl; count = refl; others = λ k past. refl; behind = behind_none c.args.self.now.reftable };
+  named = record { cluster = refl; bits = refl; count = refl; others = λ k has. refl; behind = behind_none c.args.self.now.reftable };
   leaks = refl;
   sound = λ p sound. allocator_step_none g.S.Storage.view p c.args.file.now (record c.args.self.now { first_free_cluster = c.max-self.result }) (record { sound = sound.sound; reftable = sound.reftable });
   hint = λ p sound hint. hint_header g.S.Storage.view p c.args.file.now c.args.self.now (record c.args.self.now { first_free_cluster = c.max-self.result }) sound.sound (λ k some below. let first = c.max-self.ensures in omega (arith, first, some, below)) hint;
@@ -61,12 +62,13 @@ search-preserved g c = record {
   header = c.behind_used.ensures.header ∙ c.raise.ensures.header ∙ c.cover_range.ensures.header ∙ c.search.invariant.header;
   list = c.behind_used.ensures.list ∙ c.raise.ensures.list ∙ c.cover_range.ensures.list ∙ c.search.invariant.list;
   marks = kept_marks_then (kept_marks_then (kept_marks_then c.search.invariant.marks c.cover_range.ensures.marks) c.raise.ensures.marks) c.behind_used.ensures.marks;
-  faults = le_trans (le_trans (le_trans c.search.invariant.faults c.cover_range.ensures.storage_faults.no_fewer) c.raise.ensures.storage_faults.no_fewer) c.behind_used.ensures.storage_faults.no_fewer;
+  faults = c.in_ok-self.ensures.storage_faults.told ∙ (c.in_ok-taken.ensures.storage_faults.told ∙ (c.in_ok-cover_range.ensures.storage_faults.told ∙ c.search.invariant.faults));
   spared = spares_then (spares_then (spares_then c.search.invariant.spared c.cover_range.ensures.header_cluster) (c.raise.ensures.header_cluster)) (c.behind_used.ensures.header_cluster);
   entries =
       subst (λ (t : Allocator). KeepsEntries (λ k. c.args.end ≤ k * counts_per_block c.args.file.now.header.fields) c.args.self.now.reftable t.reftable) (sym c.raise.ensures.same)
       (covered_entries c.args.self.now.reftable c.search.self.reftable c.cover_range.new.self.reftable c.search.self.first_free_cluster c.args.end (2 ^ c.rb_bits-bits.result) (counts_per_block c.args.file.now.header.fields) c.search-test.true c.rb_bits-bits.ensures.counts
       c.search.invariant.entries c.cover_range.ensures.entries);
+  named = subst (λ (t : Allocator). KeepsNamed c.args.self.now.reftable t.reftable) (sym c.raise.ensures.same) (named_then c.args.self.now.reftable c.search.self.reftable c.cover_range.new.self.reftable c.search.invariant.named c.cover_range.ensures.named);
   above = let behind = c.in_ok-self.ensures.behind in omega (arith, behind);
   leaks = ap (λ (t : Allocator). t.leaked_clusters) c.raise.ensures.same ∙ c.cover_range.ensures.leaks ∙ c.search.invariant.leaks;
   sound = λ p sound.
@@ -90,7 +92,7 @@ search-preserved g c = record {
       let one = hint_stays g.S.Storage.view p c.search.file c.cover_range.new.file c.search.self c.cover_range.new.self (c.in_ok-cover_range.ensures.sound p now) c.cover_range.ensures.first (c.search.invariant.hint p sound hint) in
       let two = hint_stays g.S.Storage.view p c.cover_range.new.file c.raise.new.file c.cover_range.new.self c.raise.new.self taken (ap (λ (t : Allocator). t.first_free_cluster) c.raise.ensures.same) one in
       let used = c.in_ok-taken.ensures.used p is_covered (range_as c.cover_range.new.self.reftable c.search.self.first_free_cluster (2 ^ c.rb_bits-bits.result) (counts_per_block c.cover_range.new.file.header.fields)
-      (ap (λ h. counts_per_block h.fields) (c.cover_range.ensures.header ∙ c.search.invariant.header) ∙ c.rb_bits-bits.ensures.counts) (c.in_ok-cover_range.ensures.has p now)) c.if-taken.false in
+      (ap (λ h. counts_per_block h.fields) (c.cover_range.ensures.header ∙ c.search.invariant.header) ∙ c.rb_bits-bits.ensures.counts) c.in_ok-cover_range.ensures.has) c.if-taken.false in
       let three = hint_more g.S.Storage.view c.raise.new.file c.raise.new.self marked c.search.self.first_free_cluster two (ap (λ (t : Allocator). t.first_free_cluster) c.raise.ensures.same ∙ c.cover_range.ensures.first) refl used in
       let passed = c.in_ok-self.ensures.sound p there in
       hint_passed g.S.Storage.view p c.raise.new.file c.behind_used.new.file marked (record marked { first_free_cluster = c.in_ok-self.field-0 }) (c.search.self.first_free_cluster + 1) c.in_ok-self.field-0 passed.0 passed.1 refl refl three;
@@ -120,7 +122,7 @@ returns-in_err-self-clause-hint g c = λ p sound hint.
     let one = hint_stays g.S.Storage.view p c.search.file c.cover_range.new.file c.search.self c.cover_range.new.self (c.in_ok-cover_range.ensures.sound p now) c.cover_range.ensures.first (c.search.invariant.hint p sound hint) in
     let two = hint_stays g.S.Storage.view p c.cover_range.new.file c.raise.new.file c.cover_range.new.self c.raise.new.self taken (ap (λ (t : Allocator). t.first_free_cluster) c.raise.ensures.same) one in
     let used = c.in_ok-taken.ensures.used p is_covered (range_as c.cover_range.new.self.reftable c.search.self.first_free_cluster (2 ^ c.rb_bits-bits.result) (counts_per_block c.cover_range.new.file.header.fields)
-    (ap (λ h. counts_per_block h.fields) (c.cover_range.ensures.header ∙ c.search.invariant.header) ∙ c.rb_bits-bits.ensures.counts) (c.in_ok-cover_range.ensures.has p now)) c.if-taken.false in
+    (ap (λ h. counts_per_block h.fields) (c.cover_range.ensures.header ∙ c.search.invariant.header) ∙ c.rb_bits-bits.ensures.counts) c.in_ok-cover_range.ensures.has) c.if-taken.false in
     let three = hint_more g.S.Storage.view c.raise.new.file c.raise.new.self marked c.search.self.first_free_cluster two (ap (λ (t : Allocator). t.first_free_cluster) c.raise.ensures.same ∙ c.cover_range.ensures.first) refl used in
     handed_on (KeepsNoFreeBelowHint g.S.Storage.view marked c.behind_used.new.file) c.from_residual-in_err-self.result c.in_err-self.field-0.0 c.from_residual-in_err-self.ensures
     (hint_refused g.S.Storage.view p c.raise.new.file c.behind_used.new.file marked marked c.in_err-self.field-0.0 refl (c.in_err-self.ensures.sound p there).1 three)
@@ -133,7 +135,7 @@ returns-in_err-self-clause-cause g c = handed_cause c.from_residual-in_err-self.
 
 pub returns-in_err-self-clause-storage_faults : goal.returns-in_err-self-clause-storage_faults
 returns-in_err-self-clause-storage_faults g c =
-    told_after _ _ _ c.behind_used.result c.in_err-self.field-0.0 c.from_residual-in_err-self.result (le_trans (le_trans c.search.invariant.faults c.cover_range.ensures.storage_faults.no_fewer) c.raise.ensures.storage_faults.no_fewer)
+    told_after _ _ _ c.behind_used.result c.in_err-self.field-0.0 c.from_residual-in_err-self.result (c.in_ok-taken.ensures.storage_faults.told ∙ (c.in_ok-cover_range.ensures.storage_faults.told ∙ c.search.invariant.faults))
     c.behind_used.ensures.storage_faults c.in_err-self.was c.from_residual-in_err-self.ensures
 
 pub returns-in_err-self-clause-noted : goal.returns-in_err-self-clause-noted
@@ -211,7 +213,7 @@ pub returns-in_err-taken-clause-cause : goal.returns-in_err-taken-clause-cause
 returns-in_err-taken-clause-cause g c = handed_cause c.from_residual-in_err-taken.result c.in_err-taken.field-0.0 c.from_residual-in_err-taken.ensures c.in_err-taken.ensures.cause
 
 pub returns-in_err-taken-clause-storage_faults : goal.returns-in_err-taken-clause-storage_faults
-returns-in_err-taken-clause-storage_faults g c = told_after _ _ _ c.raise.result c.in_err-taken.field-0.0 c.from_residual-in_err-taken.result (le_trans c.search.invariant.faults c.cover_range.ensures.storage_faults.no_fewer) c.raise.ensures.storage_faults c.in_err-taken.was c.from_residual-in_err-taken.ensures
+returns-in_err-taken-clause-storage_faults g c = told_after _ _ _ c.raise.result c.in_err-taken.field-0.0 c.from_residual-in_err-taken.result (c.in_ok-cover_range.ensures.storage_faults.told ∙ c.search.invariant.faults) c.raise.ensures.storage_faults c.in_err-taken.was c.from_residual-in_err-taken.ensures
 
 pub returns-in_err-taken-clause-noted : goal.returns-in_err-taken-clause-noted
 returns-in_err-taken-clause-noted g c = if_no_ok _ c.from_residual-in_err-taken.result c.in_err-taken.field-0.0 c.from_residual-in_err-taken.ensures
@@ -244,7 +246,7 @@ pub returns-then-taken-clause-cause : goal.returns-then-taken-clause-cause
 returns-then-taken-clause-cause g c = tt
 
 pub returns-then-taken-clause-storage_faults : goal.returns-then-taken-clause-storage_faults
-returns-then-taken-clause-storage_faults g c = told_ok _ _ _ (le_trans (le_trans c.search.invariant.faults c.cover_range.ensures.storage_faults.no_fewer) c.raise.ensures.storage_faults.no_fewer)
+returns-then-taken-clause-storage_faults g c = told_ok _ _ _ (c.in_ok-taken.ensures.storage_faults.told ∙ (c.in_ok-cover_range.ensures.storage_faults.told ∙ c.search.invariant.faults))
 
 pub returns-clause-marks : goal.returns-clause-marks
 returns-clause-marks g c = c.search.invariant.marks
@@ -307,3 +309,18 @@ returns-in_err-self-clause-header_cluster g c = spares_then (spares_then (spares
 
 pub returns-clause-header_cluster : goal.returns-clause-header_cluster
 returns-clause-header_cluster g c = c.search.invariant.spared
+
+pub returns-clause-named : goal.returns-clause-named
+returns-clause-named g c = c.search.invariant.named
+
+pub returns-in_err-cover_range-clause-named : goal.returns-in_err-cover_range-clause-named
+returns-in_err-cover_range-clause-named g c = named_then c.args.self.now.reftable c.search.self.reftable c.cover_range.new.self.reftable c.search.invariant.named c.cover_range.ensures.named
+
+pub returns-in_err-taken-clause-named : goal.returns-in_err-taken-clause-named
+returns-in_err-taken-clause-named g c = subst (λ (t : Allocator). KeepsNamed c.args.self.now.reftable t.reftable) (sym c.raise.ensures.same) (named_then c.args.self.now.reftable c.search.self.reftable c.cover_range.new.self.reftable c.search.invariant.named c.cover_range.ensures.named)
+
+pub returns-then-taken-clause-named : goal.returns-then-taken-clause-named
+returns-then-taken-clause-named g c = subst (λ (t : Allocator). KeepsNamed c.args.self.now.reftable t.reftable) (sym c.raise.ensures.same) (named_then c.args.self.now.reftable c.search.self.reftable c.cover_range.new.self.reftable c.search.invariant.named c.cover_range.ensures.named)
+
+pub returns-in_err-self-clause-named : goal.returns-in_err-self-clause-named
+returns-in_err-self-clause-named g c = subst (λ (t : Allocator). KeepsNamed c.args.self.now.reftable t.reftable) (sym c.raise.ensures.same) (named_then c.args.self.now.reftable c.search.self.reftable c.cover_range.new.self.reftable c.search.invariant.named c.cover_range.ensures.named)

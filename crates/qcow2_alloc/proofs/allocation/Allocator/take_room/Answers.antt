@@ -14,7 +14,7 @@ use Rattle.qcow2_alloc.proofs.AllocationSteps.{handed_on, allocator_step_none, a
 use Rattle.qcow2_alloc.proofs.Runs.{run_after}
 use Rattle.qcow2_alloc.proofs.Hints.{used_stays}
 use Rattle.qcow2_alloc.proofs.FullRooms.{full_behind, full_passed, full_stays, IsFullBelow}
-use Rattle.qcow2_alloc.proofs.Rooms.{run_of_same, noted_of_same}
+use Rattle.qcow2_alloc.proofs.Rooms.{run_of_same, noted_of_same, noted_of_room}
 use Rattle.qcow2_alloc.proofs.Faults.{told_ok}
 use Rattle.qcow2_alloc.proofs.Outcomes.{told_limit, told_after, if_no_ok, handed_cause}
 use Rattle.std.proofs.Math.Nat.{le_trans}
@@ -28,7 +28,7 @@ search-init g c = record {
   header = refl;
   list = refl;
   marks = kept_marks_none;
-  faults = omega arith;
+  faults = refl;
   spared = spares_none;
   reftable = refl;
   first_free = refl;
@@ -78,7 +78,7 @@ search-preserved g c = record {
   header = c.behind_used.ensures.header ∙ c.leave_run.ensures.header ∙ c.reach_room.ensures.header ∙ c.search.invariant.header;
   list = c.behind_used.ensures.list ∙ c.leave_run.ensures.list ∙ c.reach_room.ensures.list ∙ c.search.invariant.list;
   marks = kept_marks_then (kept_marks_then (kept_marks_then c.search.invariant.marks c.reach_room.ensures.marks) c.leave_run.ensures.marks) c.behind_used.ensures.marks;
-  faults = le_trans (le_trans (le_trans c.search.invariant.faults c.reach_room.ensures.storage_faults.no_fewer) c.leave_run.ensures.storage_faults.no_fewer) c.behind_used.ensures.storage_faults.no_fewer;
+  faults = c.in_ok-first.ensures.storage_faults.told ∙ (c.in_ok-leave_run.ensures.storage_faults.told ∙ (c.in_ok-reach.ensures.storage_faults.told ∙ c.search.invariant.faults));
   spared = spares_then (spares_then (spares_then c.search.invariant.spared c.reach_room.ensures.header_cluster) (c.leave_run.ensures.header_cluster)) (c.behind_used.ensures.header_cluster);
   reftable = c.leave_run.ensures.reftable ∙ ap (λ a. a.reftable) c.reach_room.ensures.same ∙ c.search.invariant.reftable;
   first_free = c.leave_run.ensures.first ∙ ap (λ a. a.first_free_cluster) c.reach_room.ensures.same ∙ c.search.invariant.first_free;
@@ -166,7 +166,7 @@ returns-in_err-first-clause-cause g c = handed_cause c.from_residual-in_err-firs
 
 pub returns-in_err-first-clause-storage_faults : goal.returns-in_err-first-clause-storage_faults
 returns-in_err-first-clause-storage_faults g c =
-    told_after _ _ _ c.behind_used.result c.in_err-first.field-0.0 c.from_residual-in_err-first.result (le_trans (le_trans c.search.invariant.faults c.reach_room.ensures.storage_faults.no_fewer) c.leave_run.ensures.storage_faults.no_fewer)
+    told_after _ _ _ c.behind_used.result c.in_err-first.field-0.0 c.from_residual-in_err-first.result (c.in_ok-leave_run.ensures.storage_faults.told ∙ (c.in_ok-reach.ensures.storage_faults.told ∙ c.search.invariant.faults))
     c.behind_used.ensures.storage_faults c.in_err-first.was c.from_residual-in_err-first.ensures
 
 pub returns-in_err-first-clause-header : goal.returns-in_err-first-clause-header
@@ -274,7 +274,7 @@ pub returns-in_err-leave_run-clause-cause : goal.returns-in_err-leave_run-clause
 returns-in_err-leave_run-clause-cause g c = handed_cause c.from_residual-in_err-leave_run.result c.in_err-leave_run.field-0.0 c.from_residual-in_err-leave_run.ensures c.in_err-leave_run.ensures.cause
 
 pub returns-in_err-leave_run-clause-storage_faults : goal.returns-in_err-leave_run-clause-storage_faults
-returns-in_err-leave_run-clause-storage_faults g c = told_after _ _ _ c.leave_run.result c.in_err-leave_run.field-0.0 c.from_residual-in_err-leave_run.result (le_trans c.search.invariant.faults c.reach_room.ensures.storage_faults.no_fewer) c.leave_run.ensures.storage_faults c.in_err-leave_run.was c.from_residual-in_err-leave_run.ensures
+returns-in_err-leave_run-clause-storage_faults g c = told_after _ _ _ c.leave_run.result c.in_err-leave_run.field-0.0 c.from_residual-in_err-leave_run.result (c.in_ok-reach.ensures.storage_faults.told ∙ c.search.invariant.faults) c.leave_run.ensures.storage_faults c.in_err-leave_run.was c.from_residual-in_err-leave_run.ensures
 
 pub returns-in_err-leave_run-clause-blocks : goal.returns-in_err-leave_run-clause-blocks
 returns-in_err-leave_run-clause-blocks g c = if_no_ok _ c.from_residual-in_err-leave_run.result c.in_err-leave_run.field-0.0 c.from_residual-in_err-leave_run.ensures
@@ -334,7 +334,7 @@ pub returns-then-reach-clusters-clause-cause : goal.returns-then-reach-clusters-
 returns-then-reach-clusters-clause-cause g c = tt
 
 pub returns-then-reach-clusters-clause-storage_faults : goal.returns-then-reach-clusters-clause-storage_faults
-returns-then-reach-clusters-clause-storage_faults g c = told_ok _ _ _ (le_trans c.search.invariant.faults c.reach_room.ensures.storage_faults.no_fewer)
+returns-then-reach-clusters-clause-storage_faults g c = told_ok _ _ _ (c.in_ok-reach.ensures.storage_faults.told ∙ c.search.invariant.faults)
 
 pub returns-then-reach-clusters-clause-above : goal.returns-then-reach-clusters-clause-above
 returns-then-reach-clusters-clause-above g c = c.search.invariant.some
@@ -403,3 +403,17 @@ returns-in_err-first-clause-header_cluster g c = spares_then (spares_then (spare
 
 pub returns-clause-header_cluster : goal.returns-clause-header_cluster
 returns-clause-header_cluster g c = c.search.invariant.spared
+
+pub returns-then-reach-clusters-clause-noted : goal.returns-then-reach-clusters-clause-noted
+returns-then-reach-clusters-clause-noted g c =
+    noted_of_room c.search.file.header.fields c.args.file.now.header.fields c.search.self.reftable c.args.self.now.reftable c.search.first c.in_ok-reach.reach.taken (c.in_ok-reach.reach.blocks + c.args.clusters) c.reach_room.new.file.caches.is_changed
+    (ap (λ x. x.fields) c.search.invariant.header) c.search.invariant.reftable c.if-reach-clusters.true c.in_ok-reach.ensures.noted
+
+pub returns-in_err-reach-clause-noted : goal.returns-in_err-reach-clause-noted
+returns-in_err-reach-clause-noted g c = if_no_ok _ c.from_residual.result c.in_err-reach.field-0.0 c.from_residual.ensures
+
+pub returns-in_err-leave_run-clause-noted : goal.returns-in_err-leave_run-clause-noted
+returns-in_err-leave_run-clause-noted g c = if_no_ok _ c.from_residual-in_err-leave_run.result c.in_err-leave_run.field-0.0 c.from_residual-in_err-leave_run.ensures
+
+pub returns-in_err-first-clause-noted : goal.returns-in_err-first-clause-noted
+returns-in_err-first-clause-noted g c = if_no_ok _ c.from_residual-in_err-first.result c.in_err-first.field-0.0 c.from_residual-in_err-first.ensures

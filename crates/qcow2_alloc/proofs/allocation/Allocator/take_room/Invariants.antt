@@ -16,7 +16,7 @@ invariant-search g l = record {
   header : l.file.header ≡ l.fn.file.header;
   list : l.file.free_list ≡ l.fn.file.free_list;
   marks : KeepsMarks g.S.Storage.view l.fn.file l.file;
-  faults : faults_of g.S.Storage.view l.fn.file.storage ≤ faults_of g.S.Storage.view l.file.storage;
+  faults : faults_of g.S.Storage.view l.file.storage ≡ faults_of g.S.Storage.view l.fn.file.storage;
   spared : SparesHeader g.S.Storage.view l.fn.self.reftable l.fn.file l.self.reftable l.file;
   reftable : l.self.reftable ≡ l.fn.self.reftable;
   first_free : l.self.first_free_cluster ≡ l.fn.self.first_free_cluster;

@@ -1,11 +1,11 @@
-use Rattle.std.proofs.Common.{◌≡◌, ◌⊎◌, inl, inr, ℕ, ◌+◌, ◌<◌, Bool, false, IsTrue, refl, sym, ap, ◌∙◌, subst, arith, Result, Err}
+use Rattle.std.proofs.Common.{Ok, ◌/◌, ◌≡◌, ◌⊎◌, inl, inr, ℕ, ◌+◌, ◌<◌, Bool, false, IsTrue, refl, sym, ap, ◌∙◌, subst, arith, Result, Err}
 use Rattle.std.proofs.lemmas.Bool.{cases_eq, cases_lt}
 use Rattle.image_access.specs.Moments.{StorageView}
 use Rattle.qcow2_laws.specs.CrashInvariant.{Pending}
 use Rattle.qcow2_alloc.specs.declared.allocation.Allocator.{Allocator}
 use Rattle.qcow2_alloc.specs.declared.error.ImageError.{ImageError}
 use Rattle.qcow2_alloc.specs.declared.image_file.ImageFile.{ImageFile}
-use Rattle.qcow2_alloc.specs.Allocation.{run_at, taken_as, UnseenAllocatorGrowth, RefusedGrowth, TakesRun}
+use Rattle.qcow2_alloc.specs.Allocation.{IsUnaligned, LacksFirst, LacksBlock, run_at, taken_as, UnseenAllocatorGrowth, RefusedGrowth, TakesRun}
 use Rattle.qcow2_alloc.specs.FreeList.{pending_then, ListsTables}
 use Rattle.qcow2_alloc.specs.ImageFile.{IsFault, KeepsHeader}
 use Rattle.qcow2_alloc.proofs.AllocationSteps.{handed_on, of_equal, may_still, on_none, is_sound_on, still_as}
@@ -16,17 +16,21 @@ use Rattle.qcow2_alloc.proofs.Runs.{none_there, run_after, run_last, run_none, t
 use Rattle.qcow2_alloc.proofs.KeptMarks.{kept_marks_none, kept_marks_then}
 use Rattle.qcow2_alloc.specs.KeptMarks.{KeepsMarks}
 use Rattle.qcow2_alloc.proofs.allocation.Allocator.take_run.Goals.{then-not-is_fault+in_ok-give_back-in-Err, else-not-is_fault}
-use Rattle.std.specs.Prelude.{IfErr}
+use Rattle.std.specs.Prelude.{IsErrOf, IfErr}
 use Rattle.qcow2_metadata.specs.L2Mapping.{IsHostCluster}
 use Rattle.qcow2_alloc.specs.Limits.{CantCount, CantCountRun, IsFaultOr}
 use Rattle.qcow2_alloc.proofs.Limits.{cause_as, count_back, host_of_few}
 use Rattle.qcow2_alloc.proofs.FormerReftables.{former_none, former_then, former_still}
-use Rattle.qcow2_alloc.proofs.Faults.{told_ok, told_since}
-use Rattle.qcow2_alloc.proofs.Outcomes.{told_after, if_no_ok, handed_cause, told_err, told_still, not_both}
+use Rattle.qcow2_alloc.proofs.Faults.{stays_else, told_ok, told_since}
+use Rattle.qcow2_alloc.proofs.Outcomes.{ok_no_err, err_as, told_after, if_no_ok, handed_cause, told_err, told_still, not_both}
 use Rattle.std.proofs.Math.Nat.{le_trans}
 use Rattle.qcow2_alloc.specs.Faults.{FaultsTold, faults_of}
 use Rattle.qcow2_alloc.proofs.SparedHeaders.{spares_none, spares_then, spares_less}
 use Rattle.qcow2_alloc.specs.SparedHeaders.{SparesHeaderButPointer}
+use Rattle.qcow2_metadata.specs.Header.{HeaderView, counts_per_block}
+use Rattle.qcow2_metadata.specs.EntryTable.{EntryTableView}
+use Rattle.qcow2_metadata.specs.declared.header.HeaderFields.{HeaderFields}
+use Rattle.qcow2_alloc.specs.declared.error.ImageError.TheVariants as I
 use Rattle.qcow2_alloc.proofs.allocation.Allocator.take_run.Goals as goal
 
 -- none, where there aren't some
@@ -45,19 +49,31 @@ ends_run view d p from n a b c t t' e first then before noted fault leaves = eli
       then_leaves view p a b c t t' first then (subst (λ (r : Pending). UnseenAllocatorGrowth view p a t b r) same before) e (subst (λ (r : Pending). RefusedGrowth view r b t' c (pending_then r b.free_list c.free_list) e) same leaves)
 ]
 
+-- the first cluster of a run can't be had
+refuses : (h h' : HeaderFields) (t t' : EntryTableView) (first taken : ℕ) (result : Result Bool ImageError) (e : ImageError) → h' ≡ h → t' ≡ t → taken ≡ 0
+    → (IsUnaligned h' t' ((first + taken) / counts_per_block h') → IsErrOf result I.UnalignedTable) → (LacksFirst h' t' (first + taken) → IsErrOf result I.Limit) → LacksBlock h t first e → IsErrOf result e
+refuses h h' t t' first taken result e same_header same_table none unaligned first_range lacks =
+    let place : first ≡ first + taken = omega (arith, none) in
+    elim lacks [
+      | inl u ↦ subst (IsErrOf result) (sym u.1) (unaligned (subst (λ x. IsUnaligned x t' ((first + taken) / counts_per_block x)) (sym same_header) (subst (λ (y : EntryTableView). IsUnaligned h y ((first + taken) / counts_per_block h)) (sym same_table)
+          (subst (λ n. IsUnaligned h t (n / counts_per_block h)) place u.0))))
+      | inr l ↦ subst (IsErrOf result) (sym l.1) (first_range (subst (λ x. LacksFirst x t' (first + taken)) (sym same_header) (subst (λ (y : EntryTableView). LacksFirst h y (first + taken)) (sym same_table) (subst (LacksFirst h t) place l.0))))
+    ]
+
 pub taking-init : goal.taking-init
 taking-init g c = record {
   header = header_same c.args.file.now.header c.args.file.now.header refl;
   list = lists_none c.args.file.now.free_list;
   former = former_none c.args.self.now.reftable c.args.file.now.free_list;
   marks = kept_marks_none;
-  faults = omega arith;
+  faults = refl;
   spared = spares_none;
   noted = λ some. absurd (omega (arith, some));
   leaks = λ p sound. refl;
   hint = λ p d sound may hint. hint;
   uses = λ p d sound may k used. used;
   free = λ p d sound may k some used. let none = run_none c.args.first k in omega (arith, none, some);
+  lacking = λ e lacks. (refl, refl, refl);
   sound = λ p d sound may.
       subst (λ (r : Pending). UnseenAllocatorGrowth g.S.Storage.view p c.args.file.now c.args.self.now c.args.file.now r)
       (sym (taken_none d (pending_then p c.args.file.now.free_list c.args.file.now.free_list) c.args.first 0 refl ∙ listed_after_same p c.args.file.now.free_list c.args.file.now.free_list refl)) (on_none g.S.Storage.view p c.args.file.now c.args.self.now sound);
@@ -74,7 +90,7 @@ returns-in_err-give_back-in-Ok-false-clause-sound g c = λ p d sound may.
     handed_on (TakesRun g.S.Storage.view p c.args.file.now c.give_back.new.self c.give_back.new.file (pending_then p c.args.file.now.free_list c.give_back.new.file.free_list) d c.args.first c.args.n)
     c.from_residual.result c.in_err-give_back-in-Ok-false.field-0.0 c.from_residual.ensures
     (subst (λ (r : Pending). RefusedGrowth g.S.Storage.view p c.args.file.now c.give_back.new.self c.give_back.new.file r c.in_err-give_back-in-Ok-false.field-0.0) (ap (pending_then p c.args.file.now.free_list) (sym c.give_back.ensures.list))
-    (c.in_err-give_back-in-Ok-false.ensures.sound p (pending_then p c.args.file.now.free_list c.take.new.file.free_list) d c.args.file.now (λ k some. some) taken (λ some. c.take.ensures.marks.pins.changed (c.taking.invariant.noted some))).1)
+    (c.in_err-give_back-in-Ok-false.ensures.sound p (pending_then p c.args.file.now.free_list c.take.new.file.free_list) d c.args.file.now (λ k some. some) taken (λ some. c.take.ensures.marks.pins.changes.noted (c.taking.invariant.noted some))).1)
 
 pub returns-in-Ok-false-clause-sound : goal.returns-in-Ok-false-clause-sound
 returns-in-Ok-false-clause-sound g c = λ p d sound may.
@@ -86,7 +102,7 @@ returns-in-Ok-false-clause-sound g c = λ p d sound may.
     let taken = still_taken g.S.Storage.view d p (run_at c.args.first c.taking.taken) c.args.file.now c.taking.file c.take.new.file c.taking.self c.take.new.self c.taking.invariant.list c.take.ensures.list before two in (
       (λ all. absurd (let lt = c.taking-test.true in omega arith)),
       (λ _. subst (λ (r : Pending). UnseenAllocatorGrowth g.S.Storage.view p c.args.file.now c.give_back.new.self c.give_back.new.file r) (ap (pending_then p c.args.file.now.free_list) (sym c.give_back.ensures.list))
-          (c.in_ok-give_back-in-Ok-false.ensures.sound p (pending_then p c.args.file.now.free_list c.take.new.file.free_list) d c.args.file.now (λ k some. some) taken (λ some. c.take.ensures.marks.pins.changed (c.taking.invariant.noted some)))),
+          (c.in_ok-give_back-in-Ok-false.ensures.sound p (pending_then p c.args.file.now.free_list c.take.new.file.free_list) d c.args.file.now (λ k some. some) taken (λ some. c.take.ensures.marks.pins.changes.noted (c.taking.invariant.noted some)))),
     )
 
 pub returns-in_err-give_back-in-Err-clause-sound : goal.returns-in_err-give_back-in-Err-clause-sound
@@ -101,7 +117,7 @@ returns-in_err-give_back-in-Err-clause-sound g c = λ p d sound may.
     c.from_residual-in_err-give_back-in-Err.result c.in_err-give_back-in-Err.field-0.0 c.from_residual-in_err-give_back-in-Err.ensures
     (subst (λ (r : Pending). RefusedGrowth g.S.Storage.view p c.args.file.now c.give_back-then-not-is_fault.new.self c.give_back-then-not-is_fault.new.file r c.in_err-give_back-in-Err.field-0.0)
     (ap (pending_then p c.args.file.now.free_list) (sym c.give_back-then-not-is_fault.ensures.list))
-    (c.in_err-give_back-in-Err.ensures.sound p (pending_then p c.args.file.now.free_list c.take.new.file.free_list) d c.args.file.now (λ k some. some) taken (λ some. c.take.ensures.marks.pins.changed (c.taking.invariant.noted some))).1)
+    (c.in_err-give_back-in-Err.ensures.sound p (pending_then p c.args.file.now.free_list c.take.new.file.free_list) d c.args.file.now (λ k some. some) taken (λ some. c.take.ensures.marks.pins.changes.noted (c.taking.invariant.noted some))).1)
 
 pub returns-in-Err-clause-sound : goal.returns-in-Err-clause-sound
 returns-in-Err-clause-sound g c = λ p d sound may.
@@ -110,7 +126,7 @@ returns-in-Err-clause-sound g c = λ p d sound may.
     let now = is_sound_on g.S.Storage.view p q c.args.file.now c.taking.file c.taking.self before in
     let may_now = may_still d c.args.file.now c.taking.file c.taking.invariant.marks.order may in
     let leaves = c.in-Err.ensures.sound q d now may_now in
-    let noted : 0 < c.taking.taken → IsTrue c.take.new.file.caches.is_changed = (λ some. c.take.ensures.marks.pins.changed (c.taking.invariant.noted some)) in
+    let noted : 0 < c.taking.taken → IsTrue c.take.new.file.caches.is_changed = (λ some. c.take.ensures.marks.pins.changes.noted (c.taking.invariant.noted some)) in
     elim c.if-not-is_fault.branch [
       | then-not-is_fault+in_ok-give_back-in-Err w ↦
           let two = still_as g.S.Storage.view q (pending_then q c.taking.file.free_list c.take.new.file.free_list) c.taking.file c.take.new.file c.take.new.self c.in-Err.refusal
@@ -131,7 +147,7 @@ taking-preserved g c = record {
   list = lists_then c.args.file.now.free_list c.taking.file.free_list c.take.new.file.free_list c.taking.invariant.list c.take.ensures.list;
   former = former_then c.args.self.now.reftable c.taking.self.reftable c.take.new.self.reftable c.args.file.now.free_list c.taking.file.free_list c.take.new.file.free_list c.taking.invariant.former c.take.ensures.former;
   marks = kept_marks_then c.taking.invariant.marks c.take.ensures.marks;
-  faults = le_trans c.taking.invariant.faults c.take.ensures.storage_faults.no_fewer;
+  faults = c.in-Ok-true.ensures.storage_faults.told ∙ c.taking.invariant.faults;
   spared = spares_then c.taking.invariant.spared c.take.ensures.header_cluster;
   noted = λ _. rw c.in-Ok-true.field-0-test at c.in-Ok-true.ensures.noted refl;
   sound = λ p d sound may.
@@ -141,6 +157,9 @@ taking-preserved g c = record {
       let may_now = may_still d c.args.file.now c.taking.file c.taking.invariant.marks.order may in
       let two = rw c.in-Ok-true.field-0-test at (c.in-Ok-true.ensures.sound q d now may_now) in
       more_taken g.S.Storage.view d p (run_at c.args.first c.taking.taken) c.args.file.now c.taking.file c.take.new.file c.taking.self c.take.new.self c.taking.invariant.list c.take.ensures.list c.args.first c.taking.taken refl before two;
+  lacking = λ e lacks.
+      let at = c.taking.invariant.lacking e lacks in
+      ok_no_err c.in-Ok-true.field-0 e (refuses c.args.file.now.header.fields c.taking.file.header.fields c.args.self.now.reftable c.taking.self.reftable c.args.first c.taking.taken (Ok c.in-Ok-true.field-0) e (ap (λ (h : HeaderView). h.fields) at.2) at.1 at.0 c.in-Ok-true.ensures.unaligned (λ u. (c.in-Ok-true.ensures.first_range u).0) lacks);
   leaks = λ p sound.
       let before = c.taking.invariant.sound p false sound tt in
       let q : Pending = taken_as false (pending_then p c.args.file.now.free_list c.taking.file.free_list) (run_at c.args.first c.taking.taken) in
@@ -321,7 +340,7 @@ returns-in_err-give_back-in-Ok-false-clause-limit g c = λ p d sound may hint ne
     let may_now = may_still d c.args.file.now c.taking.file c.taking.invariant.marks.order may in
     let two = rw c.in-Ok-false.field-0-test at (c.in-Ok-false.ensures.sound q d now may_now) in
     let taken = still_taken g.S.Storage.view d p (run_at c.args.first c.taking.taken) c.args.file.now c.taking.file c.take.new.file c.taking.self c.take.new.self c.taking.invariant.list c.take.ensures.list before two in
-    let back = c.in_err-give_back-in-Ok-false.ensures.sound p (pending_then p c.args.file.now.free_list c.take.new.file.free_list) d c.args.file.now (λ k some. some) taken (λ some. c.take.ensures.marks.pins.changed (c.taking.invariant.noted some)) in
+    let back = c.in_err-give_back-in-Ok-false.ensures.sound p (pending_then p c.args.file.now.free_list c.take.new.file.free_list) d c.args.file.now (λ k some. some) taken (λ some. c.take.ensures.marks.pins.changes.noted (c.taking.invariant.noted some)) in
     handed_on (λ (r : Result ℕ ImageError). IfErr r (IsFaultOr (CantCountRun g.S.Storage.view c.give_back.new.file c.give_back.new.self c.args.first c.args.n))) c.from_residual.result c.in_err-give_back-in-Ok-false.field-0.0 c.from_residual.ensures (inl back.0)
 
 pub returns-in_err-give_back-in-Err-clause-limit : goal.returns-in_err-give_back-in-Err-clause-limit
@@ -332,7 +351,7 @@ returns-in_err-give_back-in-Err-clause-limit g c = λ p d sound may hint near.
     let may_now = may_still d c.args.file.now c.taking.file c.taking.invariant.marks.order may in
     let two = still_as g.S.Storage.view q (pending_then q c.taking.file.free_list c.take.new.file.free_list) c.taking.file c.take.new.file c.take.new.self c.in-Err.refusal (λ fault. not_both c.is_fault.result (c.is_fault.ensures.1 fault) c.if-not-is_fault.true) (c.in-Err.ensures.sound q d now may_now) in
     let taken = still_taken g.S.Storage.view d p (run_at c.args.first c.taking.taken) c.args.file.now c.taking.file c.take.new.file c.taking.self c.take.new.self c.taking.invariant.list c.take.ensures.list before two in
-    let back = c.in_err-give_back-in-Err.ensures.sound p (pending_then p c.args.file.now.free_list c.take.new.file.free_list) d c.args.file.now (λ k some. some) taken (λ some. c.take.ensures.marks.pins.changed (c.taking.invariant.noted some)) in
+    let back = c.in_err-give_back-in-Err.ensures.sound p (pending_then p c.args.file.now.free_list c.take.new.file.free_list) d c.args.file.now (λ k some. some) taken (λ some. c.take.ensures.marks.pins.changes.noted (c.taking.invariant.noted some)) in
     handed_on (λ (r : Result ℕ ImageError). IfErr r (IsFaultOr (CantCountRun g.S.Storage.view c.give_back-then-not-is_fault.new.file c.give_back-then-not-is_fault.new.self c.args.first c.args.n)))
     c.from_residual-in_err-give_back-in-Err.result c.in_err-give_back-in-Err.field-0.0 c.from_residual-in_err-give_back-in-Err.ensures (inl back.0)
 
@@ -387,7 +406,7 @@ pub returns-in_err-give_back-in-Ok-false-clause-cause : goal.returns-in_err-give
 returns-in_err-give_back-in-Ok-false-clause-cause g c = handed_cause c.from_residual.result c.in_err-give_back-in-Ok-false.field-0.0 c.from_residual.ensures c.in_err-give_back-in-Ok-false.ensures.cause
 
 pub returns-in_err-give_back-in-Ok-false-clause-storage_faults : goal.returns-in_err-give_back-in-Ok-false-clause-storage_faults
-returns-in_err-give_back-in-Ok-false-clause-storage_faults g c = told_after _ _ _ c.give_back.result c.in_err-give_back-in-Ok-false.field-0.0 c.from_residual.result (le_trans c.taking.invariant.faults c.take.ensures.storage_faults.no_fewer) c.give_back.ensures.storage_faults c.in_err-give_back-in-Ok-false.was c.from_residual.ensures
+returns-in_err-give_back-in-Ok-false-clause-storage_faults g c = told_after _ _ _ c.give_back.result c.in_err-give_back-in-Ok-false.field-0.0 c.from_residual.result (c.in-Ok-false.ensures.storage_faults.told ∙ c.taking.invariant.faults) c.give_back.ensures.storage_faults c.in_err-give_back-in-Ok-false.was c.from_residual.ensures
 
 pub returns-in_err-give_back-in-Ok-false-clause-noted : goal.returns-in_err-give_back-in-Ok-false-clause-noted
 returns-in_err-give_back-in-Ok-false-clause-noted g c = if_no_ok _ c.from_residual.result c.in_err-give_back-in-Ok-false.field-0.0 c.from_residual.ensures
@@ -408,7 +427,7 @@ pub returns-in_err-give_back-in-Err-clause-cause : goal.returns-in_err-give_back
 returns-in_err-give_back-in-Err-clause-cause g c = handed_cause c.from_residual-in_err-give_back-in-Err.result c.in_err-give_back-in-Err.field-0.0 c.from_residual-in_err-give_back-in-Err.ensures c.in_err-give_back-in-Err.ensures.cause
 
 pub returns-in_err-give_back-in-Err-clause-storage_faults : goal.returns-in_err-give_back-in-Err-clause-storage_faults
-returns-in_err-give_back-in-Err-clause-storage_faults g c = told_after _ _ _ c.give_back-then-not-is_fault.result c.in_err-give_back-in-Err.field-0.0 c.from_residual-in_err-give_back-in-Err.result (le_trans c.taking.invariant.faults c.take.ensures.storage_faults.no_fewer) c.give_back-then-not-is_fault.ensures.storage_faults c.in_err-give_back-in-Err.was c.from_residual-in_err-give_back-in-Err.ensures
+returns-in_err-give_back-in-Err-clause-storage_faults g c = told_after _ _ _ c.give_back-then-not-is_fault.result c.in_err-give_back-in-Err.field-0.0 c.from_residual-in_err-give_back-in-Err.result (stays_else _ _ c.in-Err.refusal c.in-Err.ensures.storage_faults (λ fault. not_both c.is_fault.result (c.is_fault.ensures.1 fault) c.if-not-is_fault.true) ∙ c.taking.invariant.faults) c.give_back-then-not-is_fault.ensures.storage_faults c.in_err-give_back-in-Err.was c.from_residual-in_err-give_back-in-Err.ensures
 
 pub returns-in_err-give_back-in-Err-clause-noted : goal.returns-in_err-give_back-in-Err-clause-noted
 returns-in_err-give_back-in-Err-clause-noted g c = if_no_ok _ c.from_residual-in_err-give_back-in-Err.result c.in_err-give_back-in-Err.field-0.0 c.from_residual-in_err-give_back-in-Err.ensures
@@ -432,7 +451,7 @@ pub returns-in-Ok-false-clause-cause : goal.returns-in-Ok-false-clause-cause
 returns-in-Ok-false-clause-cause g c = tt
 
 pub returns-in-Ok-false-clause-storage_faults : goal.returns-in-Ok-false-clause-storage_faults
-returns-in-Ok-false-clause-storage_faults g c = told_ok _ _ _ (le_trans (le_trans c.taking.invariant.faults c.take.ensures.storage_faults.no_fewer) c.give_back.ensures.storage_faults.no_fewer)
+returns-in-Ok-false-clause-storage_faults g c = told_ok _ _ _ (c.in_ok-give_back-in-Ok-false.ensures.storage_faults.told ∙ (c.in-Ok-false.ensures.storage_faults.told ∙ c.taking.invariant.faults))
 
 pub returns-clause-marks : goal.returns-clause-marks
 returns-clause-marks g c = c.taking.invariant.marks
@@ -469,7 +488,7 @@ returns-in-Err-clause-header g c = elim c.if-not-is_fault.branch [
 
 pub returns-in-Err-clause-storage_faults : goal.returns-in-Err-clause-storage_faults
 returns-in-Err-clause-storage_faults g c = elim c.if-not-is_fault.branch [
-  | then-not-is_fault+in_ok-give_back-in-Err w ↦ subst (λ (f : ImageFile g.row.S.Denot). FaultsTold {T = ℕ} (faults_of g.S.Storage.view c.args.file.now.storage) (faults_of g.S.Storage.view f.storage) (Err c.in-Err.refusal)) (sym w.file-is) (told_still _ _ _ _ (told_since _ _ _ c.taking.invariant.faults (told_err _ _ c.in-Err.refusal c.in-Err.ensures.storage_faults)) w.give_back-then-not-is_fault.ensures.storage_faults.no_fewer)
+  | then-not-is_fault+in_ok-give_back-in-Err w ↦ subst (λ (f : ImageFile g.row.S.Denot). FaultsTold {T = ℕ} (faults_of g.S.Storage.view c.args.file.now.storage) (faults_of g.S.Storage.view f.storage) (Err c.in-Err.refusal)) (sym w.file-is) (told_still _ _ _ _ (told_since _ _ _ c.taking.invariant.faults (told_err _ _ c.in-Err.refusal c.in-Err.ensures.storage_faults)) w.in_ok-give_back-in-Err.ensures.storage_faults.told)
   | else-not-is_fault w ↦ subst (λ (f : ImageFile g.row.S.Denot). FaultsTold {T = ℕ} (faults_of g.S.Storage.view c.args.file.now.storage) (faults_of g.S.Storage.view f.storage) (Err c.in-Err.refusal)) (sym w.file-is) (told_since _ _ _ c.taking.invariant.faults (told_err _ _ c.in-Err.refusal c.in-Err.ensures.storage_faults))
 ]
 
@@ -541,3 +560,29 @@ returns-in-Err-clause-header_cluster g c = elim c.if-not-is_fault.branch [
   | then-not-is_fault+in_ok-give_back-in-Err w ↦ of_equal (λ a f. SparesHeaderButPointer g.S.Storage.view c.args.self.now.reftable c.args.file.now a.reftable f) c.if-not-is_fault.self w.give_back-then-not-is_fault.new.self c.if-not-is_fault.file w.give_back-then-not-is_fault.new.file w.self-is w.file-is (spares_then (spares_then c.taking.invariant.spared c.take.ensures.header_cluster) (spares_less (w.give_back-then-not-is_fault.ensures.header_cluster)))
   | else-not-is_fault w ↦ of_equal (λ a f. SparesHeaderButPointer g.S.Storage.view c.args.self.now.reftable c.args.file.now a.reftable f) c.if-not-is_fault.self c.take.new.self c.if-not-is_fault.file c.take.new.file w.self-is w.file-is (spares_then c.taking.invariant.spared c.take.ensures.header_cluster)
 ]
+
+pub returns-clause-lacking : goal.returns-clause-lacking
+returns-clause-lacking g c = λ e lacks some.
+    let all : c.taking.taken ≡ c.args.n = let le = c.taking.auto.taken-end in let past = c.taking-test.false in omega arith in
+    let none = (c.taking.invariant.lacking e lacks).0 in
+    absurd (omega (arith, all, none, some))
+
+pub returns-in_err-give_back-in-Ok-false-clause-lacking : goal.returns-in_err-give_back-in-Ok-false-clause-lacking
+returns-in_err-give_back-in-Ok-false-clause-lacking g c = λ e lacks some.
+    let at = c.taking.invariant.lacking e lacks in
+    ok_no_err c.in-Ok-false.field-0 e (refuses c.args.file.now.header.fields c.taking.file.header.fields c.args.self.now.reftable c.taking.self.reftable c.args.first c.taking.taken (Ok c.in-Ok-false.field-0) e (ap (λ (h : HeaderView). h.fields) at.2) at.1 at.0 c.in-Ok-false.ensures.unaligned (λ u. (c.in-Ok-false.ensures.first_range u).0) lacks)
+
+pub returns-in-Ok-false-clause-lacking : goal.returns-in-Ok-false-clause-lacking
+returns-in-Ok-false-clause-lacking g c = λ e lacks some.
+    let at = c.taking.invariant.lacking e lacks in
+    ok_no_err c.in-Ok-false.field-0 e (refuses c.args.file.now.header.fields c.taking.file.header.fields c.args.self.now.reftable c.taking.self.reftable c.args.first c.taking.taken (Ok c.in-Ok-false.field-0) e (ap (λ (h : HeaderView). h.fields) at.2) at.1 at.0 c.in-Ok-false.ensures.unaligned (λ u. (c.in-Ok-false.ensures.first_range u).0) lacks)
+
+pub returns-in_err-give_back-in-Err-clause-lacking : goal.returns-in_err-give_back-in-Err-clause-lacking
+returns-in_err-give_back-in-Err-clause-lacking g c = λ e lacks some.
+    let bad = c.in_err-give_back-in-Err.ensures.none (c.taking.invariant.lacking e lacks).0 in
+    absurd (cc)
+
+pub returns-in-Err-clause-lacking : goal.returns-in-Err-clause-lacking
+returns-in-Err-clause-lacking g c = λ e lacks some.
+    let at = c.taking.invariant.lacking e lacks in
+    err_as c.in-Err.refusal e (refuses c.args.file.now.header.fields c.taking.file.header.fields c.args.self.now.reftable c.taking.self.reftable c.args.first c.taking.taken (Err c.in-Err.refusal) e (ap (λ (h : HeaderView). h.fields) at.2) at.1 at.0 c.in-Err.ensures.unaligned (λ u. (c.in-Err.ensures.first_range u).0) lacks)

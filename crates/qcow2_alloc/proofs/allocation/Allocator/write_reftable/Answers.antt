@@ -1,4 +1,4 @@
-use Rattle.std.proofs.Common.{◌≡◌, ℕ, ◌+◌, ◌*◌, ◌<◌, ◌≤◌, IsTrue, sym, ap, ◌∙◌, subst, arith, Some, refl, inr}
+use Rattle.std.proofs.Common.{◌≡◌, ℕ, ◌+◌, ◌*◌, ◌<◌, ◌≤◌, sym, ap, ◌∙◌, subst, arith, Some, refl, inl}
 use Rattle.qcow2_metadata.specs.declared.header.HeaderFields.{HeaderFields}
 use Rattle.qcow2_metadata.specs.EntryTable.{EntryTableView}
 use Rattle.qcow2_metadata.specs.Header.{cluster_size, HeaderView}
@@ -11,15 +11,17 @@ use Rattle.qcow2_alloc.specs.LowestRuns.{KeepsUsed}
 use Rattle.qcow2_alloc.specs.MetadataCaches.{order_of, l2_tables, refblocks, rb_at}
 use Rattle.qcow2_alloc.specs.Rooms.{room_length, placed_at}
 use Rattle.qcow2_alloc.proofs.AllocationSteps.{handed_on, behind_same, behind_then, allocator_step_cached, allocator_step_then, is_sound_now}
-use Rattle.qcow2_alloc.proofs.FileSteps.{interrupted_after}
+use Rattle.qcow2_alloc.proofs.FileSteps.{leaves_then}
 use Rattle.qcow2_alloc.proofs.PlacedBlocks.{file_sizes}
 use Rattle.qcow2_alloc.proofs.PlacedRooms.{Counting}
 use Rattle.qcow2_alloc.proofs.RoomSteps.{may_go}
 use Rattle.qcow2_alloc.proofs.RoomTables.{counting_beside, table_err, table_ok, stands_ready, names_then, uses_after}
-use Rattle.qcow2_alloc.proofs.Hints.{ok_as}
+use Rattle.qcow2_alloc.proofs.Hints.{ok_as, uses_refused}
 use Rattle.qcow2_alloc.proofs.ListedAfter.{header_then, header_same}
 use Rattle.qcow2_alloc.proofs.Faults.{told_on, told_since}
-use Rattle.qcow2_alloc.proofs.Outcomes.{told_after, on_no_ok, handed_cause, on_err}
+use Rattle.qcow2_alloc.proofs.Outcomes.{told_after, on_no_ok, handed_cause, on_err, on_ok}
+use Rattle.std.proofs.lemmas.Bool.{or_left}
+use Rattle.qcow2_alloc.specs.ImageStorage.{is_changed_of}
 use Rattle.std.proofs.Math.Nat.{le_trans}
 use Rattle.qcow2_alloc.proofs.SparedHeaders.{spares_cached, spares_then, spares_parts, spares_less}
 use Rattle.qcow2_alloc.specs.SparedHeaders.{AreBehindHeader}
@@ -39,11 +41,8 @@ returns-in_err-flush_rb-clause-sound g c = λ p sound longer.
     let q = with_run p c.args.file.now.header.fields c.args.self.now.reftable c.args.room.first (room_length c.args.room) in
     let one = allocator_step_cached view q old a c.flush_rb.new.storage c.flush_rb.new.self sound (c.flush_rb.ensures.keeps h q sound.sound.honest sound.sound.caches) c.flush_rb.ensures.marks in
     let f1 = record old { storage = c.flush_rb.new.storage; caches = c.flush_rb.new.self } in
-    handed_on (NamesReftable view q p old a f1) c.from_residual.result c.in_err-flush_rb.field-0.0 c.from_residual.ensures (record {
-      fault = c.in_err-flush_rb.ensures.faults h q sound.sound.honest sound.sound.caches sound.sound.named_blocks;
-      noted = λ _. c.flush_rb.ensures.marks.changed c.requires.noted;
-      since = one.file_step.since;
-    })
+    handed_on (NamesReftable view q p old a f1) c.from_residual.result c.in_err-flush_rb.field-0.0 c.from_residual.ensures
+    (c.in_err-flush_rb.ensures.faults h q sound.sound.honest sound.sound.caches sound.sound.named_blocks, inl (one.file_step, one.reftable))
 
 pub returns-in_err-flush_rb-clause-uses : goal.returns-in_err-flush_rb-clause-uses
 returns-in_err-flush_rb-clause-uses g c = λ p sound longer.
@@ -57,7 +56,7 @@ returns-in_err-flush_rb-clause-uses g c = λ p sound longer.
     let one = allocator_step_cached view q old a c.flush_rb.new.storage c.flush_rb.new.self sound (c.flush_rb.ensures.keeps h q sound.sound.honest sound.sound.caches) c.flush_rb.ensures.marks in
     let f1 = record old { storage = c.flush_rb.new.storage; caches = c.flush_rb.new.self } in
     handed_on (KeepsUsed view old f1) c.from_residual.result c.in_err-flush_rb.field-0.0 c.from_residual.ensures
-    (inr (c.in_err-flush_rb.ensures.faults h q sound.sound.honest sound.sound.caches sound.sound.named_blocks, λ _. c.flush_rb.ensures.marks.changed c.requires.noted))
+    (uses_refused view q old f1 a c.in_err-flush_rb.field-0.0 (inl (one.file_step, one.reftable)))
 
 pub returns-in_err-place_blocks-clause-sound : goal.returns-in_err-place_blocks-clause-sound
 returns-in_err-place_blocks-clause-sound g c = λ p sound longer.
@@ -70,10 +69,9 @@ returns-in_err-place_blocks-clause-sound g c = λ p sound longer.
     let q = with_run p c.args.file.now.header.fields c.args.self.now.reftable c.args.room.first (room_length c.args.room) in
     let one = allocator_step_cached view q old a c.flush_rb.new.storage c.flush_rb.new.self sound (c.flush_rb.ensures.keeps h q sound.sound.honest sound.sound.caches) c.flush_rb.ensures.marks in
     let f1 = record old { storage = c.flush_rb.new.storage; caches = c.flush_rb.new.self } in
-    let noted = c.place_blocks.ensures.marks.pins.changed (c.flush_rb.ensures.marks.changed c.requires.noted) in
     let refused = c.in_err-place_blocks.ensures.sound p (is_sound_now view q q old f1 a one) c.in_ok-flush_rb.ensures.first longer in
     handed_on (NamesReftable view q p old a c.place_blocks.new.file) c.from_residual-in_err-place_blocks.result c.in_err-place_blocks.field-0.0 c.from_residual-in_err-place_blocks.ensures
-    (interrupted_after view q q old f1 c.place_blocks.new.file a c.in_err-place_blocks.field-0.0 one.file_step refused.0 noted refused.1)
+    (refused.0, leaves_then view q old f1 c.place_blocks.new.file a c.in_err-place_blocks.field-0.0 one.file_step refused.1)
 
 pub returns-in_err-place_blocks-clause-uses : goal.returns-in_err-place_blocks-clause-uses
 returns-in_err-place_blocks-clause-uses g c = λ p sound longer.
@@ -88,7 +86,7 @@ returns-in_err-place_blocks-clause-uses g c = λ p sound longer.
     let f1 = record old { storage = c.flush_rb.new.storage; caches = c.flush_rb.new.self } in
     let refused = c.in_err-place_blocks.ensures.sound p (is_sound_now view q q old f1 a one) c.in_ok-flush_rb.ensures.first longer in
     handed_on (KeepsUsed view old c.place_blocks.new.file) c.from_residual-in_err-place_blocks.result c.in_err-place_blocks.field-0.0 c.from_residual-in_err-place_blocks.ensures
-    (inr (refused.0, λ _. c.place_blocks.ensures.marks.pins.changed (c.flush_rb.ensures.marks.changed c.requires.noted)))
+    (uses_refused view q old c.place_blocks.new.file a c.in_err-place_blocks.field-0.0 (leaves_then view q old f1 c.place_blocks.new.file a c.in_err-place_blocks.field-0.0 one.file_step refused.1))
 
 pub returns-in_err-place_table-clause-sound : goal.returns-in_err-place_table-clause-sound
 returns-in_err-place_table-clause-sound g c = λ p sound longer.
@@ -101,7 +99,6 @@ returns-in_err-place_table-clause-sound g c = λ p sound longer.
     let q = with_run p c.args.file.now.header.fields c.args.self.now.reftable c.args.room.first (room_length c.args.room) in
     let one = allocator_step_cached view q old a c.flush_rb.new.storage c.flush_rb.new.self sound (c.flush_rb.ensures.keeps h q sound.sound.honest sound.sound.caches) c.flush_rb.ensures.marks in
     let f1 = record old { storage = c.flush_rb.new.storage; caches = c.flush_rb.new.self } in
-    let noted = c.place_blocks.ensures.marks.pins.changed (c.flush_rb.ensures.marks.changed c.requires.noted) in
     let placed = c.in_ok-place_blocks.ensures.sound p (is_sound_now view q q old f1 a one) c.in_ok-flush_rb.ensures.first longer in
     let f2 = c.place_blocks.new.file in
     let two = allocator_step_then view q q old f1 f2 a a one placed.allocator_step in
@@ -114,9 +111,8 @@ returns-in_err-place_table-clause-sound g c = λ p sound longer.
     let long = c.place_blocks.ensures.as_long ∙ longer.long ∙ sym (ap (λ (k : HeaderFields). c.args.room.clusters * cluster_size k) header_two) in
     let refused = table_err view p first n a f2 c.place_table.new.file c.new.result c.args.room.clusters c.place_blocks.new.table.bytes h header_two c.in_err-place_table.field-0.0
     (λ s. c.in_err-place_table.ensures.sound p first n c.args.room.clusters a s may_two low high bits long) (is_sound_now view q q old f2 a two) in
-    let still = subst (λ (x : MetadataCaches _). IsTrue x.is_changed) (sym c.place_table.ensures.caches) noted in
     handed_on (NamesReftable view q p old a c.place_table.new.file) c.from_residual-in_err-place_table.result c.in_err-place_table.field-0.0 c.from_residual-in_err-place_table.ensures
-    (interrupted_after view q q old f2 c.place_table.new.file a c.in_err-place_table.field-0.0 two.file_step refused.0 still refused.1)
+    (refused.0, leaves_then view q old f2 c.place_table.new.file a c.in_err-place_table.field-0.0 two.file_step refused.1)
 
 pub returns-in_err-place_table-clause-uses : goal.returns-in_err-place_table-clause-uses
 returns-in_err-place_table-clause-uses g c = λ p sound longer.
@@ -142,7 +138,7 @@ returns-in_err-place_table-clause-uses g c = λ p sound longer.
     let refused = table_err view p first n a f2 c.place_table.new.file c.new.result c.args.room.clusters c.place_blocks.new.table.bytes h header_two c.in_err-place_table.field-0.0
     (λ s. c.in_err-place_table.ensures.sound p first n c.args.room.clusters a s may_two low high bits long) (is_sound_now view q q old f2 a two) in
     handed_on (KeepsUsed view old c.place_table.new.file) c.from_residual-in_err-place_table.result c.in_err-place_table.field-0.0 c.from_residual-in_err-place_table.ensures
-    (inr (refused.0, λ _. subst (λ (x : MetadataCaches _). IsTrue x.is_changed) (sym c.place_table.ensures.caches) (c.place_blocks.ensures.marks.pins.changed (c.flush_rb.ensures.marks.changed c.requires.noted))))
+    (uses_refused view q old c.place_table.new.file a c.in_err-place_table.field-0.0 (leaves_then view q old f2 c.place_table.new.file a c.in_err-place_table.field-0.0 two.file_step refused.1))
 
 pub returns-clause-sound : goal.returns-clause-sound
 returns-clause-sound g c = λ p sound longer.
@@ -266,7 +262,7 @@ pub returns-in_err-place_blocks-clause-cause : goal.returns-in_err-place_blocks-
 returns-in_err-place_blocks-clause-cause g c = handed_cause c.from_residual-in_err-place_blocks.result c.in_err-place_blocks.field-0.0 c.from_residual-in_err-place_blocks.ensures c.in_err-place_blocks.ensures.cause
 
 pub returns-in_err-place_blocks-clause-storage_faults : goal.returns-in_err-place_blocks-clause-storage_faults
-returns-in_err-place_blocks-clause-storage_faults g c = told_after _ _ _ c.place_blocks.result c.in_err-place_blocks.field-0.0 c.from_residual-in_err-place_blocks.result c.flush_rb.ensures.storage_faults.no_fewer c.place_blocks.ensures.storage_faults c.in_err-place_blocks.was c.from_residual-in_err-place_blocks.ensures
+returns-in_err-place_blocks-clause-storage_faults g c = told_after _ _ _ c.place_blocks.result c.in_err-place_blocks.field-0.0 c.from_residual-in_err-place_blocks.result c.in_ok-flush_rb.ensures.storage_faults.told c.place_blocks.ensures.storage_faults c.in_err-place_blocks.was c.from_residual-in_err-place_blocks.ensures
 
 pub returns-in_err-place_blocks-clause-table : goal.returns-in_err-place_blocks-clause-table
 returns-in_err-place_blocks-clause-table g c = on_no_ok _ c.from_residual-in_err-place_blocks.result c.in_err-place_blocks.field-0.0 c.from_residual-in_err-place_blocks.ensures
@@ -294,7 +290,7 @@ pub returns-in_err-place_table-clause-cause : goal.returns-in_err-place_table-cl
 returns-in_err-place_table-clause-cause g c = handed_cause c.from_residual-in_err-place_table.result c.in_err-place_table.field-0.0 c.from_residual-in_err-place_table.ensures c.in_err-place_table.ensures.cause
 
 pub returns-in_err-place_table-clause-storage_faults : goal.returns-in_err-place_table-clause-storage_faults
-returns-in_err-place_table-clause-storage_faults g c = told_after _ _ _ c.place_table.result c.in_err-place_table.field-0.0 c.from_residual-in_err-place_table.result (le_trans c.flush_rb.ensures.storage_faults.no_fewer c.place_blocks.ensures.storage_faults.no_fewer) c.place_table.ensures.storage_faults c.in_err-place_table.was c.from_residual-in_err-place_table.ensures
+returns-in_err-place_table-clause-storage_faults g c = told_after _ _ _ c.place_table.result c.in_err-place_table.field-0.0 c.from_residual-in_err-place_table.result (c.in_ok-place_blocks.ensures.storage_faults.told ∙ c.in_ok-flush_rb.ensures.storage_faults.told) c.place_table.ensures.storage_faults c.in_err-place_table.was c.from_residual-in_err-place_table.ensures
 
 pub returns-in_err-place_table-clause-header : goal.returns-in_err-place_table-clause-header
 returns-in_err-place_table-clause-header g c = header_same c.args.file.now.header c.place_table.new.file.header (c.place_table.ensures.header ∙ c.place_blocks.ensures.header)
@@ -334,7 +330,7 @@ pub returns-clause-kept : goal.returns-clause-kept
 returns-clause-kept g c = c.name_reftable.ensures.kept
 
 pub returns-clause-storage_faults : goal.returns-clause-storage_faults
-returns-clause-storage_faults g c = told_since _ _ _ (le_trans (le_trans c.flush_rb.ensures.storage_faults.no_fewer c.place_blocks.ensures.storage_faults.no_fewer) c.place_table.ensures.storage_faults.no_fewer) c.name_reftable.ensures.storage_faults
+returns-clause-storage_faults g c = told_since _ _ _ (c.in_ok-place_table.ensures.storage_faults.told ∙ (c.in_ok-place_blocks.ensures.storage_faults.told ∙ c.in_ok-flush_rb.ensures.storage_faults.told)) c.name_reftable.ensures.storage_faults
 
 pub returns-clause-behind : goal.returns-clause-behind
 returns-clause-behind g c =
@@ -362,3 +358,15 @@ returns-in_err-place_table-clause-header_cluster g c = spares_less (spares_then 
 
 pub returns-clause-header_cluster : goal.returns-clause-header_cluster
 returns-clause-header_cluster g c = spares_then (spares_less (spares_then (spares_then (spares_cached c.args.self.now.reftable c.args.file.now c.flush_rb.new.storage c.flush_rb.new.self c.flush_rb.ensures.header_cluster) (spares_parts c.args.self.now.reftable c.args.self.now.reftable (record c.args.file.now { storage = c.flush_rb.new.storage; caches = c.flush_rb.new.self }) c.place_blocks.new.file (ap (λ (x : HeaderView). x.fields.cluster_bits) c.place_blocks.ensures.header) refl refl c.place_blocks.ensures.behind_header (λ n stands. subst (λ m. KeepsHeaderCluster m (view_in g.S.Storage.view (record c.args.file.now { storage = c.flush_rb.new.storage; caches = c.flush_rb.new.self })) (view_in g.S.Storage.view c.place_blocks.new.file)) stands.header c.place_blocks.ensures.header_cluster))) (spares_parts c.args.self.now.reftable c.args.self.now.reftable c.place_blocks.new.file c.place_table.new.file (ap (λ (x : HeaderView). x.fields.cluster_bits) c.place_table.ensures.header) refl refl (λ n are. subst (AreBehindHeader n) (sym c.place_table.ensures.caches) are) (λ n stands. subst (λ m. KeepsHeaderCluster m (view_in g.S.Storage.view c.place_blocks.new.file) (view_in g.S.Storage.view c.place_table.new.file)) ((ap (λ (x : EntryTableView). x.cluster_bits) c.place_blocks.ensures.rest ∙ c.requires.bits ∙ sym (ap (λ (x : HeaderView). x.fields.cluster_bits) c.place_blocks.ensures.header)) ∙ stands.header) c.place_table.ensures.header_cluster)))) (c.name_reftable.ensures.header_cluster (subst (λ (t : EntryTableView). IfSome t.cluster (λ k. 0 < k)) (sym c.place_table.ensures.table) (let above = c.requires.above in let at = c.new.ensures in omega (arith, above, at))) (ap (λ (x : EntryTableView). x.cluster_bits) c.place_table.ensures.table ∙ (ap (λ (x : EntryTableView). x.cluster_bits) c.place_blocks.ensures.rest ∙ c.requires.bits ∙ sym (ap (λ (x : HeaderView). x.fields.cluster_bits) c.place_blocks.ensures.header)) ∙ sym (ap (λ (x : HeaderView). x.fields.cluster_bits) c.place_table.ensures.header)))
+
+pub returns-clause-noted : goal.returns-clause-noted
+returns-clause-noted g c = on_ok _ c.name_reftable.result (or_left (is_changed_of c.name_reftable.new.file.storage) c.name_reftable.new.file.caches.is_changed (c.name_reftable.ensures.marks.notes.changes.noted c.in_ok-place_table.ensures.noted))
+
+pub returns-in_err-flush_rb-clause-noted : goal.returns-in_err-flush_rb-clause-noted
+returns-in_err-flush_rb-clause-noted g c = on_no_ok _ c.from_residual.result c.in_err-flush_rb.field-0.0 c.from_residual.ensures
+
+pub returns-in_err-place_blocks-clause-noted : goal.returns-in_err-place_blocks-clause-noted
+returns-in_err-place_blocks-clause-noted g c = on_no_ok _ c.from_residual-in_err-place_blocks.result c.in_err-place_blocks.field-0.0 c.from_residual-in_err-place_blocks.ensures
+
+pub returns-in_err-place_table-clause-noted : goal.returns-in_err-place_table-clause-noted
+returns-in_err-place_table-clause-noted g c = on_no_ok _ c.from_residual-in_err-place_table.result c.in_err-place_table.field-0.0 c.from_residual-in_err-place_table.ensures

@@ -10,3 +10,6 @@ returns-in-L2DependsOnRb-clause-ordered g c = c.write_blocks.ensures.ordered (bl
 
 pub returns-in-L2DependsOnRb-clause-header_cluster : goal.returns-in-L2DependsOnRb-clause-header_cluster
 returns-in-L2DependsOnRb-clause-header_cluster g c = c.write_blocks.ensures.header_cluster
+
+pub returns-in-L2DependsOnRb-clause-apart : goal.returns-in-L2DependsOnRb-clause-apart
+returns-in-L2DependsOnRb-clause-apart g c = c.write_blocks.ensures.apart (blocks_free c.args.self.now (inr c.in-L2DependsOnRb.is))

@@ -10,3 +10,6 @@ returns-in-RbDependsOnL2-clause-ordered g c = c.write_tables.ensures.ordered (ta
 
 pub returns-in-RbDependsOnL2-clause-header_cluster : goal.returns-in-RbDependsOnL2-clause-header_cluster
 returns-in-RbDependsOnL2-clause-header_cluster g c = c.write_tables.ensures.header_cluster
+
+pub returns-in-RbDependsOnL2-clause-apart : goal.returns-in-RbDependsOnL2-clause-apart
+returns-in-RbDependsOnL2-clause-apart g c = c.write_tables.ensures.apart (tables_free c.args.self.now (inr c.in-RbDependsOnL2.is))

@@ -12,6 +12,7 @@ use Rattle.qcow2_alloc.specs.Faults.{faults_of}
 use Rattle.qcow2_alloc.proofs.Faults.{told_on, told_since}
 use Rattle.qcow2_alloc.proofs.KeptTables.BehindHeader.{caches_then}
 use Rattle.qcow2_alloc.specs.KeptNotes.{kept_then}
+use Rattle.qcow2_alloc.proofs.KeptTables.ApartCalls.{apart_then}
 use Rattle.qcow2_alloc.proofs.cache.MetadataCaches.flush_all.Goals as goal
 
 pub returns-in_err-write_blocks-in-L2DependsOnRb-clause-keeps : goal.returns-in_err-write_blocks-in-L2DependsOnRb-clause-keeps
@@ -27,6 +28,7 @@ returns-in_err-write_tables-in-None g c = record {
   marks = search rules;
   faults = λ h p honest sound named_blocks. given_err c.from_residual.result c.in_err-write_tables-in-None.field-0.0 IsFault c.from_residual.ensures (c.in_err-write_tables-in-None.ensures.faults h p honest sound named_blocks);
   keeps = c.write_tables.ensures.keeps (tables_free c.args.self.now c.in-None.is);
+  apart = c.write_tables.ensures.apart (tables_free c.args.self.now c.in-None.is);
   ordered = c.write_tables.ensures.ordered (tables_free c.args.self.now c.in-None.is);
   quiet = λ written. c.write_tables.ensures.quiet written.0;
   header_cluster = c.write_tables.ensures.header_cluster;
@@ -41,7 +43,7 @@ returns-in_ok-write_blocks-in-L2DependsOnRb-clause-keeps g c =
 pub returns-in_ok-write_tables-in-None : goal.returns-in_ok-write_tables-in-None
 returns-in_ok-write_tables-in-None g c = record {
   cause = search rules;
-  storage_faults = told_since (faults_of g.S.Storage.view c.args.storage.now) (faults_of g.S.Storage.view c.write_tables.new.storage) (faults_of g.S.Storage.view c.write_blocks.new.storage) c.write_tables.ensures.storage_faults.no_fewer c.write_blocks.ensures.storage_faults;
+  storage_faults = told_since (faults_of g.S.Storage.view c.args.storage.now) (faults_of g.S.Storage.view c.write_tables.new.storage) (faults_of g.S.Storage.view c.write_blocks.new.storage) c.in_ok-write_tables-in-None.ensures.storage_faults.told c.write_blocks.ensures.storage_faults;
   notes = kept_then _ _ _ c.write_tables.ensures.notes c.write_blocks.ensures.notes;
   order = search rules;
   written = both_written c.write_tables.new.self c.write_blocks.new.self c.write_blocks.result c.write_blocks.ensures.tables c.in_ok-write_tables-in-None.ensures.written c.write_blocks.ensures.written;
@@ -53,6 +55,9 @@ returns-in_ok-write_tables-in-None g c = record {
       keep_then g.S.Storage.view c.args.storage.now c.write_tables.new.storage c.write_blocks.new.storage c.args.self.now c.write_tables.new.self c.write_blocks.new.self
       (c.write_tables.ensures.keeps (tables_free c.args.self.now c.in-None.is))
       (c.write_blocks.ensures.keeps (blocks_either c.write_tables.new.self c.args.self.now c.write_tables.ensures.direction c.in-None.is c.in_ok-write_tables-in-None.ensures.written));
+  apart =
+      apart_then (ap order c.write_tables.ensures.direction) (c.write_tables.ensures.apart (tables_free c.args.self.now c.in-None.is))
+      (c.write_blocks.ensures.apart (blocks_either c.write_tables.new.self c.args.self.now c.write_tables.ensures.direction c.in-None.is c.in_ok-write_tables-in-None.ensures.written));
   ordered =
       order_then g.S.Storage.view c.args.storage.now c.write_tables.new.storage c.write_blocks.new.storage c.args.self.now c.write_tables.new.self
       (c.write_tables.ensures.keeps (tables_free c.args.self.now c.in-None.is)) (c.write_tables.ensures.ordered (tables_free c.args.self.now c.in-None.is)) (ap order c.write_tables.ensures.direction)
@@ -95,3 +100,11 @@ returns-in_ok-write_blocks-in-L2DependsOnRb-clause-header_cluster g c = caches_t
 
 pub returns-in_ok-write_blocks-in-L2DependsOnRb-clause-notes : goal.returns-in_ok-write_blocks-in-L2DependsOnRb-clause-notes
 returns-in_ok-write_blocks-in-L2DependsOnRb-clause-notes g c = kept_then _ _ _ c.write_blocks-in-L2DependsOnRb.ensures.notes c.write_tables-in-L2DependsOnRb.ensures.notes
+
+pub returns-in_err-write_blocks-in-L2DependsOnRb-clause-apart : goal.returns-in_err-write_blocks-in-L2DependsOnRb-clause-apart
+returns-in_err-write_blocks-in-L2DependsOnRb-clause-apart g c = c.write_blocks-in-L2DependsOnRb.ensures.apart (blocks_free c.args.self.now (inr c.in-L2DependsOnRb.is))
+
+pub returns-in_ok-write_blocks-in-L2DependsOnRb-clause-apart : goal.returns-in_ok-write_blocks-in-L2DependsOnRb-clause-apart
+returns-in_ok-write_blocks-in-L2DependsOnRb-clause-apart g c =
+    apart_then (ap order c.write_blocks-in-L2DependsOnRb.ensures.direction) (c.write_blocks-in-L2DependsOnRb.ensures.apart (blocks_free c.args.self.now (inr c.in-L2DependsOnRb.is)))
+    (c.write_tables-in-L2DependsOnRb.ensures.apart (tables_clean c.write_blocks-in-L2DependsOnRb.new.self (c.write_blocks-in-L2DependsOnRb.ensures.direction ∙ c.in-L2DependsOnRb.is) c.in_ok-write_blocks-in-L2DependsOnRb.ensures.written))

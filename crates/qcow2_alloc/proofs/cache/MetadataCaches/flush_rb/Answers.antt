@@ -13,6 +13,7 @@ use Rattle.qcow2_alloc.proofs.KeptTables.Clean.{blocks_as}
 use Rattle.qcow2_alloc.proofs.KeptTables.Quiet.{quiet_then}
 use Rattle.qcow2_alloc.proofs.KeptTables.BehindHeader.{caches_then}
 use Rattle.qcow2_alloc.specs.KeptNotes.{kept_then}
+use Rattle.qcow2_alloc.proofs.KeptTables.ApartCalls.{apart_then}
 use Rattle.qcow2_alloc.proofs.cache.MetadataCaches.flush_rb.Goals as goal
 
 pub returns-in_err-write_tables-in-RbDependsOnL2-clause-keeps : goal.returns-in_err-write_tables-in-RbDependsOnL2-clause-keeps
@@ -35,6 +36,7 @@ returns-in-None g c = record {
   first = always_ok c.write_blocks-in-None.result (blocks_still c.write_blocks-in-None.new.self c.args.self.now c.write_blocks-in-None.ensures.direction c.in-None.is);
   faults = c.write_blocks-in-None.ensures.faults;
   keeps = c.write_blocks-in-None.ensures.keeps (blocks_free c.args.self.now c.in-None.is);
+  apart = c.write_blocks-in-None.ensures.apart (blocks_free c.args.self.now c.in-None.is);
   ordered = c.write_blocks-in-None.ensures.ordered (blocks_free c.args.self.now c.in-None.is);
   tables = λ _. c.write_blocks-in-None.ensures.tables;
   quiet = λ clean may. c.write_blocks-in-None.ensures.quiet clean;
@@ -76,3 +78,11 @@ returns-in_ok-write_tables-in-RbDependsOnL2-clause-header_cluster g c = caches_t
 
 pub returns-in_ok-write_tables-in-RbDependsOnL2-clause-notes : goal.returns-in_ok-write_tables-in-RbDependsOnL2-clause-notes
 returns-in_ok-write_tables-in-RbDependsOnL2-clause-notes g c = kept_then _ _ _ c.write_tables.ensures.notes c.write_blocks.ensures.notes
+
+pub returns-in_err-write_tables-in-RbDependsOnL2-clause-apart : goal.returns-in_err-write_tables-in-RbDependsOnL2-clause-apart
+returns-in_err-write_tables-in-RbDependsOnL2-clause-apart g c = c.write_tables.ensures.apart (tables_free c.args.self.now (inr c.in-RbDependsOnL2.is))
+
+pub returns-in_ok-write_tables-in-RbDependsOnL2-clause-apart : goal.returns-in_ok-write_tables-in-RbDependsOnL2-clause-apart
+returns-in_ok-write_tables-in-RbDependsOnL2-clause-apart g c =
+    apart_then (ap order c.write_tables.ensures.direction) (c.write_tables.ensures.apart (tables_free c.args.self.now (inr c.in-RbDependsOnL2.is)))
+    (c.write_blocks.ensures.apart (blocks_clean c.write_tables.new.self (c.write_tables.ensures.direction ∙ c.in-RbDependsOnL2.is) c.in_ok-write_tables-in-RbDependsOnL2.ensures.written))

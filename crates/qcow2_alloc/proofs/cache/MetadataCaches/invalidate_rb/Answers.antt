@@ -1,5 +1,6 @@
 use Rattle.qcow2_alloc.proofs.KeptTables.Off.{left_of, left_err, blocks_taken}
 use Rattle.qcow2_alloc.proofs.KeptTables.BehindHeader.{blocks_left_behind}
+use Rattle.qcow2_alloc.proofs.KeptTables.ApartOff.{blocks_taken_apart}
 use Rattle.qcow2_alloc.proofs.cache.MetadataCaches.invalidate_rb.Goals as goal
 
 pub returns-in_err-invalidate-clause-left : goal.returns-in_err-invalidate-clause-left
@@ -19,3 +20,9 @@ returns-in_err-invalidate-clause-header_cluster g c = blocks_left_behind c.args.
 
 pub returns-clause-header_cluster : goal.returns-clause-header_cluster
 returns-clause-header_cluster g c = blocks_left_behind c.args.self.now c.invalidate.new.self c.invalidate.ensures.others (left_of c.args.self.now.rb.entries c.invalidate.new.self.entries c.invalidate.result c.invalidate.ensures.answer)
+
+pub returns-in_err-invalidate-clause-taken_apart : goal.returns-in_err-invalidate-clause-taken_apart
+returns-in_err-invalidate-clause-taken_apart g c = blocks_taken_apart c.args.self.now c.invalidate.new.self c.invalidate.ensures.others (left_of c.args.self.now.rb.entries c.invalidate.new.self.entries c.invalidate.result c.invalidate.ensures.answer) c.invalidate.ensures.distinct
+
+pub returns-clause-taken_apart : goal.returns-clause-taken_apart
+returns-clause-taken_apart g c = blocks_taken_apart c.args.self.now c.invalidate.new.self c.invalidate.ensures.others (left_of c.args.self.now.rb.entries c.invalidate.new.self.entries c.invalidate.result c.invalidate.ensures.answer) c.invalidate.ensures.distinct

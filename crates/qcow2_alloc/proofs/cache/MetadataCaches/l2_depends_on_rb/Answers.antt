@@ -1,4 +1,4 @@
-use Rattle.std.proofs.Common.{inl, inr, ap, ◌∙◌}
+use Rattle.std.proofs.Common.{inl, inr, sym, ap, ◌∙◌}
 use Rattle.qcow2_alloc.specs.declared.cache.Direction.TheVariants as D
 use Rattle.qcow2_alloc.specs.MetadataCaches.{order}
 use Rattle.qcow2_alloc.proofs.KeptTables.Turning.{tables_free, keep_none, keep_turned, may_l2_depend}
@@ -7,6 +7,7 @@ use Rattle.qcow2_alloc.proofs.KeptTables.Causes.{given_err}
 use Rattle.qcow2_alloc.proofs.KeptTables.InOrder.{order_none}
 use Rattle.qcow2_alloc.proofs.KeptTables.BehindHeader.{caches_none, turned_behind}
 use Rattle.qcow2_alloc.specs.KeptNotes.{kept_same}
+use Rattle.qcow2_alloc.proofs.KeptTables.ApartCalls.{apart_none, apart_turned}
 use Rattle.qcow2_alloc.proofs.cache.MetadataCaches.l2_depends_on_rb.Goals as goal
 use Rattle.qcow2_alloc.proofs.cache.MetadataCaches.l2_depends_on_rb.Goals.{in-L2DependsOnRb, in-None, in-RbDependsOnL2+in_ok-write_tables-in-RbDependsOnL2}
 
@@ -51,4 +52,21 @@ returns-clause-notes g c = elim c.match-self.branch [
   | in-L2DependsOnRb w ↦ rw w.storage-is (kept_same c.args.storage.now)
   | in-None w ↦ rw w.storage-is (kept_same c.args.storage.now)
   | in-RbDependsOnL2+in_ok-write_tables-in-RbDependsOnL2 w ↦ rw w.storage-is w.write_tables.ensures.notes
+]
+
+pub returns-in_err-write_tables-in-RbDependsOnL2-clause-apart : goal.returns-in_err-write_tables-in-RbDependsOnL2-clause-apart
+returns-in_err-write_tables-in-RbDependsOnL2-clause-apart g c = c.write_tables.ensures.apart (tables_free c.args.self.now (inr c.in-RbDependsOnL2.is))
+
+pub returns-clause-apart : goal.returns-clause-apart
+returns-clause-apart g c = elim c.match-self.branch [
+  | in-L2DependsOnRb w ↦ rw (w.self-is, w.storage-is) apart_none
+  | in-None w ↦ rw (w.self-is, w.storage-is) (apart_turned D.L2DependsOnRb apart_none)
+  | in-RbDependsOnL2+in_ok-write_tables-in-RbDependsOnL2 w ↦ rw (w.self-is, w.storage-is) (apart_turned D.L2DependsOnRb (w.write_tables.ensures.apart (tables_free c.args.self.now (inr w.in-RbDependsOnL2.is))))
+]
+
+pub returns-clause-written : goal.returns-clause-written
+returns-clause-written g c = elim c.match-self.branch [
+  | in-L2DependsOnRb w ↦ λ was. absurd (let e = sym (ap order w.in-L2DependsOnRb.is) ∙ was in cc)
+  | in-None w ↦ λ was. absurd (let e = sym (ap order w.in-None.is) ∙ was in cc)
+  | in-RbDependsOnL2+in_ok-write_tables-in-RbDependsOnL2 w ↦ λ _. rw w.self-is w.in_ok-write_tables-in-RbDependsOnL2.ensures.written
 ]

@@ -24,6 +24,7 @@ use Rattle.qcow2_alloc.proofs.Faults.{told_ok, told_on, told_since, cache_told, 
 use Rattle.qcow2_alloc.proofs.Outcomes.{never}
 use Rattle.qcow2_alloc.proofs.KeptTables.BehindHeader.{table_put_behind, caches_then}
 use Rattle.qcow2_alloc.specs.KeptNotes.{kept_then}
+use Rattle.qcow2_alloc.proofs.KeptTables.ApartCalls.{apart_then, table_kept_apart, table_put_apart, tables_under_then}
 use Rattle.qcow2_alloc.proofs.cache.MetadataCaches.l2_insert.Goals as goal
 
 pub returns-in_err-insert-clause-keeps : goal.returns-in_err-insert-clause-keeps
@@ -249,26 +250,26 @@ returns-in_err-insert-clause-storage_faults g c =
     (l2_put_tells g.S.Storage.view c.args.self.now.l2.backend.header.fields c.args.self.now.l2.size false c.in-Some.cluster c.args.storage.now c.insert.new.store c.args.self.now.l2.entries c.insert.new.self.entries c.insert.result (Some c.args.table) c.insert.new.value _ c.insert.ensures.nothing c.insert.ensures.there c.insert.ensures.missing) c.in_err-insert.was c.from_residual.ensures
 
 pub returns-then-branch-clause-storage_faults : goal.returns-then-branch-clause-storage_faults
-returns-then-branch-clause-storage_faults g c = told_ok (faults_of g.S.Storage.view c.args.storage.now) (faults_of g.S.Storage.view c.insert.new.store) tt (l2_put_tells g.S.Storage.view c.args.self.now.l2.backend.header.fields c.args.self.now.l2.size false c.in-Some.cluster c.args.storage.now c.insert.new.store c.args.self.now.l2.entries c.insert.new.self.entries c.insert.result (Some c.args.table) c.insert.new.value _ c.insert.ensures.nothing c.insert.ensures.there c.insert.ensures.missing).no_fewer
+returns-then-branch-clause-storage_faults g c = told_ok (faults_of g.S.Storage.view c.args.storage.now) (faults_of g.S.Storage.view c.insert.new.store) tt ((l2_put_tells g.S.Storage.view c.args.self.now.l2.backend.header.fields c.args.self.now.l2.size false c.in-Some.cluster c.args.storage.now c.insert.new.store c.args.self.now.l2.entries c.insert.new.self.entries c.insert.result (Some c.args.table) c.insert.new.value _ c.insert.ensures.nothing c.insert.ensures.there c.insert.ensures.missing).same _ c.in_ok-insert.was)
 
 pub returns-in_err-before_l2-clause-storage_faults : goal.returns-in_err-before_l2-clause-storage_faults
 returns-in_err-before_l2-clause-storage_faults g c =
     let one = l2_put_tells g.S.Storage.view c.args.self.now.l2.backend.header.fields c.args.self.now.l2.size false c.in-Some.cluster c.args.storage.now c.insert.new.store c.args.self.now.l2.entries c.insert.new.self.entries c.insert.result (Some c.args.table) c.insert.new.value _ c.insert.ensures.nothing c.insert.ensures.there c.insert.ensures.missing in
-    told_since (faults_of g.S.Storage.view c.args.storage.now) (faults_of g.S.Storage.view c.insert.new.store) (faults_of g.S.Storage.view c.before_l2.new.storage) one.no_fewer
+    told_since (faults_of g.S.Storage.view c.args.storage.now) (faults_of g.S.Storage.view c.insert.new.store) (faults_of g.S.Storage.view c.before_l2.new.storage) (one.same _ c.in_ok-insert.was)
     (told_on (faults_of g.S.Storage.view c.insert.new.store) (faults_of g.S.Storage.view c.before_l2.new.storage) c.before_l2.result c.in_err-before_l2.field-0.0 c.from_residual-in_err-before_l2.result c.before_l2.ensures.storage_faults c.in_err-before_l2.was c.from_residual-in_err-before_l2.ensures)
 
 pub returns-in_err-insert-2-clause-storage_faults : goal.returns-in_err-insert-2-clause-storage_faults
 returns-in_err-insert-2-clause-storage_faults g c =
     let one = l2_put_tells g.S.Storage.view c.args.self.now.l2.backend.header.fields c.args.self.now.l2.size false c.in-Some.cluster c.args.storage.now c.insert.new.store c.args.self.now.l2.entries c.insert.new.self.entries c.insert.result (Some c.args.table) c.insert.new.value _ c.insert.ensures.nothing c.insert.ensures.there c.insert.ensures.missing in
     let two = l2_put_tells g.S.Storage.view c.before_l2.new.self.l2.backend.header.fields c.before_l2.new.self.l2.size true c.in-Some.cluster c.before_l2.new.storage c.insert-2.new.store c.before_l2.new.self.l2.entries c.insert-2.new.self.entries c.insert-2.result c.insert.new.value c.insert-2.new.value _ c.insert-2.ensures.nothing c.insert-2.ensures.there c.insert-2.ensures.missing in
-    told_since (faults_of g.S.Storage.view c.args.storage.now) (faults_of g.S.Storage.view c.before_l2.new.storage) (faults_of g.S.Storage.view c.insert-2.new.store) (omega (arith, one.no_fewer, c.before_l2.ensures.storage_faults.no_fewer))
+    told_since (faults_of g.S.Storage.view c.args.storage.now) (faults_of g.S.Storage.view c.before_l2.new.storage) (faults_of g.S.Storage.view c.insert-2.new.store) (c.in_ok-before_l2.ensures.storage_faults.told ∙ one.same _ c.in_ok-insert.was)
     (cache_told (faults_of g.S.Storage.view c.before_l2.new.storage) (faults_of g.S.Storage.view c.insert-2.new.store) c.insert-2.result c.in_err-insert-2.field-0.0 c.from_residual-in_err-insert-2.result two c.in_err-insert-2.was c.from_residual-in_err-insert-2.ensures)
 
 pub returns-clause-storage_faults : goal.returns-clause-storage_faults
 returns-clause-storage_faults g c =
     let one = l2_put_tells g.S.Storage.view c.args.self.now.l2.backend.header.fields c.args.self.now.l2.size false c.in-Some.cluster c.args.storage.now c.insert.new.store c.args.self.now.l2.entries c.insert.new.self.entries c.insert.result (Some c.args.table) c.insert.new.value _ c.insert.ensures.nothing c.insert.ensures.there c.insert.ensures.missing in
     let two = l2_put_tells g.S.Storage.view c.before_l2.new.self.l2.backend.header.fields c.before_l2.new.self.l2.size true c.in-Some.cluster c.before_l2.new.storage c.insert-2.new.store c.before_l2.new.self.l2.entries c.insert-2.new.self.entries c.insert-2.result c.insert.new.value c.insert-2.new.value _ c.insert-2.ensures.nothing c.insert-2.ensures.there c.insert-2.ensures.missing in
-    told_ok (faults_of g.S.Storage.view c.args.storage.now) (faults_of g.S.Storage.view c.insert-2.new.store) tt (omega (arith, one.no_fewer, c.before_l2.ensures.storage_faults.no_fewer, two.no_fewer))
+    told_ok (faults_of g.S.Storage.view c.args.storage.now) (faults_of g.S.Storage.view c.insert-2.new.store) tt (two.same _ c.in_ok-insert-2.was ∙ (c.in_ok-before_l2.ensures.storage_faults.told ∙ one.same _ c.in_ok-insert.was))
 
 pub returns-in_err-insert-clause-header_cluster : goal.returns-in_err-insert-clause-header_cluster
 returns-in_err-insert-clause-header_cluster g c = if_some _ c.args.table.cluster c.in-Some.cluster (sym c.get_cluster.ensures.value ∙ c.in-Some.is) (λ above. table_put_behind g.S.Storage.view c.args.storage.now c.insert.new.store c.args.self.now false c.in-Some.cluster above c.insert.new.self c.args.table (Some c.args.table) c.insert.new.value c.insert.result refl c.insert.ensures.others c.insert.ensures.stays c.insert.ensures.there c.insert.ensures.missing)
@@ -286,16 +287,32 @@ pub returns-clause-header_cluster : goal.returns-clause-header_cluster
 returns-clause-header_cluster g c = if_some _ c.args.table.cluster c.in-Some.cluster (sym c.get_cluster.ensures.value ∙ c.in-Some.is) (λ above. caches_then (caches_then (table_put_behind g.S.Storage.view c.args.storage.now c.insert.new.store c.args.self.now false c.in-Some.cluster above c.insert.new.self c.args.table (Some c.args.table) c.insert.new.value c.insert.result refl c.insert.ensures.others c.insert.ensures.stays c.insert.ensures.there c.insert.ensures.missing) c.before_l2.ensures.header_cluster) (table_put_behind g.S.Storage.view c.before_l2.new.storage c.insert-2.new.store c.before_l2.new.self true c.in-Some.cluster above c.insert-2.new.self c.args.table c.insert.new.value c.insert-2.new.value c.insert-2.result ((l2_taken g.S.Storage.view c.args.storage.now c.insert.new.store c.args.self.now false c.in-Some.cluster c.insert.new.self c.insert.ensures.others c.args.table (Some c.args.table) c.insert.new.value refl c.insert.result c.insert.ensures.there c.insert.ensures.missing).kept (c.in_ok-insert.was ∙ ap Ok c.if-branch.false)) c.insert-2.ensures.others c.insert-2.ensures.stays c.insert-2.ensures.there c.insert-2.ensures.missing))
 
 pub returns-in_err-insert-clause-notes : goal.returns-in_err-insert-clause-notes
-returns-in_err-insert-clause-notes g c = c.insert.ensures.keeps
+returns-in_err-insert-clause-notes g c = c.insert.ensures.keeps.0
 
 pub returns-then-branch-clause-notes : goal.returns-then-branch-clause-notes
-returns-then-branch-clause-notes g c = c.insert.ensures.keeps
+returns-then-branch-clause-notes g c = c.insert.ensures.keeps.0
 
 pub returns-in_err-before_l2-clause-notes : goal.returns-in_err-before_l2-clause-notes
-returns-in_err-before_l2-clause-notes g c = kept_then _ _ _ c.insert.ensures.keeps c.before_l2.ensures.notes
+returns-in_err-before_l2-clause-notes g c = kept_then _ _ _ c.insert.ensures.keeps.0 c.before_l2.ensures.notes
 
 pub returns-in_err-insert-2-clause-notes : goal.returns-in_err-insert-2-clause-notes
-returns-in_err-insert-2-clause-notes g c = kept_then _ _ _ (kept_then _ _ _ c.insert.ensures.keeps c.before_l2.ensures.notes) c.insert-2.ensures.keeps
+returns-in_err-insert-2-clause-notes g c = kept_then _ _ _ (kept_then _ _ _ c.insert.ensures.keeps.0 c.before_l2.ensures.notes) c.insert-2.ensures.keeps.0
 
 pub returns-clause-notes : goal.returns-clause-notes
-returns-clause-notes g c = kept_then _ _ _ (kept_then _ _ _ c.insert.ensures.keeps c.before_l2.ensures.notes) c.insert-2.ensures.keeps
+returns-clause-notes g c = kept_then _ _ _ (kept_then _ _ _ c.insert.ensures.keeps.0 c.before_l2.ensures.notes) c.insert-2.ensures.keeps.0
+
+pub returns-in_err-insert-clause-apart : goal.returns-in_err-insert-clause-apart
+returns-in_err-insert-clause-apart g c = on_err c.from_residual.result (table_kept_apart g.S.Storage.view c.args.storage.now c.insert.new.store c.args.self.now c.insert.new.self c.insert.ensures.others c.insert.ensures.distinct false c.in-Some.cluster c.insert.result (λ flush. never flush) c.args.table (Some c.args.table) c.insert.new.value refl c.insert.ensures.there c.insert.ensures.missing (λ went. err_ok c.in_err-insert.was went))
+
+pub returns-then-branch-clause-laid_apart : goal.returns-then-branch-clause-laid_apart
+returns-then-branch-clause-laid_apart g c = λ h honest are. if_some _ c.args.table.cluster c.in-Some.cluster (sym c.get_cluster.ensures.value ∙ c.in-Some.is) (table_put_apart g.S.Storage.view c.args.storage.now c.insert.new.store c.args.self.now c.insert.new.self c.insert.ensures.others c.insert.ensures.distinct false c.in-Some.cluster c.insert.result (λ flush. never flush) c.args.table (Some c.args.table) c.insert.new.value refl c.insert.ensures.there c.insert.ensures.missing (c.in_ok-insert.was ∙ ap Ok c.if-branch.true) h honest are)
+
+pub returns-in_err-before_l2-clause-apart : goal.returns-in_err-before_l2-clause-apart
+returns-in_err-before_l2-clause-apart g c = on_err c.from_residual-in_err-before_l2.result (apart_then refl (table_kept_apart g.S.Storage.view c.args.storage.now c.insert.new.store c.args.self.now c.insert.new.self c.insert.ensures.others c.insert.ensures.distinct false c.in-Some.cluster c.insert.result (λ flush. never flush) c.args.table (Some c.args.table) c.insert.new.value refl c.insert.ensures.there c.insert.ensures.missing (λ went. ok_false (c.in_ok-insert.was ∙ ap Ok c.if-branch.false) went)) c.before_l2.ensures.apart)
+
+pub returns-in_err-insert-2-clause-apart : goal.returns-in_err-insert-2-clause-apart
+returns-in_err-insert-2-clause-apart g c = on_err c.from_residual-in_err-insert-2.result (apart_then c.before_l2.ensures.order (apart_then refl (table_kept_apart g.S.Storage.view c.args.storage.now c.insert.new.store c.args.self.now c.insert.new.self c.insert.ensures.others c.insert.ensures.distinct false c.in-Some.cluster c.insert.result (λ flush. never flush) c.args.table (Some c.args.table) c.insert.new.value refl c.insert.ensures.there c.insert.ensures.missing (λ went. ok_false (c.in_ok-insert.was ∙ ap Ok c.if-branch.false) went)) c.before_l2.ensures.apart) (table_kept_apart g.S.Storage.view c.before_l2.new.storage c.insert-2.new.store c.before_l2.new.self c.insert-2.new.self c.insert-2.ensures.others c.insert-2.ensures.distinct true c.in-Some.cluster c.insert-2.result (λ _. c.in_ok-before_l2.ensures.first) c.args.table c.insert.new.value c.insert-2.new.value ((l2_taken g.S.Storage.view c.args.storage.now c.insert.new.store c.args.self.now false c.in-Some.cluster c.insert.new.self c.insert.ensures.others c.args.table (Some c.args.table) c.insert.new.value refl c.insert.result c.insert.ensures.there c.insert.ensures.missing).kept (c.in_ok-insert.was ∙ ap Ok c.if-branch.false)) c.insert-2.ensures.there c.insert-2.ensures.missing (λ went. err_ok c.in_err-insert-2.was went)))
+
+pub returns-clause-laid_apart : goal.returns-clause-laid_apart
+returns-clause-laid_apart g c = λ h honest are. if_some _ c.args.table.cluster c.in-Some.cluster (sym c.get_cluster.ensures.value ∙ c.in-Some.is)
+    (tables_under_then g.S.Storage.view c.args.storage.now c.before_l2.new.storage c.insert-2.new.store c.args.self.now c.before_l2.new.self (record c.before_l2.new.self { l2 = c.insert-2.new.self }) c.in-Some.cluster c.args.table.bytes c.args.table.is_modified c.before_l2.ensures.order (apart_then refl (table_kept_apart g.S.Storage.view c.args.storage.now c.insert.new.store c.args.self.now c.insert.new.self c.insert.ensures.others c.insert.ensures.distinct false c.in-Some.cluster c.insert.result (λ flush. never flush) c.args.table (Some c.args.table) c.insert.new.value refl c.insert.ensures.there c.insert.ensures.missing (λ went. ok_false (c.in_ok-insert.was ∙ ap Ok c.if-branch.false) went)) c.before_l2.ensures.apart) (table_put_apart g.S.Storage.view c.before_l2.new.storage c.insert-2.new.store c.before_l2.new.self c.insert-2.new.self c.insert-2.ensures.others c.insert-2.ensures.distinct true c.in-Some.cluster c.insert-2.result (λ _. c.in_ok-before_l2.ensures.first) c.args.table c.insert.new.value c.insert-2.new.value ((l2_taken g.S.Storage.view c.args.storage.now c.insert.new.store c.args.self.now false c.in-Some.cluster c.insert.new.self c.insert.ensures.others c.args.table (Some c.args.table) c.insert.new.value refl c.insert.result c.insert.ensures.there c.insert.ensures.missing).kept (c.in_ok-insert.was ∙ ap Ok c.if-branch.false)) c.insert-2.ensures.there c.insert-2.ensures.missing (put_at_last c.in-Some.cluster c.args.table c.insert-2.new.self.entries c.insert-2.result c.insert-2.new.value c.in_ok-insert-2.field-0 c.in_ok-insert-2.was (l2_taken g.S.Storage.view c.before_l2.new.storage c.insert-2.new.store c.before_l2.new.self true c.in-Some.cluster c.insert-2.new.self c.insert-2.ensures.others c.args.table c.insert.new.value c.insert-2.new.value ((l2_taken g.S.Storage.view c.args.storage.now c.insert.new.store c.args.self.now false c.in-Some.cluster c.insert.new.self c.insert.ensures.others c.args.table (Some c.args.table) c.insert.new.value refl c.insert.result c.insert.ensures.there c.insert.ensures.missing).kept (c.in_ok-insert.was ∙ ap Ok c.if-branch.false)) c.insert-2.result c.insert-2.ensures.there c.insert-2.ensures.missing))) h honest are)

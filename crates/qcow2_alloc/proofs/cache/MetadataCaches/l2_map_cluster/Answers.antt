@@ -17,6 +17,7 @@ use Rattle.qcow2_alloc.specs.TableChanges.{changed_table}
 use Rattle.qcow2_alloc.proofs.KeptTables.Inserting.{if_some}
 use Rattle.qcow2_alloc.proofs.KeptTables.Changing.{set_same}
 use Rattle.qcow2_alloc.proofs.KeptTables.OneChanged.{one_changed}
+use Rattle.qcow2_alloc.proofs.KeptTables.ApartChanges.{table_changed_apart}
 use Rattle.qcow2_alloc.proofs.cache.MetadataCaches.l2_map_cluster.Goals as goal
 use Rattle.qcow2_alloc.proofs.cache.MetadataCaches.l2_map_cluster.Goals.{then-index-entries-via-then-index-entries, then-index-entries-via-else-index-entries+then-not-is_nameable}
 
@@ -66,7 +67,7 @@ returns-then-index-entries-clause-marks g c = elim c.then-index-entries.branch [
 
 pub returns-clause-marks : goal.returns-clause-marks
 returns-clause-marks g c =
-    marks_noted c.args.self.now (record c.args.self.now { l2 = with_entries c.args.self.now.l2 (set_at (eqb c.args.cluster) c.args.self.now.l2.entries c.map_cluster.new.self) })
+    marks_noted c.args.self.now (record c.args.self.now { l2 = with_entries c.args.self.now.l2 (set_at (eqb c.args.cluster) c.args.self.now.l2.entries c.map_cluster.new.self) }) c.one_more-self.result c.one_more-self.ensures
     (marks_tables c.args.self.now (with_entries c.args.self.now.l2 (set_at (eqb c.args.cluster) c.args.self.now.l2.entries c.map_cluster.new.self)) refl (set_keeps_pins c.args.cluster c.args.self.now.l2.entries c.map_cluster.new.self))
 
 pub returns-clause-entry : goal.returns-clause-entry
@@ -80,7 +81,7 @@ returns-clause-entry g c =
           c.map_cluster.new.self.bytes same
           (c.map_cluster.ensures.changed, c.map_cluster.ensures.old_data ∙ ap (λ (t : L2TableView). old_data_run c.in_ok-table.table.now.cluster_bits (cover_at c.in_ok-table.table.now c.args.index) (cover_at t c.args.index)) same);
       blocks = refl;
-      noted = refl;
+      noted = c.one_more-self.ensures;
     })
 
 pub returns-then-index-entries-clause-entry : goal.returns-then-index-entries-clause-entry
@@ -116,4 +117,13 @@ returns-then-index-entries-clause-header_cluster g c = elim c.then-index-entries
 
 pub returns-clause-header_cluster : goal.returns-clause-header_cluster
 returns-clause-header_cluster g c =
-    noted_behind c.args.self.now (record c.args.self.now { l2 = with_entries c.args.self.now.l2 (set_at (eqb c.args.cluster) c.args.self.now.l2.entries c.map_cluster.new.self) }) (set_table_behind c.args.self.now c.args.cluster c.map_cluster.new.self)
+    noted_behind c.args.self.now (record c.args.self.now { l2 = with_entries c.args.self.now.l2 (set_at (eqb c.args.cluster) c.args.self.now.l2.entries c.map_cluster.new.self) }) c.one_more-self.result (set_table_behind c.args.self.now c.args.cluster c.map_cluster.new.self)
+
+pub returns-then-index-entries-clause-apart : goal.returns-then-index-entries-clause-apart
+returns-then-index-entries-clause-apart g c = elim c.then-index-entries.branch [
+  | then-index-entries-via-then-index-entries w ↦ rw w.self-is (table_changed_apart c.args.self.now c.args.cluster c.args.self.now.is_changed c.args.self.now.changes c.in_ok-table.table.now c.peek_mut.ensures.distinct)
+  | then-index-entries-via-else-index-entries+then-not-is_nameable w ↦ rw w.self-is (table_changed_apart c.args.self.now c.args.cluster c.args.self.now.is_changed c.args.self.now.changes c.in_ok-table.table.now c.peek_mut.ensures.distinct)
+]
+
+pub returns-clause-apart : goal.returns-clause-apart
+returns-clause-apart g c = table_changed_apart c.args.self.now c.args.cluster true c.one_more-self.result c.map_cluster.new.self c.peek_mut.ensures.distinct

@@ -18,6 +18,8 @@ use Rattle.qcow2_alloc.specs.TableChanges.{changed_table}
 use Rattle.qcow2_alloc.proofs.KeptTables.Inserting.{if_some}
 use Rattle.qcow2_alloc.proofs.KeptTables.Changing.{set_same}
 use Rattle.qcow2_alloc.proofs.KeptTables.OneChanged.{one_changed}
+use Rattle.std.proofs.Common.{true}
+use Rattle.qcow2_alloc.proofs.KeptTables.ApartChanges.{table_changed_apart}
 use Rattle.qcow2_alloc.proofs.cache.MetadataCaches.l2_zero_cluster.Goals as goal
 
 pub returns-then-index-entries-clause-marks : goal.returns-then-index-entries-clause-marks
@@ -38,7 +40,7 @@ returns-then-index-entries-clause-noted g c = λ h p on_storage i sound at there
 
 pub returns-clause-marks : goal.returns-clause-marks
 returns-clause-marks g c =
-    marks_noted c.args.self.now (record c.args.self.now { l2 = with_entries c.args.self.now.l2 (set_at (eqb c.args.cluster) c.args.self.now.l2.entries c.zero_cluster.new.self) })
+    marks_noted c.args.self.now (record c.args.self.now { l2 = with_entries c.args.self.now.l2 (set_at (eqb c.args.cluster) c.args.self.now.l2.entries c.zero_cluster.new.self) }) c.one_more-self.result c.one_more-self.ensures
     (marks_tables c.args.self.now (with_entries c.args.self.now.l2 (set_at (eqb c.args.cluster) c.args.self.now.l2.entries c.zero_cluster.new.self)) refl (set_keeps_pins c.args.cluster c.args.self.now.l2.entries c.zero_cluster.new.self))
 
 pub returns-clause-zeroed : goal.returns-clause-zeroed
@@ -62,7 +64,7 @@ returns-clause-entry g c =
           c.zero_cluster.new.self.bytes same
           (c.zero_cluster.ensures.changed, c.zero_cluster.ensures.old_data ∙ ap (λ (t : L2TableView). old_data_run c.in_ok-table.table.now.cluster_bits (cover_at c.in_ok-table.table.now c.args.index) (cover_at t c.args.index)) same);
       blocks = refl;
-      noted = refl;
+      noted = c.one_more-self.ensures;
     })
 
 pub returns-then-index-entries-clause-entry : goal.returns-then-index-entries-clause-entry
@@ -87,4 +89,10 @@ returns-then-index-entries-clause-header_cluster g c = set_table_behind c.args.s
 
 pub returns-clause-header_cluster : goal.returns-clause-header_cluster
 returns-clause-header_cluster g c =
-    noted_behind c.args.self.now (record c.args.self.now { l2 = with_entries c.args.self.now.l2 (set_at (eqb c.args.cluster) c.args.self.now.l2.entries c.zero_cluster.new.self) }) (set_table_behind c.args.self.now c.args.cluster c.zero_cluster.new.self)
+    noted_behind c.args.self.now (record c.args.self.now { l2 = with_entries c.args.self.now.l2 (set_at (eqb c.args.cluster) c.args.self.now.l2.entries c.zero_cluster.new.self) }) c.one_more-self.result (set_table_behind c.args.self.now c.args.cluster c.zero_cluster.new.self)
+
+pub returns-then-index-entries-clause-apart : goal.returns-then-index-entries-clause-apart
+returns-then-index-entries-clause-apart g c = table_changed_apart c.args.self.now c.args.cluster c.args.self.now.is_changed c.args.self.now.changes c.in_ok-table.table.now c.peek_mut.ensures.distinct
+
+pub returns-clause-apart : goal.returns-clause-apart
+returns-clause-apart g c = table_changed_apart c.args.self.now c.args.cluster true c.one_more-self.result c.zero_cluster.new.self c.peek_mut.ensures.distinct

@@ -1,4 +1,4 @@
-use Rattle.std.proofs.Common.{inl, inr, ap, ◌∙◌}
+use Rattle.std.proofs.Common.{inl, inr, sym, ap, ◌∙◌}
 use Rattle.qcow2_alloc.specs.declared.cache.Direction.TheVariants as D
 use Rattle.qcow2_alloc.specs.MetadataCaches.{order}
 use Rattle.qcow2_alloc.proofs.KeptTables.Turning.{blocks_free, keep_none, keep_turned, may_rb_depend}
@@ -7,6 +7,7 @@ use Rattle.qcow2_alloc.proofs.KeptTables.Causes.{given_err}
 use Rattle.qcow2_alloc.proofs.KeptTables.InOrder.{order_none}
 use Rattle.qcow2_alloc.proofs.KeptTables.BehindHeader.{caches_none, turned_behind}
 use Rattle.qcow2_alloc.specs.KeptNotes.{kept_same}
+use Rattle.qcow2_alloc.proofs.KeptTables.ApartCalls.{apart_none, apart_turned}
 use Rattle.qcow2_alloc.proofs.cache.MetadataCaches.rb_depends_on_l2.Goals as goal
 use Rattle.qcow2_alloc.proofs.cache.MetadataCaches.rb_depends_on_l2.Goals.{in-RbDependsOnL2, in-None, in-L2DependsOnRb+in_ok-write_blocks-in-L2DependsOnRb}
 
@@ -51,4 +52,21 @@ returns-clause-notes g c = elim c.match-self.branch [
   | in-RbDependsOnL2 w ↦ rw w.storage-is (kept_same c.args.storage.now)
   | in-None w ↦ rw w.storage-is (kept_same c.args.storage.now)
   | in-L2DependsOnRb+in_ok-write_blocks-in-L2DependsOnRb w ↦ rw w.storage-is w.write_blocks.ensures.notes
+]
+
+pub returns-in_err-write_blocks-in-L2DependsOnRb-clause-apart : goal.returns-in_err-write_blocks-in-L2DependsOnRb-clause-apart
+returns-in_err-write_blocks-in-L2DependsOnRb-clause-apart g c = c.write_blocks.ensures.apart (blocks_free c.args.self.now (inr c.in-L2DependsOnRb.is))
+
+pub returns-clause-apart : goal.returns-clause-apart
+returns-clause-apart g c = elim c.match-self.branch [
+  | in-RbDependsOnL2 w ↦ rw (w.self-is, w.storage-is) apart_none
+  | in-None w ↦ rw (w.self-is, w.storage-is) (apart_turned D.RbDependsOnL2 apart_none)
+  | in-L2DependsOnRb+in_ok-write_blocks-in-L2DependsOnRb w ↦ rw (w.self-is, w.storage-is) (apart_turned D.RbDependsOnL2 (w.write_blocks.ensures.apart (blocks_free c.args.self.now (inr w.in-L2DependsOnRb.is))))
+]
+
+pub returns-clause-written : goal.returns-clause-written
+returns-clause-written g c = elim c.match-self.branch [
+  | in-RbDependsOnL2 w ↦ λ was. absurd (let e = sym (ap order w.in-RbDependsOnL2.is) ∙ was in cc)
+  | in-None w ↦ λ was. absurd (let e = sym (ap order w.in-None.is) ∙ was in cc)
+  | in-L2DependsOnRb+in_ok-write_blocks-in-L2DependsOnRb w ↦ λ _. rw w.self-is w.in_ok-write_blocks-in-L2DependsOnRb.ensures.written
 ]

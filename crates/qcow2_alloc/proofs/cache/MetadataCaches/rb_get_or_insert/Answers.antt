@@ -15,6 +15,7 @@ use Rattle.qcow2_alloc.proofs.Faults.{told_ok, told_on, told_since, cache_told, 
 use Rattle.qcow2_alloc.proofs.Outcomes.{never}
 use Rattle.qcow2_alloc.proofs.KeptTables.BehindHeader.{block_got_behind, caches_then}
 use Rattle.qcow2_alloc.specs.KeptNotes.{kept_then}
+use Rattle.qcow2_alloc.proofs.KeptTables.ApartCalls.{apart_then, block_got_apart}
 use Rattle.qcow2_alloc.proofs.cache.MetadataCaches.rb_get_or_insert.Goals as goal
 
 pub returns-in_err-get_or_insert-clause-keeps : goal.returns-in_err-get_or_insert-clause-keeps
@@ -151,26 +152,26 @@ returns-in_err-get_or_insert-clause-storage_faults g c =
     (rb_get_tells g.S.Storage.view c.args.self.now.rb.backend.header.fields c.args.self.now.rb.size false c.args.cluster c.args.storage.now c.get_or_insert.new.store c.args.self.now.rb.entries c.get_or_insert.new.self.entries c.get_or_insert.result c.get_or_insert.ensures.hit c.get_or_insert.ensures.miss) c.in_err-get_or_insert.was c.from_residual.ensures
 
 pub returns-then-branch-clause-storage_faults : goal.returns-then-branch-clause-storage_faults
-returns-then-branch-clause-storage_faults g c = told_ok (faults_of g.S.Storage.view c.args.storage.now) (faults_of g.S.Storage.view c.get_or_insert.new.store) tt (rb_get_tells g.S.Storage.view c.args.self.now.rb.backend.header.fields c.args.self.now.rb.size false c.args.cluster c.args.storage.now c.get_or_insert.new.store c.args.self.now.rb.entries c.get_or_insert.new.self.entries c.get_or_insert.result c.get_or_insert.ensures.hit c.get_or_insert.ensures.miss).no_fewer
+returns-then-branch-clause-storage_faults g c = told_ok (faults_of g.S.Storage.view c.args.storage.now) (faults_of g.S.Storage.view c.get_or_insert.new.store) tt ((rb_get_tells g.S.Storage.view c.args.self.now.rb.backend.header.fields c.args.self.now.rb.size false c.args.cluster c.args.storage.now c.get_or_insert.new.store c.args.self.now.rb.entries c.get_or_insert.new.self.entries c.get_or_insert.result c.get_or_insert.ensures.hit c.get_or_insert.ensures.miss).same _ c.in_ok-get_or_insert.was)
 
 pub returns-in_err-before_rb-clause-storage_faults : goal.returns-in_err-before_rb-clause-storage_faults
 returns-in_err-before_rb-clause-storage_faults g c =
     let one = rb_get_tells g.S.Storage.view c.args.self.now.rb.backend.header.fields c.args.self.now.rb.size false c.args.cluster c.args.storage.now c.get_or_insert.new.store c.args.self.now.rb.entries c.get_or_insert.new.self.entries c.get_or_insert.result c.get_or_insert.ensures.hit c.get_or_insert.ensures.miss in
-    told_since (faults_of g.S.Storage.view c.args.storage.now) (faults_of g.S.Storage.view c.get_or_insert.new.store) (faults_of g.S.Storage.view c.before_rb.new.storage) one.no_fewer
+    told_since (faults_of g.S.Storage.view c.args.storage.now) (faults_of g.S.Storage.view c.get_or_insert.new.store) (faults_of g.S.Storage.view c.before_rb.new.storage) (one.same _ c.in_ok-get_or_insert.was)
     (told_on (faults_of g.S.Storage.view c.get_or_insert.new.store) (faults_of g.S.Storage.view c.before_rb.new.storage) c.before_rb.result c.in_err-before_rb.field-0.0 c.from_residual-in_err-before_rb.result c.before_rb.ensures.storage_faults c.in_err-before_rb.was c.from_residual-in_err-before_rb.ensures)
 
 pub returns-in_err-get_or_insert-2-clause-storage_faults : goal.returns-in_err-get_or_insert-2-clause-storage_faults
 returns-in_err-get_or_insert-2-clause-storage_faults g c =
     let one = rb_get_tells g.S.Storage.view c.args.self.now.rb.backend.header.fields c.args.self.now.rb.size false c.args.cluster c.args.storage.now c.get_or_insert.new.store c.args.self.now.rb.entries c.get_or_insert.new.self.entries c.get_or_insert.result c.get_or_insert.ensures.hit c.get_or_insert.ensures.miss in
     let two = rb_get_tells g.S.Storage.view c.before_rb.new.self.rb.backend.header.fields c.before_rb.new.self.rb.size true c.args.cluster c.before_rb.new.storage c.get_or_insert-2.new.store c.before_rb.new.self.rb.entries c.get_or_insert-2.new.self.entries c.get_or_insert-2.result c.get_or_insert-2.ensures.hit c.get_or_insert-2.ensures.miss in
-    told_since (faults_of g.S.Storage.view c.args.storage.now) (faults_of g.S.Storage.view c.before_rb.new.storage) (faults_of g.S.Storage.view c.get_or_insert-2.new.store) (omega (arith, one.no_fewer, c.before_rb.ensures.storage_faults.no_fewer))
+    told_since (faults_of g.S.Storage.view c.args.storage.now) (faults_of g.S.Storage.view c.before_rb.new.storage) (faults_of g.S.Storage.view c.get_or_insert-2.new.store) (c.in_ok-before_rb.ensures.storage_faults.told ∙ one.same _ c.in_ok-get_or_insert.was)
     (cache_told (faults_of g.S.Storage.view c.before_rb.new.storage) (faults_of g.S.Storage.view c.get_or_insert-2.new.store) c.get_or_insert-2.result c.in_err-get_or_insert-2.field-0.0 c.from_residual-in_err-get_or_insert-2.result two c.in_err-get_or_insert-2.was c.from_residual-in_err-get_or_insert-2.ensures)
 
 pub returns-clause-storage_faults : goal.returns-clause-storage_faults
 returns-clause-storage_faults g c =
     let one = rb_get_tells g.S.Storage.view c.args.self.now.rb.backend.header.fields c.args.self.now.rb.size false c.args.cluster c.args.storage.now c.get_or_insert.new.store c.args.self.now.rb.entries c.get_or_insert.new.self.entries c.get_or_insert.result c.get_or_insert.ensures.hit c.get_or_insert.ensures.miss in
     let two = rb_get_tells g.S.Storage.view c.before_rb.new.self.rb.backend.header.fields c.before_rb.new.self.rb.size true c.args.cluster c.before_rb.new.storage c.get_or_insert-2.new.store c.before_rb.new.self.rb.entries c.get_or_insert-2.new.self.entries c.get_or_insert-2.result c.get_or_insert-2.ensures.hit c.get_or_insert-2.ensures.miss in
-    told_ok (faults_of g.S.Storage.view c.args.storage.now) (faults_of g.S.Storage.view c.get_or_insert-2.new.store) tt (omega (arith, one.no_fewer, c.before_rb.ensures.storage_faults.no_fewer, two.no_fewer))
+    told_ok (faults_of g.S.Storage.view c.args.storage.now) (faults_of g.S.Storage.view c.get_or_insert-2.new.store) tt (two.same _ c.in_ok-get_or_insert-2.was ∙ (c.in_ok-before_rb.ensures.storage_faults.told ∙ one.same _ c.in_ok-get_or_insert.was))
 
 pub returns-in_err-get_or_insert-clause-header_cluster : goal.returns-in_err-get_or_insert-clause-header_cluster
 returns-in_err-get_or_insert-clause-header_cluster g c = λ above. block_got_behind g.S.Storage.view c.args.storage.now c.get_or_insert.new.store c.args.self.now false c.args.cluster above c.get_or_insert.new.self c.get_or_insert.result c.get_or_insert.ensures.others c.get_or_insert.ensures.stays c.get_or_insert.ensures.hit c.get_or_insert.ensures.miss
@@ -188,16 +189,31 @@ pub returns-clause-header_cluster : goal.returns-clause-header_cluster
 returns-clause-header_cluster g c = λ above. caches_then (caches_then (block_got_behind g.S.Storage.view c.args.storage.now c.get_or_insert.new.store c.args.self.now false c.args.cluster above c.get_or_insert.new.self c.get_or_insert.result c.get_or_insert.ensures.others c.get_or_insert.ensures.stays c.get_or_insert.ensures.hit c.get_or_insert.ensures.miss) c.before_rb.ensures.header_cluster) (block_got_behind g.S.Storage.view c.before_rb.new.storage c.get_or_insert-2.new.store c.before_rb.new.self true c.args.cluster above c.get_or_insert-2.new.self c.get_or_insert-2.result c.get_or_insert-2.ensures.others c.get_or_insert-2.ensures.stays c.get_or_insert-2.ensures.hit c.get_or_insert-2.ensures.miss)
 
 pub returns-in_err-get_or_insert-clause-notes : goal.returns-in_err-get_or_insert-clause-notes
-returns-in_err-get_or_insert-clause-notes g c = c.get_or_insert.ensures.keeps
+returns-in_err-get_or_insert-clause-notes g c = c.get_or_insert.ensures.keeps.0
 
 pub returns-then-branch-clause-notes : goal.returns-then-branch-clause-notes
-returns-then-branch-clause-notes g c = c.get_or_insert.ensures.keeps
+returns-then-branch-clause-notes g c = c.get_or_insert.ensures.keeps.0
 
 pub returns-in_err-before_rb-clause-notes : goal.returns-in_err-before_rb-clause-notes
-returns-in_err-before_rb-clause-notes g c = kept_then _ _ _ c.get_or_insert.ensures.keeps c.before_rb.ensures.notes
+returns-in_err-before_rb-clause-notes g c = kept_then _ _ _ c.get_or_insert.ensures.keeps.0 c.before_rb.ensures.notes
 
 pub returns-in_err-get_or_insert-2-clause-notes : goal.returns-in_err-get_or_insert-2-clause-notes
-returns-in_err-get_or_insert-2-clause-notes g c = kept_then _ _ _ (kept_then _ _ _ c.get_or_insert.ensures.keeps c.before_rb.ensures.notes) c.get_or_insert-2.ensures.keeps
+returns-in_err-get_or_insert-2-clause-notes g c = kept_then _ _ _ (kept_then _ _ _ c.get_or_insert.ensures.keeps.0 c.before_rb.ensures.notes) c.get_or_insert-2.ensures.keeps.0
 
 pub returns-clause-notes : goal.returns-clause-notes
-returns-clause-notes g c = kept_then _ _ _ (kept_then _ _ _ c.get_or_insert.ensures.keeps c.before_rb.ensures.notes) c.get_or_insert-2.ensures.keeps
+returns-clause-notes g c = kept_then _ _ _ (kept_then _ _ _ c.get_or_insert.ensures.keeps.0 c.before_rb.ensures.notes) c.get_or_insert-2.ensures.keeps.0
+
+pub returns-in_err-get_or_insert-clause-apart : goal.returns-in_err-get_or_insert-clause-apart
+returns-in_err-get_or_insert-clause-apart g c = block_got_apart g.S.Storage.view c.args.storage.now c.get_or_insert.new.store c.args.self.now c.get_or_insert.new.self c.get_or_insert.ensures.others c.get_or_insert.ensures.distinct false c.args.cluster c.get_or_insert.result (λ flush. never flush) c.get_or_insert.ensures.hit c.get_or_insert.ensures.miss
+
+pub returns-then-branch-clause-apart : goal.returns-then-branch-clause-apart
+returns-then-branch-clause-apart g c = block_got_apart g.S.Storage.view c.args.storage.now c.get_or_insert.new.store c.args.self.now c.get_or_insert.new.self c.get_or_insert.ensures.others c.get_or_insert.ensures.distinct false c.args.cluster c.get_or_insert.result (λ flush. never flush) c.get_or_insert.ensures.hit c.get_or_insert.ensures.miss
+
+pub returns-in_err-before_rb-clause-apart : goal.returns-in_err-before_rb-clause-apart
+returns-in_err-before_rb-clause-apart g c = apart_then refl (block_got_apart g.S.Storage.view c.args.storage.now c.get_or_insert.new.store c.args.self.now c.get_or_insert.new.self c.get_or_insert.ensures.others c.get_or_insert.ensures.distinct false c.args.cluster c.get_or_insert.result (λ flush. never flush) c.get_or_insert.ensures.hit c.get_or_insert.ensures.miss) c.before_rb.ensures.apart
+
+pub returns-in_err-get_or_insert-2-clause-apart : goal.returns-in_err-get_or_insert-2-clause-apart
+returns-in_err-get_or_insert-2-clause-apart g c = apart_then c.before_rb.ensures.order (apart_then refl (block_got_apart g.S.Storage.view c.args.storage.now c.get_or_insert.new.store c.args.self.now c.get_or_insert.new.self c.get_or_insert.ensures.others c.get_or_insert.ensures.distinct false c.args.cluster c.get_or_insert.result (λ flush. never flush) c.get_or_insert.ensures.hit c.get_or_insert.ensures.miss) c.before_rb.ensures.apart) (block_got_apart g.S.Storage.view c.before_rb.new.storage c.get_or_insert-2.new.store c.before_rb.new.self c.get_or_insert-2.new.self c.get_or_insert-2.ensures.others c.get_or_insert-2.ensures.distinct true c.args.cluster c.get_or_insert-2.result (λ _. c.in_ok-before_rb.ensures.first) c.get_or_insert-2.ensures.hit c.get_or_insert-2.ensures.miss)
+
+pub returns-clause-apart : goal.returns-clause-apart
+returns-clause-apart g c = apart_then c.before_rb.ensures.order (apart_then refl (block_got_apart g.S.Storage.view c.args.storage.now c.get_or_insert.new.store c.args.self.now c.get_or_insert.new.self c.get_or_insert.ensures.others c.get_or_insert.ensures.distinct false c.args.cluster c.get_or_insert.result (λ flush. never flush) c.get_or_insert.ensures.hit c.get_or_insert.ensures.miss) c.before_rb.ensures.apart) (block_got_apart g.S.Storage.view c.before_rb.new.storage c.get_or_insert-2.new.store c.before_rb.new.self c.get_or_insert-2.new.self c.get_or_insert-2.ensures.others c.get_or_insert-2.ensures.distinct true c.args.cluster c.get_or_insert-2.result (λ _. c.in_ok-before_rb.ensures.first) c.get_or_insert-2.ensures.hit c.get_or_insert-2.ensures.miss)

@@ -13,6 +13,8 @@ use Rattle.qcow2_alloc.specs.TableChanges.{changed_block}
 use Rattle.qcow2_alloc.proofs.KeptTables.Inserting.{if_some}
 use Rattle.qcow2_alloc.proofs.KeptTables.OneChanged.{one_changed}
 use Rattle.qcow2_alloc.proofs.KeptTables.BehindHeader.{set_behind, noted_behind}
+use Rattle.std.proofs.Common.{true}
+use Rattle.qcow2_alloc.proofs.KeptTables.ApartChanges.{block_changed_apart}
 use Rattle.qcow2_alloc.proofs.cache.MetadataCaches.rb_increment.Goals as goal
 use Rattle.qcow2_alloc.proofs.cache.MetadataCaches.rb_increment.Goals.{then-index-counts-via-then-index-counts, then-index-counts-via-else-index-counts+then-not-increment}
 
@@ -63,7 +65,7 @@ returns-then-index-counts-clause-made g c = λ h p on_storage k sound at there c
 
 pub returns-clause-marks : goal.returns-clause-marks
 returns-clause-marks g c =
-    marks_noted c.args.self.now (record c.args.self.now { rb = with_entries c.args.self.now.rb (set_at (eqb c.args.cluster) c.args.self.now.rb.entries c.increment.new.self) })
+    marks_noted c.args.self.now (record c.args.self.now { rb = with_entries c.args.self.now.rb (set_at (eqb c.args.cluster) c.args.self.now.rb.entries c.increment.new.self) }) c.one_more-self.result c.one_more-self.ensures
     (marks_blocks c.args.self.now (with_entries c.args.self.now.rb (set_at (eqb c.args.cluster) c.args.self.now.rb.entries c.increment.new.self)) refl (set_keeps_pins c.args.cluster c.args.self.now.rb.entries c.increment.new.self))
 
 pub returns-clause-counts : goal.returns-clause-counts
@@ -87,4 +89,16 @@ returns-then-index-counts-clause-header_cluster g c = elim c.then-index-counts.b
 ]
 
 pub returns-clause-header_cluster : goal.returns-clause-header_cluster
-returns-clause-header_cluster g c = noted_behind c.args.self.now (record c.args.self.now { rb = with_entries c.args.self.now.rb (set_at (eqb c.args.cluster) c.args.self.now.rb.entries c.increment.new.self) }) (set_behind c.args.self.now c.args.cluster c.increment.new.self)
+returns-clause-header_cluster g c = noted_behind c.args.self.now (record c.args.self.now { rb = with_entries c.args.self.now.rb (set_at (eqb c.args.cluster) c.args.self.now.rb.entries c.increment.new.self) }) c.one_more-self.result (set_behind c.args.self.now c.args.cluster c.increment.new.self)
+
+pub returns-clause-noted : goal.returns-clause-noted
+returns-clause-noted g c = λ _. c.one_more-self.ensures
+
+pub returns-then-index-counts-clause-apart : goal.returns-then-index-counts-clause-apart
+returns-then-index-counts-clause-apart g c = elim c.then-index-counts.branch [
+  | then-index-counts-via-then-index-counts w ↦ rw w.self-is (block_changed_apart c.args.self.now c.args.cluster c.args.self.now.is_changed c.args.self.now.changes c.in-Some.block.now c.peek_mut.ensures.distinct)
+  | then-index-counts-via-else-index-counts+then-not-increment w ↦ rw w.self-is (block_changed_apart c.args.self.now c.args.cluster c.args.self.now.is_changed c.args.self.now.changes w.increment.new.self c.peek_mut.ensures.distinct)
+]
+
+pub returns-clause-apart : goal.returns-clause-apart
+returns-clause-apart g c = block_changed_apart c.args.self.now c.args.cluster true c.one_more-self.result c.increment.new.self c.peek_mut.ensures.distinct

@@ -26,6 +26,7 @@ use Rattle.qcow2_alloc.proofs.Faults.{told_ok, told_on, told_since, cache_told, 
 use Rattle.qcow2_alloc.proofs.Outcomes.{never}
 use Rattle.qcow2_alloc.proofs.KeptTables.BehindHeader.{block_put_behind, caches_then}
 use Rattle.qcow2_alloc.specs.KeptNotes.{kept_then}
+use Rattle.qcow2_alloc.proofs.KeptTables.ApartCalls.{apart_then, block_kept_apart, block_put_apart, blocks_under_then}
 use Rattle.qcow2_alloc.proofs.cache.MetadataCaches.rb_insert.Goals as goal
 
 pub returns-in_err-insert-clause-keeps : goal.returns-in_err-insert-clause-keeps
@@ -226,26 +227,26 @@ returns-in_err-insert-clause-storage_faults g c =
     (rb_put_tells g.S.Storage.view c.args.self.now.rb.backend.header.fields c.args.self.now.rb.size false c.in-Some.cluster c.args.storage.now c.insert.new.store c.args.self.now.rb.entries c.insert.new.self.entries c.insert.result (Some c.args.block) c.insert.new.value _ c.insert.ensures.nothing c.insert.ensures.there c.insert.ensures.missing) c.in_err-insert.was c.from_residual.ensures
 
 pub returns-then-branch-clause-storage_faults : goal.returns-then-branch-clause-storage_faults
-returns-then-branch-clause-storage_faults g c = told_ok (faults_of g.S.Storage.view c.args.storage.now) (faults_of g.S.Storage.view c.insert.new.store) tt (rb_put_tells g.S.Storage.view c.args.self.now.rb.backend.header.fields c.args.self.now.rb.size false c.in-Some.cluster c.args.storage.now c.insert.new.store c.args.self.now.rb.entries c.insert.new.self.entries c.insert.result (Some c.args.block) c.insert.new.value _ c.insert.ensures.nothing c.insert.ensures.there c.insert.ensures.missing).no_fewer
+returns-then-branch-clause-storage_faults g c = told_ok (faults_of g.S.Storage.view c.args.storage.now) (faults_of g.S.Storage.view c.insert.new.store) tt ((rb_put_tells g.S.Storage.view c.args.self.now.rb.backend.header.fields c.args.self.now.rb.size false c.in-Some.cluster c.args.storage.now c.insert.new.store c.args.self.now.rb.entries c.insert.new.self.entries c.insert.result (Some c.args.block) c.insert.new.value _ c.insert.ensures.nothing c.insert.ensures.there c.insert.ensures.missing).same _ c.in_ok-insert.was)
 
 pub returns-in_err-before_rb-clause-storage_faults : goal.returns-in_err-before_rb-clause-storage_faults
 returns-in_err-before_rb-clause-storage_faults g c =
     let one = rb_put_tells g.S.Storage.view c.args.self.now.rb.backend.header.fields c.args.self.now.rb.size false c.in-Some.cluster c.args.storage.now c.insert.new.store c.args.self.now.rb.entries c.insert.new.self.entries c.insert.result (Some c.args.block) c.insert.new.value _ c.insert.ensures.nothing c.insert.ensures.there c.insert.ensures.missing in
-    told_since (faults_of g.S.Storage.view c.args.storage.now) (faults_of g.S.Storage.view c.insert.new.store) (faults_of g.S.Storage.view c.before_rb.new.storage) one.no_fewer
+    told_since (faults_of g.S.Storage.view c.args.storage.now) (faults_of g.S.Storage.view c.insert.new.store) (faults_of g.S.Storage.view c.before_rb.new.storage) (one.same _ c.in_ok-insert.was)
     (told_on (faults_of g.S.Storage.view c.insert.new.store) (faults_of g.S.Storage.view c.before_rb.new.storage) c.before_rb.result c.in_err-before_rb.field-0.0 c.from_residual-in_err-before_rb.result c.before_rb.ensures.storage_faults c.in_err-before_rb.was c.from_residual-in_err-before_rb.ensures)
 
 pub returns-in_err-insert-2-clause-storage_faults : goal.returns-in_err-insert-2-clause-storage_faults
 returns-in_err-insert-2-clause-storage_faults g c =
     let one = rb_put_tells g.S.Storage.view c.args.self.now.rb.backend.header.fields c.args.self.now.rb.size false c.in-Some.cluster c.args.storage.now c.insert.new.store c.args.self.now.rb.entries c.insert.new.self.entries c.insert.result (Some c.args.block) c.insert.new.value _ c.insert.ensures.nothing c.insert.ensures.there c.insert.ensures.missing in
     let two = rb_put_tells g.S.Storage.view c.before_rb.new.self.rb.backend.header.fields c.before_rb.new.self.rb.size true c.in-Some.cluster c.before_rb.new.storage c.insert-2.new.store c.before_rb.new.self.rb.entries c.insert-2.new.self.entries c.insert-2.result c.insert.new.value c.insert-2.new.value _ c.insert-2.ensures.nothing c.insert-2.ensures.there c.insert-2.ensures.missing in
-    told_since (faults_of g.S.Storage.view c.args.storage.now) (faults_of g.S.Storage.view c.before_rb.new.storage) (faults_of g.S.Storage.view c.insert-2.new.store) (omega (arith, one.no_fewer, c.before_rb.ensures.storage_faults.no_fewer))
+    told_since (faults_of g.S.Storage.view c.args.storage.now) (faults_of g.S.Storage.view c.before_rb.new.storage) (faults_of g.S.Storage.view c.insert-2.new.store) (c.in_ok-before_rb.ensures.storage_faults.told ∙ one.same _ c.in_ok-insert.was)
     (cache_told (faults_of g.S.Storage.view c.before_rb.new.storage) (faults_of g.S.Storage.view c.insert-2.new.store) c.insert-2.result c.in_err-insert-2.field-0.0 c.from_residual-in_err-insert-2.result two c.in_err-insert-2.was c.from_residual-in_err-insert-2.ensures)
 
 pub returns-clause-storage_faults : goal.returns-clause-storage_faults
 returns-clause-storage_faults g c =
     let one = rb_put_tells g.S.Storage.view c.args.self.now.rb.backend.header.fields c.args.self.now.rb.size false c.in-Some.cluster c.args.storage.now c.insert.new.store c.args.self.now.rb.entries c.insert.new.self.entries c.insert.result (Some c.args.block) c.insert.new.value _ c.insert.ensures.nothing c.insert.ensures.there c.insert.ensures.missing in
     let two = rb_put_tells g.S.Storage.view c.before_rb.new.self.rb.backend.header.fields c.before_rb.new.self.rb.size true c.in-Some.cluster c.before_rb.new.storage c.insert-2.new.store c.before_rb.new.self.rb.entries c.insert-2.new.self.entries c.insert-2.result c.insert.new.value c.insert-2.new.value _ c.insert-2.ensures.nothing c.insert-2.ensures.there c.insert-2.ensures.missing in
-    told_ok (faults_of g.S.Storage.view c.args.storage.now) (faults_of g.S.Storage.view c.insert-2.new.store) tt (omega (arith, one.no_fewer, c.before_rb.ensures.storage_faults.no_fewer, two.no_fewer))
+    told_ok (faults_of g.S.Storage.view c.args.storage.now) (faults_of g.S.Storage.view c.insert-2.new.store) tt (two.same _ c.in_ok-insert-2.was ∙ (c.in_ok-before_rb.ensures.storage_faults.told ∙ one.same _ c.in_ok-insert.was))
 
 pub returns-in_err-insert-clause-header_cluster : goal.returns-in_err-insert-clause-header_cluster
 returns-in_err-insert-clause-header_cluster g c = if_some _ c.args.block.cluster c.in-Some.cluster (sym c.get_cluster.ensures.value ∙ c.in-Some.is) (λ above. block_put_behind g.S.Storage.view c.args.storage.now c.insert.new.store c.args.self.now false c.in-Some.cluster above c.insert.new.self c.args.block (Some c.args.block) c.insert.new.value c.insert.result refl c.insert.ensures.others c.insert.ensures.stays c.insert.ensures.there c.insert.ensures.missing)
@@ -263,16 +264,32 @@ pub returns-clause-header_cluster : goal.returns-clause-header_cluster
 returns-clause-header_cluster g c = if_some _ c.args.block.cluster c.in-Some.cluster (sym c.get_cluster.ensures.value ∙ c.in-Some.is) (λ above. caches_then (caches_then (block_put_behind g.S.Storage.view c.args.storage.now c.insert.new.store c.args.self.now false c.in-Some.cluster above c.insert.new.self c.args.block (Some c.args.block) c.insert.new.value c.insert.result refl c.insert.ensures.others c.insert.ensures.stays c.insert.ensures.there c.insert.ensures.missing) c.before_rb.ensures.header_cluster) (block_put_behind g.S.Storage.view c.before_rb.new.storage c.insert-2.new.store c.before_rb.new.self true c.in-Some.cluster above c.insert-2.new.self c.args.block c.insert.new.value c.insert-2.new.value c.insert-2.result ((rb_taken g.S.Storage.view c.args.storage.now c.insert.new.store c.args.self.now false c.in-Some.cluster c.insert.new.self c.insert.ensures.others c.args.block (Some c.args.block) c.insert.new.value refl c.insert.result c.insert.ensures.there c.insert.ensures.missing).kept (c.in_ok-insert.was ∙ ap Ok c.if-branch.false)) c.insert-2.ensures.others c.insert-2.ensures.stays c.insert-2.ensures.there c.insert-2.ensures.missing))
 
 pub returns-in_err-insert-clause-notes : goal.returns-in_err-insert-clause-notes
-returns-in_err-insert-clause-notes g c = c.insert.ensures.keeps
+returns-in_err-insert-clause-notes g c = c.insert.ensures.keeps.0
 
 pub returns-then-branch-clause-notes : goal.returns-then-branch-clause-notes
-returns-then-branch-clause-notes g c = c.insert.ensures.keeps
+returns-then-branch-clause-notes g c = c.insert.ensures.keeps.0
 
 pub returns-in_err-before_rb-clause-notes : goal.returns-in_err-before_rb-clause-notes
-returns-in_err-before_rb-clause-notes g c = kept_then _ _ _ c.insert.ensures.keeps c.before_rb.ensures.notes
+returns-in_err-before_rb-clause-notes g c = kept_then _ _ _ c.insert.ensures.keeps.0 c.before_rb.ensures.notes
 
 pub returns-in_err-insert-2-clause-notes : goal.returns-in_err-insert-2-clause-notes
-returns-in_err-insert-2-clause-notes g c = kept_then _ _ _ (kept_then _ _ _ c.insert.ensures.keeps c.before_rb.ensures.notes) c.insert-2.ensures.keeps
+returns-in_err-insert-2-clause-notes g c = kept_then _ _ _ (kept_then _ _ _ c.insert.ensures.keeps.0 c.before_rb.ensures.notes) c.insert-2.ensures.keeps.0
 
 pub returns-clause-notes : goal.returns-clause-notes
-returns-clause-notes g c = kept_then _ _ _ (kept_then _ _ _ c.insert.ensures.keeps c.before_rb.ensures.notes) c.insert-2.ensures.keeps
+returns-clause-notes g c = kept_then _ _ _ (kept_then _ _ _ c.insert.ensures.keeps.0 c.before_rb.ensures.notes) c.insert-2.ensures.keeps.0
+
+pub returns-in_err-insert-clause-apart : goal.returns-in_err-insert-clause-apart
+returns-in_err-insert-clause-apart g c = on_err c.from_residual.result (block_kept_apart g.S.Storage.view c.args.storage.now c.insert.new.store c.args.self.now c.insert.new.self c.insert.ensures.others c.insert.ensures.distinct false c.in-Some.cluster c.insert.result (λ flush. never flush) c.args.block (Some c.args.block) c.insert.new.value refl c.insert.ensures.there c.insert.ensures.missing (λ went. err_ok c.in_err-insert.was went))
+
+pub returns-then-branch-clause-laid_apart : goal.returns-then-branch-clause-laid_apart
+returns-then-branch-clause-laid_apart g c = λ h honest are. if_some _ c.args.block.cluster c.in-Some.cluster (sym c.get_cluster.ensures.value ∙ c.in-Some.is) (block_put_apart g.S.Storage.view c.args.storage.now c.insert.new.store c.args.self.now c.insert.new.self c.insert.ensures.others c.insert.ensures.distinct false c.in-Some.cluster c.insert.result (λ flush. never flush) c.args.block (Some c.args.block) c.insert.new.value refl c.insert.ensures.there c.insert.ensures.missing (c.in_ok-insert.was ∙ ap Ok c.if-branch.true) h honest are)
+
+pub returns-in_err-before_rb-clause-apart : goal.returns-in_err-before_rb-clause-apart
+returns-in_err-before_rb-clause-apart g c = on_err c.from_residual-in_err-before_rb.result (apart_then refl (block_kept_apart g.S.Storage.view c.args.storage.now c.insert.new.store c.args.self.now c.insert.new.self c.insert.ensures.others c.insert.ensures.distinct false c.in-Some.cluster c.insert.result (λ flush. never flush) c.args.block (Some c.args.block) c.insert.new.value refl c.insert.ensures.there c.insert.ensures.missing (λ went. ok_false (c.in_ok-insert.was ∙ ap Ok c.if-branch.false) went)) c.before_rb.ensures.apart)
+
+pub returns-in_err-insert-2-clause-apart : goal.returns-in_err-insert-2-clause-apart
+returns-in_err-insert-2-clause-apart g c = on_err c.from_residual-in_err-insert-2.result (apart_then c.before_rb.ensures.order (apart_then refl (block_kept_apart g.S.Storage.view c.args.storage.now c.insert.new.store c.args.self.now c.insert.new.self c.insert.ensures.others c.insert.ensures.distinct false c.in-Some.cluster c.insert.result (λ flush. never flush) c.args.block (Some c.args.block) c.insert.new.value refl c.insert.ensures.there c.insert.ensures.missing (λ went. ok_false (c.in_ok-insert.was ∙ ap Ok c.if-branch.false) went)) c.before_rb.ensures.apart) (block_kept_apart g.S.Storage.view c.before_rb.new.storage c.insert-2.new.store c.before_rb.new.self c.insert-2.new.self c.insert-2.ensures.others c.insert-2.ensures.distinct true c.in-Some.cluster c.insert-2.result (λ _. c.in_ok-before_rb.ensures.first) c.args.block c.insert.new.value c.insert-2.new.value ((rb_taken g.S.Storage.view c.args.storage.now c.insert.new.store c.args.self.now false c.in-Some.cluster c.insert.new.self c.insert.ensures.others c.args.block (Some c.args.block) c.insert.new.value refl c.insert.result c.insert.ensures.there c.insert.ensures.missing).kept (c.in_ok-insert.was ∙ ap Ok c.if-branch.false)) c.insert-2.ensures.there c.insert-2.ensures.missing (λ went. err_ok c.in_err-insert-2.was went)))
+
+pub returns-clause-laid_apart : goal.returns-clause-laid_apart
+returns-clause-laid_apart g c = λ h honest are. if_some _ c.args.block.cluster c.in-Some.cluster (sym c.get_cluster.ensures.value ∙ c.in-Some.is)
+    (blocks_under_then g.S.Storage.view c.args.storage.now c.before_rb.new.storage c.insert-2.new.store c.args.self.now c.before_rb.new.self (record c.before_rb.new.self { rb = c.insert-2.new.self }) c.in-Some.cluster c.args.block.bytes c.args.block.is_modified c.before_rb.ensures.order (apart_then refl (block_kept_apart g.S.Storage.view c.args.storage.now c.insert.new.store c.args.self.now c.insert.new.self c.insert.ensures.others c.insert.ensures.distinct false c.in-Some.cluster c.insert.result (λ flush. never flush) c.args.block (Some c.args.block) c.insert.new.value refl c.insert.ensures.there c.insert.ensures.missing (λ went. ok_false (c.in_ok-insert.was ∙ ap Ok c.if-branch.false) went)) c.before_rb.ensures.apart) (block_put_apart g.S.Storage.view c.before_rb.new.storage c.insert-2.new.store c.before_rb.new.self c.insert-2.new.self c.insert-2.ensures.others c.insert-2.ensures.distinct true c.in-Some.cluster c.insert-2.result (λ _. c.in_ok-before_rb.ensures.first) c.args.block c.insert.new.value c.insert-2.new.value ((rb_taken g.S.Storage.view c.args.storage.now c.insert.new.store c.args.self.now false c.in-Some.cluster c.insert.new.self c.insert.ensures.others c.args.block (Some c.args.block) c.insert.new.value refl c.insert.result c.insert.ensures.there c.insert.ensures.missing).kept (c.in_ok-insert.was ∙ ap Ok c.if-branch.false)) c.insert-2.ensures.there c.insert-2.ensures.missing (put_at_last c.in-Some.cluster c.args.block c.insert-2.new.self.entries c.insert-2.result c.insert-2.new.value c.in_ok-insert-2.field-0 c.in_ok-insert-2.was (rb_taken g.S.Storage.view c.before_rb.new.storage c.insert-2.new.store c.before_rb.new.self true c.in-Some.cluster c.insert-2.new.self c.insert-2.ensures.others c.args.block c.insert.new.value c.insert-2.new.value ((rb_taken g.S.Storage.view c.args.storage.now c.insert.new.store c.args.self.now false c.in-Some.cluster c.insert.new.self c.insert.ensures.others c.args.block (Some c.args.block) c.insert.new.value refl c.insert.result c.insert.ensures.there c.insert.ensures.missing).kept (c.in_ok-insert.was ∙ ap Ok c.if-branch.false)) c.insert-2.result c.insert-2.ensures.there c.insert-2.ensures.missing))) h honest are)

@@ -4,6 +4,7 @@ use Rattle.qcow2_alloc.specs.ImageStorage.{storage_of}
 use Rattle.qcow2_alloc.specs.TableCaches.{cleared_l2, IsTableOf}
 use Rattle.qcow2_alloc.proofs.TableFlush.{write_fails}
 use Rattle.qcow2_alloc.proofs.KeptNotes.{kept_told, write_kept}
+use Rattle.qcow2_alloc.proofs.MetFaults.{met_written}
 use Rattle.qcow2_alloc.proofs.cache.backends.L2CacheBackendAsyncLruCacheBackend.flush.Goals as goal
 
 pub returns-in-Err-clause-err : goal.returns-in-Err-clause-err
@@ -19,10 +20,14 @@ returns-in-Err-clause-err g c =
 
 pub returns-in-Err-clause-keeps : goal.returns-in-Err-clause-keeps
 returns-in-Err-clause-keeps g c =
-    let modified : c.args.value.now.is_modified ≡ true = sym c.is_modified.ensures.value ∙ c.if-not-is_modified.false in
-    kept_told c.args.store.now c.will_write.new.self c.write_l2_table.new.self c.will_write.ensures.storage c.will_write.ensures.changed (write_kept _ _ c.write_l2_table.result _ (c.write_l2_table.ensures.written modified) c.write_l2_table.ensures.calls (c.write_l2_table.ensures.noted modified))
+    let modified : c.args.value.now.is_modified ≡ true = sym c.is_modified.ensures.value ∙ c.if-not-is_modified.false in (
+      kept_told c.args.store.now c.will_write.new.self c.write_l2_table.new.self c.will_write.ensures.storage c.will_write.ensures.changed (write_kept _ _ c.write_l2_table.result _ (c.write_l2_table.ensures.written modified) c.write_l2_table.ensures.calls (c.write_l2_table.ensures.noted modified)),
+      met_written c.args.store.now c.will_write.new.self c.write_l2_table.new.self c.write_l2_table.result c.will_write.ensures.storage c.will_write.ensures.faults c.write_l2_table.ensures.calls.cause (c.write_l2_table.ensures.faults modified),
+    )
 
 pub returns-in-Ok-clause-keeps : goal.returns-in-Ok-clause-keeps
 returns-in-Ok-clause-keeps g c =
-    let modified : c.args.value.now.is_modified ≡ true = sym c.is_modified.ensures.value ∙ c.if-not-is_modified.false in
-    kept_told c.args.store.now c.will_write.new.self c.write_l2_table.new.self c.will_write.ensures.storage c.will_write.ensures.changed (write_kept _ _ c.write_l2_table.result _ (c.write_l2_table.ensures.written modified) c.write_l2_table.ensures.calls (c.write_l2_table.ensures.noted modified))
+    let modified : c.args.value.now.is_modified ≡ true = sym c.is_modified.ensures.value ∙ c.if-not-is_modified.false in (
+      kept_told c.args.store.now c.will_write.new.self c.write_l2_table.new.self c.will_write.ensures.storage c.will_write.ensures.changed (write_kept _ _ c.write_l2_table.result _ (c.write_l2_table.ensures.written modified) c.write_l2_table.ensures.calls (c.write_l2_table.ensures.noted modified)),
+      met_written c.args.store.now c.will_write.new.self c.write_l2_table.new.self c.write_l2_table.result c.will_write.ensures.storage c.will_write.ensures.faults c.write_l2_table.ensures.calls.cause (c.write_l2_table.ensures.faults modified),
+    )
