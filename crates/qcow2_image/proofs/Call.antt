@@ -11,3 +11,5 @@ pub mod Slots
 pub mod OnceWritten
 pub mod Notes
 pub mod BehindHeader
+pub mod FreedBehind
+pub mod Unlimited

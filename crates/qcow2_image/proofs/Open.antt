@@ -6,3 +6,4 @@ pub mod HeaderKept
 pub mod Probing
 pub mod Reftables
 pub mod Left
+pub mod NamedBehind

@@ -5,3 +5,4 @@ pub mod Filled
 pub mod Piece
 pub mod Turns
 pub mod Grown
+pub mod FreedBehind

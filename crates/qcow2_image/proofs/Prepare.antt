@@ -21,3 +21,5 @@ pub mod Onward
 pub mod KeptShares
 pub mod Listing
 pub mod FarEntries
+pub mod InUse
+pub mod Pinned

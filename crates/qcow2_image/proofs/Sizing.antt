@@ -8,4 +8,4 @@ pub mod ShrinkCalls
 pub mod Growing
 pub mod GrowCalls
 pub mod GrownTables
-pub mod IdleTurns
+pub mod CountedTurns

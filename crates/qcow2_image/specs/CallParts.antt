@@ -17,7 +17,7 @@ use Rattle.qcow2_alloc.specs.ImageFile.{view_in, known_in}
 use Rattle.qcow2_image.specs.declared.image.Qcow2.{Qcow2}
 use Rattle.qcow2_image.specs.declared.prepared.Prepared.{Prepared}
 use Rattle.qcow2_image.specs.Calls.{refusal_of, all_given_by_put}
-use Rattle.qcow2_image.specs.Image.{is_failed}
+use Rattle.qcow2_image.specs.Image.{is_failed, has_noted_change}
 use Rattle.qcow2_image.specs.ImageInvariant.{meaning, pending_in, abstract_of, ImageInvariant}
 use Rattle.qcow2_image.specs.MovedTables.{MovesTables, CoversStay}
 
@@ -113,7 +113,7 @@ module _ {S F : Type 0} (view : S → StorageView) where
     -- A fault, or want of memory after a change: once the image is marked as failed, a stop is as safe as before.
     pub record InterruptedCall (old new : Qcow2 S F) (out : List (Option Prepared)) (e : ImageError) : Type 0 where
       pub fault : IsFaultOfTables e
-      pub noted : e ≡ I.Memory → IsTrue new.file.caches.is_changed
+      pub noted : e ≡ I.Memory → IsTrue (has_noted_change new)
       pub works : EffectOnSound (abstract_of view backing old out) (abstract_of view backing (record new { is_failed = true }) out) [] []
 
     -- what a refused part leaves

@@ -1,10 +1,10 @@
 -- What a contract sees of an open image.
-use Rattle.std.specs.Prelude.{◌≡◌, ◌||◌, ℕ, Bool, false, [], is_some}
+use Rattle.std.specs.Prelude.{◌≡◌, ℕ, Bool, false, [], is_some}
 use Rattle.std.specs.Option.{option_map_or}
 use Rattle.qcow2_metadata.specs.Header.{has_data_file}
 use Rattle.qcow2_alloc.specs.declared.allocation.Allocator.{Allocator}
-use Rattle.qcow2_alloc.specs.ImageFile.{KeepsHeader}
-use Rattle.qcow2_alloc.specs.ImageStorage.{is_changed_of, storage_of}
+use Rattle.qcow2_alloc.specs.ImageFile.{KeepsHeader, has_noted}
+use Rattle.qcow2_alloc.specs.ImageStorage.{changes_of, is_changed_of, storage_of}
 use Rattle.qcow2_image.specs.declared.image.Qcow2.{Qcow2}
 
 module _ {S F : Type 0} where
@@ -22,7 +22,7 @@ module _ {S F : Type 0} where
 
   -- since the call began, a change of a table, of a count or of the storage was noted
   abbrev pub has_noted_change : Qcow2 S F → Bool
-  has_noted_change image = is_changed_of image.file.storage || image.file.caches.is_changed
+  has_noted_change image = has_noted image.file
 
   -- the same image, with other marks: whether the storage noted a change, and whether it is failed
   abbrev pub with_marks : Qcow2 S F → (noted failed : Bool) → Qcow2 S F
@@ -64,6 +64,7 @@ module _ {S F : Type 0} where
   pub record IsBegun (old new : Qcow2 S F) : Type 0 where
     pub storage : storage_of_image new ≡ storage_of_image old
     pub unnoted : is_changed_of new.file.storage ≡ false
+    pub counts : changes_of new.file.storage ≡ changes_of old.file.storage
     pub caches : new.file.caches ≡ record old.file.caches { is_changed = false }
     pub rest : new ≡ record old { file = record old.file { storage = new.file.storage; caches = new.file.caches } }
 

@@ -37,18 +37,14 @@ module _ {S F : Type 0} where
   abbrev pub NeedsFarEntry : Qcow2 S F → ℕ → Type 0
   NeedsFarEntry image offset = HasFarEntry image offset × ¬ HasOwnTable image offset
 
-  -- Where nothing refuses the call before, and an entry so far would have to be written for an offset: it is refused 20, and nothing but its beginning changed.
-  abbrev pub RefusesFarEntry : {A : Type 0} → Option ImageError → ℕ → Qcow2 S F → Qcow2 S F → Result A ImageError → Type 0
-  RefusesFarEntry early offset old new result = early ≡ None → NeedsFarEntry old offset → (result ≡ Err Overflow) × IsBegun old new
-
   module _ (view : S → StorageView) (backing : F → BackingView) where
-    -- So it is of a preparation where no cluster is to be freed. Else it frees those that are, and is refused 20, or because a fault or want of memory refused that.
-    abbrev pub RefusesFarEntryFreeing : Option ImageError → ℕ → Qcow2 S F → Qcow2 S F → Result Prepared ImageError → Type 0
+    -- Where nothing refuses the call before, and an entry so far would have to be written for an offset: where no cluster is to be freed it is refused 20, and nothing but its beginning changed. Else it frees those that are, and is refused 20, or because a fault or want of memory refused that.
+    abbrev pub RefusesFarEntryFreeing : {A : Type 0} → Option ImageError → ℕ → Qcow2 S F → Qcow2 S F → Result A ImageError → Type 0
     RefusesFarEntryFreeing early offset old new result = early ≡ None → NeedsFarEntry old offset
         → (HasNothingToFree old → (result ≡ Err Overflow) × IsBegun old new)
         × ((out : List (Option Prepared)) → (abstract_of view backing old out).is_sound → IsErrAnd result (λ e. (e ≡ Overflow) ⊎ IsFault e))
 
-    -- so it is of a part that prepares: where no cluster is to be freed the image stays as it is
-    pub record IsRefusedAsFar (old new : Qcow2 S F) (result : Result Prepared ImageError) : Type 0 where
+    -- so it is of a part of a call: where no cluster is to be freed the image stays as it is
+    pub record IsRefusedAsFar {A : Type 0} (old new : Qcow2 S F) (result : Result A ImageError) : Type 0 where
       pub idle : HasNothingToFree old → (result ≡ Err Overflow) × (new ≡ old)
       pub told : (out : List (Option Prepared)) → ImageInvariant view backing (pending_in view backing old out) old out → IsErrAnd result (λ e. (e ≡ Overflow) ⊎ IsFault e)

@@ -25,6 +25,8 @@ pub mod Resizing
 pub mod Preallocation
 pub mod Unwritten
 pub mod L1Entries
+pub mod PinnedTables
 pub mod ListedClusters
+pub mod LowestPlaces
 pub mod Noted
 pub mod BehindHeader

@@ -1,11 +1,11 @@
 -- What stands on the list of clusters to be freed once a range is prepared.
-use Rattle.std.specs.Prelude.{ℕ, ◌≡◌, ◌⊎◌, Option, Some, Result, Ok, Err}
+use Rattle.std.specs.Prelude.{ℕ, ◌≡◌, ◌⊎◌, ◌++◌, List, [], Option, Some, Result, Ok, Err}
 use Rattle.qcow2_alloc.specs.declared.allocation.Allocator.{Allocator}
+use Rattle.qcow2_alloc.specs.declared.clusters_to_free.ClustersToFreeEntry.{ClustersToFreeEntry}
 use Rattle.qcow2_alloc.specs.declared.error.ImageError.{ImageError}
 use Rattle.qcow2_alloc.specs.FreeList.{ListsReftables}
 use Rattle.qcow2_image.specs.declared.image.Qcow2.{Qcow2}
 use Rattle.qcow2_image.specs.declared.prepared.Prepared.{Prepared}
-use Rattle.qcow2_image.specs.Image.{HasNothingToFree}
 use Rattle.qcow2_image.specs.L1Entries.{HasOwnTable, ReachesOffset}
 use Rattle.qcow2_image.specs.Refusals.{FreesRefused}
 
@@ -23,17 +23,34 @@ module _ {S F : Type 0} where
     pub is : new.allocator ≡ Some after
     pub behind : ListsReftables before.reftable after.reftable old.file.free_list new.file.free_list
 
-  -- the image had an L2 table of its own for an offset, and the list stays as it is; or all that was listed is freed
-  abbrev pub KeepsListOrFrees : ℕ → Qcow2 S F → Qcow2 S F → Type 0
-  KeepsListOrFrees offset old new = (HasOwnTable old offset × KeepsList old new) ⊎ HasNothingToFree new
+  -- the allocator's reftable stays as it is
+  abbrev pub KeepsReftable : Qcow2 S F → Qcow2 S F → Type 0
+  KeepsReftable old new = (before : Allocator) → old.allocator ≡ Some before → (after : Allocator) × (new.allocator ≡ Some after) × (after.reftable ≡ before.reftable)
+
+  -- reftables gave way meanwhile, one after the other, and just these entries are for their clusters
+  pub record GaveWayMeanwhile (went : List ClustersToFreeEntry) (old new : Qcow2 S F) : Type 0 where
+    pub before : Allocator
+    pub after : Allocator
+    pub was : old.allocator ≡ Some before
+    pub is : new.allocator ≡ Some after
+    pub gone : ListsReftables before.reftable after.reftable [] went
+
+  -- so it is for some entries, which may be none
+  abbrev pub SomeGaveWay : Qcow2 S F → Qcow2 S F → Type 0
+  SomeGaveWay old new = (went : List ClustersToFreeEntry) × GaveWayMeanwhile went old new
+
+  -- What is listed once the L2 table of an offset was needed. Where the image had that table as its own, the list is as before; else all that was listed is freed, and so are the clusters of the reftables that gave way by then.
+  -- Behind that are the clusters of the reftables that gave way since, and nothing else.
+  pub record ListsSinceTable (offset : ℕ) (old new : Qcow2 S F) : Type 0 where
+    pub freed : List ClustersToFreeEntry
+    pub more : List ClustersToFreeEntry
+    pub gone : GaveWayMeanwhile (freed ++ more) old new
+    pub list : (HasOwnTable old offset × (freed ≡ []) × (new.file.free_list ≡ old.file.free_list ++ more)) ⊎ (¬ HasOwnTable old offset × (new.file.free_list ≡ more))
 
   -- What an answered preparation leaves beside its mapping. The L1 table is as long as before, or reaches the offset.
-  -- Once the L2 table is held the list is as before, where the image had that table as its own, and else empty. Then the clusters of reftables that give way are listed, and nothing else.
   pub record PreparesTable (offset : ℕ) (old new : Qcow2 S F) : Type 0 where
     pub reaches : ReachesOffset offset old.file.header.fields new.file.header.fields
-    pub held : Qcow2 S F
-    pub freed : KeepsListOrFrees offset old held
-    pub since : ListsFormer held new
+    pub lists : ListsSinceTable offset old new
 
   -- so does an answered one; a refused one leaves nothing, but after a fault and under another mapping
   abbrev pub PreparesList : ℕ → Qcow2 S F → Qcow2 S F → Result Prepared ImageError → Type 0

@@ -1,5 +1,5 @@
--- What want of memory leaves of the storage.
-use Rattle.std.specs.Prelude.{◌≡◌, Result, IfErr, IsErrOf, IsTrue}
+-- What want of memory leaves of an image, and what a call counts of changes.
+use Rattle.std.specs.Prelude.{◌≡◌, ◌⊎◌, ◌<◌, ◌≤◌, Result, IfErr, IsErrOf, IsTrue}
 use Rattle.image_access.specs.Moments.{StorageView, ContentsStay}
 use Rattle.qcow2_alloc.specs.declared.error.ImageError.{ImageError}
 use Rattle.qcow2_alloc.specs.declared.error.ImageError.TheVariants.{Memory}
@@ -7,18 +7,48 @@ use Rattle.qcow2_alloc.specs.ImageFile.{view_in}
 use Rattle.qcow2_image.specs.declared.image.Qcow2.{Qcow2}
 use Rattle.qcow2_image.specs.declared.prepared.CommitRefused.{CommitRefused}
 use Rattle.qcow2_image.specs.Calls.{reason_of}
-use Rattle.qcow2_alloc.specs.ImageStorage.{is_changed_of}
-use Rattle.qcow2_image.specs.Image.{is_failed}
+use Rattle.qcow2_alloc.specs.ImageStorage.{changes_of}
+use Rattle.qcow2_alloc.specs.KeptMarks.{HaveRisen, changes_in}
+use Rattle.qcow2_image.specs.Image.{has_noted_change, is_failed}
 
--- Where want of memory refuses a call and the image hasn't failed, the storage has the contents that it had: a change of them would have been noted.
+module _ {S F : Type 0} where
+  -- a change of the storage, of a table or of a count was counted: one of their numbers rose, or stood at the greatest u64
+  abbrev pub ChangesRose : Qcow2 S F → Qcow2 S F → Type 0
+  ChangesRose old new = HaveRisen (changes_in old.file) new.file
+
+  -- one of the numbers is higher
+  abbrev pub HasMoreChanges : Qcow2 S F → Qcow2 S F → Type 0
+  HasMoreChanges old new = (changes_of old.file.storage < changes_of new.file.storage) ⊎ (old.file.caches.changes < new.file.caches.changes)
+
+  -- none of them is lower
+  pub record NoFewerChanges (old new : Qcow2 S F) : Type 0 where
+    pub storage : changes_of old.file.storage ≤ changes_of new.file.storage
+    pub tables : old.file.caches.changes ≤ new.file.caches.changes
+
+-- What a call leaves that want of memory refused. While the image hasn't failed, the contents stayed. It failed by this call only where a change was counted in it, and wherever one was.
+pub record MarksOnceChanged {S F : Type 0} (view : S → StorageView) (old new : Qcow2 S F) : Type 0 where
+  pub contents : ¬ IsTrue (is_failed new) → ContentsStay (view_in view old.file) (view_in view new.file)
+  pub changed : IsTrue (is_failed new) → IsTrue (is_failed old) ⊎ ChangesRose old new
+  pub marked : HasMoreChanges old new → IsTrue (is_failed new)
+
 abbrev pub FailsOnceWritten : {S F A : Type 0} → (S → StorageView) → Qcow2 S F → Qcow2 S F → Result A ImageError → Type 0
-FailsOnceWritten view old new result = IsErrOf result Memory → ¬ IsTrue (is_failed new) → ContentsStay (view_in view old.file) (view_in view new.file)
+FailsOnceWritten view old new result = IsErrOf result Memory → MarksOnceChanged view old new
 
 -- so it is of a commit, whatever becomes of its mapping
 abbrev pub CommitFailsOnceWritten : {S F A : Type 0} → (S → StorageView) → Qcow2 S F → Qcow2 S F → Result A CommitRefused → Type 0
-CommitFailsOnceWritten view old new result = IfErr result (λ refused. reason_of refused ≡ Memory → ¬ IsTrue (is_failed new) → ContentsStay (view_in view old.file) (view_in view new.file))
+CommitFailsOnceWritten view old new result = IfErr result (λ refused. reason_of refused ≡ Memory → MarksOnceChanged view old new)
 
--- A call notes what it changes: an honest storage stays honest, and where no change is noted at the end, the contents stayed.
-pub record NotesChanges {S F : Type 0} (view : S → StorageView) (old new : Qcow2 S F) : Type 0 where
-  pub honest : (view_in view old.file).is_honest → (view_in view new.file).is_honest
-  pub contents : ¬ IsTrue (is_changed_of new.file.storage) → ContentsStay (view_in view old.file) (view_in view new.file)
+module _ {S F : Type 0} (view : S → StorageView) (old new : Qcow2 S F) where
+  -- A call notes and counts what it changes: an honest storage stays honest, what is noted in it was counted, and where nothing was counted the contents stayed.
+  pub record NotesChanges : Type 0 where
+    pub honest : (view_in view old.file).is_honest → (view_in view new.file).is_honest
+    pub no_fewer : NoFewerChanges old new
+    pub why : IsTrue (has_noted_change new) → ChangesRose old new
+    pub contents : ¬ ChangesRose old new → ContentsStay (view_in view old.file) (view_in view new.file)
+
+  -- so does a part of a call, before which no change may have been noted
+  pub record NotesPart : Type 0 where
+    pub honest : (view_in view old.file).is_honest → (view_in view new.file).is_honest
+    pub no_fewer : NoFewerChanges old new
+    pub why : IsTrue (has_noted_change new) → IsTrue (has_noted_change old) ⊎ ChangesRose old new
+    pub contents : ¬ IsTrue (has_noted_change old) → ¬ ChangesRose old new → ContentsStay (view_in view old.file) (view_in view new.file)

@@ -1,5 +1,5 @@
 -- What opening an image gives: its header and its tables as they stand on the storage, and nothing modified.
-use Rattle.std.specs.Prelude.{ℕ, ◌≡◌, ◌==◌, ◌⊎◌, ◌&&◌, ◌||◌, Bool, not, true, IfSome, List, [], MatchResult, Option, Result, Ok, Err, if◌then◌else◌}
+use Rattle.std.specs.Prelude.{ℕ, ◌≡◌, ◌==◌, ◌⊎◌, ◌&&◌, ◌||◌, Bool, not, false, true, IfSome, List, [], MatchResult, Option, Result, Ok, Err, if◌then◌else◌}
 use Rattle.std.specs.Option.{is_some}
 use Rattle.image_access.specs.Backing.{BackingView}
 use Rattle.image_access.specs.Moments.{EachMomentSince, Rose, StorageView}
@@ -21,6 +21,8 @@ use Rattle.qcow2_alloc.specs.ImageError.{IsFault}
 use Rattle.qcow2_alloc.specs.ImageFile.{l2_pins, nothing_given, view_in, FileInvariant, HasReftable}
 use Rattle.qcow2_alloc.specs.MetadataCaches.{known_of}
 use Rattle.qcow2_alloc.specs.KeptAllocators.{IsAllocatorOf}
+use Rattle.qcow2_image.specs.declared.image.Missing.{Missing}
+use Rattle.qcow2_image.specs.declared.image.Missing.TheVariants as M
 use Rattle.qcow2_image.specs.declared.image.Qcow2.{Qcow2}
 use Rattle.qcow2_image.specs.Image.{storage_of_image}
 use Rattle.qcow2_image.specs.ImageInvariant.{abstract_of, HasL1Table}
@@ -58,11 +60,25 @@ HasNamesIn v contents = IsHeaderIn (with_fields v (header (byte_at contents))) c
 abbrev pub needs_another : HeaderView → Bool
 needs_another v = has_data_file v.fields || is_some v.data_file_name || is_some v.backing_name
 
--- the header that stands in these contents needs another file
-pub record NeedsAnother (contents : List ℕ) : Type 0 where
+-- it needs one of the files that are missing as it is opened
+abbrev pub needs_missing : Missing → HeaderView → Bool
+needs_missing M.Nothing v = false
+needs_missing M.DataFile v = has_data_file v.fields
+needs_missing M.OtherFiles v = needs_another v
+
+-- the header that stands in these contents needs a file that is missing
+pub record NeedsMissing (missing : Missing) (contents : List ℕ) : Type 0 where
   pub header : HeaderView
   pub stands : IsHeaderIn header contents
-  pub needs : needs_another header ≡ true
+  pub needs : needs_missing missing header ≡ true
+
+-- it says that the data stand in another file
+abbrev pub NeedsDataFile : List ℕ → Type 0
+NeedsDataFile contents = NeedsMissing M.DataFile contents
+
+-- it needs another file
+abbrev pub NeedsAnother : List ℕ → Type 0
+NeedsAnother contents = NeedsMissing M.OtherFiles contents
 
 -- refused 12, but for an offset of a table, a fault and want of memory, which are met before
 abbrev pub IsRefusedAlone : {S F : Type 0} → Result (Qcow2 S F) (S × ImageError) → Type 0

@@ -21,7 +21,7 @@ use Rattle.qcow2_image.specs.declared.preallocation.ZeroWrites.TheVariants.{Shor
 use Rattle.qcow2_image.specs.declared.prepared.Prepared.{Prepared}
 use Rattle.qcow2_image.specs.CallParts.{AreCopied, StaysBeside}
 use Rattle.qcow2_image.specs.Clearing.{IsUnderMapping, setting_of}
-use Rattle.qcow2_image.specs.Image.{size_of}
+use Rattle.qcow2_image.specs.Image.{size_of, has_noted_change}
 use Rattle.qcow2_image.specs.ImageInvariant.{ImageInvariant, abstract_of, disk_of, meaning, pending_in}
 use Rattle.qcow2_image.specs.L1Entries.{StaysAsLong}
 use Rattle.qcow2_image.specs.MovedTables.{CoversStay, MovesTables}
@@ -84,7 +84,7 @@ module _ {S F : Type 0} (view : S → StorageView) (backing : F → BackingView)
   -- or it broke off: once the image is marked as failed, a stop is as safe as before, but that these values were given
   pub record InterruptedGiving (given : List GivenBytes) (old new : Qcow2 S F) (out : List (Option Prepared)) (e : ImageError) : Type 0 where
     pub fault : IsFaultOfTables e
-    pub noted : e ≡ I.Memory → IsTrue new.file.caches.is_changed
+    pub noted : e ≡ I.Memory → IsTrue (has_noted_change new)
     pub works : EffectOnSound (abstract_of view backing old out) (abstract_of view backing (record new { is_failed = true }) out) given []
 
   -- a refused part: one or the other, and that a table is prepared only where one of the range is

@@ -1,5 +1,5 @@
 -- How a prepared range goes on behind its first cluster.
-use Rattle.std.specs.Prelude.{Bool, true, false, ℕ, ◌+◌, ◌-◌, ◌*◌, ◌/◌, ◌%◌, ◌<◌, ◌≤◌, ◌≡◌, ◌≢◌, ◌⊎◌, ◌&&◌, List, [], ◌∷◌, ◌++◌, length, min, Option, Some, None, Result, Ok, Err, IsTrue, slice_set, vec_capacity}
+use Rattle.std.specs.Prelude.{Bool, true, false, ℕ, ◌+◌, ◌-◌, ◌*◌, ◌/◌, ◌%◌, ◌<◌, ◌≤◌, ◌≡◌, ◌≢◌, ◌⊎◌, ◌&&◌, List, [], ◌∷◌, ◌++◌, length, min, Option, Some, None, Result, Ok, Err, IsTrue, slice_get, slice_set, vec_capacity}
 use Rattle.image_access.specs.Backing.{BackingView}
 use Rattle.image_access.specs.Moments.{StorageView}
 use Rattle.qcow2_metadata.specs.Bytes.{Bytes, is_within}
@@ -64,12 +64,13 @@ module _ (h : HeaderFields) where
     pub shares : q.shares.items ≡ p.shares.items ++ share ∷ []
     pub rest : q ≡ record p { length = min n (p.length + cluster_size h); shares = q.shares }
 
-  -- it begins at the same place, is as long or longer, at most as long as the range, or as it was, and ends where a cluster does if the range goes on
+  -- it begins at the same place with the same share, is as long or longer, at most as long as the range, or as it was, and ends where a cluster does if the range goes on
   pub record IsLongerMapping (n : ℕ) (p q : Prepared) : Type 0 where
     pub image : q.image ≡ p.image
     pub guest : q.guest ≡ p.guest
     pub place : q.offset ≡ p.offset
     pub under : q.table ≡ p.table
+    pub first : (share : Share) → slice_get p.shares.items 0 ≡ Some share → slice_get q.shares.items 0 ≡ Some share
     pub more : p.length ≤ q.length
     pub most : n < q.length → q.length ≡ p.length
     pub whole : q.length < n → EndsWithCluster q
@@ -91,6 +92,7 @@ module _ {S F : Type 0} (view : S → StorageView) where
     pub rest : new ≡ record old { file = record old.file { caches = new.file.caches; free_list = new.file.free_list } }
     pub known : known_in view new.file ≡ known_in view old.file
     pub changed : new.file.caches.is_changed ≡ old.file.caches.is_changed
+    pub counted : new.file.caches.changes ≡ old.file.caches.changes
 
   -- A mapping of a range of n bytes: the rest of the first cluster at least, and at most that or the range. Where it is shorter than the range, it ends for a cause. It begins in the host cluster that the first guest cluster keeps.
   pub record Reaches (image : Qcow2 S F) (offset n : ℕ) (p : Prepared) : Type 0 where

@@ -1,5 +1,5 @@
--- When an image opens, and why one is refused: by its contents alone, by whether it is to be written, and by whether it is to be opened alone.
-use Rattle.std.specs.Prelude.{ℕ, ◌≡◌, ◌⊎◌, Bool, IsTrue, List, Result, Ok, Err}
+-- When an image opens, and why one is refused: by its contents alone, by whether it is to be written, and by the files that are missing.
+use Rattle.std.specs.Prelude.{ℕ, ◌≡◌, ◌≢◌, ◌⊎◌, Bool, IsTrue, List, Result, Ok, Err}
 use Rattle.image_access.specs.Moments.{StorageView}
 use Rattle.qcow2_metadata.specs.Bytes.{Bytes, byte_at}
 use Rattle.qcow2_metadata.specs.Header.{header, HeaderReads, IsWellFormed, IsWithinLimits}
@@ -8,14 +8,16 @@ use Rattle.qcow2_metadata.specs.HeaderLoad.{HasAlignedTables}
 use Rattle.qcow2_alloc.specs.declared.error.ImageError.{ImageError}
 use Rattle.qcow2_alloc.specs.declared.error.ImageError.TheVariants as I
 use Rattle.qcow2_alloc.specs.LoadedTables.{IsReasonAgainstL1Table, IsReasonAgainstReftable, L1TableReads, ReftableReads}
+use Rattle.qcow2_image.specs.declared.image.Missing.{Missing}
+use Rattle.qcow2_image.specs.declared.image.Missing.TheVariants as M
 use Rattle.qcow2_image.specs.declared.image.Qcow2.{Qcow2}
-use Rattle.qcow2_image.specs.Opened.{NeedsAnother}
+use Rattle.qcow2_image.specs.Opened.{NeedsMissing}
 
--- The header is as opening asks for: it reads, its tables begin on clusters, and no other file is needed where the image is to be opened alone.
-pub record HeaderSuits (contents : List ℕ) (writable alone : Bool) : Type 0 where
+-- The header is as opening asks for: it reads, its tables begin on clusters, and no file is needed that is missing.
+pub record HeaderSuits (contents : List ℕ) (writable : Bool) (missing : Missing) : Type 0 where
   pub reads : HeaderReads (header (byte_at contents)) (byte_at contents)
   pub on_clusters : HasAlignedTables (header (byte_at contents)) writable
-  pub needs_none : IsTrue alone → ¬ NeedsAnother contents
+  pub needs_none : ¬ NeedsMissing missing contents
 
 -- the L1 table reads and, where the image is to be written, the reftable
 pub record NeededTablesRead (h : HeaderFields) (b : Bytes) (writable : Bool) : Type 0 where
@@ -23,8 +25,8 @@ pub record NeededTablesRead (h : HeaderFields) (b : Bytes) (writable : Bool) : T
   pub reftable : IsTrue writable → ReftableReads h b
 
 -- the contents are as opening asks for
-pub record IsReadable (contents : List ℕ) (writable alone : Bool) : Type 0 where
-  pub by_header : HeaderSuits contents writable alone
+pub record IsReadable (contents : List ℕ) (writable : Bool) (missing : Missing) : Type 0 where
+  pub by_header : HeaderSuits contents writable missing
   pub tables : NeededTablesRead (header (byte_at contents)) (byte_at contents) writable
 
 -- Why the tables aren't loaded: for the L1 table; or, where that reads and the image is to be written, for the reftable.
@@ -32,21 +34,21 @@ abbrev pub IsReasonAgainstTables : HeaderFields → Bytes → Bool → ImageErro
 IsReasonAgainstTables h b writable e = IsReasonAgainstL1Table h b e ⊎ (IsTrue writable × L1TableReads h b × IsReasonAgainstReftable h b e)
 
 -- the header suits, and a table is refused
-abbrev pub IsTableRefused : List ℕ → Bool → Bool → ImageError → Type 0
-IsTableRefused contents writable alone e = HeaderSuits contents writable alone × IsReasonAgainstTables (header (byte_at contents)) (byte_at contents) writable e
+abbrev pub IsTableRefused : List ℕ → Bool → Missing → ImageError → Type 0
+IsTableRefused contents writable missing e = HeaderSuits contents writable missing × IsReasonAgainstTables (header (byte_at contents)) (byte_at contents) writable e
 
--- Why opening is refused, in this order: a header that doesn't read, a limit, an offset of a table, another file that is needed, and then the tables. A fault and want of memory come as they are met.
-abbrev pub IsRefusedRightly : List ℕ → Bool → Bool → ImageError → Type 0
-IsRefusedRightly contents writable alone I.Metadata = ¬ IsWellFormed (header (byte_at contents)) (byte_at contents) ⊎ IsTableRefused contents writable alone I.Metadata
-IsRefusedRightly contents writable alone I.Limit =
-    (IsWellFormed (header (byte_at contents)) (byte_at contents) × ¬ IsWithinLimits (header (byte_at contents))) ⊎ IsTableRefused contents writable alone I.Limit
-IsRefusedRightly contents writable alone I.UnalignedTable = HeaderReads (header (byte_at contents)) (byte_at contents) × ¬ HasAlignedTables (header (byte_at contents)) writable
-IsRefusedRightly contents writable alone I.Dependency = IsTrue alone × HasAlignedTables (header (byte_at contents)) writable × NeedsAnother contents
-IsRefusedRightly contents writable alone I.Memory = Unit {0}
-IsRefusedRightly contents writable alone I.Storage = Unit {0}
-IsRefusedRightly contents writable alone e = ⊥
+-- Why opening is refused, in this order: a header that doesn't read, a limit, an offset of a table, a file that is missing, and then the tables. A fault and want of memory come as they are met.
+abbrev pub IsRefusedRightly : List ℕ → Bool → Missing → ImageError → Type 0
+IsRefusedRightly contents writable missing I.Metadata = ¬ IsWellFormed (header (byte_at contents)) (byte_at contents) ⊎ IsTableRefused contents writable missing I.Metadata
+IsRefusedRightly contents writable missing I.Limit =
+    (IsWellFormed (header (byte_at contents)) (byte_at contents) × ¬ IsWithinLimits (header (byte_at contents))) ⊎ IsTableRefused contents writable missing I.Limit
+IsRefusedRightly contents writable missing I.UnalignedTable = HeaderReads (header (byte_at contents)) (byte_at contents) × ¬ HasAlignedTables (header (byte_at contents)) writable
+IsRefusedRightly contents writable missing I.Dependency = HasAlignedTables (header (byte_at contents)) writable × NeedsMissing missing contents
+IsRefusedRightly contents writable missing I.Memory = Unit {0}
+IsRefusedRightly contents writable missing I.Storage = Unit {0}
+IsRefusedRightly contents writable missing e = ⊥
 
--- Opened only where the contents read, and refused only for one of these reasons. Another file is asked for only of an image that is to be opened alone, on any storage.
-abbrev pub OpensRightly : {S F : Type 0} → StorageView → Bool → Bool → Result (Qcow2 S F) (S × ImageError) → Type 0
-OpensRightly storage writable alone (Ok image) = storage.is_honest → IsReadable storage.contents writable alone
-OpensRightly storage writable alone (Err refused) = (refused.1 ≡ I.Dependency → IsTrue alone) × (storage.is_honest → IsRefusedRightly storage.contents writable alone refused.1)
+-- Opened only where the contents read, and refused only for one of these reasons. Where no file is missing none is asked for, on any storage.
+abbrev pub OpensRightly : {S F : Type 0} → StorageView → Bool → Missing → Result (Qcow2 S F) (S × ImageError) → Type 0
+OpensRightly storage writable missing (Ok image) = storage.is_honest → IsReadable storage.contents writable missing
+OpensRightly storage writable missing (Err refused) = (refused.1 ≡ I.Dependency → missing ≢ M.Nothing) × (storage.is_honest → IsRefusedRightly storage.contents writable missing refused.1)

@@ -61,6 +61,11 @@ IsMet (I.StillInUse tables) = Unit {0}
 abbrev pub IsMetPreparing : ImageError → Type 0
 IsMetPreparing e = IsMet e ⊎ (e ≡ I.TablePrepared)
 
+-- no limit was met
+abbrev pub IsUnlimited : ImageError → Type 0
+IsUnlimited I.Limit = ⊥
+IsUnlimited e = Unit {0}
+
 -- What a refused preparation leaves: no cluster is to be freed then, but after a fault, and where a table is kept as it is for another mapping.
 abbrev pub FreesRefused : {S F : Type 0} → Qcow2 S F → ImageError → Type 0
 FreesRefused new e = IsFault e ⊎ ((e ≡ I.TablePrepared) ⊎ HasNothingToFree new)

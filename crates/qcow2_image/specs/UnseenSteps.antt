@@ -95,12 +95,15 @@ module _ {S F : Type 0} where
     pub tables : SameTables old.file.caches new.file.caches
     pub pins : (c : ℕ) → l2_pins new.file.caches c ≡ l2_pins old.file.caches c - pins_of table c
     pub changed : new.file.caches.is_changed ≡ old.file.caches.is_changed
+    pub counted : new.file.caches.changes ≡ old.file.caches.changes
 
   -- an L2 table that is held has one pin more, and nothing else changes
   pub record Pins (table : ℕ) (old new : Qcow2 S F) : Type 0 where
     pub rest : new ≡ record old { file = record old.file { caches = new.file.caches } }
     pub tables : SameTables old.file.caches new.file.caches
     pub pins : IsSome (l2_at old.file.caches table) → l2_pins old.file.caches table ≡ 0 → (c : ℕ) → l2_pins new.file.caches c ≡ l2_pins old.file.caches c + pins_of (Some table) c
+    pub changed : new.file.caches.is_changed ≡ old.file.caches.is_changed
+    pub counted : new.file.caches.changes ≡ old.file.caches.changes
 
   -- more clusters are to be freed than before
   pub record ListGrows (old new : Qcow2 S F) : Type 0 where

@@ -1,13 +1,17 @@
 -- An image that is only read: what stands on its storage stays.
 use Rattle.std.specs.Prelude.{◌≡◌, List, Option}
 use Rattle.image_access.specs.Backing.{BackingView}
-use Rattle.image_access.specs.Moments.{StorageView, EachMomentSince}
+use Rattle.image_access.specs.Moments.{ContentsStay, StorageView, EachMomentSince}
 use Rattle.qcow2_metadata.specs.Bytes.{byte_at}
 use Rattle.qcow2_laws.specs.CrashInvariant.{Pending}
 use Rattle.qcow2_alloc.specs.ImageFile.{view_in, contents_in, known_in}
 use Rattle.qcow2_image.specs.declared.image.Qcow2.{Qcow2}
 use Rattle.qcow2_image.specs.declared.prepared.Prepared.{Prepared}
 use Rattle.qcow2_image.specs.ImageInvariant.{ImageInvariant}
+
+-- the contents are the same now, and at each moment since
+abbrev pub ContentsStayThroughout : StorageView → StorageView → Type 0
+ContentsStayThroughout old new = ContentsStay old new × EachMomentSince old new (λ c. c ≡ old.contents)
 
 -- at each moment since, and now, the same bytes stand there
 pub record HoldsSame (old new : StorageView) : Type 0 where

@@ -5,6 +5,7 @@ ghost use Rattle.qcow2_image.specs.declared.prepared.Prepared.{Prepared};
 ghost use Rattle.qcow2_image.specs.Backings.{HasPrepared, IsOver};
 ghost use Rattle.qcow2_image.specs.Image.{IsSameImage, is_failed};
 ghost use Rattle.qcow2_image.specs.ImageInvariant.{IsHonestBacking, abstract_of};
+ghost use Rattle.qcow2_image.specs.PinnedTables.{HasPinnedTable};
 
 use crate::{ImageError, Qcow2};
 use image_access::{Storage, WrappedFormat};
@@ -16,6 +17,7 @@ impl<S: Storage, F: WrappedFormat<S>> Qcow2<S, F> {
         ensures failed { IsTrue (is_failed self.old) → (result ≡ Err (backing, Failed)) × (self.new ≡ self.old) }
         ensures refused { is_failed self.old ≡ false → IfErr result (λ refused. (refused ≡ (backing, MappingPrepared)) × (self.new ≡ self.old)) }
         ensures prepared { is_failed self.old ≡ false → (out : List (Option Prepared)) → (abstract_of S.view F.backing self.old out).is_sound → IsErr result ↔ HasPrepared out }
+        ensures pinned { is_failed self.old ≡ false → IsErr result ↔ HasPinnedTable self.old }
         ensures image { IsSameImage self.old self.new }
         ensures done { OnOk result (self.new ≡ record self.old { backing = backing }) }
         ensures sees { (out : List (Option Prepared)) → (abstract_of S.view F.backing self.old out).is_sound → IsHonestBacking S.view F.backing backing → OnOk result (IsOver S.view F.backing backing self.old self.new out) }

@@ -1,5 +1,5 @@
 //! Making a new image.
-ghost use Rattle.std.specs.Prelude.{ℕ, ◌≡◌, ◌≢◌, ◌↔◌, ◌^◌, ◌<◌, ◌≤◌, [], None, IfSome, IfNone, IfOk, IfErr, OnOk, IsSome, IsTrue, is_some, false};
+ghost use Rattle.std.specs.Prelude.{ℕ, ◌≡◌, ◌≢◌, ◌⊎◌, ◌↔◌, ◌^◌, ◌<◌, ◌≤◌, [], None, IfSome, IfNone, IfOk, IfErr, OnOk, IsSome, IsTrue, is_some, false};
 ghost use Rattle.image_access.specs.Moments.{EachMomentSince};
 ghost use Rattle.qcow2_metadata.specs.HeaderLoad.{IsHeaderIn};
 ghost use Rattle.qcow2_metadata.specs.HeaderWrite.{HasNewNames};
@@ -9,6 +9,7 @@ ghost use Rattle.qcow2_alloc.specs.ImageFile.{view_in};
 ghost use Rattle.qcow2_disk.specs.AbstractImages.{IsOpened};
 ghost use Rattle.qcow2_alloc.specs.Faults.{CountsFaults, FaultsTold};
 ghost use Rattle.qcow2_image.specs.CountedOpening.{OpeningCounts};
+ghost use Rattle.qcow2_image.specs.BehindHeader.{LiesBehindHeader, NamesTablesBehind};
 ghost use Rattle.qcow2_image.specs.Faults.{CountsImageFaults, IsNotOfStorage};
 ghost use Rattle.qcow2_image.specs.Image.{is_failed, is_writable};
 ghost use Rattle.qcow2_image.specs.Refusals.{IsMet, MarksFailed};
@@ -19,6 +20,7 @@ ghost use Rattle.qcow2_laws.specs.Opened.{HasNoLeaks};
 ghost use Rattle.qcow2_image.specs.Created.{longest_disk, IsUnwritten, IsNewHeader, CountsThree, NamesOne, WritesThree, Enlarges, GrowsBy};
 
 use crate::Qcow2;
+use crate::image::Missing;
 use image_access::{BackingDisk, PreallocateMode, Storage, StorageError, WrappedFormat};
 use qcow2_alloc::{ImageError, ImageStorage, WriteKind};
 use qcow2_metadata::{GuestOffset, Header, HostCluster, MAX_L1_ENTRIES, RefBlock, RefTable};
@@ -34,9 +36,9 @@ pub struct Qcow2CreateBuilder<S: Storage> {
     refcount_width: u64,
 }
 
-// A new image has no disk below it.
+/// The type of the disk below where there is none, as below a new image: it has no bytes, and never fails.
 #[derive(Drop)]
-struct NoBacking;
+pub struct NoBacking;
 
 impl BackingDisk for NoBacking {
     ghost use Rattle.std.specs.Prelude.{[]};
@@ -208,6 +210,7 @@ impl<S: Storage> Qcow2CreateBuilder<S> {
         ensures ok { IfOk result (λ image. (number_of image ≡ number) × (is_failed image ≡ false) × (is_writable image ≡ true) × (is_some image.backing ≡ false)) }
         ensures cause { (S.view self.image).is_honest → IfErr result (λ refused. IsReasonNotToCreate self refused.1) }
         ensures faults { OpeningCounts S.view (S.view self.image).faults result }
+        ensures header_cluster { IfOk result (λ image. (S.view self.image).is_honest ⊎ NamesTablesBehind image.file.header.fields → LiesBehindHeader image) }
     {
         let (storage, done) = self.create(alloc);
         if let Err(refusal) = done {
@@ -318,7 +321,7 @@ fn grow_new_image<S: Storage, F: WrappedFormat<S>>(
     ensures cause { (S.view (storage_of storage)).is_honest → IsUnwritten 0 (byte_at (S.view (storage_of storage)).contents) → IfErr result.1 IsMet }
     ensures faults { ((below : F) → (F.backing below).faults ≡ 0) → FaultsTold (S.view (storage_of storage)).faults (S.view result.0).faults result.1 }
 {
-    match Qcow2::<S, F>::open(alloc, storage, true, 0, false) {
+    match Qcow2::<S, F>::open(alloc, storage, true, 0, Missing::Nothing) {
         Err((storage, refusal)) => (storage, Err(refusal)),
         Ok(mut image) => {
             let done = grow_and_flush(&mut image, size, mode);

@@ -1,7 +1,7 @@
 //! Clearing the whole clusters of a range: to zeros, or to what the disk below shows.
 ghost use Rattle.qcow2_image.specs.BehindHeader.{StaysBehindHeader};
-ghost use Rattle.qcow2_image.specs.Noted.{FailsOnceWritten, NotesChanges};
-ghost use Rattle.qcow2_alloc.specs.KeptNotes.{KeepsNotes};
+ghost use Rattle.qcow2_image.specs.Noted.{ChangesRose, FailsOnceWritten, NotesPart};
+ghost use Rattle.qcow2_alloc.specs.KeptMarks.{KeepsFileNotes};
 ghost use Rattle.std.specs.Prelude.{ℕ, List, Option, ◌≡◌, ◌+◌, ◌-◌, ◌*◌, ◌/◌, ◌%◌, ◌^◌, ◌<◌, ◌≤◌, ◌≢◌, ◌++◌, true, false, not, Some, None, Ok, Err, IfOk, IfErr, IfSome, OnOk, IsOk, IsSome, IsTrue, MatchOption, nat_le, nat_lt, if◌then◌else◌};
 ghost use Rattle.qcow2_metadata.specs.Header.{cluster_size, entries_per_cluster, rounded_up as rounded_up_to};
 ghost use Rattle.qcow2_metadata.specs.Cover.{cover};
@@ -16,12 +16,13 @@ ghost use Rattle.qcow2_alloc.specs.MetadataCaches.{IsEntryAt, l2_at};
 ghost use Rattle.qcow2_alloc.specs.declared.error.ImageError.TheVariants.{TablePrepared};
 ghost use Rattle.qcow2_image.specs.declared.prepared.Prepared.{Prepared};
 ghost use Rattle.qcow2_image.specs.Backings.{HasPrepared};
-ghost use Rattle.qcow2_image.specs.L1Entries.{NeedsFarEntry, ReachesOffset, RefusesFarEntry};
+ghost use Rattle.qcow2_image.specs.L1Entries.{IsRefusedAsFar, HasOwnTable, NeedsFarEntry, ReachesOffset, RefusesFarEntryFreeing};
 ghost use Rattle.qcow2_image.specs.NewTables.{IsFaultOrLacksTable};
+ghost use Rattle.qcow2_image.specs.PinnedTables.{HeedsPins};
 ghost use Rattle.qcow2_image.specs.Image.{HasNothingToFree, IsSameImage, ImageStays, is_failed, is_writable, size_of};
 ghost use Rattle.qcow2_image.specs.ImageInvariant.{ImageInvariant, abstract_of, pending_in, listed_run};
 ghost use Rattle.qcow2_image.specs.UnseenSteps.{FreesLater, HoldsTable};
-ghost use Rattle.qcow2_image.specs.Refusals.{IsMet, IsMetPreparing, MarksFailed, passes as passes_size};
+ghost use Rattle.qcow2_image.specs.Refusals.{FreesRefused, IsMet, IsMetPreparing, MarksFailed, passes as passes_size};
 ghost use Rattle.qcow2_image.specs.Clearing.{Clears, ClearsImageCovers, ClearsEntry, ClearsOrRefuses, ClearsTable, IsUnderMapping, IsClearable, ReadsAll, ReadsDropped, RefusesClearing, cover_once_cleared, from_in, to_in, listed_by, needs_zero_entries, refuses_to_clear, rounds_past};
 ghost use Rattle.qcow2_image.specs.Faults.{CountsImageFaults, IsNotOfStorage};
 
@@ -131,9 +132,12 @@ impl<S: Storage, F: WrappedFormat<S>> Qcow2<S, F> {
         ensures emptied { from_in self.old offset length < to_in self.old offset length → OnOk result (HasNothingToFree self.new) }
         ensures reaches { from_in self.old offset length < to_in self.old offset length → (out : List (Option Prepared)) → (abstract_of S.view F.backing self.old out).is_sound
             → OnOk result (ReachesOffset (from_in self.old offset length) self.old.file.header.fields self.new.file.header.fields) }
-        ensures far { from_in self.old offset length < to_in self.old offset length → RefusesFarEntry (refuses_to_clear self.old offset length Clearance.Uncovered) (from_in self.old offset length) self.old self.new result }
+        ensures far { from_in self.old offset length < to_in self.old offset length → RefusesFarEntryFreeing S.view F.backing (refuses_to_clear self.old offset length Clearance.Uncovered) (from_in self.old offset length) self.old self.new result }
+        ensures range { IfOk result (λ range. range ≡ answered (cluster_size self.old.file.header.fields) (size_of self.old) offset length) }
+        ensures freed { refuses_to_clear self.old offset length Clearance.Uncovered ≡ None → from_in self.old offset length < to_in self.old offset length → (out : List (Option Prepared)) → (abstract_of S.view F.backing self.old out).is_sound → IfErr result (FreesRefused self.new) }
+        ensures pinned { from_in self.old offset length < to_in self.old offset length → refuses_to_clear self.old offset length Clearance.Uncovered ≡ None → HasOwnTable self.old (from_in self.old offset length) → HeedsPins self.old (from_in self.old offset length) result }
         ensures once_written { FailsOnceWritten S.view self.old self.new result }
-        ensures header_cluster { StaysBehindHeader self.old self.new }
+        ensures header_cluster { StaysBehindHeader S.view self.old self.new }
         ensures faults { CountsImageFaults S.view F.backing self.old self.new result }
     {
         self.clear_range(offset, length, Clearance::Uncovered)
@@ -164,9 +168,12 @@ impl<S: Storage, F: WrappedFormat<S>> Qcow2<S, F> {
         ensures emptied { from_in self.old offset length < to_in self.old offset length → OnOk result (HasNothingToFree self.new) }
         ensures reaches { from_in self.old offset length < to_in self.old offset length → (out : List (Option Prepared)) → (abstract_of S.view F.backing self.old out).is_sound
             → OnOk result (ReachesOffset (from_in self.old offset length) self.old.file.header.fields self.new.file.header.fields) }
-        ensures far { from_in self.old offset length < to_in self.old offset length → RefusesFarEntry (refuses_to_clear self.old offset length Clearance.Zeros) (from_in self.old offset length) self.old self.new result }
+        ensures far { from_in self.old offset length < to_in self.old offset length → RefusesFarEntryFreeing S.view F.backing (refuses_to_clear self.old offset length Clearance.Zeros) (from_in self.old offset length) self.old self.new result }
+        ensures range { IfOk result (λ range. range ≡ answered (cluster_size self.old.file.header.fields) (size_of self.old) offset length) }
+        ensures freed { refuses_to_clear self.old offset length Clearance.Zeros ≡ None → from_in self.old offset length < to_in self.old offset length → (out : List (Option Prepared)) → (abstract_of S.view F.backing self.old out).is_sound → IfErr result (FreesRefused self.new) }
+        ensures pinned { from_in self.old offset length < to_in self.old offset length → refuses_to_clear self.old offset length Clearance.Zeros ≡ None → HasOwnTable self.old (from_in self.old offset length) → HeedsPins self.old (from_in self.old offset length) result }
         ensures once_written { FailsOnceWritten S.view self.old self.new result }
-        ensures header_cluster { StaysBehindHeader self.old self.new }
+        ensures header_cluster { StaysBehindHeader S.view self.old self.new }
         ensures faults { CountsImageFaults S.view F.backing self.old self.new result }
     {
         self.clear_range(offset, length, Clearance::Zeros)
@@ -197,9 +204,12 @@ impl<S: Storage, F: WrappedFormat<S>> Qcow2<S, F> {
         ensures emptied { from_in self.old offset length < to_in self.old offset length → OnOk result (HasNothingToFree self.new) }
         ensures reaches { from_in self.old offset length < to_in self.old offset length → (out : List (Option Prepared)) → (abstract_of S.view F.backing self.old out).is_sound
             → OnOk result (ReachesOffset (from_in self.old offset length) self.old.file.header.fields self.new.file.header.fields) }
-        ensures far { from_in self.old offset length < to_in self.old offset length → RefusesFarEntry (refuses_to_clear self.old offset length Clearance.Zeros) (from_in self.old offset length) self.old self.new result }
+        ensures far { from_in self.old offset length < to_in self.old offset length → RefusesFarEntryFreeing S.view F.backing (refuses_to_clear self.old offset length Clearance.Zeros) (from_in self.old offset length) self.old self.new result }
+        ensures range { IfOk result (λ range. range ≡ answered (cluster_size self.old.file.header.fields) (size_of self.old) offset length) }
+        ensures freed { refuses_to_clear self.old offset length Clearance.Zeros ≡ None → from_in self.old offset length < to_in self.old offset length → (out : List (Option Prepared)) → (abstract_of S.view F.backing self.old out).is_sound → IfErr result (FreesRefused self.new) }
+        ensures pinned { from_in self.old offset length < to_in self.old offset length → refuses_to_clear self.old offset length Clearance.Zeros ≡ None → HasOwnTable self.old (from_in self.old offset length) → HeedsPins self.old (from_in self.old offset length) result }
         ensures once_written { FailsOnceWritten S.view self.old self.new result }
-        ensures header_cluster { StaysBehindHeader self.old self.new }
+        ensures header_cluster { StaysBehindHeader S.view self.old self.new }
         ensures faults { CountsImageFaults S.view F.backing self.old self.new result }
     {
         self.discard_to_zero_unsafe(offset, length)
@@ -230,9 +240,12 @@ impl<S: Storage, F: WrappedFormat<S>> Qcow2<S, F> {
         ensures emptied { from_in self.old offset length < to_in self.old offset length → OnOk result (HasNothingToFree self.new) }
         ensures reaches { from_in self.old offset length < to_in self.old offset length → (out : List (Option Prepared)) → (abstract_of S.view F.backing self.old out).is_sound
             → OnOk result (ReachesOffset (from_in self.old offset length) self.old.file.header.fields self.new.file.header.fields) }
-        ensures far { from_in self.old offset length < to_in self.old offset length → RefusesFarEntry (refuses_to_clear self.old offset length Clearance.KeptZeros) (from_in self.old offset length) self.old self.new result }
+        ensures far { from_in self.old offset length < to_in self.old offset length → RefusesFarEntryFreeing S.view F.backing (refuses_to_clear self.old offset length Clearance.KeptZeros) (from_in self.old offset length) self.old self.new result }
+        ensures range { IfOk result (λ range. range ≡ answered (cluster_size self.old.file.header.fields) (size_of self.old) offset length) }
+        ensures freed { refuses_to_clear self.old offset length Clearance.KeptZeros ≡ None → from_in self.old offset length < to_in self.old offset length → (out : List (Option Prepared)) → (abstract_of S.view F.backing self.old out).is_sound → IfErr result (FreesRefused self.new) }
+        ensures pinned { from_in self.old offset length < to_in self.old offset length → refuses_to_clear self.old offset length Clearance.KeptZeros ≡ None → HasOwnTable self.old (from_in self.old offset length) → HeedsPins self.old (from_in self.old offset length) result }
         ensures once_written { FailsOnceWritten S.view self.old self.new result }
-        ensures header_cluster { StaysBehindHeader self.old self.new }
+        ensures header_cluster { StaysBehindHeader S.view self.old self.new }
         ensures faults { CountsImageFaults S.view F.backing self.old self.new result }
     {
         self.clear_range(offset, length, Clearance::KeptZeros)
@@ -257,11 +270,15 @@ impl<S: Storage, F: WrappedFormat<S>> Qcow2<S, F> {
         ensures emptied { from_in self.old offset length < to_in self.old offset length → OnOk result (HasNothingToFree self.new) }
         ensures reaches { from_in self.old offset length < to_in self.old offset length → (out : List (Option Prepared)) → (abstract_of S.view F.backing self.old out).is_sound
             → OnOk result (ReachesOffset (from_in self.old offset length) self.old.file.header.fields self.new.file.header.fields) }
-        ensures far { from_in self.old offset length < to_in self.old offset length → RefusesFarEntry (refuses_to_clear self.old offset length how) (from_in self.old offset length) self.old self.new result }
+        ensures far { from_in self.old offset length < to_in self.old offset length → RefusesFarEntryFreeing S.view F.backing (refuses_to_clear self.old offset length how) (from_in self.old offset length) self.old self.new result }
+        ensures freed { refuses_to_clear self.old offset length how ≡ None → from_in self.old offset length < to_in self.old offset length → (out : List (Option Prepared)) → (abstract_of S.view F.backing self.old out).is_sound → IfErr result (FreesRefused self.new) }
+        ensures pinned { from_in self.old offset length < to_in self.old offset length → refuses_to_clear self.old offset length how ≡ None → HasOwnTable self.old (from_in self.old offset length) → HeedsPins self.old (from_in self.old offset length) result }
         ensures range { IfOk result (λ range. range ≡ answered (cluster_size self.old.file.header.fields) (size_of self.old) offset length) }
         ensures refused { IfErr result (RefusesClearing S.view F.backing how self.old self.new offset length) }
-        ensures since { NotesChanges S.view self.old self.new }
-        ensures header_cluster { StaysBehindHeader self.old self.new }
+        ensures since { NotesPart S.view self.old self.new }
+        ensures once_written { FailsOnceWritten S.view self.old self.new result }
+        ensures changed { (out : List (Option Prepared)) → (abstract_of S.view F.backing self.old out).is_sound → from_in self.old offset length < to_in self.old offset length → OnOk result (ChangesRose self.old self.new) }
+        ensures header_cluster { StaysBehindHeader S.view self.old self.new }
         ensures faults { CountsImageFaults S.view F.backing self.old self.new result }
     {
         let (from, to) = self.check_clear(offset, length, how)?;
@@ -320,7 +337,7 @@ impl<S: Storage, F: WrappedFormat<S>> Qcow2<S, F> {
         Some((from, to.min(from.saturating_add(self.rest_of_table(from)))))
     }
 
-    // Clears the clusters between two offsets within one L2 table. All that may be refused comes before the first entry changes.
+    // Clears the clusters between two offsets within one L2 table. Where that is refused, the clusters that are to be freed are freed, but after a fault and under another mapping.
     pub(crate) fn clear_between(
         &mut self,
         from: u64,
@@ -330,8 +347,37 @@ impl<S: Storage, F: WrappedFormat<S>> Qcow2<S, F> {
         requires writable { IsTrue (is_writable self.old) }
         requires some { from < to }
         ensures stays { ImageStays self.old self.new }
-        ensures notes { KeepsNotes S.view self.old.file.storage self.new.file.storage }
-        ensures header_cluster { StaysBehindHeader self.old self.new }
+        ensures notes { KeepsFileNotes S.view self.old.file self.new.file }
+        ensures header_cluster { StaysBehindHeader S.view self.old self.new }
+        ensures cause { IfErr result IsMetPreparing }
+        ensures lacks { (out : List (Option Prepared)) → ImageInvariant S.view F.backing (pending_in S.view F.backing self.old out) self.old out → IsClearable self.old.file.header.fields how from to
+            → (HasPrepared out → ⊥) → IfErr result (IsFaultOrLacksTable S.view self.new from) }
+        ensures clears { (out : List (Option Prepared)) → ImageInvariant S.view F.backing (pending_in S.view F.backing self.old out) self.old out → IsClearable self.old.file.header.fields how from to
+            → ClearsOrRefuses S.view F.backing how from to self.old self.new out result }
+        ensures taken { (out : List (Option Prepared)) → ImageInvariant S.view F.backing (pending_in S.view F.backing self.old out) self.old out
+            → IfErr result (λ e. e ≡ TablePrepared → IsUnderMapping self.old.file.header.fields from out) }
+        ensures free { (out : List (Option Prepared)) → ImageInvariant S.view F.backing (pending_in S.view F.backing self.old out) self.old out
+            → IfOk result (λ done. IsUnderMapping self.old.file.header.fields from out → ⊥) }
+        ensures reaches { (out : List (Option Prepared)) → ImageInvariant S.view F.backing (pending_in S.view F.backing self.old out) self.old out → OnOk result (ReachesOffset from self.old.file.header.fields self.new.file.header.fields) }
+        ensures freed { (out : List (Option Prepared)) → ImageInvariant S.view F.backing (pending_in S.view F.backing self.old out) self.old out → IsClearable self.old.file.header.fields how from to
+            → IfErr result (FreesRefused self.new) }
+        ensures far { NeedsFarEntry self.old from → IsRefusedAsFar S.view F.backing self.old self.new result }
+        ensures pinned { HasOwnTable self.old from → HeedsPins self.old from result }
+        ensures faults { CountsImageFaults S.view F.backing self.old self.new result }
+    {
+        match self.clear_in_table(from, to, how) {
+            Ok(()) => Ok(()),
+            Err(refusal) => Err(self.free_after(refusal)),
+        }
+    }
+
+    // Clears the clusters between two offsets within one L2 table. All that may be refused comes before the first entry changes.
+    fn clear_in_table(&mut self, from: u64, to: u64, how: Clearance) -> Result<(), ImageError>
+        requires writable { IsTrue (is_writable self.old) }
+        requires some { from < to }
+        ensures stays { ImageStays self.old self.new }
+        ensures notes { KeepsFileNotes S.view self.old.file self.new.file }
+        ensures header_cluster { StaysBehindHeader S.view self.old self.new }
         ensures cause { IfErr result IsMetPreparing }
         ensures lacks { (out : List (Option Prepared)) → ImageInvariant S.view F.backing (pending_in S.view F.backing self.old out) self.old out → IsClearable self.old.file.header.fields how from to
             → (HasPrepared out → ⊥) → IfErr result (IsFaultOrLacksTable S.view self.new from) }
@@ -343,6 +389,7 @@ impl<S: Storage, F: WrappedFormat<S>> Qcow2<S, F> {
             → IfOk result (λ done. IsUnderMapping self.old.file.header.fields from out → ⊥) }
         ensures reaches { (out : List (Option Prepared)) → ImageInvariant S.view F.backing (pending_in S.view F.backing self.old out) self.old out → OnOk result (ReachesOffset from self.old.file.header.fields self.new.file.header.fields) }
         ensures far { NeedsFarEntry self.old from → (result ≡ Err ImageError.Overflow) × (self.new ≡ self.old) }
+        ensures pinned { HasOwnTable self.old from → HeedsPins self.old from result }
         ensures faults { CountsImageFaults S.view F.backing self.old self.new result }
     {
         let table = self.table_for(from)?;

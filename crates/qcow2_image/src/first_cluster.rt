@@ -1,6 +1,6 @@
 //! The first cluster of a prepared range.
 ghost use Rattle.qcow2_image.specs.BehindHeader.{StaysBehindHeader};
-ghost use Rattle.qcow2_alloc.specs.KeptNotes.{KeepsNotes};
+ghost use Rattle.qcow2_alloc.specs.KeptMarks.{KeepsFileNotes};
 ghost use Rattle.std.specs.Prelude.{List, Option, ◌≡◌, ◌+◌, ◌-◌, ◌/◌, ◌%◌, ◌^◌, ◌<◌, ◌≤◌, true, false, Some, [], ◌∷◌, vec_capacity, IfOk, IfErr, IsSome, IsTrue, OnOk};
 ghost use Rattle.qcow2_metadata.specs.L2Mapping.{IsHostCluster, IsInReach, greatest_offset};
 ghost use Rattle.qcow2_metadata.specs.Header.{cluster_size};
@@ -14,6 +14,7 @@ ghost use Rattle.qcow2_alloc.specs.declared.error.ImageError.TheVariants.{TableP
 ghost use Rattle.qcow2_image.specs.Faults.{CountsImageFaults};
 ghost use Rattle.qcow2_image.specs.Image.{ImageStays, is_writable, number_of};
 ghost use Rattle.qcow2_image.specs.ListedClusters.{KeepsList, ListsFormer};
+ghost use Rattle.qcow2_image.specs.LowestPlaces.{BeginsLowest, IsUsedBelow};
 ghost use Rattle.qcow2_image.specs.Prepared.{image_of, length_of, offset_of};
 ghost use Rattle.qcow2_image.specs.Refusals.{IsMet, IsMetPreparing};
 ghost use Rattle.qcow2_image.specs.declared.prepared.Prepared.{Prepared};
@@ -54,10 +55,11 @@ impl<S: Storage, F: WrappedFormat<S>> Qcow2<S, F> {
         requires writable { IsTrue (is_writable self.old) }
         ensures stays { ImageStays self.old self.new }
         ensures header { KeepsHeader self.old.file.header self.new.file.header }
-        ensures notes { KeepsNotes S.view self.old.file.storage self.new.file.storage }
-        ensures header_cluster { 0 < table → StaysBehindHeader self.old self.new }
+        ensures notes { KeepsFileNotes S.view self.old.file self.new.file }
+        ensures header_cluster { 0 < table → StaysBehindHeader S.view self.old self.new }
         ensures cause { IfErr result IsMetPreparing }
         ensures taken { IfErr result (λ e. e ≡ TablePrepared → 0 < l2_pins self.old.file.caches table) }
+        ensures unpinned { OnOk result (l2_pins self.old.file.caches table ≡ 0) }
         ensures own { IfOk result (λ p. image_of p ≡ number_of self.old) }
         ensures readies { (out : List (Option Prepared)) → ImageInvariant S.view F.backing (pending_in S.view F.backing self.old out) self.old out
             → HoldsTable S.view F.backing self.old offset table → Readies S.view F.backing self.old self.new out offset length overwrite result }
@@ -66,6 +68,7 @@ impl<S: Storage, F: WrappedFormat<S>> Qcow2<S, F> {
         ensures kept { (out : List (Option Prepared)) → ImageInvariant S.view F.backing (pending_in S.view F.backing self.old out) self.old out
             → HoldsTable S.view F.backing self.old offset table → IfOk result (BeginsInKept self.old.file.header.fields offset (cover self.old.file.header.fields (known_in S.view self.old.file) (offset / cluster_size self.old.file.header.fields))) }
         ensures former { OnOk result (ListsFormer self.old self.new) }
+        ensures lowest { (out : List (Option Prepared)) → ImageInvariant S.view F.backing (pending_in S.view F.backing self.old out) self.old out → IfOk result (BeginsLowest S.view self.new) }
         ensures faults { CountsImageFaults S.view F.backing self.old self.new result }
     {
         if self.file.caches.l2_is_pinned(table) {
@@ -96,8 +99,8 @@ impl<S: Storage, F: WrappedFormat<S>> Qcow2<S, F> {
         requires empty { room.items ≡ [] }
         requires room { 0 < vec_capacity room }
         ensures stays { ImageStays self.old self.new }
-        ensures notes { KeepsNotes S.view self.old.file.storage self.new.file.storage }
-        ensures header_cluster { 0 < table → StaysBehindHeader self.old self.new }
+        ensures notes { KeepsFileNotes S.view self.old.file self.new.file }
+        ensures header_cluster { 0 < table → StaysBehindHeader S.view self.old self.new }
         ensures cause { IfErr result IsMet }
         ensures own { IfOk result (λ p. image_of p ≡ number_of self.old) }
         ensures first { IfOk result (IsFirst self.old.file.header.fields offset table) }
@@ -108,6 +111,7 @@ impl<S: Storage, F: WrappedFormat<S>> Qcow2<S, F> {
             → Readies S.view F.backing self.old self.new out offset length overwrite result }
         ensures header { KeepsHeader self.old.file.header self.new.file.header }
         ensures former { OnOk result (ListsFormer self.old self.new) }
+        ensures lowest { (out : List (Option Prepared)) → ImageInvariant S.view F.backing (pending_in S.view F.backing self.old out) self.old out → IfOk result (BeginsLowest S.view self.new) }
         ensures faults { CountsImageFaults S.view F.backing self.old self.new result }
     {
         match kept_place(old) {
@@ -130,8 +134,8 @@ impl<S: Storage, F: WrappedFormat<S>> Qcow2<S, F> {
         requires empty { room.items ≡ [] }
         requires room { 0 < vec_capacity room }
         ensures stays { ImageStays self.old self.new }
-        ensures notes { KeepsNotes S.view self.old.file.storage self.new.file.storage }
-        ensures header_cluster { StaysBehindHeader self.old self.new }
+        ensures notes { KeepsFileNotes S.view self.old.file self.new.file }
+        ensures header_cluster { StaysBehindHeader S.view self.old self.new }
         ensures cause { IfErr result IsMet }
         ensures own { IfOk result (λ p. image_of p ≡ number_of self.old) }
         ensures first { IfOk result (IsFirst self.old.file.header.fields offset table) }
@@ -143,6 +147,7 @@ impl<S: Storage, F: WrappedFormat<S>> Qcow2<S, F> {
             → Readies S.view F.backing self.old self.new out offset length overwrite result }
         ensures header { self.new.file.header ≡ self.old.file.header }
         ensures list { KeepsList self.old self.new }
+        ensures lowest { IfOk result (BeginsLowest S.view self.new) }
         ensures faults { CountsImageFaults S.view F.backing self.old self.new result }
     {
         self.fill_kept(host, offset, length, overwrite)?;
@@ -165,8 +170,8 @@ impl<S: Storage, F: WrappedFormat<S>> Qcow2<S, F> {
         requires empty { room.items ≡ [] }
         requires room { 0 < vec_capacity room }
         ensures stays { ImageStays self.old self.new }
-        ensures notes { KeepsNotes S.view self.old.file.storage self.new.file.storage }
-        ensures header_cluster { 0 < table → StaysBehindHeader self.old self.new }
+        ensures notes { KeepsFileNotes S.view self.old.file self.new.file }
+        ensures header_cluster { 0 < table → StaysBehindHeader S.view self.old self.new }
         ensures cause { IfErr result IsMet }
         ensures own { IfOk result (λ p. image_of p ≡ number_of self.old) }
         ensures first { IfOk result (IsFirst self.old.file.header.fields offset table) }
@@ -176,6 +181,7 @@ impl<S: Storage, F: WrappedFormat<S>> Qcow2<S, F> {
             → Readies S.view F.backing self.old self.new out offset length overwrite result }
         ensures header { KeepsHeader self.old.file.header self.new.file.header }
         ensures former { OnOk result (ListsFormer self.old self.new) }
+        ensures lowest { (out : List (Option Prepared)) → ImageInvariant S.view F.backing (pending_in S.view F.backing self.old out) self.old out → IfOk result (BeginsLowest S.view self.new) }
         ensures faults { CountsImageFaults S.view F.backing self.old self.new result }
     {
         let old_data = self.named_by(old)?;
@@ -200,10 +206,11 @@ impl<S: Storage, F: WrappedFormat<S>> Qcow2<S, F> {
     fn load_l2(&mut self, table: HostCluster) -> Result<(), ImageError>
         ensures header { self.new.file.header ≡ self.old.file.header }
         ensures stays { ImageStays self.old self.new }
-        ensures notes { KeepsNotes S.view self.old.file.storage self.new.file.storage }
-        ensures header_cluster { 0 < table → StaysBehindHeader self.old self.new }
+        ensures notes { KeepsFileNotes S.view self.old.file self.new.file }
+        ensures header_cluster { 0 < table → StaysBehindHeader S.view self.old self.new }
         ensures cause { IfErr result IsMet }
         ensures allocator { self.new.allocator ≡ self.old.allocator }
+        ensures table { self.new.l1_table ≡ self.old.l1_table }
         ensures list { self.new.file.free_list ≡ self.old.file.free_list }
         ensures keeps { (p : Pending) (out : List (Option Prepared)) → ImageInvariant S.view F.backing p self.old out → UnseenStep S.view F.backing p p self.old self.new out }
         ensures contents { (p : Pending) (out : List (Option Prepared)) → ImageInvariant S.view F.backing p self.old out → SameHeld S.view F.backing p self.old self.new }
@@ -269,11 +276,12 @@ impl<S: Storage, F: WrappedFormat<S>> Qcow2<S, F> {
         ensures nameable { IfOk result (λ p. IsHostCluster self.old.file.header.fields.cluster_bits p.first_cluster) }
         ensures header { KeepsHeader self.old.file.header self.new.file.header }
         ensures stays { ImageStays self.old self.new }
-        ensures notes { KeepsNotes S.view self.old.file.storage self.new.file.storage }
-        ensures header_cluster { StaysBehindHeader self.old self.new }
+        ensures notes { KeepsFileNotes S.view self.old.file self.new.file }
+        ensures header_cluster { StaysBehindHeader S.view self.old self.new }
         ensures cause { IfErr result IsMet }
         ensures gains { (p : Pending) (out : List (Option Prepared)) → ImageInvariant S.view F.backing p self.old out → HoldsAll S.view F.backing p out → Gains S.view F.backing p self.old self.new out offset length overwrite old.now result }
         ensures former { OnOk result (ListsFormer self.old self.new) }
+        ensures lowest { (p : Pending) (out : List (Option Prepared)) → ImageInvariant S.view F.backing p self.old out → HoldsAll S.view F.backing p out → IfOk result (λ run. IsUsedBelow S.view self.new run.first_cluster) }
         ensures faults { CountsImageFaults S.view F.backing self.old self.new result }
     {
         let pending = self.take_data()?;
@@ -293,11 +301,12 @@ impl<S: Storage, F: WrappedFormat<S>> Qcow2<S, F> {
         ensures header { KeepsHeader self.old.file.header self.new.file.header }
         ensures list { ListGrows self.old self.new }
         ensures stays { ImageStays self.old self.new }
-        ensures notes { KeepsNotes S.view self.old.file.storage self.new.file.storage }
-        ensures header_cluster { StaysBehindHeader self.old self.new }
+        ensures notes { KeepsFileNotes S.view self.old.file self.new.file }
+        ensures header_cluster { StaysBehindHeader S.view self.old self.new }
         ensures cause { IfErr result IsMet }
         ensures takes { (p : Pending) (out : List (Option Prepared)) → ImageInvariant S.view F.backing p self.old out → HoldsAll S.view F.backing p out → TakesData S.view F.backing p self.old self.new out result }
         ensures former { ListsFormer self.old self.new }
+        ensures lowest { (p : Pending) (out : List (Option Prepared)) → ImageInvariant S.view F.backing p self.old out → IfOk result (λ run. IsUsedBelow S.view self.new run.first_cluster) }
         ensures faults { CountsImageFaults S.view F.backing self.old self.new result }
     {
         let Some(allocator) = &mut self.allocator else {

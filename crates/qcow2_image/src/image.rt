@@ -1,7 +1,8 @@
 ghost use Rattle.qcow2_alloc.specs.BehindHeader.{AreBehindHeader};
-ghost use Rattle.qcow2_image.specs.BehindHeader.{LiesBehindHeader, StaysBehindHeader, TablesBehindHeader};
-ghost use Rattle.std.specs.Prelude.{◌≡◌, ◌<◌, ◌&&◌};
-ghost use Rattle.qcow2_image.specs.Opened.{needs_another as needs_another_of};
+ghost use Rattle.qcow2_image.specs.BehindHeader.{IsL1TableBehind, LiesBehindHeader, NamesTablesBehind, StaysBehindHeader, TablesBehindHeader};
+ghost use Rattle.qcow2_alloc.specs.SparedHeaders.{StandsBehindHeader};
+ghost use Rattle.std.specs.Prelude.{◌≡◌, ◌<◌};
+ghost use Rattle.qcow2_image.specs.Opened.{needs_missing, needs_another as needs_another_of};
 
 use image_access::{BackingDisk, Format, Storage, WrappedFormat};
 use qcow2_alloc::{
@@ -44,11 +45,26 @@ fn needs_another(header: &Header) -> bool
     header.has_data_file() || header.data_file_name().is_some() || header.backing_name().is_some()
 }
 
-// Whether an image that is to be opened alone needs another file.
-fn lacks_another(alone: bool, header: &Header) -> bool
-    ensures { result ≡ (alone && needs_another_of header.now) }
+/// Which of the files that an image may need are missing as it is opened. One that needs such a file is refused then.
+#[derive(Clone, Copy, Debug, PartialEq, Eq)]
+pub enum Missing {
+    /// None is.
+    Nothing,
+    /// The file that the data stand in, where that is another one.
+    DataFile,
+    /// Any file that its header names or requires.
+    OtherFiles,
+}
+
+// Whether an image needs a file that is missing.
+fn lacks_another(missing: Missing, header: &Header) -> bool
+    ensures { result ≡ needs_missing missing header.now }
 {
-    alone && needs_another(header)
+    match missing {
+        Missing::Nothing => false,
+        Missing::DataFile => header.has_data_file(),
+        Missing::OtherFiles => needs_another(header),
+    }
 }
 
 #[tactic(auto, using(crate::proofs::Call::MetErrors::tables_met, crate::proofs::Call::MetErrors::storage_met, crate::proofs::Call::MetErrors::metadata_met))]
@@ -61,7 +77,7 @@ impl<S: Storage, F: WrappedFormat<S>> Qcow2<S, F> {
     ghost use Rattle.qcow2_alloc.specs.LoadedTables.{IsReasonAgainstL1Table, IsReasonAgainstReftable, L1TableReads, ReftableReads};
     ghost use Rattle.qcow2_image.specs.CountedOpening.{OpeningCounts};
     ghost use Rattle.qcow2_image.specs.Readable.{IsReasonAgainstTables, OpensRightly, NeededTablesRead};
-    ghost use Rattle.qcow2_image.specs.Faults.{CountsImageFaults, NoFewerFaults};
+    ghost use Rattle.qcow2_image.specs.Faults.{CountsImageFaults, SameFaults};
     ghost use Rattle.qcow2_image.specs.Image.{storage_of_image, HasNothingToFree, ImageStays, IsBegun, KeepsRest, IsSameImage, is_failed, is_writable, is_external, has_noted_change, leaked_in, number_of, size_of};
     ghost use Rattle.std.specs.Prelude.{List, Option};
     ghost use Rattle.qcow2_disk.specs.AbstractImages.{guest_of};
@@ -75,19 +91,20 @@ impl<S: Storage, F: WrappedFormat<S>> Qcow2<S, F> {
     ghost use Rattle.qcow2_image.specs.UnseenSteps.{UnseenStep, FreesListed};
     ghost use Rattle.qcow2_alloc.specs.FreeList.{with_listed};
     ghost use Rattle.qcow2_alloc.specs.ImageStorage.{storage_of};
+    ghost use Rattle.qcow2_image.specs.ListedClusters.{KeepsReftable};
     ghost use Rattle.qcow2_image.specs.Refusals.{unusable, IsMet, MarksFailed, MarksRefused};
     ghost use Rattle.image_access.specs.Moments.{ContentsStay, EachMomentSince};
     ghost use Rattle.qcow2_metadata.specs.Bytes.{byte_at};
     ghost use Rattle.qcow2_metadata.specs.Consistent.{IsConsistent};
     ghost use Rattle.qcow2_alloc.specs.ImageFile.{view_in};
     ghost use Rattle.qcow2_alloc.specs.KeptAllocators.{IsAllocatorOf};
-    ghost use Rattle.qcow2_alloc.specs.KeptNotes.{KeepsNotes};
+    ghost use Rattle.qcow2_alloc.specs.KeptMarks.{KeepsFileNotes};
     ghost use Rattle.qcow2_image.specs.Noted.{FailsOnceWritten};
     ghost use Rattle.qcow2_image.specs.ImageInvariant.{HasL1Table};
     ghost use Rattle.qcow2_image.specs.Created.{begins_image};
     ghost use Rattle.qcow2_image.specs.Growing.{SameFormat, WritesBack};
-    ghost use Rattle.qcow2_image.specs.Unwritten.{OnlyReadsImage};
-    ghost use Rattle.qcow2_image.specs.Opened.{IsFresh, StaysFresh, IsLoaded, IsKeptSince, SameNames, HasNamesIn, NeedsAnother, IsRefusedAlone, LeavesFile, LeavesStorage, storage_after, Opens};
+    ghost use Rattle.qcow2_image.specs.Unwritten.{ContentsStayThroughout, OnlyReadsImage};
+    ghost use Rattle.qcow2_image.specs.Opened.{IsFresh, StaysFresh, IsLoaded, IsKeptSince, SameNames, HasNamesIn, NeedsAnother, NeedsDataFile, NeedsMissing, IsRefusedAlone, LeavesFile, LeavesStorage, storage_after, Opens};
     ghost use Rattle.std.specs.Option.{is_some};
 
     /// Whether the first bytes of a storage are those of an image of version 2 or 3. Refused 14 (memory), 15 (storage), as the storage
@@ -125,10 +142,16 @@ impl<S: Storage, F: WrappedFormat<S>> Qcow2<S, F> {
         ensures below { IfOk result (λ image. is_some image.backing ≡ false) }
         ensures names { (S.view metadata).is_honest → IfOk result (λ image. HasNamesIn image.file.header (S.view metadata).contents) }
         ensures storage { LeavesStorage S.view writable (S.view metadata) result }
-        ensures cause { OpensRightly (S.view metadata) writable false result }
-        ensures header_cluster { IfOk result (λ image. 0 < image.file.header.fields.reftable_offset → LiesBehindHeader image) }
+        ensures cause { OpensRightly (S.view metadata) writable Missing.Nothing result }
+        ensures header_cluster { IfOk result (λ image. NamesTablesBehind image.file.header.fields → LiesBehindHeader image) }
     {
-        Self::open(alloc, ImageStorage::new(metadata), writable, number, false)
+        Self::open(
+            alloc,
+            ImageStorage::new(metadata),
+            writable,
+            number,
+            Missing::Nothing,
+        )
     }
 
     /// Opens an image that needs no other file. One whose data stand in another, or whose header names one, is refused 12 (dependency)
@@ -149,20 +172,57 @@ impl<S: Storage, F: WrappedFormat<S>> Qcow2<S, F> {
         ensures below { IfOk result (λ image. is_some image.backing ≡ false) }
         ensures names { (S.view metadata).is_honest → IfOk result (λ image. HasNamesIn image.file.header (S.view metadata).contents) }
         ensures storage { LeavesStorage S.view writable (S.view metadata) result }
-        ensures another { (S.view metadata).is_honest → NeedsAnother (S.view metadata).contents → IsRefusedAlone result × ContentsStay (S.view metadata) (S.view (storage_after result)) }
-        ensures cause { OpensRightly (S.view metadata) writable true result }
-        ensures header_cluster { IfOk result (λ image. 0 < image.file.header.fields.reftable_offset → LiesBehindHeader image) }
+        ensures another { (S.view metadata).is_honest → NeedsAnother (S.view metadata).contents → IsRefusedAlone result × ContentsStayThroughout (S.view metadata) (S.view (storage_after result)) }
+        ensures cause { OpensRightly (S.view metadata) writable Missing.OtherFiles result }
+        ensures header_cluster { IfOk result (λ image. NamesTablesBehind image.file.header.fields → LiesBehindHeader image) }
     {
-        Self::open(alloc, ImageStorage::new(metadata), writable, number, true)
+        Self::open(
+            alloc,
+            ImageStorage::new(metadata),
+            writable,
+            number,
+            Missing::OtherFiles,
+        )
     }
 
-    // Opens the image of a wrapped storage, alone or whatever other files it needs.
+    /// Opens an image whose data stand in its own file. One whose data stand in another is refused 12 (dependency) and its bytes stay. A
+    /// backing file that its header names isn't asked for.
+    /// Else it is refused as `open_image` is: for the header 19 (metadata), 13 (limit), 4 (unaligned table), before 12. Behind that come
+    /// 19 for its tables, and 13 for the reftable. Where the work meets them: 14 (memory), 15 (storage).
+    pub fn open_with_own_data(
+        alloc: Global,
+        metadata: S,
+        writable: bool,
+        number: u64,
+    ) -> Result<Qcow2<S, F>, (S, ImageError)>
+        ensures opens { IfOk result (Opens S.view F.backing (S.view metadata)) }
+        ensures since { (S.view metadata).is_honest → IsConsistent (byte_at (S.view metadata).contents) → IsKeptSince (S.view metadata) (S.view (storage_after result)) }
+        ensures format { (S.view metadata).is_honest → IfOk result (λ image. SameFormat (header (byte_at (S.view metadata).contents)) image.file.header.fields) }
+        ensures ok { IfOk result (λ image. (number_of image ≡ number) × (is_failed image ≡ false) × (is_writable image ≡ writable)) }
+        ensures faults { OpeningCounts S.view (S.view metadata).faults result }
+        ensures below { IfOk result (λ image. is_some image.backing ≡ false) }
+        ensures names { (S.view metadata).is_honest → IfOk result (λ image. HasNamesIn image.file.header (S.view metadata).contents) }
+        ensures storage { LeavesStorage S.view writable (S.view metadata) result }
+        ensures another { (S.view metadata).is_honest → NeedsDataFile (S.view metadata).contents → IsRefusedAlone result × ContentsStayThroughout (S.view metadata) (S.view (storage_after result)) }
+        ensures cause { OpensRightly (S.view metadata) writable Missing.DataFile result }
+        ensures header_cluster { IfOk result (λ image. NamesTablesBehind image.file.header.fields → LiesBehindHeader image) }
+    {
+        Self::open(
+            alloc,
+            ImageStorage::new(metadata),
+            writable,
+            number,
+            Missing::DataFile,
+        )
+    }
+
+    // Opens the image of a wrapped storage, where these files are missing.
     pub(crate) fn open(
         alloc: Global,
         mut storage: ImageStorage<S>,
         writable: bool,
         number: u64,
-        alone: bool,
+        missing: Missing,
     ) -> Result<Qcow2<S, F>, (S, ImageError)>
         ensures opens { IfOk result (Opens S.view F.backing (S.view (storage_of storage))) }
         ensures since { (S.view (storage_of storage)).is_honest → IsConsistent (byte_at (S.view (storage_of storage)).contents) → IsKeptSince (S.view (storage_of storage)) (S.view (storage_after result)) }
@@ -172,15 +232,15 @@ impl<S: Storage, F: WrappedFormat<S>> Qcow2<S, F> {
         ensures below { IfOk result (λ image. is_some image.backing ≡ false) }
         ensures names { (S.view (storage_of storage)).is_honest → IfOk result (λ image. HasNamesIn image.file.header (S.view (storage_of storage)).contents) }
         ensures storage { LeavesStorage S.view writable (S.view (storage_of storage)) result }
-        ensures another { IsTrue alone → (S.view (storage_of storage)).is_honest → NeedsAnother (S.view (storage_of storage)).contents → IsRefusedAlone result × ContentsStay (S.view (storage_of storage)) (S.view (storage_after result)) }
-        ensures cause { OpensRightly (S.view (storage_of storage)) writable alone result }
-        ensures header_cluster { IfOk result (λ image. 0 < image.file.header.fields.reftable_offset → LiesBehindHeader image) }
+        ensures another { (S.view (storage_of storage)).is_honest → NeedsMissing missing (S.view (storage_of storage)).contents → IsRefusedAlone result × ContentsStayThroughout (S.view (storage_of storage)) (S.view (storage_after result)) }
+        ensures cause { OpensRightly (S.view (storage_of storage)) writable missing result }
+        ensures header_cluster { IfOk result (λ image. NamesTablesBehind image.file.header.fields → LiesBehindHeader image) }
     {
         let header = match Header::load(alloc, &mut storage, writable) {
             Ok(header) => header,
             Err(e) => return Err((storage.into_inner(), ImageError::from(e))),
         };
-        if lacks_another(alone, &header) {
+        if lacks_another(missing, &header) {
             return Err((storage.into_inner(), ImageError::Dependency));
         }
         let caches = match MetadataCaches::new(alloc, &header, L2_TABLES, REFBLOCKS) {
@@ -222,6 +282,7 @@ impl<S: Storage, F: WrappedFormat<S>> Qcow2<S, F> {
         ensures table { (view_in S.view file.old).is_honest → IfOk result (HasL1Table S.view F.backing file.new) }
         ensures cause { IfErr result IsMet }
         ensures why { (view_in S.view file.old).is_honest → MatchResult result (λ table. L1TableReads file.old.header.fields (contents_in S.view file.old)) (IsReasonAgainstL1Table file.old.header.fields (contents_in S.view file.old)) }
+        ensures header_cluster { NamesTablesBehind file.old.header.fields → IfOk result (IsL1TableBehind file.old.header.fields.cluster_bits) }
     {
         let bits = file.header.cluster_bits();
         let Some(cluster) = file.header.l1_table_offset().checked_cluster(bits) else {
@@ -251,7 +312,7 @@ impl<S: Storage, F: WrappedFormat<S>> Qcow2<S, F> {
         ensures loaded { (p : Pending) → IsFresh S.view F.backing p file.old → IfOk result (λ allocator. StaysFresh S.view F.backing p file.old file.new × IsAllocatorOf S.view file.new allocator) }
         ensures cause { IfErr result IsMet }
         ensures why { (view_in S.view file.old).is_honest → MatchResult result (λ allocator. ReftableReads file.old.header.fields (contents_in S.view file.old)) (IsReasonAgainstReftable file.old.header.fields (contents_in S.view file.old)) }
-        ensures header_cluster { AreBehindHeader file.old.header.fields.cluster_bits file.old.caches → 0 < file.new.header.fields.reftable_offset → IfOk result (λ allocator. TablesBehindHeader file.new.header.fields.cluster_bits file.new.header.fields.cluster_bits file.new.caches (Some allocator)) }
+        ensures header_cluster { AreBehindHeader file.old.header.fields.cluster_bits file.old.caches → NamesTablesBehind file.new.header.fields → IfOk result (λ allocator. NamesTablesBehind file.old.header.fields × StandsBehindHeader file.new.header.fields.cluster_bits allocator.reftable file.new) }
     {
         let allocator = Allocator::new(file)?;
         file.storage.will_write(WriteKind::Other);
@@ -270,7 +331,7 @@ impl<S: Storage, F: WrappedFormat<S>> Qcow2<S, F> {
         ensures loaded { (p : Pending) → IsFresh S.view F.backing p file.old → IfOk result (λ tables. IsLoaded S.view F.backing p file.new tables.l1_table tables.allocator) }
         ensures cause { IfErr result IsMet }
         ensures why { (view_in S.view file.old).is_honest → MatchResult result (λ tables. NeededTablesRead file.old.header.fields (contents_in S.view file.old) writable) (IsReasonAgainstTables file.old.header.fields (contents_in S.view file.old) writable) }
-        ensures header_cluster { AreBehindHeader file.old.header.fields.cluster_bits file.old.caches → 0 < file.new.header.fields.reftable_offset → IfOk result (λ tables. TablesBehindHeader file.new.header.fields.cluster_bits file.new.header.fields.cluster_bits file.new.caches tables.allocator) }
+        ensures header_cluster { AreBehindHeader file.old.header.fields.cluster_bits file.old.caches → NamesTablesBehind file.new.header.fields → IfOk result (λ tables. TablesBehindHeader file.new.header.fields.cluster_bits file.new.header.fields.cluster_bits tables.l1_table file.new.caches tables.allocator) }
     {
         let l1_table = Self::load_l1_table(file)?;
         if !writable {
@@ -393,6 +454,7 @@ impl<S: Storage, F: WrappedFormat<S>> Qcow2<S, F> {
     pub fn flush(&mut self) -> Result<(), ImageError>
         ensures early { IsTrue (is_failed self.old) → (result ≡ Err Failed) × (self.new ≡ self.old) }
         ensures late { is_failed self.old ≡ false → IfErr result IsOfTables }
+        ensures fault { (out : List (Option Prepared)) → (abstract_of S.view F.backing self.old out).is_sound → IfErr result IsFault }
         ensures marks { MarksFailed self.old self.new result }
         ensures image { IsSameImage self.old self.new }
         ensures sees { FlushesImage S.view F.backing self.old self.new result }
@@ -400,7 +462,7 @@ impl<S: Storage, F: WrappedFormat<S>> Qcow2<S, F> {
         ensures writes { (p : Pending) → ImageInvariant S.view F.backing (with_listed p self.old.file.free_list) self.old [] → WritesBack S.view F.backing p self.old self.new result }
         ensures unwritten { is_writable self.old ≡ false → OnlyReadsImage S.view F.backing self.old self.new }
         ensures once_written { FailsOnceWritten S.view self.old self.new result }
-        ensures header_cluster { StaysBehindHeader self.old self.new }
+        ensures header_cluster { StaysBehindHeader S.view self.old self.new }
         ensures faults { CountsImageFaults S.view F.backing self.old self.new result }
     {
         if self.is_failed {
@@ -415,10 +477,11 @@ impl<S: Storage, F: WrappedFormat<S>> Qcow2<S, F> {
     fn write_back(&mut self) -> Result<(), ImageError>
         ensures stays { ImageStays self.old self.new }
         ensures cause { IfErr result IsOfTables }
+        ensures fault { (p : Pending) (out : List (Option Prepared)) → ImageInvariant S.view F.backing (with_listed p self.old.file.free_list) self.old out → IfErr result IsFault }
         ensures emptied { IsTrue (is_writable self.old) → OnOk result (HasNothingToFree self.new) }
         ensures frees { (p : Pending) (out : List (Option Prepared)) → ImageInvariant S.view F.backing (with_listed p self.old.file.free_list) self.old out → FreesListed S.view F.backing p self.old self.new out result }
-        ensures notes { KeepsNotes S.view self.old.file.storage self.new.file.storage }
-        ensures header_cluster { StaysBehindHeader self.old self.new }
+        ensures notes { KeepsFileNotes S.view self.old.file self.new.file }
+        ensures header_cluster { StaysBehindHeader S.view self.old self.new }
         ensures written { IfOk result (λ done. known_in S.view self.new.file ≡ contents_in S.view self.new.file) }
         ensures unwritten { is_writable self.old ≡ false → OnlyReadsImage S.view F.backing self.old self.new }
         ensures faults { CountsImageFaults S.view F.backing self.old self.new result }
@@ -434,14 +497,15 @@ impl<S: Storage, F: WrappedFormat<S>> Qcow2<S, F> {
         ensures stays { ImageStays self.old self.new }
         ensures keeps_rest { KeepsRest self.old self.new }
         ensures table { self.new.l1_table ≡ self.old.l1_table }
+        ensures former { KeepsReftable self.old self.new }
         ensures cause { IfErr result IsOfTables }
         ensures emptied { IsTrue (is_writable self.old) → OnOk result (HasNothingToFree self.new) }
         ensures frees { (p : Pending) (out : List (Option Prepared)) → ImageInvariant S.view F.backing (with_listed p self.old.file.free_list) self.old out → FreesListed S.view F.backing p self.old self.new out result }
         ensures faults { (p : Pending) (out : List (Option Prepared)) → ImageInvariant S.view F.backing (with_listed p self.old.file.free_list) self.old out → IfErr result IsFault }
         ensures noted { IsTrue self.old.file.caches.is_changed → IsTrue self.new.file.caches.is_changed }
         ensures idle { HasNothingToFree self.old → (result ≡ Ok tt) × (self.new ≡ self.old) }
-        ensures notes { KeepsNotes S.view self.old.file.storage self.new.file.storage }
-        ensures header_cluster { StaysBehindHeader self.old self.new }
+        ensures notes { KeepsFileNotes S.view self.old.file self.new.file }
+        ensures header_cluster { StaysBehindHeader S.view self.old self.new }
         ensures untouched { is_writable self.old ≡ false → self.new ≡ self.old }
         ensures counts { CountsImageFaults S.view F.backing self.old self.new result }
     {
@@ -457,8 +521,8 @@ impl<S: Storage, F: WrappedFormat<S>> Qcow2<S, F> {
     // Frees the clusters that are to be freed, at the end of a call that changed an entry. Where there are none, nothing is done.
     pub(crate) fn end_freeing(&mut self) -> Result<(), ImageError>
         ensures image { IsSameImage self.old self.new }
-        ensures notes { KeepsNotes S.view self.old.file.storage self.new.file.storage }
-        ensures header_cluster { StaysBehindHeader self.old self.new }
+        ensures notes { KeepsFileNotes S.view self.old.file self.new.file }
+        ensures header_cluster { StaysBehindHeader S.view self.old self.new }
         ensures cause { IfErr result IsOfTables }
         ensures marks { MarksFailed self.old self.new result }
         ensures emptied { IsTrue (is_writable self.old) → OnOk result (HasNothingToFree self.new) }
@@ -478,7 +542,7 @@ impl<S: Storage, F: WrappedFormat<S>> Qcow2<S, F> {
         ensures unnoted { has_noted_change self.new ≡ false }
         ensures stays { ImageStays self.old self.new }
         ensures list { self.new.file.free_list ≡ self.old.file.free_list }
-        ensures faults { NoFewerFaults S.view F.backing self.old self.new }
+        ensures faults { SameFaults S.view F.backing self.old self.new }
         ensures storage { storage_of self.new.file.storage ≡ storage_of self.old.file.storage }
         ensures keeps { (p : Pending) (out : List (Option Prepared)) → ImageInvariant S.view F.backing p self.old out → UnseenStep S.view F.backing p p self.old self.new out }
         ensures known { (p : Pending) (out : List (Option Prepared)) → ImageInvariant S.view F.backing p self.old out → known_in S.view self.new.file ≡ known_in S.view self.old.file }

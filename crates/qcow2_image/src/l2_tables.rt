@@ -1,6 +1,6 @@
 //! The L2 table of a range: found, made, or put in the place of one that others may name too.
 ghost use Rattle.qcow2_image.specs.BehindHeader.{StaysBehindHeader};
-ghost use Rattle.qcow2_alloc.specs.KeptNotes.{KeepsNotes};
+ghost use Rattle.qcow2_alloc.specs.KeptMarks.{KeepsFileNotes};
 ghost use Rattle.std.specs.Prelude.{ℕ, List, Option, is_some, ◌≡◌, ◌≢◌, ◌-◌, ◌*◌, ◌/◌, Some, ◌^◌, ◌<◌, ◌↔◌, IfOk, IfErr, OnOk, IsSome, IsTrue, Ok, Err, length};
 ghost use Rattle.qcow2_metadata.specs.L2Mapping.{IsHostCluster};
 ghost use Rattle.qcow2_metadata.specs.EntryTable.{entry_count, HasRoomIfPlaced};
@@ -19,11 +19,12 @@ ghost use Rattle.qcow2_image.specs.ImageInvariant.{ImageInvariant, pending_in};
 ghost use Rattle.qcow2_metadata.specs.Cover.{cover};
 ghost use Rattle.qcow2_image.specs.declared.mapping.Place.TheVariants.{Image};
 ghost use Rattle.qcow2_image.specs.L1Entries.{HasFarEntry, HasOwnTable, NeedsFarEntry, ReachesOffset};
-ghost use Rattle.qcow2_image.specs.ListedClusters.{KeepsList, KeepsListOrFrees};
+ghost use Rattle.qcow2_image.specs.ListedClusters.{KeepsList, ListsSinceTable, SomeGaveWay};
 ghost use Rattle.qcow2_image.specs.NewTables.{IsFaultOrKeepsL1Table, IsFaultOrLacksTable, SaysKnown, IsStored, StandsReady, MayName, NamesShared, PlacesNewTable, Stores, NamesNew, WritesNew, EntersTable, OwnsTable};
 ghost use Rattle.qcow2_alloc.specs.TableCaches.{IsTableOf};
 ghost use Rattle.qcow2_laws.specs.Changes.{one_at, with_new_tables};
 ghost use Rattle.qcow2_metadata.specs.L2Table.{L2TableView};
+ghost use Rattle.qcow2_image.specs.PinnedTables.{FindsOwn, own_table};
 ghost use Rattle.qcow2_image.specs.Refusals.{IsMet};
 ghost use Rattle.qcow2_image.specs.Faults.{CountsImageFaults};
 
@@ -39,16 +40,17 @@ impl<S: Storage, F: WrappedFormat<S>> Qcow2<S, F> {
     pub(crate) fn table_for(&mut self, offset: u64) -> Result<HostCluster, ImageError>
         requires writable { IsTrue (is_writable self.old) }
         ensures stays { ImageStays self.old self.new }
-        ensures notes { KeepsNotes S.view self.old.file.storage self.new.file.storage }
+        ensures notes { KeepsFileNotes S.view self.old.file self.new.file }
         ensures elsewhere { IfOk result (λ table. 0 < table) }
-        ensures header_cluster { StaysBehindHeader self.old self.new }
+        ensures header_cluster { StaysBehindHeader S.view self.old self.new }
         ensures cause { IfErr result IsMet }
         ensures lacks { (out : List (Option Prepared)) → ImageInvariant S.view F.backing (pending_in S.view F.backing self.old out) self.old out → (HasPrepared out → ⊥) → IfErr result (IsFaultOrLacksTable S.view self.new offset) }
         ensures cached { IfOk result (λ table. IsSome (l2_at self.new.file.caches table)) }
         ensures finds { (out : List (Option Prepared)) → ImageInvariant S.view F.backing (pending_in S.view F.backing self.old out) self.old out → FindsTable S.view F.backing self.old self.new out offset result }
         ensures reaches { (out : List (Option Prepared)) → ImageInvariant S.view F.backing (pending_in S.view F.backing self.old out) self.old out → OnOk result (ReachesOffset offset self.old.file.header.fields self.new.file.header.fields) }
-        ensures freed { (out : List (Option Prepared)) → ImageInvariant S.view F.backing (pending_in S.view F.backing self.old out) self.old out → OnOk result (KeepsListOrFrees offset self.old self.new) }
+        ensures freed { (out : List (Option Prepared)) → ImageInvariant S.view F.backing (pending_in S.view F.backing self.old out) self.old out → OnOk result (ListsSinceTable offset self.old self.new) }
         ensures far { NeedsFarEntry self.old offset → (result ≡ Err ImageError.Overflow) × (self.new ≡ self.old) }
+        ensures own { HasOwnTable self.old offset → FindsOwn self.old self.new offset result }
         ensures faults { CountsImageFaults S.view F.backing self.old self.new result }
     {
         if self.has_own_l2(offset) {
@@ -87,14 +89,15 @@ impl<S: Storage, F: WrappedFormat<S>> Qcow2<S, F> {
         requires writable { IsTrue (is_writable self.old) }
         ensures stays { ImageStays self.old self.new }
         ensures keeps_rest { KeepsRestOn self.old self.new }
-        ensures notes { KeepsNotes S.view self.old.file.storage self.new.file.storage }
+        ensures notes { KeepsFileNotes S.view self.old.file self.new.file }
         ensures elsewhere { IfOk result (λ table. 0 < table) }
-        ensures header_cluster { StaysBehindHeader self.old self.new }
+        ensures header_cluster { StaysBehindHeader S.view self.old self.new }
         ensures cause { IfErr result IsMet }
         ensures lacks { (p : Pending) (out : List (Option Prepared)) → ImageInvariant S.view F.backing p self.old out → (HasPrepared out → ⊥) → IfErr result (IsFaultOrLacksTable S.view self.new offset) }
         ensures cached { IfOk result (λ table. IsSome (l2_at self.new.file.caches table)) }
         ensures ready { (p : Pending) (out : List (Option Prepared)) → ImageInvariant S.view F.backing p self.old out → Ensures S.view F.backing p self.old self.new out offset result }
         ensures quiet { HasOwnTable self.old offset → KeepsList self.old self.new }
+        ensures own { HasOwnTable self.old offset → FindsOwn self.old self.new offset result }
         ensures faults { CountsImageFaults S.view F.backing self.old self.new result }
     {
         let cluster = self.own_l2(offset)?;
@@ -109,13 +112,15 @@ impl<S: Storage, F: WrappedFormat<S>> Qcow2<S, F> {
         requires writable { IsTrue (is_writable self.old) }
         ensures stays { ImageStays self.old self.new }
         ensures keeps_rest { KeepsRestOn self.old self.new }
-        ensures notes { KeepsNotes S.view self.old.file.storage self.new.file.storage }
+        ensures notes { KeepsFileNotes S.view self.old.file self.new.file }
         ensures elsewhere { IfOk result (λ table. 0 < table) }
-        ensures header_cluster { StaysBehindHeader self.old self.new }
+        ensures header_cluster { StaysBehindHeader S.view self.old self.new }
         ensures cause { IfErr result IsMet }
+        ensures former { OnOk result (SomeGaveWay self.old self.new) }
         ensures lacks { (p : Pending) (out : List (Option Prepared)) → ImageInvariant S.view F.backing p self.old out → IfErr result (IsFaultOrLacksTable S.view self.new offset) }
         ensures owns { (p : Pending) (out : List (Option Prepared)) → ImageInvariant S.view F.backing p self.old out → OwnsTable S.view F.backing p self.old self.new out (l1_index_of self.old.file.header.fields offset) result }
         ensures quiet { HasOwnTable self.old offset → self.new ≡ self.old }
+        ensures own { HasOwnTable self.old offset → IfOk result (λ table. table ≡ own_table self.old offset) }
         ensures faults { CountsImageFaults S.view F.backing self.old self.new result }
     {
         let bits = self.file.header.cluster_bits();
@@ -141,10 +146,11 @@ impl<S: Storage, F: WrappedFormat<S>> Qcow2<S, F> {
         requires writable { IsTrue (is_writable self.old) }
         ensures stays { ImageStays self.old self.new }
         ensures keeps_rest { KeepsRestOn self.old self.new }
-        ensures notes { KeepsNotes S.view self.old.file.storage self.new.file.storage }
+        ensures notes { KeepsFileNotes S.view self.old.file self.new.file }
         ensures elsewhere { IfOk result (λ table. 0 < table) }
-        ensures header_cluster { 0 < old → StaysBehindHeader self.old self.new }
+        ensures header_cluster { 0 < old → StaysBehindHeader S.view self.old self.new }
         ensures cause { IfErr result IsMet }
+        ensures former { OnOk result (SomeGaveWay self.old self.new) }
         ensures l1_table { IfErr result (IsFaultOrKeepsL1Table self.old self.new) }
         ensures owns { (p : Pending) (out : List (Option Prepared)) → ImageInvariant S.view F.backing p self.old out → NamesShared S.view self.old index old → OwnsTable S.view F.backing p self.old self.new out index result }
         ensures faults { CountsImageFaults S.view F.backing self.old self.new result }
@@ -169,10 +175,11 @@ impl<S: Storage, F: WrappedFormat<S>> Qcow2<S, F> {
         requires writable { IsTrue (is_writable self.old) }
         ensures stays { ImageStays self.old self.new }
         ensures keeps_rest { KeepsRestOn self.old self.new }
-        ensures notes { KeepsNotes S.view self.old.file.storage self.new.file.storage }
+        ensures notes { KeepsFileNotes S.view self.old.file self.new.file }
         ensures elsewhere { IfOk result (λ table. 0 < table) }
-        ensures header_cluster { StaysBehindHeader self.old self.new }
+        ensures header_cluster { StaysBehindHeader S.view self.old self.new }
         ensures cause { IfErr result IsMet }
+        ensures former { OnOk result (SomeGaveWay self.old self.new) }
         ensures l1_table { IfErr result (IsFaultOrKeepsL1Table self.old self.new) }
         ensures owns { (p : Pending) (out : List (Option Prepared)) → ImageInvariant S.view F.backing p self.old out → NamesShared S.view self.old index old → SaysKnown self.old.file.header.fields (known_in S.view self.old.file) index table → OwnsTable S.view F.backing p self.old self.new out index result }
         ensures faults { CountsImageFaults S.view F.backing self.old self.new result }
@@ -196,10 +203,11 @@ impl<S: Storage, F: WrappedFormat<S>> Qcow2<S, F> {
         requires writable { IsTrue (is_writable self.old) }
         ensures stays { ImageStays self.old self.new }
         ensures keeps_rest { KeepsRestOn self.old self.new }
-        ensures notes { KeepsNotes S.view self.old.file.storage self.new.file.storage }
+        ensures notes { KeepsFileNotes S.view self.old.file self.new.file }
         ensures elsewhere { IfOk result (λ table. 0 < table) }
-        ensures header_cluster { StaysBehindHeader self.old self.new }
+        ensures header_cluster { StaysBehindHeader S.view self.old self.new }
         ensures cause { IfErr result IsMet }
+        ensures former { OnOk result (SomeGaveWay self.old self.new) }
         ensures l1_table { IfErr result (IsFaultOrKeepsL1Table self.old self.new) }
         ensures enters { (p : Pending) (out : List (Option Prepared)) → ImageInvariant S.view F.backing p self.old out → MayName S.view self.old index → SaysKnown self.old.file.header.fields (known_in S.view self.old.file) index table → EntersTable S.view F.backing p self.old self.new out index result }
         ensures faults { CountsImageFaults S.view F.backing self.old self.new result }
@@ -230,9 +238,10 @@ impl<S: Storage, F: WrappedFormat<S>> Qcow2<S, F> {
     ) -> Result<(), ImageError>
         ensures stays { ImageStays self.old self.new }
         ensures keeps_rest { KeepsRest self.old self.new }
-        ensures notes { KeepsNotes S.view self.old.file.storage self.new.file.storage }
-        ensures header_cluster { 0 < cluster → StaysBehindHeader self.old self.new }
+        ensures notes { KeepsFileNotes S.view self.old.file self.new.file }
+        ensures header_cluster { 0 < cluster → StaysBehindHeader S.view self.old self.new }
         ensures cause { IfErr result IsMet }
+        ensures allocator { self.new.allocator ≡ self.old.allocator }
         ensures l1_table { IfErr result (IsFaultOrKeepsL1Table self.old self.new) }
         ensures list { self.new.file.free_list ≡ self.old.file.free_list }
         ensures writes { (p : Pending) (out : List (Option Prepared)) → ImageInvariant S.view F.backing (with_new_tables p (one_at cluster)) self.old out → MayName S.view self.old index → IsTrue self.old.file.caches.is_changed
@@ -251,8 +260,8 @@ impl<S: Storage, F: WrappedFormat<S>> Qcow2<S, F> {
     fn store_first(&mut self) -> Result<(), ImageError>
         ensures stays { ImageStays self.old self.new }
         ensures keeps_rest { KeepsRest self.old self.new }
-        ensures notes { KeepsNotes S.view self.old.file.storage self.new.file.storage }
-        ensures header_cluster { StaysBehindHeader self.old self.new }
+        ensures notes { KeepsFileNotes S.view self.old.file self.new.file }
+        ensures header_cluster { StaysBehindHeader S.view self.old self.new }
         ensures cause { IfErr result IsMet }
         ensures rest { self.new ≡ record self.old { file = record self.old.file { storage = self.new.file.storage; caches = self.new.file.caches } } }
         ensures noted { IsTrue self.old.file.caches.is_changed → IsTrue self.new.file.caches.is_changed }
@@ -263,12 +272,12 @@ impl<S: Storage, F: WrappedFormat<S>> Qcow2<S, F> {
         self.file.caches.flush_rb(&mut self.file.storage)
     }
 
-    // Writes a table's bytes to a cluster, and puts the table into its cache.
+    // Writes a table's bytes to a cluster, and puts the table into its cache. One of another cluster size than the image's, which no cache holds, is refused 19 (metadata).
     fn place_l2(&mut self, cluster: HostCluster, mut table: L2Table) -> Result<(), ImageError>
         ensures stays { ImageStays self.old self.new }
         ensures keeps_rest { KeepsRest self.old self.new }
-        ensures notes { KeepsNotes S.view self.old.file.storage self.new.file.storage }
-        ensures header_cluster { 0 < cluster → StaysBehindHeader self.old self.new }
+        ensures notes { KeepsFileNotes S.view self.old.file self.new.file }
+        ensures header_cluster { 0 < cluster → StaysBehindHeader S.view self.old self.new }
         ensures cause { IfErr result IsMet }
         ensures rest { self.new ≡ record self.old { file = record self.old.file { storage = self.new.file.storage; caches = self.new.file.caches } } }
         ensures noted { IsTrue self.old.file.caches.is_changed → IsTrue self.new.file.caches.is_changed }
@@ -279,6 +288,9 @@ impl<S: Storage, F: WrappedFormat<S>> Qcow2<S, F> {
     {
         if !cluster.is_nameable(table.cluster_bits()) {
             return Err(ImageError::Limit);
+        }
+        if table.cluster_bits() != self.file.header.cluster_bits() {
+            return Err(ImageError::Metadata);
         }
         table.set_cluster(cluster);
         self.file.storage.will_write(WriteKind::Other);
@@ -295,9 +307,10 @@ impl<S: Storage, F: WrappedFormat<S>> Qcow2<S, F> {
         requires nameable { IsHostCluster self.old.l1_table.cluster_bits cluster }
         ensures stays { ImageStays self.old self.new }
         ensures keeps_rest { KeepsRest self.old self.new }
-        ensures notes { KeepsNotes S.view self.old.file.storage self.new.file.storage }
-        ensures header_cluster { StaysBehindHeader self.old self.new }
+        ensures notes { KeepsFileNotes S.view self.old.file self.new.file }
+        ensures header_cluster { StaysBehindHeader S.view self.old self.new }
         ensures cause { IfErr result IsMet }
+        ensures allocator { self.new.allocator ≡ self.old.allocator }
         ensures fault { IfErr result IsFault }
         ensures list { self.new.file.free_list ≡ self.old.file.free_list }
         ensures names { (p : Pending) (out : List (Option Prepared)) (table : L2TableView) → ImageInvariant S.view F.backing (with_new_tables p (one_at cluster)) self.old out → MayName S.view self.old index → IsTrue self.old.file.caches.is_changed

@@ -19,8 +19,8 @@ mod ranges;
 mod resize;
 mod resizing;
 
-pub use builder::Qcow2CreateBuilder;
-pub use image::Qcow2;
+pub use builder::{NoBacking, Qcow2CreateBuilder};
+pub use image::{Missing, Qcow2};
 pub use mapping::{Mapping, MappingKind, Place};
 pub use prepared::{CommitRefused, Prepared};
 pub use qcow2_alloc::async_lru_cache::{AsyncLruCache, AsyncLruCacheBackend, CacheError};

@@ -1,21 +1,23 @@
 //! What a guest range is mapped to, and making it writable.
 ghost use Rattle.qcow2_disk.specs.Alike.{AreDataAt};
 ghost use Rattle.qcow2_image.specs.BehindHeader.{StaysBehindHeader};
-ghost use Rattle.std.specs.Prelude.{◌↔◌, ℕ, List, Option, is_some, ◌≡◌, ◌⊎◌, ◌≢◌, ◌+◌, ◌*◌, ◌-◌, ◌/◌, ◌%◌, true, Some, ◌^◌, ◌<◌, ◌≤◌, [], ◌∷◌, ◌++◌, length, slice_get, IfOk, IfErr, IfSome, OnOk, IsOk, IsNone, IsSome, IsTrue, IsFalse, MatchOption, MatchResult, Ok, Err, None, false};
+ghost use Rattle.std.specs.Prelude.{◌↔◌, ℕ, List, Option, is_some, ◌≡◌, ◌⊎◌, ◌≢◌, ◌+◌, ◌*◌, ◌-◌, ◌/◌, ◌%◌, true, Some, ◌^◌, ◌<◌, ◌≤◌, [], ◌∷◌, ◌++◌, length, slice_get, IfOk, IfErr, IfSome, IsErrAnd, OnOk, IsOk, IsNone, IsSome, IsTrue, IsFalse, MatchOption, MatchResult, Ok, Err, None, false};
 ghost use Rattle.qcow2_metadata.specs.L2Mapping.{IsInReach, greatest_offset, named_run};
 ghost use Rattle.qcow2_disk.specs.Mappings.{is_copied_data};
-ghost use Rattle.qcow2_image.specs.Image.{HasNothingToFree, ImageStays, IsSameImage, is_failed, is_writable, number_of, size_of};
+ghost use Rattle.qcow2_image.specs.Image.{HasNothingToFree, ImageStays, IsSameImage, KeepsRest, is_failed, is_writable, number_of, size_of};
 ghost use Rattle.qcow2_image.specs.Prepared.{guest_offset_of, image_of, length_of, offset_of, table_of, IsHandedBackBy};
 ghost use Rattle.qcow2_image.specs.Preparing.{IsAnswered, IsOfNothing, IsPlaceOf, IsTaken};
 ghost use Rattle.qcow2_image.specs.Ranges.{ReleasesOneMapping, Reaches};
 ghost use Rattle.qcow2_image.specs.Unwritten.{OnlyReadsImage};
 ghost use Rattle.qcow2_laws.specs.CrashInvariant.{Pending};
 ghost use Rattle.qcow2_alloc.specs.MetadataCaches.{IsEntryAt, l2_at};
-ghost use Rattle.qcow2_alloc.specs.KeptNotes.{KeepsNotes};
+ghost use Rattle.qcow2_alloc.specs.KeptMarks.{KeepsFileNotes};
 ghost use Rattle.qcow2_image.specs.Noted.{CommitFailsOnceWritten, FailsOnceWritten};
 ghost use Rattle.qcow2_alloc.specs.ImageFile.{known_in, FileInvariant, KeepsHeader};
-ghost use Rattle.qcow2_image.specs.L1Entries.{IsRefusedAsFar, NeedsFarEntry, RefusesFarEntryFreeing};
+ghost use Rattle.qcow2_image.specs.L1Entries.{HasOwnTable, IsRefusedAsFar, NeedsFarEntry, RefusesFarEntryFreeing};
+ghost use Rattle.qcow2_image.specs.LowestPlaces.{BeginsLowest};
 ghost use Rattle.qcow2_image.specs.ListedClusters.{ListsFormer, PreparesList, PreparesTable};
+ghost use Rattle.qcow2_image.specs.PinnedTables.{PreparesUnpinned};
 ghost use Rattle.qcow2_alloc.specs.ImageStorage.{storage_of};
 ghost use Rattle.qcow2_image.specs.declared.prepared.Prepared.{Prepared};
 ghost use Rattle.qcow2_image.specs.Calls.{AnswersCall, Commits, Discards, Prepares, reason_of};
@@ -24,7 +26,7 @@ ghost use Rattle.qcow2_alloc.specs.CachePins.{l2_pins};
 ghost use Rattle.qcow2_alloc.specs.ImageError.{IsFault, IsOfTables};
 ghost use Rattle.qcow2_disk.specs.Alike.{IsAlike};
 ghost use Rattle.qcow2_disk.specs.Found.{IsFoundIn, kind_at, rest_of_table};
-ghost use Rattle.qcow2_image.specs.Faults.{CountsImageFaults, IsNotOfStorage, NoFewerFaults, TellsFault};
+ghost use Rattle.qcow2_image.specs.Faults.{CountsImageFaults, IsNotOfStorage, NoFewerFaults, SameFaults, TellsEachBy, TellsFault};
 ghost use Rattle.qcow2_image.specs.declared.image.Qcow2.{Qcow2};
 ghost use Rattle.qcow2_image.specs.Found.{found_kind, mapping_of, IsRunBehind, NamesL2Table, IsRunFrom, IsFoundInImage, l1_index_of, l2_index_of};
 ghost use Rattle.qcow2_image.specs.UnseenSteps.{DropsNothing, HoldsTable, UnseenStep, EntersCluster, EntersShare, FreesLater, Unpins, old_data_by, freed_by};
@@ -33,7 +35,7 @@ ghost use Rattle.qcow2_metadata.specs.Header.{cluster_size, entries_per_cluster}
 ghost use Rattle.qcow2_metadata.specs.Cover.{cover};
 ghost use Rattle.qcow2_image.specs.declared.mapping.Place.TheVariants.{Image};
 ghost use Rattle.qcow2_image.specs.declared.mapping.MappingKind.TheVariants.{Eof};
-ghost use Rattle.qcow2_image.specs.Refusals.{FreesRefused, unusable, refuses_to_prepare, passes as passes_size, IsMet, IsMetPreparing, MarksFailed, MarksRefused};
+ghost use Rattle.qcow2_image.specs.Refusals.{FreesRefused, unusable, refuses_to_prepare, passes as passes_size, IsMet, IsMetPreparing, IsUnlimited, MarksFailed, MarksRefused};
 ghost use Rattle.qcow2_image.specs.declared.prepared.CommitRefused.TheVariants.{Kept, Spent};
 ghost use Rattle.qcow2_image.specs.declared.prepared.Share.TheVariants.{InPlace};
 ghost use Rattle.qcow2_alloc.specs.declared.error.ImageError.TheVariants.{Failed, ForeignState, TablePrepared};
@@ -159,6 +161,7 @@ impl<S: Storage, F: WrappedFormat<S>> Qcow2<S, F> {
     pub fn get_mapping(&mut self, offset: u64, max: u64) -> Result<(Mapping, u64), ImageError>
         ensures early { IfSome (unusable self.old) (λ e. (result ≡ Err e) × (self.new ≡ self.old)) }
         ensures late { unusable self.old ≡ None → IfErr result IsOfTables }
+        ensures limited { (out : List (Option Prepared)) → (abstract_of S.view F.backing self.old out).is_sound → IfErr result IsUnlimited }
         ensures marks { MarksFailed self.old self.new result }
         ensures image { IsSameImage self.old self.new }
         ensures own { IfOk result (λ (mapping, n). (mapping.image ≡ number_of self.old) × (mapping.offset ≡ offset) × (mapping.length ≡ n)) }
@@ -170,7 +173,7 @@ impl<S: Storage, F: WrappedFormat<S>> Qcow2<S, F> {
         ensures run { (out : List (Option Prepared)) → (abstract_of S.view F.backing self.old out).is_sound → IfOk result (λ (mapping, n). IsFoundIn (known_in S.view self.new.file) (is_some self.new.backing) offset max (found_kind mapping.kind) n) }
         ensures faults { CountsImageFaults S.view F.backing self.old self.new result }
         ensures once_written { FailsOnceWritten S.view self.old self.new result }
-        ensures header_cluster { StaysBehindHeader self.old self.new }
+        ensures header_cluster { StaysBehindHeader S.view self.old self.new }
         ensures unwritten { OnlyReadsImage S.view F.backing self.old self.new }
     {
         self.check_usable()?;
@@ -193,6 +196,7 @@ impl<S: Storage, F: WrappedFormat<S>> Qcow2<S, F> {
     ) -> Result<(MappingKind, u64), ImageError>
         ensures stays { ImageStays self.old self.new }
         ensures cause { IfErr result IsOfTables }
+        ensures limited { (p : Pending) (out : List (Option Prepared)) → ImageInvariant S.view F.backing p self.old out → IfErr result IsUnlimited }
         ensures keeps { (p : Pending) (out : List (Option Prepared)) → ImageInvariant S.view F.backing p self.old out → UnseenStep S.view F.backing p p self.old self.new out }
         ensures known { (p : Pending) (out : List (Option Prepared)) → ImageInvariant S.view F.backing p self.old out → known_in S.view self.new.file ≡ known_in S.view self.old.file }
         ensures list { self.new.file.free_list ≡ self.old.file.free_list }
@@ -201,8 +205,8 @@ impl<S: Storage, F: WrappedFormat<S>> Qcow2<S, F> {
         ensures past { size_of self.old ≤ offset → result ≡ Ok (Eof, 0) }
         ensures found { (p : Pending) (out : List (Option Prepared)) → ImageInvariant S.view F.backing p self.old out → IfOk result (λ (kind, n). IsFoundInImage S.view self.new offset max kind n) }
         ensures faults { CountsImageFaults S.view F.backing self.old self.new result }
-        ensures notes { KeepsNotes S.view self.old.file.storage self.new.file.storage }
-        ensures header_cluster { StaysBehindHeader self.old self.new }
+        ensures notes { KeepsFileNotes S.view self.old.file self.new.file }
+        ensures header_cluster { StaysBehindHeader S.view self.old self.new }
         ensures unwritten { OnlyReadsImage S.view F.backing self.old self.new }
     {
         let size = self.file.header.size();
@@ -234,6 +238,7 @@ impl<S: Storage, F: WrappedFormat<S>> Qcow2<S, F> {
     // Where the L2 table of an offset lies, or None where there is none.
     fn l2_cluster(&self, offset: u64) -> Result<Option<HostCluster>, ImageError>
         ensures cause { IfErr result IsOfTables }
+        ensures limited { IfErr result IsUnlimited }
         ensures names { HasL1Table S.view F.backing self.now.file self.now.l1_table → IfOk result (NamesL2Table S.view self.now offset) }
         ensures elsewhere { IfOk result (λ table. IfSome table (λ cluster. 0 < cluster)) }
         ensures faults { IfErr result IsNotOfStorage }
@@ -258,6 +263,7 @@ impl<S: Storage, F: WrappedFormat<S>> Qcow2<S, F> {
     }
 
     // The run of alike clusters from an offset on, in the held table that covers it.
+    #[tactic(auto, using(crate::proofs::Call::MetErrors::tables_met, crate::proofs::Call::MetErrors::storage_met, crate::proofs::Call::MetErrors::metadata_met, crate::proofs::Call::MetErrors::metadata_of_tables, crate::proofs::Call::Unlimited::unaligned_unlimited))]
     fn run_in_table(
         &self,
         table: HostCluster,
@@ -267,6 +273,7 @@ impl<S: Storage, F: WrappedFormat<S>> Qcow2<S, F> {
         requires near { max ≤ 2 ^ 40 }
         requires cached { IsSome (l2_at self.now.file.caches table) }
         ensures cause { IfErr result IsOfTables }
+        ensures limited { IfErr result IsUnlimited }
         ensures within { IfOk result (λ (kind, n). n ≤ max) }
         ensures some { IfOk result (λ (kind, n). 0 < max → 0 < n) }
         ensures run { (p : Pending) → FileInvariant S.view p self.now.file
@@ -286,6 +293,7 @@ impl<S: Storage, F: WrappedFormat<S>> Qcow2<S, F> {
     }
 
     // Whether two guest clusters that a table covers, so many bytes apart, are mapped alike.
+    #[tactic(auto, using(crate::proofs::Call::MetErrors::tables_met, crate::proofs::Call::MetErrors::storage_met, crate::proofs::Call::MetErrors::metadata_met, crate::proofs::Call::MetErrors::metadata_of_tables, crate::proofs::Call::Unlimited::unaligned_unlimited))]
     fn are_alike(
         &self,
         table: &L2Table,
@@ -296,6 +304,7 @@ impl<S: Storage, F: WrappedFormat<S>> Qcow2<S, F> {
         requires near { distance ≤ 2 ^ 42 }
         ensures alike { IfOk result (λ alike. IsTrue alike ↔ IsAlike distance (mapping_of table.now first) (mapping_of table.now next)) }
         ensures cause { IfErr result IsOfTables }
+        ensures limited { IfErr result IsUnlimited }
         ensures faults { IfErr result IsNotOfStorage }
     {
         let first = table.get_mapping(first)?;
@@ -304,6 +313,7 @@ impl<S: Storage, F: WrappedFormat<S>> Qcow2<S, F> {
     }
 
     // How many bytes, at least up to `max`, lie in clusters behind one that are mapped like it.
+    #[tactic(auto, using(crate::proofs::Call::MetErrors::tables_met, crate::proofs::Call::MetErrors::storage_met, crate::proofs::Call::MetErrors::metadata_met, crate::proofs::Call::MetErrors::metadata_of_tables, crate::proofs::Call::Unlimited::unaligned_unlimited))]
     fn alike_behind(
         &self,
         table: &L2Table,
@@ -315,6 +325,7 @@ impl<S: Storage, F: WrappedFormat<S>> Qcow2<S, F> {
         ensures bounded { IfOk result (λ n. n ≤ 2 ^ 41) }
         ensures run { IfOk result (IsRunBehind table.now cluster max) }
         ensures cause { IfErr result IsOfTables }
+        ensures limited { IfErr result IsUnlimited }
         ensures faults { IfErr result IsNotOfStorage }
     {
         let size = cluster_size(table);
@@ -372,9 +383,12 @@ impl<S: Storage, F: WrappedFormat<S>> Qcow2<S, F> {
         ensures listed { refuses_to_prepare self.old offset length ≡ None → 0 < length → (out : List (Option Prepared)) → (abstract_of S.view F.backing self.old out).is_sound → PreparesList offset self.old self.new result }
         ensures maps { 0 < length → (out : List (Option Prepared)) → (abstract_of S.view F.backing self.old out).is_sound
             → IfOk result (λ p. IsAnswered self.old.file.header.fields (known_in S.view self.old.file) offset length self.new.file.header.fields (known_in S.view self.new.file) p (meaning S.view F.backing self.new p)) }
+        ensures lowest { 0 < length → (out : List (Option Prepared)) → (abstract_of S.view F.backing self.old out).is_sound → IfOk result (BeginsLowest S.view self.new) }
         ensures far { 0 < length → RefusesFarEntryFreeing S.view F.backing (refuses_to_prepare self.old offset length) offset self.old self.new result }
+        ensures far_refused { 0 < length → refuses_to_prepare self.old offset length ≡ None → NeedsFarEntry self.old offset → IsErrAnd result (λ e. (e ≡ ImageError.Overflow) ⊎ IsOfTables e) }
+        ensures pinned { 0 < length → refuses_to_prepare self.old offset length ≡ None → HasOwnTable self.old offset → PreparesUnpinned self.old offset result }
         ensures once_written { FailsOnceWritten S.view self.old self.new result }
-        ensures header_cluster { StaysBehindHeader self.old self.new }
+        ensures header_cluster { StaysBehindHeader S.view self.old self.new }
         ensures faults { CountsImageFaults S.view F.backing self.old self.new result }
     {
         self.check_prepare(offset, length)?;
@@ -429,8 +443,8 @@ impl<S: Storage, F: WrappedFormat<S>> Qcow2<S, F> {
     ) -> Result<Prepared, ImageError>
         requires writable { IsTrue (is_writable self.old) }
         ensures stays { ImageStays self.old self.new }
-        ensures notes { KeepsNotes S.view self.old.file.storage self.new.file.storage }
-        ensures header_cluster { StaysBehindHeader self.old self.new }
+        ensures notes { KeepsFileNotes S.view self.old.file self.new.file }
+        ensures header_cluster { StaysBehindHeader S.view self.old self.new }
         ensures cause { IfErr result IsMetPreparing }
         ensures taken { 0 < length → (out : List (Option Prepared)) → ImageInvariant S.view F.backing (pending_in S.view F.backing self.old out) self.old out
             → IfErr result (λ e. e ≡ TablePrepared → IsTaken self.old.file.header.fields (known_in S.view self.old.file) offset length out) }
@@ -440,8 +454,11 @@ impl<S: Storage, F: WrappedFormat<S>> Qcow2<S, F> {
             → PreparesRange S.view F.backing self.old self.new out offset length overwrite result }
         ensures answers { 0 < length → (out : List (Option Prepared)) → ImageInvariant S.view F.backing (pending_in S.view F.backing self.old out) self.old out
             → IfOk result (λ q. IsAnswered self.old.file.header.fields (known_in S.view self.old.file) offset length self.new.file.header.fields (known_in S.view self.new.file) q (meaning S.view F.backing self.new q)) }
+        ensures lowest { (out : List (Option Prepared)) → ImageInvariant S.view F.backing (pending_in S.view F.backing self.old out) self.old out → IfOk result (BeginsLowest S.view self.new) }
         ensures listed { 0 < length → (out : List (Option Prepared)) → ImageInvariant S.view F.backing (pending_in S.view F.backing self.old out) self.old out → PreparesList offset self.old self.new result }
         ensures far { NeedsFarEntry self.old offset → IsRefusedAsFar S.view F.backing self.old self.new result }
+        ensures far_refused { NeedsFarEntry self.old offset → IsErrAnd result (λ e. (e ≡ ImageError.Overflow) ⊎ IsOfTables e) }
+        ensures pinned { HasOwnTable self.old offset → PreparesUnpinned self.old offset result }
         ensures faults { CountsImageFaults S.view F.backing self.old self.new result }
     {
         match self.prepare_range(offset, length, overwrite) {
@@ -459,8 +476,8 @@ impl<S: Storage, F: WrappedFormat<S>> Qcow2<S, F> {
     ) -> Result<Prepared, ImageError>
         requires writable { IsTrue (is_writable self.old) }
         ensures stays { ImageStays self.old self.new }
-        ensures notes { KeepsNotes S.view self.old.file.storage self.new.file.storage }
-        ensures header_cluster { StaysBehindHeader self.old self.new }
+        ensures notes { KeepsFileNotes S.view self.old.file self.new.file }
+        ensures header_cluster { StaysBehindHeader S.view self.old self.new }
         ensures cause { IfErr result IsMetPreparing }
         ensures taken { 0 < length → (out : List (Option Prepared)) → ImageInvariant S.view F.backing (pending_in S.view F.backing self.old out) self.old out
             → IfErr result (λ e. e ≡ TablePrepared → IsTaken self.old.file.header.fields (known_in S.view self.old.file) offset length out) }
@@ -470,8 +487,10 @@ impl<S: Storage, F: WrappedFormat<S>> Qcow2<S, F> {
             → PreparesRange S.view F.backing self.old self.new out offset length overwrite result }
         ensures answers { 0 < length → (out : List (Option Prepared)) → ImageInvariant S.view F.backing (pending_in S.view F.backing self.old out) self.old out
             → IfOk result (λ q. IsAnswered self.old.file.header.fields (known_in S.view self.old.file) offset length self.new.file.header.fields (known_in S.view self.new.file) q (meaning S.view F.backing self.new q)) }
+        ensures lowest { (out : List (Option Prepared)) → ImageInvariant S.view F.backing (pending_in S.view F.backing self.old out) self.old out → IfOk result (BeginsLowest S.view self.new) }
         ensures tables { (out : List (Option Prepared)) → ImageInvariant S.view F.backing (pending_in S.view F.backing self.old out) self.old out → OnOk result (PreparesTable offset self.old self.new) }
         ensures far { NeedsFarEntry self.old offset → (result ≡ Err ImageError.Overflow) × (self.new ≡ self.old) }
+        ensures pinned { HasOwnTable self.old offset → PreparesUnpinned self.old offset result }
         ensures faults { CountsImageFaults S.view F.backing self.old self.new result }
     {
         let table = self.table_for(offset)?;
@@ -484,13 +503,16 @@ impl<S: Storage, F: WrappedFormat<S>> Qcow2<S, F> {
     // Frees the clusters that are to be freed after a refusal; the refusal that is answered. Nothing is freed after a fault, nor where a table is under another mapping.
     pub(crate) fn free_after(&mut self, refusal: ImageError) -> ImageError
         ensures stays { ImageStays self.old self.new }
-        ensures notes { KeepsNotes S.view self.old.file.storage self.new.file.storage }
-        ensures header_cluster { StaysBehindHeader self.old self.new }
+        ensures keeps_rest { KeepsRest self.old self.new }
+        ensures table { self.new.l1_table ≡ self.old.l1_table }
+        ensures notes { KeepsFileNotes S.view self.old.file self.new.file }
+        ensures header_cluster { StaysBehindHeader S.view self.old self.new }
         ensures cause { IsMetPreparing refusal → IsMetPreparing result }
         ensures taken { IsMetPreparing refusal → result ≡ TablePrepared → refusal ≡ TablePrepared }
         ensures fault { IsFault refusal → (result ≡ refusal) × (self.new ≡ self.old) }
         ensures idle { HasNothingToFree self.old → (result ≡ refusal) × (self.new ≡ self.old) }
         ensures told { (out : List (Option Prepared)) → ImageInvariant S.view F.backing (pending_in S.view F.backing self.old out) self.old out → (result ≡ refusal) ⊎ IsFault result }
+        ensures handed { (result ≡ refusal) ⊎ IsOfTables result }
         ensures emptied { IsTrue (is_writable self.old) → (out : List (Option Prepared)) → ImageInvariant S.view F.backing (pending_in S.view F.backing self.old out) self.old out → FreesRefused self.new result }
         ensures frees { (out : List (Option Prepared)) → ImageInvariant S.view F.backing (pending_in S.view F.backing self.old out) self.old out → RefusedCall S.view F.backing self.old self.new out result }
         ensures faults { (start : Qcow2 S F) → CountsImageFaults S.view F.backing {T = Unit {0}} start self.old (Err refusal) → CountsImageFaults S.view F.backing {T = Unit {0}} start self.new (Err result) }
@@ -536,10 +558,11 @@ impl<S: Storage, F: WrappedFormat<S>> Qcow2<S, F> {
     ) -> Result<Prepared, ImageError>
         requires writable { IsTrue (is_writable self.old) }
         ensures stays { ImageStays self.old self.new }
-        ensures notes { KeepsNotes S.view self.old.file.storage self.new.file.storage }
-        ensures header_cluster { 0 < table → StaysBehindHeader self.old self.new }
+        ensures notes { KeepsFileNotes S.view self.old.file self.new.file }
+        ensures header_cluster { 0 < table → StaysBehindHeader S.view self.old self.new }
         ensures cause { IfErr result IsMetPreparing }
         ensures taken { IfErr result (λ e. e ≡ TablePrepared → 0 < l2_pins self.old.file.caches table) }
+        ensures unpinned { OnOk result (l2_pins self.old.file.caches table ≡ 0) }
         ensures own { IfOk result (λ p. image_of p ≡ number_of self.old) }
         ensures some { IfOk result (λ p. 0 < length_of p) }
         ensures readies { (out : List (Option Prepared)) → ImageInvariant S.view F.backing (pending_in S.view F.backing self.old out) self.old out
@@ -548,6 +571,8 @@ impl<S: Storage, F: WrappedFormat<S>> Qcow2<S, F> {
             → HoldsTable S.view F.backing self.old offset table → IfOk result (Reaches S.view self.new offset length) }
         ensures header { KeepsHeader self.old.file.header self.new.file.header }
         ensures former { OnOk result (ListsFormer self.old self.new) }
+        ensures lowest { (out : List (Option Prepared)) (k : ℕ) → slice_get out k ≡ Some None → ImageInvariant S.view F.backing (pending_in S.view F.backing self.old out) self.old out
+            → HoldsTable S.view F.backing self.old offset table → IfOk result (BeginsLowest S.view self.new) }
         ensures faults { CountsImageFaults S.view F.backing self.old self.new result }
     {
         let mut prepared = self.prepare_first(table, offset, length, overwrite)?;
@@ -620,8 +645,8 @@ impl<S: Storage, F: WrappedFormat<S>> Qcow2<S, F> {
         ensures emptied { image_of prepared ≡ number_of self.old → IsSome (table_of prepared) → IsTrue (is_writable self.old) → OnOk result (HasNothingToFree self.new) }
         ensures quiet { HasNothingToFree self.old → DropsNothing prepared → storage_of self.new.file.storage ≡ storage_of self.old.file.storage }
         ensures once_written { CommitFailsOnceWritten S.view self.old self.new result }
-        ensures header_cluster { StaysBehindHeader self.old self.new }
-        ensures faults { NoFewerFaults S.view F.backing self.old self.new × IfErr result (λ r. TellsFault S.view F.backing self.old self.new (reason_of r)) }
+        ensures header_cluster { StaysBehindHeader S.view self.old self.new }
+        ensures faults { NoFewerFaults S.view F.backing self.old self.new × IfErr result (λ r. TellsFault S.view F.backing self.old self.new (reason_of r)) × TellsEachBy S.view F.backing reason_of self.old self.new result }
     {
         if prepared.image != self.number {
             return Err(CommitRefused::Kept(ImageError::ForeignState, prepared));
@@ -653,9 +678,10 @@ impl<S: Storage, F: WrappedFormat<S>> Qcow2<S, F> {
         ensures in_place { IsEntered prepared.old prepared.new }
         ensures left { freed_by prepared.new.shares.items ≡ [] }
         ensures storage { self.new.file.storage ≡ self.old.file.storage }
+        ensures notes { KeepsFileNotes S.view self.old.file self.new.file }
         ensures quiet { DropsNothing prepared.old → self.new.file.free_list ≡ self.old.file.free_list }
-        ensures header_cluster { StaysBehindHeader self.old self.new }
-        ensures faults { NoFewerFaults S.view F.backing self.old self.new }
+        ensures header_cluster { StaysBehindHeader S.view self.old self.new }
+        ensures faults { SameFaults S.view F.backing self.old self.new }
     {
         let mut entered = false;
         for i in 0..prepared.shares.len() {
@@ -711,12 +737,12 @@ impl<S: Storage, F: WrappedFormat<S>> Qcow2<S, F> {
     /// of another image, which is handed back.
     pub fn discard_data_mapping(&mut self, prepared: Prepared) -> Result<(), (ImageError, Prepared)>
         ensures own { image_of prepared ≡ number_of self.old → IsOk result }
-        ensures foreign { IfErr result (λ (e, p). (image_of prepared ≢ number_of self.old) × (e ≡ ForeignState) × (p ≡ prepared) × (self.new ≡ self.old)) }
+        ensures foreign { image_of prepared ≢ number_of self.old → (result ≡ Err (ForeignState, prepared)) × (self.new ≡ self.old) }
         ensures stays { ImageStays self.old self.new }
         ensures sees { IfOk result (λ done. Discards S.view F.backing self.old self.new prepared) }
         ensures rest { IfOk result (λ done. ReleasesOneMapping S.view self.old self.new) }
-        ensures header_cluster { StaysBehindHeader self.old self.new }
-        ensures faults { NoFewerFaults S.view F.backing self.old self.new }
+        ensures header_cluster { StaysBehindHeader S.view self.old self.new }
+        ensures faults { SameFaults S.view F.backing self.old self.new }
     {
         if prepared.image != self.number {
             return Err((ImageError::ForeignState, prepared));
@@ -730,9 +756,10 @@ impl<S: Storage, F: WrappedFormat<S>> Qcow2<S, F> {
         ensures stays { ImageStays self.old self.new }
         ensures list { self.new.file.free_list ≡ self.old.file.free_list ++ freed_by prepared.shares.items }
         ensures rest { ReleasesOneMapping S.view self.old self.new }
+        ensures notes { KeepsFileNotes S.view self.old.file self.new.file }
         ensures sees { Discards S.view F.backing self.old self.new prepared }
-        ensures header_cluster { StaysBehindHeader self.old self.new }
-        ensures faults { NoFewerFaults S.view F.backing self.old self.new }
+        ensures header_cluster { StaysBehindHeader S.view self.old self.new }
+        ensures faults { SameFaults S.view F.backing self.old self.new }
     {
         let Prepared {
             image: _,

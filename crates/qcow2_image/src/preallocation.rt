@@ -1,11 +1,12 @@
 //! Preallocation: zeros behind the end of a disk, before its size grows.
 ghost use Rattle.qcow2_image.specs.BehindHeader.{StaysBehindHeader};
-ghost use Rattle.std.specs.Prelude.{ℕ, List, Option, ◌≡◌, ◌%◌, ◌^◌, ◌<◌, ◌≤◌, Err, IfOk, IfErr, IsTrue, OnOk, max, replicate, slice_get, slice_set, None, Some};
+ghost use Rattle.std.specs.Prelude.{ℕ, List, Option, ◌≡◌, ◌%◌, ◌^◌, ◌<◌, ◌≤◌, Err, IfOk, IfErr, IsTrue, OnOk, max, replicate, slice_get, slice_set, None, Ok, Some};
 ghost use Rattle.image_access.specs.declared.storage.PreallocateMode.TheVariants.{None as PreallocateNone, Zero};
 ghost use Rattle.qcow2_metadata.specs.Header.{cluster_size, rounded_up as rounded_up_to};
 ghost use Rattle.image_access.specs.Contents.{zeroed};
 ghost use Rattle.image_access.specs.Moments.{Calls, Changes};
-ghost use Rattle.qcow2_alloc.specs.ImageStorage.{storage_of};
+ghost use Rattle.qcow2_alloc.specs.KeptMarks.{KeepsFileNotes};
+ghost use Rattle.qcow2_alloc.specs.ImageStorage.{storage_of, NotesWrite};
 ghost use Rattle.qcow2_alloc.specs.WriteKinds.{IsToldData};
 ghost use Rattle.qcow2_alloc.specs.declared.error.ImageError.TheVariants.{Version};
 ghost use Rattle.qcow2_image.specs.declared.prepared.Prepared.{Prepared};
@@ -13,8 +14,8 @@ ghost use Rattle.qcow2_image.specs.CallParts.{WritesBytes};
 ghost use Rattle.qcow2_image.specs.Image.{HasNothingToFree, ImageStays, is_writable, size_of};
 ghost use Rattle.qcow2_image.specs.ImageInvariant.{ImageInvariant, pending_in};
 ghost use Rattle.qcow2_image.specs.Preallocation.{AreZeros, CommitsWhole, FillsFirst, FillsGrownOrRefuses, FillsOrRefuses, IsWholeRange, most_of};
-ghost use Rattle.qcow2_image.specs.Refusals.{IsMet, IsMetPreparing};
-ghost use Rattle.qcow2_image.specs.Faults.{CountsImageFaults, IsNotOfStorage, NoFewerFaults};
+ghost use Rattle.qcow2_image.specs.Refusals.{FreesRefused, IsMet, IsMetPreparing};
+ghost use Rattle.qcow2_image.specs.Faults.{CountsImageFaults, IsNotOfStorage, SameFaults};
 
 use crate::discarding::{Clearance, rounded_up};
 use crate::{Prepared, Qcow2};
@@ -71,6 +72,7 @@ impl ZeroWrites {
         requires told { IsToldData storage.old }
         ensures written { Changes (S.view (storage_of storage.old)) (S.view (storage_of storage.new)) result (zeroed (S.view (storage_of storage.old)).contents at count) }
         ensures calls { Calls (S.view (storage_of storage.old)) (S.view (storage_of storage.new)) result }
+        ensures noted { NotesWrite storage.old storage.new result }
     {
         match self {
             ZeroWrites::Short => storage.write_zero_data(at, count),
@@ -82,7 +84,7 @@ impl ZeroWrites {
 
 #[tactic(auto, using(crate::proofs::Call::MetErrors::tables_met, crate::proofs::Call::MetErrors::storage_met, crate::proofs::Call::MetErrors::metadata_met, crate::proofs::Call::MetErrors::metadata_of_tables))]
 impl<S: Storage, F: WrappedFormat<S>> Qcow2<S, F> {
-    // Puts zeros behind the end of a disk that is to have a larger size, up to the end of its last cluster, as a mode asks.
+    // Puts zeros behind the end of a disk that is to have a larger size, up to the end of its last cluster, as a mode asks. Where that is refused, the clusters that are to be freed are freed, but after a fault and under another mapping.
     pub(crate) fn fill_grown(
         &mut self,
         old: u64,
@@ -96,10 +98,34 @@ impl<S: Storage, F: WrappedFormat<S>> Qcow2<S, F> {
         ensures cause { IfErr result IsMetPreparing }
         ensures emptied { HasNothingToFree self.old → OnOk result (HasNothingToFree self.new) }
         ensures unfilled { mode ≡ PreallocateNone → self.new ≡ self.old }
+        ensures version { HasNothingToFree self.old → mode ≡ Zero → self.old.file.header.fields.version < 3 → (result ≡ Err Version) × (self.new ≡ self.old) }
+        ensures fills { (out : List (Option Prepared)) → ImageInvariant S.view F.backing (pending_in S.view F.backing self.old out) self.old out
+            → FillsGrownOrRefuses S.view F.backing size mode self.old self.new out result }
+        ensures freed { (out : List (Option Prepared)) → ImageInvariant S.view F.backing (pending_in S.view F.backing self.old out) self.old out → IfErr result (FreesRefused self.new) }
+        ensures notes { KeepsFileNotes S.view self.old.file self.new.file }
+        ensures header_cluster { StaysBehindHeader S.view self.old self.new }
+        ensures faults { CountsImageFaults S.view F.backing self.old self.new result }
+    {
+        match self.fill_behind(old, size, mode) {
+            Ok(()) => Ok(()),
+            Err(refusal) => Err(self.free_after(refusal)),
+        }
+    }
+
+    // Puts zeros behind the end of a disk that is to have a larger size, up to the end of its last cluster, as a mode asks.
+    fn fill_behind(&mut self, old: u64, size: u64, mode: PreallocateMode) -> Result<(), ImageError>
+        requires writable { IsTrue (is_writable self.old) }
+        requires end { old ≡ size_of self.old }
+        requires larger { old < size }
+        ensures stays { ImageStays self.old self.new }
+        ensures cause { IfErr result IsMetPreparing }
+        ensures emptied { HasNothingToFree self.old → OnOk result (HasNothingToFree self.new) }
+        ensures unfilled { mode ≡ PreallocateNone → (result ≡ Ok tt) × (self.new ≡ self.old) }
         ensures version { mode ≡ Zero → self.old.file.header.fields.version < 3 → (result ≡ Err Version) × (self.new ≡ self.old) }
         ensures fills { (out : List (Option Prepared)) → ImageInvariant S.view F.backing (pending_in S.view F.backing self.old out) self.old out
             → FillsGrownOrRefuses S.view F.backing size mode self.old self.new out result }
-        ensures header_cluster { StaysBehindHeader self.old self.new }
+        ensures notes { KeepsFileNotes S.view self.old.file self.new.file }
+        ensures header_cluster { StaysBehindHeader S.view self.old self.new }
         ensures faults { CountsImageFaults S.view F.backing self.old self.new result }
     {
         match mode {
@@ -124,7 +150,8 @@ impl<S: Storage, F: WrappedFormat<S>> Qcow2<S, F> {
         ensures emptied { HasNothingToFree self.old → OnOk result (HasNothingToFree self.new) }
         ensures fills { (out : List (Option Prepared)) → ImageInvariant S.view F.backing (pending_in S.view F.backing self.old out) self.old out
             → old ≤ size → FillsOrRefuses S.view F.backing (rounded_up_to (cluster_size self.old.file.header.fields) size) old (rounded_up_to (cluster_size self.old.file.header.fields) size) self.old self.new out result }
-        ensures header_cluster { StaysBehindHeader self.old self.new }
+        ensures notes { KeepsFileNotes S.view self.old.file self.new.file }
+        ensures header_cluster { StaysBehindHeader S.view self.old self.new }
         ensures faults { CountsImageFaults S.view F.backing self.old self.new result }
     {
         let Some(end) = rounded_up(size, self.file.header.cluster_size()) else {
@@ -142,7 +169,8 @@ impl<S: Storage, F: WrappedFormat<S>> Qcow2<S, F> {
         ensures version { self.old.file.header.fields.version < 3 → (result ≡ Err Version) × (self.new ≡ self.old) }
         ensures fills { (out : List (Option Prepared)) → ImageInvariant S.view F.backing (pending_in S.view F.backing self.old out) self.old out
             → old ≤ size → FillsOrRefuses S.view F.backing (rounded_up_to (cluster_size self.old.file.header.fields) old) old (rounded_up_to (cluster_size self.old.file.header.fields) size) self.old self.new out result }
-        ensures header_cluster { StaysBehindHeader self.old self.new }
+        ensures notes { KeepsFileNotes S.view self.old.file self.new.file }
+        ensures header_cluster { StaysBehindHeader S.view self.old self.new }
         ensures faults { CountsImageFaults S.view F.backing self.old self.new result }
     {
         if self.file.header.version() < 3 {
@@ -166,7 +194,8 @@ impl<S: Storage, F: WrappedFormat<S>> Qcow2<S, F> {
         ensures emptied { HasNothingToFree self.old → OnOk result (HasNothingToFree self.new) }
         ensures fills { (out : List (Option Prepared)) → ImageInvariant S.view F.backing (pending_in S.view F.backing self.old out) self.old out → old ≤ from → from ≤ end → IsWholeRange self.old.file.header.fields from end
             → 3 ≤ self.old.file.header.fields.version → FillsOrRefuses S.view F.backing from old end self.old self.new out result }
-        ensures header_cluster { StaysBehindHeader self.old self.new }
+        ensures notes { KeepsFileNotes S.view self.old.file self.new.file }
+        ensures header_cluster { StaysBehindHeader S.view self.old self.new }
         ensures faults { CountsImageFaults S.view F.backing self.old self.new result }
     {
         let next = self.zero_first(from, end)?;
@@ -182,7 +211,8 @@ impl<S: Storage, F: WrappedFormat<S>> Qcow2<S, F> {
         ensures emptied { HasNothingToFree self.old → OnOk result (HasNothingToFree self.new) }
         ensures fills { (out : List (Option Prepared)) → ImageInvariant S.view F.backing (pending_in S.view F.backing self.old out) self.old out → from ≤ to → IsWholeRange self.old.file.header.fields from to
             → 3 ≤ self.old.file.header.fields.version → FillsOrRefuses S.view F.backing 0 from to self.old self.new out result }
-        ensures header_cluster { StaysBehindHeader self.old self.new }
+        ensures notes { KeepsFileNotes S.view self.old.file self.new.file }
+        ensures header_cluster { StaysBehindHeader S.view self.old self.new }
         ensures faults { CountsImageFaults S.view F.backing self.old self.new result }
     {
         let mut at = from;
@@ -202,7 +232,8 @@ impl<S: Storage, F: WrappedFormat<S>> Qcow2<S, F> {
         ensures whole { (out : List (Option Prepared)) → ImageInvariant S.view F.backing (pending_in S.view F.backing self.old out) self.old out → IsWholeRange self.old.file.header.fields from to → IfOk result (λ next. next % cluster_size self.old.file.header.fields ≡ 0) }
         ensures fills { (out : List (Option Prepared)) → ImageInvariant S.view F.backing (pending_in S.view F.backing self.old out) self.old out → from ≤ to → IsWholeRange self.old.file.header.fields from to
             → 3 ≤ self.old.file.header.fields.version → FillsFirst S.view F.backing 0 from to self.old self.new out result }
-        ensures header_cluster { StaysBehindHeader self.old self.new }
+        ensures notes { KeepsFileNotes S.view self.old.file self.new.file }
+        ensures header_cluster { StaysBehindHeader S.view self.old self.new }
         ensures faults { CountsImageFaults S.view F.backing self.old self.new result }
     {
         if to <= from {
@@ -224,7 +255,8 @@ impl<S: Storage, F: WrappedFormat<S>> Qcow2<S, F> {
         ensures emptied { HasNothingToFree self.old → OnOk result (HasNothingToFree self.new) }
         ensures fills { (out : List (Option Prepared)) → ImageInvariant S.view F.backing (pending_in S.view F.backing self.old out) self.old out
             → from ≤ to → to % cluster_size self.old.file.header.fields ≡ 0 → FillsOrRefuses S.view F.backing to from to self.old self.new out result }
-        ensures header_cluster { StaysBehindHeader self.old self.new }
+        ensures notes { KeepsFileNotes S.view self.old.file self.new.file }
+        ensures header_cluster { StaysBehindHeader S.view self.old self.new }
         ensures faults { CountsImageFaults S.view F.backing self.old self.new result }
     {
         let mut at = from;
@@ -246,7 +278,8 @@ impl<S: Storage, F: WrappedFormat<S>> Qcow2<S, F> {
         ensures next { IfOk result (λ next. (from < next) × (next ≤ to)) }
         ensures fills { (out : List (Option Prepared)) → ImageInvariant S.view F.backing (pending_in S.view F.backing self.old out) self.old out
             → to % cluster_size self.old.file.header.fields ≡ 0 → FillsFirst S.view F.backing to from to self.old self.new out result }
-        ensures header_cluster { StaysBehindHeader self.old self.new }
+        ensures notes { KeepsFileNotes S.view self.old.file self.new.file }
+        ensures header_cluster { StaysBehindHeader S.view self.old self.new }
         ensures faults { CountsImageFaults S.view F.backing self.old self.new result }
     {
         let prepared = self.prepare(from, writes.most().min(to - from), true)?;
@@ -261,15 +294,20 @@ impl<S: Storage, F: WrappedFormat<S>> Qcow2<S, F> {
         Ok(next)
     }
 
+    // Writes zeros into a mapping. A place in cluster 0, which none has, is refused 19 (metadata).
     fn put_zeros(&mut self, host: u64, count: u64, writes: &ZeroWrites) -> Result<(), ImageError>
         requires few { count ≤ most_of writes.now }
         requires zeros { AreZeros writes.now }
         ensures stays { ImageStays self.old self.new }
         ensures cause { IfErr result IsMet }
         ensures written { WritesBytes S.view self.old self.new host (replicate count 0) result }
-        ensures header_cluster { StaysBehindHeader self.old self.new }
+        ensures notes { KeepsFileNotes S.view self.old.file self.new.file }
+        ensures header_cluster { StaysBehindHeader S.view self.old self.new }
         ensures faults { CountsImageFaults S.view F.backing self.old self.new result }
     {
+        if host < self.file.header.cluster_size() {
+            return Err(ImageError::Metadata);
+        }
         self.file.storage.will_write(WriteKind::Data);
         writes.write(&mut self.file.storage, host, count)?;
         Ok(())
@@ -281,8 +319,9 @@ impl<S: Storage, F: WrappedFormat<S>> Qcow2<S, F> {
         ensures header { self.new.file.header ≡ self.old.file.header }
         ensures commits { (out : List (Option Prepared)) (k : ℕ) → slice_get out k ≡ Some (Some prepared) → ImageInvariant S.view F.backing (pending_in S.view F.backing self.old out) self.old out
             → CommitsWhole S.view F.backing self.old self.new out k prepared (slice_set out k None) }
-        ensures header_cluster { StaysBehindHeader self.old self.new }
-        ensures faults { NoFewerFaults S.view F.backing self.old self.new }
+        ensures notes { KeepsFileNotes S.view self.old.file self.new.file }
+        ensures header_cluster { StaysBehindHeader S.view self.old self.new }
+        ensures faults { SameFaults S.view F.backing self.old self.new }
     {
         if prepared.table.is_none() {
             self.release_prepared(prepared);

@@ -1,8 +1,8 @@
 //! A disk of another size: what lies behind a smaller one is dropped first, and the size is written last.
 ghost use Rattle.qcow2_image.specs.BehindHeader.{StaysBehindHeader};
-ghost use Rattle.qcow2_image.specs.Noted.{FailsOnceWritten, NotesChanges};
-ghost use Rattle.qcow2_alloc.specs.KeptNotes.{KeepsNotes};
-ghost use Rattle.std.specs.Prelude.{ℕ, List, Option, ◌≡◌, ◌⊎◌, ◌+◌, ◌-◌, ◌<◌, ◌≤◌, max, nat_lt, [], Some, None, Ok, Err, IfOk, IfErr, IfSome, OnOk, OnErr, IsTrue, MatchOption, false};
+ghost use Rattle.qcow2_image.specs.Noted.{ChangesRose, FailsOnceWritten, NotesChanges, NotesPart};
+ghost use Rattle.qcow2_alloc.specs.KeptMarks.{HaveRisen, KeepsFileNotes};
+ghost use Rattle.std.specs.Prelude.{ℕ, List, Option, ◌≡◌, ◌↔◌, ◌⊎◌, ◌+◌, ◌-◌, ◌<◌, ◌≤◌, max, nat_lt, [], Some, None, Ok, Err, IfOk, IfErr, IfSome, OnOk, OnErr, IsTrue, MatchOption, false};
 ghost use Rattle.image_access.specs.Moments.{EachMomentSince};
 ghost use Rattle.qcow2_metadata.specs.EntryTable.{entry_count};
 ghost use Rattle.qcow2_image.specs.Found.{l1_index_of};
@@ -18,26 +18,16 @@ ghost use Rattle.qcow2_image.specs.Growing.{Resizes};
 ghost use Rattle.qcow2_image.specs.Image.{HasNothingToFree, IsSameImage, ImageStays, has_noted_change, is_failed, is_writable, size_of, with_marks};
 ghost use Rattle.qcow2_image.specs.ImageInvariant.{ImageInvariant, abstract_of, pending_in};
 ghost use Rattle.qcow2_image.specs.LongerTables.{MakesEntry};
-ghost use Rattle.qcow2_image.specs.Refusals.{IsMet, IsMetPreparing, MarksFailed, MarksRefused};
+ghost use Rattle.qcow2_image.specs.PinnedTables.{HasPinnedTable};
+ghost use Rattle.qcow2_image.specs.Refusals.{FreesRefused, IsMet, IsMetPreparing, MarksFailed, MarksRefused};
 ghost use Rattle.qcow2_image.specs.Resizing.{CantUncover, EndsTail, FreesTurn, GrowsTables, GrowsTo, IsFaultOrCantUncover, IsMetShrinking, IsResized, Shrinks, UncoversNext, UncoversTail, WritesSize, WritesSizeLast, boundary_in, refuses_to_resize, size_after, takes_over};
-ghost use Rattle.qcow2_image.specs.Faults.{CountsImageFaults, NoFewerFaults, TellsFault};
+ghost use Rattle.qcow2_image.specs.Faults.{CountsImageFaults, NoFewerFaults, TellsEachIn, TellsFault};
 
 use crate::Qcow2;
-use crate::discarding::{Clearance, rounded_up};
+use crate::discarding::Clearance;
 use image_access::{PreallocateMode, Storage, WrappedFormat};
 use qcow2_alloc::{ImageError, WriteKind};
 use qcow2_metadata::GuestOffset;
-
-// Whether a cluster begins at or behind a size, and before an end.
-fn lies_between(cluster: u64, size: u64, end: u64) -> bool
-    requires { 0 < cluster }
-    ensures { result ≡ nat_lt (rounded_up_to cluster size) end }
-{
-    match rounded_up(size, cluster) {
-        Some(first) => first < end,
-        None => false,
-    }
-}
 
 impl<S: Storage, F: WrappedFormat<S>> Qcow2<S, F> {
     /// Makes the disk smaller, and drops the whole clusters behind its new end, so that the disk below shows there should it grow again.
@@ -50,6 +40,7 @@ impl<S: Storage, F: WrappedFormat<S>> Qcow2<S, F> {
         ensures early { IfSome (refuses_to_resize self.old) (λ e. (result ≡ Err e) × (self.new ≡ self.old)) }
         ensures no_smaller { refuses_to_resize self.old ≡ None → size_of self.old ≤ size → (result ≡ Ok (size_of self.old)) × (self.new ≡ self.old) }
         ensures prepared { refuses_to_resize self.old ≡ None → size < size_of self.old → (out : List (Option Prepared)) → (abstract_of S.view F.backing self.old out).is_sound → HasPrepared out → (result ≡ Err MappingPrepared) × (self.new ≡ self.old) }
+        ensures pinned { refuses_to_resize self.old ≡ None → size < size_of self.old → (result ≡ Err MappingPrepared) ↔ HasPinnedTable self.old }
         ensures late { refuses_to_resize self.old ≡ None → IfErr result (IsMetShrinking S.view F.backing self.old self.new) }
         ensures marks { MarksFailed self.old self.new result }
         ensures image { size < size_of self.old → IsResized (size_after result (size_of self.old) size) self.old self.new }
@@ -57,7 +48,7 @@ impl<S: Storage, F: WrappedFormat<S>> Qcow2<S, F> {
         ensures stops { (out : List (Option Prepared)) → (abstract_of S.view F.backing self.old out).is_sound → IfOk result (EndsTail S.view self.old self.new size) }
         ensures last { (out : List (Option Prepared)) → (abstract_of S.view F.backing self.old out).is_sound → WritesSizeLast S.view F.backing self.old self.new }
         ensures once_written { FailsOnceWritten S.view self.old self.new result }
-        ensures header_cluster { StaysBehindHeader self.old self.new }
+        ensures header_cluster { StaysBehindHeader S.view self.old self.new }
         ensures faults { CountsImageFaults S.view F.backing self.old self.new result }
     {
         self.check_resize()?;
@@ -93,18 +84,17 @@ impl<S: Storage, F: WrappedFormat<S>> Qcow2<S, F> {
             → IfOk result (EndsTail S.view self.old self.new size) }
         ensures last { (out : List (Option Prepared)) → (abstract_of S.view F.backing self.old out).is_sound → WritesSizeLast S.view F.backing self.old self.new }
         ensures once_written { FailsOnceWritten S.view self.old self.new result }
-        ensures header_cluster { StaysBehindHeader self.old self.new }
+        ensures header_cluster { StaysBehindHeader S.view self.old self.new }
         ensures faults { CountsImageFaults S.view F.backing self.old self.new result }
     {
-        let cluster = self.file.header.cluster_size();
+        let before = self.file.changes();
         let (end, stopped) = self.uncover_tail(size);
-        let any = lies_between(cluster, size, end);
         if let Some(refusal) = stopped {
-            self.mark_refused(&refusal, any);
+            self.mark_refused(&refusal, before);
             return Err(refusal);
         }
         if let Err(refusal) = self.write_size(size) {
-            self.mark_refused(&refusal, any);
+            self.mark_refused(&refusal, before);
             return Err(refusal);
         }
         Ok(end)
@@ -121,9 +111,10 @@ impl<S: Storage, F: WrappedFormat<S>> Qcow2<S, F> {
         ensures stops { refuses_to_resize self.old ≡ None → (out : List (Option Prepared)) → (abstract_of S.view F.backing self.old out).is_sound → (HasPrepared out → ⊥)
             → result.1 ≡ None → result.0 < size_of self.old → CantUncover S.view (size_of self.old) self.new result.0 }
         ensures emptied { IsTrue (is_writable self.old) → (out : List (Option Prepared)) → ImageInvariant S.view F.backing (pending_in S.view F.backing self.old out) self.old out → result.1 ≡ None → boundary_in self.old size < size_of self.old → HasNothingToFree self.new }
-        ensures since { result.0 ≤ boundary_in self.old size → NotesChanges S.view self.old self.new }
-        ensures header_cluster { StaysBehindHeader self.old self.new }
-        ensures faults { NoFewerFaults S.view F.backing self.old self.new × IfSome result.1 (TellsFault S.view F.backing self.old self.new) }
+        ensures since { NotesChanges S.view self.old self.new }
+        ensures changed { (out : List (Option Prepared)) → ImageInvariant S.view F.backing (pending_in S.view F.backing self.old out) self.old out → boundary_in self.old size < result.0 → ChangesRose self.old self.new }
+        ensures header_cluster { StaysBehindHeader S.view self.old self.new }
+        ensures faults { NoFewerFaults S.view F.backing self.old self.new × IfSome result.1 (TellsFault S.view F.backing self.old self.new) × TellsEachIn S.view F.backing self.old self.new result.1 }
     {
         self.begin();
         let end = self.file.header.size();
@@ -153,9 +144,9 @@ impl<S: Storage, F: WrappedFormat<S>> Qcow2<S, F> {
         ensures stops { refuses_to_resize self.old ≡ None → (out : List (Option Prepared)) → (abstract_of S.view F.backing self.old out).is_sound → (HasPrepared out → ⊥)
             → IfErr result (IsFaultOrCantUncover S.view (size_of self.old) self.new at) }
         ensures emptied { IsTrue (is_writable self.old) → (out : List (Option Prepared)) → ImageInvariant S.view F.backing (pending_in S.view F.backing self.old out) self.old out → FreesTurn self.old self.new at result }
-        ensures since { NotesChanges S.view self.old self.new }
-        ensures header_cluster { StaysBehindHeader self.old self.new }
-        ensures idle { IfOk result (λ next. next ≤ boundary_in self.old at → self.new ≡ self.old) }
+        ensures since { NotesPart S.view self.old self.new }
+        ensures changed { (out : List (Option Prepared)) → ImageInvariant S.view F.backing (pending_in S.view F.backing self.old out) self.old out → IfOk result (λ next. boundary_in self.old at < next → ChangesRose self.old self.new) }
+        ensures header_cluster { StaysBehindHeader S.view self.old self.new }
         ensures faults { CountsImageFaults S.view F.backing self.old self.new result }
     {
         match self.uncover_next(at) {
@@ -180,9 +171,9 @@ impl<S: Storage, F: WrappedFormat<S>> Qcow2<S, F> {
         ensures stops { refuses_to_resize self.old ≡ None → (out : List (Option Prepared)) → (abstract_of S.view F.backing self.old out).is_sound → (HasPrepared out → ⊥)
             → IfErr result (IsFaultOrCantUncover S.view (size_of self.old) self.new at) }
         ensures emptied { (out : List (Option Prepared)) → ImageInvariant S.view F.backing (pending_in S.view F.backing self.old out) self.old out → OnOk result ((boundary_in self.old at < size_of self.old) ⊎ HasNothingToFree self.old → HasNothingToFree self.new) }
-        ensures since { NotesChanges S.view self.old self.new }
-        ensures header_cluster { StaysBehindHeader self.old self.new }
-        ensures idle { IfOk result (λ next. next ≤ boundary_in self.old at → self.new ≡ self.old) }
+        ensures since { NotesPart S.view self.old self.new }
+        ensures changed { (out : List (Option Prepared)) → ImageInvariant S.view F.backing (pending_in S.view F.backing self.old out) self.old out → IfOk result (λ next. boundary_in self.old at < next → ChangesRose self.old self.new) }
+        ensures header_cluster { StaysBehindHeader S.view self.old self.new }
         ensures faults { CountsImageFaults S.view F.backing self.old self.new result }
     {
         let end = self.file.header.size();
@@ -196,7 +187,7 @@ impl<S: Storage, F: WrappedFormat<S>> Qcow2<S, F> {
     }
 
     /// Makes the disk larger. The mode says what its new bytes are, and what place they take. A size that isn't larger changes nothing.
-    /// Else no cluster is left to be freed, unless it is refused.
+    /// Else no cluster is left to be freed, also where it is refused, but after 6, 9, 14 and 15.
     /// Refused in this order: 16 (failed), 12 (dependency), 1 (read-only). Of a larger size also 6 (preallocation), for a mode that takes
     /// clusters where there is a disk below. Then 13 (limit) where the L1 table would be too long, and 3 (version) for `Zero` below
     /// version 3. Where the work meets them: 4 (unaligned table), 13 (limit), 14 (memory), 15 (storage). All modes but `None` may meet
@@ -211,8 +202,9 @@ impl<S: Storage, F: WrappedFormat<S>> Qcow2<S, F> {
         ensures sees { GrowsTo S.view F.backing self.old self.new size mode result }
         ensures last { (out : List (Option Prepared)) → (abstract_of S.view F.backing self.old out).is_sound → WritesSizeLast S.view F.backing self.old self.new }
         ensures tables { refuses_to_resize self.old ≡ None → size_of self.old < size → (out : List (Option Prepared)) → (abstract_of S.view F.backing self.old out).is_sound → GrowsTables S.view F.backing self.old self.new size mode out result }
+        ensures freed { refuses_to_resize self.old ≡ None → size_of self.old < size → ¬ IsTrue (takes_over self.old mode) → (out : List (Option Prepared)) → (abstract_of S.view F.backing self.old out).is_sound → IfErr result (FreesRefused self.new) }
         ensures once_written { FailsOnceWritten S.view self.old self.new result }
-        ensures header_cluster { StaysBehindHeader self.old self.new }
+        ensures header_cluster { StaysBehindHeader S.view self.old self.new }
         ensures faults { CountsImageFaults S.view F.backing self.old self.new result }
     {
         self.check_resize()?;
@@ -248,8 +240,9 @@ impl<S: Storage, F: WrappedFormat<S>> Qcow2<S, F> {
         ensures sees { GrowsTo S.view F.backing self.old self.new size mode result }
         ensures last { (out : List (Option Prepared)) → (abstract_of S.view F.backing self.old out).is_sound → WritesSizeLast S.view F.backing self.old self.new }
         ensures tables { (out : List (Option Prepared)) → (abstract_of S.view F.backing self.old out).is_sound → GrowsTables S.view F.backing self.old self.new size mode out result }
+        ensures freed { (out : List (Option Prepared)) → (abstract_of S.view F.backing self.old out).is_sound → IfErr result (FreesRefused self.new) }
         ensures once_written { FailsOnceWritten S.view self.old self.new result }
-        ensures header_cluster { StaysBehindHeader self.old self.new }
+        ensures header_cluster { StaysBehindHeader S.view self.old self.new }
         ensures faults { CountsImageFaults S.view F.backing self.old self.new result }
     {
         self.begin();
@@ -264,26 +257,47 @@ impl<S: Storage, F: WrappedFormat<S>> Qcow2<S, F> {
 
     // Behind the first change of a call, which is noted, a fault or want of memory marks the image as failed.
     fn mark_fault(&mut self, done: Result<(), ImageError>) -> Result<(), ImageError>
+        requires noted { IsTrue (has_noted_change self.old) }
         ensures answer { result ≡ done }
         ensures image { IsSameImage self.old self.new }
         ensures marks { MarksFailed self.old self.new done }
         ensures rest { self.new ≡ with_marks self.old (is_changed_of self.new.file.storage) (is_failed self.new) }
+        ensures file { self.new.file ≡ self.old.file }
         ensures same { OnOk done (self.new ≡ self.old) }
         ensures fault { IfErr done (λ e. IsFault e → IsTrue (is_failed self.new)) }
     {
-        if let Err(ImageError::Memory) = &done {
-            self.file.storage.note_change();
-        }
         self.mark_failure(done)
     }
 
-    // Makes a new L1 table that has an entry for an offset, with all old entries. The clusters of the old one are freed then.
+    // Makes a new L1 table that has an entry for an offset, with all old entries. The clusters of the old one are freed then. Where that is refused, those that are to be freed are freed, but after a fault.
     #[tactic(auto, using(crate::proofs::Call::MetErrors::tables_met))]
     fn renew_l1_table(&mut self, offset: u64) -> Result<(), ImageError>
         requires writable { IsTrue (is_writable self.old) }
         ensures stays { ImageStays self.old self.new }
-        ensures notes { KeepsNotes S.view self.old.file.storage self.new.file.storage }
-        ensures header_cluster { StaysBehindHeader self.old self.new }
+        ensures notes { KeepsFileNotes S.view self.old.file self.new.file }
+        ensures noted { OnOk result (IsTrue self.new.file.caches.is_changed) }
+        ensures header_cluster { StaysBehindHeader S.view self.old self.new }
+        ensures cause { IfErr result IsMet }
+        ensures length { OnOk result (entry_count self.new.l1_table ≡ max (entry_count self.old.l1_table) (l1_index_of self.old.file.header.fields offset + 1)) }
+        ensures emptied { OnOk result (HasNothingToFree self.new) }
+        ensures makes { (out : List (Option Prepared)) → ImageInvariant S.view F.backing (pending_in S.view F.backing self.old out) self.old out → MakesEntry S.view F.backing self.old self.new out result }
+        ensures freed { (out : List (Option Prepared)) → ImageInvariant S.view F.backing (pending_in S.view F.backing self.old out) self.old out → IfErr result (FreesRefused self.new) }
+        ensures faults { CountsImageFaults S.view F.backing self.old self.new result }
+    {
+        match self.lengthen_l1_table(offset) {
+            Ok(()) => Ok(()),
+            Err(refusal) => Err(self.free_after(refusal)),
+        }
+    }
+
+    // Makes a new L1 table that has an entry for an offset, with all old entries. The clusters of the old one are freed then.
+    #[tactic(auto, using(crate::proofs::Call::MetErrors::tables_met))]
+    fn lengthen_l1_table(&mut self, offset: u64) -> Result<(), ImageError>
+        requires writable { IsTrue (is_writable self.old) }
+        ensures stays { ImageStays self.old self.new }
+        ensures notes { KeepsFileNotes S.view self.old.file self.new.file }
+        ensures noted { OnOk result (IsTrue self.new.file.caches.is_changed) }
+        ensures header_cluster { StaysBehindHeader S.view self.old self.new }
         ensures cause { IfErr result IsMet }
         ensures length { OnOk result (entry_count self.new.l1_table ≡ max (entry_count self.old.l1_table) (l1_index_of self.old.file.header.fields offset + 1)) }
         ensures emptied { OnOk result (HasNothingToFree self.new) }
@@ -295,18 +309,17 @@ impl<S: Storage, F: WrappedFormat<S>> Qcow2<S, F> {
         self.free_listed()
     }
 
-    // A fault or want of memory refused a call. It marks the image as failed, where the storage failed or anything changed before, which is noted.
-    fn mark_refused(&mut self, refusal: &ImageError, changed: bool)
+    // A fault or want of memory refused a call, since whose begin so many changes were counted. It marks the image as failed, where the storage failed or there are more since.
+    fn mark_refused(&mut self, refusal: &ImageError, before: (u64, u64))
         requires { IsFault refusal.now }
         ensures image { IsSameImage self.old self.new }
         ensures marks { MarksRefused self.old self.new refusal.now }
         ensures rest { self.new ≡ with_marks self.old (is_changed_of self.new.file.storage) (is_failed self.new) }
         ensures noted { IsTrue (has_noted_change self.old) → IsTrue (has_noted_change self.new) }
-        ensures changed { IsTrue changed → IsTrue (is_failed self.new) }
+        ensures changed { HaveRisen before self.old.file → IsTrue (has_noted_change self.new) }
+        ensures why { IsTrue (has_noted_change self.new) → IsTrue (has_noted_change self.old) ⊎ HaveRisen before self.old.file }
     {
-        if changed {
-            self.file.storage.note_change();
-        }
+        self.file.note_since(before);
         self.note(refusal);
     }
 
@@ -319,8 +332,8 @@ impl<S: Storage, F: WrappedFormat<S>> Qcow2<S, F> {
         ensures time { (view_in S.view self.old.file).is_honest → EachMomentSince (view_in S.view self.old.file) (view_in S.view self.new.file) (λ c. c ≡ (view_in S.view self.new.file).contents) }
         ensures writes { (out : List (Option Prepared)) → ImageInvariant S.view F.backing (pending_in S.view F.backing self.old out) self.old out → WritesSize S.view F.backing self.old self.new out size result }
         ensures resizes { (p : Pending) → ImageInvariant S.view F.backing p self.old [] → Resizes S.view F.backing p self.old self.new size result }
-        ensures notes { KeepsNotes S.view self.old.file.storage self.new.file.storage }
-        ensures header_cluster { StaysBehindHeader self.old self.new }
+        ensures notes { KeepsFileNotes S.view self.old.file self.new.file }
+        ensures header_cluster { StaysBehindHeader S.view self.old self.new }
         ensures faults { CountsImageFaults S.view F.backing self.old self.new result }
     {
         let old = self.file.header.size();

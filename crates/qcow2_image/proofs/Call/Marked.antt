@@ -1,11 +1,12 @@
 -- What a call's marks say: those of its parts, and what they say at least.
+use Rattle.qcow2_alloc.specs.ImageError.{IsFault}
 use Rattle.std.proofs.Common.{◌≡◌, ◌⊎◌, ⊎_elim, inl, inr, Bool, true, false, refl, sym, ap, ◌∙◌, subst}
-use Rattle.std.specs.Prelude.{IfErr, IsTrue, Result, Ok, Err, ◌||◌}
+use Rattle.std.specs.Prelude.{IfErr, IsTrue, Result, Ok, Err, ◌||◌, OnOk}
 use Rattle.std.proofs.lemmas.Bool.{or_left, or_right}
 use Rattle.qcow2_alloc.specs.declared.error.ImageError.{ImageError}
 use Rattle.qcow2_alloc.specs.declared.error.ImageError.TheVariants as I
 use Rattle.qcow2_alloc.specs.declared.image_file.ImageFile.{ImageFile}
-use Rattle.qcow2_alloc.specs.ImageStorage.{is_changed_of}
+use Rattle.qcow2_alloc.specs.ImageFile.{has_noted}
 use Rattle.qcow2_image.specs.declared.image.Qcow2.{Qcow2}
 use Rattle.qcow2_image.specs.Image.{has_noted_change, is_failed}
 use Rattle.qcow2_image.specs.Refusals.{failed_after, failed_by, MarksFailed, MarksRefused}
@@ -57,12 +58,28 @@ module _ {S F : Type 0} (old new : Qcow2 S F) where
   may_mark (Ok x) marks = marks
   may_mark (Err e) marks = may_mark_refused e marks
 
-  -- want of memory after a change of the caches that was noted marks the image
-  pub marks_memory : {A : Type 0} (last : Qcow2 S F) (r : Result A ImageError) → MarksFailed old new r → new.file ≡ last.file → IfErr r (λ e. e ≡ I.Memory → IsTrue last.file.caches.is_changed → IsTrue (is_failed new))
+  -- want of memory after a change that was noted marks the image
+  pub marks_memory : {A : Type 0} (last : Qcow2 S F) (r : Result A ImageError) → MarksFailed old new r → new.file ≡ last.file → IfErr r (λ e. e ≡ I.Memory → IsTrue (has_noted_change last) → IsTrue (is_failed new))
   marks_memory last (Ok x) marks same = tt
   marks_memory last (Err e) marks same = λ is noted.
       subst (λ (x : ImageError). MarksRefused old new x) is marks
-      ∙ or_right (is_failed old) (has_noted_change new) (or_right (is_changed_of new.file.storage) new.file.caches.is_changed (ap (λ (f : ImageFile S). f.caches.is_changed) same ∙ noted))
+      ∙ or_right (is_failed old) (has_noted_change new) (ap (λ (f : ImageFile S). has_noted f) same ∙ noted)
+
+-- where a change was noted, a fault and want of memory fail the image
+module _ {S F : Type 0} (old new : Qcow2 S F) where
+  pub noted_marks : (e : ImageError) → IsFault e → MarksRefused old new e → IsTrue (has_noted_change new) → IsTrue (is_failed new)
+  noted_marks e fault marks noted = elim fault [
+    | inl storage ↦ subst (λ (x : ImageError). MarksRefused old new x) storage marks
+    | inr memory ↦ subst (λ (x : ImageError). MarksRefused old new x) memory marks ∙ or_right (is_failed old) (has_noted_change new) noted
+  ]
+
+  pub same_done : {A : Type 0} (r : Result A ImageError) → new ≡ record old { is_failed = is_failed new } → MarksFailed old new r → OnOk r (new ≡ old)
+  same_done (Ok x) rest marks = rest ∙ ap (λ (f : Bool). record old { is_failed = f }) marks
+  same_done (Err e) rest marks = tt
+
+  pub noted_fails : {A : Type 0} (r : Result A ImageError) → MarksFailed old new r → IsTrue (has_noted_change new) → IfErr r (λ e. IsFault e → IsTrue (is_failed new))
+  noted_fails (Ok x) marks noted = tt
+  noted_fails (Err e) marks noted = λ fault. noted_marks e fault marks noted
 
 -- ---- marks of a call, from those of its last part
 module _ {S F : Type 0} (old mid new : Qcow2 S F) (same : is_failed mid ≡ is_failed old) where

@@ -1,68 +1,214 @@
--- A call begins with no note, does a part that keeps the notes of the storage, and marks a failure: want of memory once the contents changed fails the image.
-use Rattle.std.proofs.Common.{◌≡◌, Bool, Err, inr, refl, sym, ap, ◌∙◌, subst}
-use Rattle.std.specs.Prelude.{IsTrue, IfErr, Result, ◌||◌}
-use Rattle.qcow2_alloc.specs.ImageError.{IsFault}
-use Rattle.qcow2_image.specs.Noted.{FailsOnceWritten, NotesChanges}
-use Rattle.std.proofs.lemmas.Bool.{or_left, or_right}
-use Rattle.image_access.specs.Moments.{StorageView, ContentsStay}
+-- A call begins with no note, does parts that keep the notes, and marks a failure: want of memory fails the image just where a change was counted.
+use Rattle.std.proofs.Common.{◌≡◌, ◌⊎◌, ℕ, ◌<◌, ◌≤◌, Bool, true, false, Err, inl, inr, refl, sym, ap, ◌∙◌, subst, arith}
+use Rattle.std.specs.Prelude.{IsTrue, Result, ◌||◌}
+use Rattle.std.proofs.lemmas.Bool.{or_cases, or_left, or_right}
+use Rattle.std.proofs.Math.Nat.{le_refl, le_trans}
+use Rattle.image_access.specs.Moments.{StorageView, ContentsStay, Rose}
+use Rattle.qcow2_alloc.specs.CountedChanges.{CountsChanges}
+use Rattle.qcow2_alloc.specs.KeptMarks.{KeepsFileNotes}
+use Rattle.qcow2_alloc.specs.ImageFile.{view_in}
+use Rattle.qcow2_alloc.specs.ImageStorage.{changes_of, is_changed_of, storage_of}
+use Rattle.qcow2_alloc.specs.declared.cache.MetadataCaches.{MetadataCaches}
 use Rattle.qcow2_alloc.specs.declared.error.ImageError.{ImageError}
 use Rattle.qcow2_alloc.specs.declared.error.ImageError.TheVariants.{Memory}
 use Rattle.qcow2_alloc.specs.declared.image_file.ImageFile.{ImageFile}
-use Rattle.qcow2_alloc.specs.KeptNotes.{KeepsNotes}
-use Rattle.qcow2_alloc.specs.ImageFile.{view_in}
-use Rattle.qcow2_alloc.specs.ImageStorage.{storage_of, is_changed_of}
 use Rattle.qcow2_image.specs.declared.image.Qcow2.{Qcow2}
-use Rattle.qcow2_image.specs.Image.{IsBegun, has_noted_change, is_failed}
+use Rattle.qcow2_image.specs.Image.{IsBegun, has_noted_change, is_failed, with_marks}
+use Rattle.qcow2_image.specs.Noted.{ChangesRose, HasMoreChanges, MarksOnceChanged, NoFewerChanges, NotesChanges, NotesPart}
 use Rattle.qcow2_image.specs.Refusals.{MarksFailed}
 
+-- a number that rose has risen since before, and goes on having risen
+rose_later : (a b c : ℕ) → b ≤ c → Rose a b → Rose a c
+rose_later a b c le rose = le_trans rose le
+
+rose_before : (a b c : ℕ) → a ≤ b → Rose b c → Rose a c
+rose_before a b c le rose = omega (arith, le, rose)
+
+-- what was counted anew is noted
+counted_noted : (was is : Bool) (before now : ℕ) → CountsChanges was before is now → before < now → IsTrue is
+counted_noted was is before now counts more = elim counts.on [ inl same ↦ absurd (omega (arith, same, more)) | inr noted ↦ noted ]
+
+module _ {S F : Type 0} where
+  -- ---- numbers of changes
+  fewer_none : (a : Qcow2 S F) → NoFewerChanges a a
+  fewer_none a = record { storage = le_refl (changes_of a.file.storage); tables = le_refl a.file.caches.changes }
+
+  fewer_then : (a b c : Qcow2 S F) → NoFewerChanges a b → NoFewerChanges b c → NoFewerChanges a c
+  fewer_then a b c first then' = record { storage = le_trans first.storage then'.storage; tables = le_trans first.tables then'.tables }
+
+  pub changes_later : (a b c : Qcow2 S F) → NoFewerChanges b c → ChangesRose a b → ChangesRose a c
+  changes_later a b c fewer rose = elim rose [
+    | inl storage ↦ inl (rose_later (changes_of a.file.storage) (changes_of b.file.storage) (changes_of c.file.storage) fewer.storage storage)
+    | inr tables ↦ inr (rose_later a.file.caches.changes b.file.caches.changes c.file.caches.changes fewer.tables tables)
+  ]
+
+  pub changes_before : (a b c : Qcow2 S F) → NoFewerChanges a b → ChangesRose b c → ChangesRose a c
+  changes_before a b c fewer rose = elim rose [
+    | inl storage ↦ inl (rose_before (changes_of a.file.storage) (changes_of b.file.storage) (changes_of c.file.storage) fewer.storage storage)
+    | inr tables ↦ inr (rose_before a.file.caches.changes b.file.caches.changes c.file.caches.changes fewer.tables tables)
+  ]
+
 module _ {S F : Type 0} (view : S → StorageView) where
-  -- A call that begins with no note, and one part behind another.
-  pub notes_since : (old begun new : Qcow2 S F) → storage_of begun.file.storage ≡ storage_of old.file.storage → KeepsNotes view begun.file.storage new.file.storage → NotesChanges view old new
-  notes_since old begun new begins kept = record {
-    honest = λ h. kept.honest (subst (λ (s : S). (view s).is_honest) (sym begins) h);
-    contents = λ none. subst (λ (s : S). ContentsStay (view s) (view_in view new.file)) begins (kept.contents none);
+  -- ---- nothing at all was done
+  pub part_none : (image : Qcow2 S F) → NotesPart view image image
+  part_none image = record { honest = λ h. h; no_fewer = fewer_none image; why = λ noted. inl noted; contents = λ none few honest. refl }
+
+  pub once_none : (image : Qcow2 S F) → MarksOnceChanged view image image
+  once_none image = record {
+    contents = λ works honest. refl;
+    changed = λ failed. inl failed;
+    marked = λ more. absurd (elim more [ inl lt ↦ omega (arith, lt) | inr lt ↦ omega (arith, lt) ]);
   }
 
-  pub notes_then : (old mid new : Qcow2 S F) → NotesChanges view old mid → KeepsNotes view mid.file.storage new.file.storage → NotesChanges view old new
-  notes_then old mid new first then' = record {
+  -- ---- a part that keeps the notes
+  module _ (old new : Qcow2 S F) (kept : KeepsFileNotes view old.file new.file) where
+    pub kept_fewer : NoFewerChanges old new
+    kept_fewer = record { storage = kept.storage.changes.no_fewer; tables = kept.tables.no_fewer }
+
+    pub kept_why : IsTrue (has_noted_change new) → IsTrue (has_noted_change old) ⊎ ChangesRose old new
+    kept_why noted = elim (or_cases (is_changed_of new.file.storage) new.file.caches.is_changed noted) [
+      | inl storage ↦ elim (kept.storage.changes.why storage) [ inl was ↦ inl (or_left (is_changed_of old.file.storage) old.file.caches.is_changed was) | inr rose ↦ inr (inl rose) ]
+      | inr tables ↦ elim (kept.tables.why tables) [ inl was ↦ inl (or_right (is_changed_of old.file.storage) old.file.caches.is_changed was) | inr rose ↦ inr (inr rose) ]
+    ]
+
+    pub kept_noted : IsTrue (has_noted_change old) → IsTrue (has_noted_change new)
+    kept_noted noted = elim (or_cases (is_changed_of old.file.storage) old.file.caches.is_changed noted) [
+      | inl storage ↦ or_left (is_changed_of new.file.storage) new.file.caches.is_changed (kept.storage.changes.noted storage)
+      | inr tables ↦ or_right (is_changed_of new.file.storage) new.file.caches.is_changed (kept.tables.noted tables)
+    ]
+
+    pub kept_counted : HasMoreChanges old new → IsTrue (has_noted_change new)
+    kept_counted more = elim more [
+      | inl lt ↦ or_left (is_changed_of new.file.storage) new.file.caches.is_changed (counted_noted (is_changed_of old.file.storage) (is_changed_of new.file.storage) (changes_of old.file.storage) (changes_of new.file.storage) kept.storage.changes lt)
+      | inr lt ↦ or_right (is_changed_of new.file.storage) new.file.caches.is_changed (counted_noted old.file.caches.is_changed new.file.caches.is_changed old.file.caches.changes new.file.caches.changes kept.tables lt)
+    ]
+
+    kept_contents : ¬ IsTrue (has_noted_change new) → ContentsStay (view_in view old.file) (view_in view new.file)
+    kept_contents none = kept.storage.contents (λ noted. none (or_left (is_changed_of new.file.storage) new.file.caches.is_changed noted))
+
+    pub notes_part : NotesPart view old new
+    notes_part = record {
+      honest = kept.storage.honest;
+      no_fewer = kept_fewer;
+      why = kept_why;
+      contents = λ none few. kept_contents (λ noted. elim (kept_why noted) [ inl was ↦ none was | inr rose ↦ few rose ]);
+    }
+
+  -- ---- one part behind another, and a part behind a call
+  pub parts_then : (a b c : Qcow2 S F) → NotesPart view a b → NotesPart view b c → NotesPart view a c
+  parts_then a b c first then' = record {
     honest = λ h. then'.honest (first.honest h);
-    contents = λ none honest. then'.contents none (first.honest honest) ∙ first.contents (λ was. none (then'.noted was)) honest;
+    no_fewer = fewer_then a b c first.no_fewer then'.no_fewer;
+    why = λ noted. elim (then'.why noted) [
+      | inl was ↦ elim (first.why was) [ inl before ↦ inl before | inr rose ↦ inr (changes_later a b c then'.no_fewer rose) ]
+      | inr rose ↦ inr (changes_before a b c first.no_fewer rose)
+    ];
+    contents = λ none few honest.
+        let few_first : ¬ ChangesRose a b = λ rose. few (changes_later a b c then'.no_fewer rose) in
+        then'.contents (λ noted. elim (first.why noted) [ inl was ↦ none was | inr rose ↦ few_first rose ]) (λ rose. few (changes_before a b c first.no_fewer rose)) (first.honest honest)
+        ∙ first.contents none few_first honest;
   }
 
-  pub notes_begun : (old begun new : Qcow2 S F) → IsBegun old begun → NotesChanges view begun new → NotesChanges view old new
-  notes_begun old begun new begins notes = record {
-    honest = λ h. notes.honest (subst (λ (s : S). (view s).is_honest) (sym begins.storage) h);
-    contents = λ none. subst (λ (s : S). ContentsStay (view s) (view_in view new.file)) begins.storage (notes.contents none);
+  pub call_then : (a b c : Qcow2 S F) → NotesChanges view a b → NotesPart view b c → NotesChanges view a c
+  call_then a b c first then' = record {
+    honest = λ h. then'.honest (first.honest h);
+    no_fewer = fewer_then a b c first.no_fewer then'.no_fewer;
+    why = λ noted. elim (then'.why noted) [
+      | inl was ↦ changes_later a b c then'.no_fewer (first.why was)
+      | inr rose ↦ changes_before a b c first.no_fewer rose
+    ];
+    contents = λ few honest.
+        let few_first : ¬ ChangesRose a b = λ rose. few (changes_later a b c then'.no_fewer rose) in
+        then'.contents (λ noted. few_first (first.why noted)) (λ rose. few (changes_before a b c first.no_fewer rose)) (first.honest honest)
+        ∙ first.contents few_first honest;
   }
 
-  -- nothing at all was done
-  pub notes_none : (image : Qcow2 S F) → NotesChanges view image image
-  notes_none image = record { honest = λ h. h; contents = λ none honest. refl }
+  -- ---- a call that begins
+  module _ (old begun : Qcow2 S F) (begins : IsBegun old begun) where
+    tables_same : begun.file.caches.changes ≡ old.file.caches.changes
+    tables_same = ap (λ (c : MetadataCaches S). c.changes) begins.caches
 
-  -- where it is marked at its end, whatever was marked before
-  pub noted_once : {A : Type 0} (old mid new : Qcow2 S F) (done : Result A ImageError) → NotesChanges view old new → MarksFailed mid new done → done ≡ Err Memory → ¬ IsTrue (is_failed new) → ContentsStay (view_in view old.file) (view_in view new.file)
-  noted_once {A} old mid new done notes marks is works =
-      let mark : is_failed new ≡ (is_failed mid || has_noted_change new) = subst (λ (r : Result A ImageError). MarksFailed mid new r) is marks in
-      notes.contents (λ noted. works (mark ∙ or_right (is_failed mid) (has_noted_change new) (or_left (is_changed_of new.file.storage) new.file.caches.is_changed noted)))
+    pub nothing_noted : ¬ IsTrue (has_noted_change begun)
+    nothing_noted noted = elim (or_cases (is_changed_of begun.file.storage) begun.file.caches.is_changed noted) [
+      | inl storage ↦ absurd (let bad : false ≡ true = sym begins.unnoted ∙ storage in cc)
+      | inr tables ↦ absurd (let bad : false ≡ true = sym (ap (λ (c : MetadataCaches S). c.is_changed) begins.caches) ∙ tables in cc)
+    ]
 
-  pub written_once : {A : Type 0} (old begun mid new : Qcow2 S F) (done : Result A ImageError) → storage_of begun.file.storage ≡ storage_of old.file.storage → KeepsNotes view begun.file.storage new.file.storage
-      → MarksFailed mid new done → done ≡ Err Memory → ¬ IsTrue (is_failed new) → ContentsStay (view_in view old.file) (view_in view new.file)
-  written_once old begun mid new done begins kept = noted_once old mid new done (notes_since old begun new begins kept)
+    rose_begun : (new : Qcow2 S F) → ChangesRose begun new → ChangesRose old new
+    rose_begun new rose = elim rose [
+      | inl storage ↦ inl (subst (λ n. Rose n (changes_of new.file.storage)) begins.counts storage)
+      | inr tables ↦ inr (subst (λ n. Rose n new.file.caches.changes) tables_same tables)
+    ]
 
-  pub once_written : {A : Type 0} (old begun last new : Qcow2 S F) (done : Result A ImageError) → storage_of begun.file.storage ≡ storage_of old.file.storage → KeepsNotes view begun.file.storage last.file.storage
-      → MarksFailed last new done → new ≡ record last { is_failed = new.is_failed } → done ≡ Err Memory → ¬ IsTrue (is_failed new) → ContentsStay (view_in view old.file) (view_in view new.file)
-  once_written old begun last new done begins kept marks rest =
-      written_once old begun last new done begins (subst (λ (f : ImageFile S). KeepsNotes view begun.file.storage f.storage) (sym (ap (λ (i : Qcow2 S F). i.file) rest)) kept) marks
+    begun_rose : (new : Qcow2 S F) → ChangesRose old new → ChangesRose begun new
+    begun_rose new rose = elim rose [
+      | inl storage ↦ inl (subst (λ n. Rose n (changes_of new.file.storage)) (sym begins.counts) storage)
+      | inr tables ↦ inr (subst (λ n. Rose n new.file.caches.changes) (sym tables_same) tables)
+    ]
 
-  -- where each want of memory fails the image
-  pub failed_once : {A : Type 0} (old new : Qcow2 S F) (done result : Result A ImageError) → result ≡ done → IfErr done (λ e. IsFault e → IsTrue (is_failed new)) → FailsOnceWritten view old new result
-  failed_once old new done result answer fails memory works = absurd (works (subst (λ r. IfErr r (λ e. IsFault e → IsTrue (is_failed new))) (sym answer ∙ memory) fails (inr refl)))
+    more_begun : (new : Qcow2 S F) → HasMoreChanges old new → HasMoreChanges begun new
+    more_begun new more = elim more [
+      | inl storage ↦ inl (subst (λ n. n < changes_of new.file.storage) (sym begins.counts) storage)
+      | inr tables ↦ inr (subst (λ n. n < new.file.caches.changes) (sym tables_same) tables)
+    ]
 
-  -- Where all was done before it is marked, and what had passed already fails it.
-  pub refused_once : {A : Type 0} (old last new : Qcow2 S F) (passed : Bool) (done : Result A ImageError) → (¬ IsTrue passed → NotesChanges view old last) → storage_of new.file.storage ≡ storage_of last.file.storage
-      → (IsTrue (has_noted_change last) → IsTrue (has_noted_change new)) → MarksFailed last new done → (IsTrue passed → IsTrue (is_failed new)) → done ≡ Err Memory → ¬ IsTrue (is_failed new) → ContentsStay (view_in view old.file) (view_in view new.file)
-  refused_once {A} old last new passed done notes same noted marks fails is works =
+    -- and does a part
+    pub notes_begun : (new : Qcow2 S F) → NotesPart view begun new → NotesChanges view old new
+    notes_begun new part = record {
+      honest = λ h. part.honest (subst (λ (s : S). (view s).is_honest) (sym begins.storage) h);
+      no_fewer = record {
+        storage = subst (λ n. n ≤ changes_of new.file.storage) begins.counts part.no_fewer.storage;
+        tables = subst (λ n. n ≤ new.file.caches.changes) tables_same part.no_fewer.tables;
+      };
+      why = λ noted. elim (part.why noted) [ inl was ↦ absurd (nothing_noted was) | inr rose ↦ rose_begun new rose ];
+      contents = λ few. subst (λ (s : S). ContentsStay (view s) (view_in view new.file)) begins.storage (part.contents nothing_noted (λ rose. few (rose_begun new rose)));
+    }
+
+    pub part_of_call : (new : Qcow2 S F) → NotesChanges view old new → NotesPart view old new
+    part_of_call new call = record { honest = call.honest; no_fewer = call.no_fewer; why = λ noted. inr (call.why noted); contents = λ none. call.contents }
+
+    pub notes_since : (new : Qcow2 S F) → KeepsFileNotes view begun.file new.file → NotesPart view old new
+    notes_since new kept = part_of_call new (notes_begun new (notes_part begun new kept))
+
+    -- where it is marked at its end, and wasn't before
+    pub once_marked : {A : Type 0} (mid new : Qcow2 S F) (done : Result A ImageError) → KeepsFileNotes view begun.file new.file → is_failed mid ≡ is_failed old → MarksFailed mid new done → done ≡ Err Memory → MarksOnceChanged view old new
+    once_marked {A} mid new done kept same marks is =
+        let mark : is_failed new ≡ (is_failed mid || has_noted_change new) = subst (λ (r : Result A ImageError). MarksFailed mid new r) is marks in
+        record {
+          contents = λ works. subst (λ (s : S). ContentsStay (view s) (view_in view new.file)) begins.storage (kept_contents begun new kept (λ noted. works (mark ∙ or_right (is_failed mid) (has_noted_change new) noted)));
+          changed = λ failed. elim (or_cases (is_failed mid) (has_noted_change new) (sym mark ∙ failed)) [
+            | inl was ↦ inl (sym same ∙ was)
+            | inr noted ↦ inr ((notes_begun new (notes_part begun new kept)).why noted)
+          ];
+          marked = λ more. mark ∙ or_right (is_failed mid) (has_noted_change new) (kept_counted begun new kept (more_begun new more));
+        }
+
+    pub once_written : {A : Type 0} (last new : Qcow2 S F) (done : Result A ImageError) → KeepsFileNotes view begun.file last.file → is_failed last ≡ is_failed old → MarksFailed last new done → new ≡ record last { is_failed = new.is_failed } → done ≡ Err Memory
+        → MarksOnceChanged view old new
+    once_written last new done kept same marks rest =
+        once_marked last new done (subst (λ (f : ImageFile S). KeepsFileNotes view begun.file f) (sym (ap (λ (i : Qcow2 S F). i.file) rest)) kept) same marks
+
+  -- Where all was done before it is marked, and it is noted whether anything was counted since the call began.
+  pub refused_once : {A : Type 0} (old last new : Qcow2 S F) (done : Result A ImageError) → NotesChanges view old last → (done ≡ Err Memory → IsTrue (is_failed last) → IsTrue (is_failed old) ⊎ ChangesRose old last)
+      → new ≡ with_marks last (is_changed_of new.file.storage) (is_failed new) → (ChangesRose old last → IsTrue (has_noted_change new)) → (IsTrue (has_noted_change new) → IsTrue (has_noted_change last) ⊎ ChangesRose old last)
+      → MarksFailed last new done → done ≡ Err Memory → MarksOnceChanged view old new
+  refused_once {A} old last new done notes failed_last rest noted why marks is =
       let mark : is_failed new ≡ (is_failed last || has_noted_change new) = subst (λ (r : Result A ImageError). MarksFailed last new r) is marks in
-      let kept = notes (λ yes. works (fails yes)) in
-      let none : ¬ IsTrue (is_changed_of last.file.storage) = λ was. works (mark ∙ or_right (is_failed last) (has_noted_change new) (noted (or_left (is_changed_of last.file.storage) last.file.caches.is_changed was))) in
-      subst (λ (s : S). ContentsStay (view_in view old.file) (view s)) (sym same) (kept.contents none)
+      let marked : ChangesRose old last → IsTrue (is_failed new) = λ rose. mark ∙ or_right (is_failed last) (has_noted_change new) (noted rose) in
+      record {
+        contents = λ works. subst (λ (i : Qcow2 S F). ContentsStay (view_in view old.file) (view_in view i.file)) (sym rest) (notes.contents (λ rose. works (marked rose)));
+        changed = λ failed. subst (λ (i : Qcow2 S F). IsTrue (is_failed old) ⊎ ChangesRose old i) (sym rest) (elim (or_cases (is_failed last) (has_noted_change new) (sym mark ∙ failed)) [
+          | inl was ↦ failed_last is was
+          | inr is_noted ↦ elim (why is_noted) [ inl was ↦ inr (notes.why was) | inr rose ↦ inr rose ]
+        ]);
+        marked = λ more. marked (more_rose old last (subst (λ (i : Qcow2 S F). HasMoreChanges old i) rest more));
+      }
+    where
+      more_rose : (a b : Qcow2 S F) → HasMoreChanges a b → ChangesRose a b
+      more_rose a b more = elim more [ inl lt ↦ inl (omega (arith, lt)) | inr lt ↦ inr (omega (arith, lt)) ]
+
+-- what a refused part of a call marked
+pub failed_part : {S F A : Type 0} (old new : Qcow2 S F) (done : Result A ImageError) → (IsTrue (has_noted_change new) → ChangesRose old new) → MarksFailed old new done → done ≡ Err Memory → IsTrue (is_failed new) → IsTrue (is_failed old) ⊎ ChangesRose old new
+failed_part {A = A} old new done why marks is failed =
+    let mark : is_failed new ≡ (is_failed old || has_noted_change new) = subst (λ (r : Result A ImageError). MarksFailed old new r) is marks in
+    elim (or_cases (is_failed old) (has_noted_change new) (sym mark ∙ failed)) [ inl was ↦ inl was | inr noted ↦ inr (why noted) ]

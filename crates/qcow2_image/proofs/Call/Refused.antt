@@ -18,7 +18,7 @@ use Rattle.qcow2_alloc.specs.ImageFile.{known_in, nothing_given, InterruptedFile
 use Rattle.qcow2_image.specs.declared.image.Qcow2.{Qcow2}
 use Rattle.qcow2_image.specs.declared.prepared.Prepared.{Prepared}
 use Rattle.qcow2_image.specs.Calls.{refusal_of}
-use Rattle.qcow2_image.specs.Image.{number_of, is_failed, KeepsRestOn}
+use Rattle.qcow2_image.specs.Image.{number_of, is_failed, KeepsRestOn, has_noted_change}
 use Rattle.qcow2_image.proofs.Call.Marked.{MayMark}
 use Rattle.qcow2_image.specs.CallParts.{UnseenCall, InterruptedCall, RefusedCall, FindsTable, IsReadied, PreparesRange}
 use Rattle.qcow2_image.specs.UnseenSteps.{InterruptedStep, Ensures, UnseenFillingStep, RefusedFillingStep, UnseenStep, RefusedStep, pending_with_listed}
@@ -155,9 +155,9 @@ module _ {S F : Type 0} (view : S → StorageView) (backing : F → BackingView)
     refuses_stayed : UnseenCall view backing old new out → RefusedEffect (abstract_of view backing old out) (abstract_of view backing failed_now out) [] [] (refusal_of e) (IsSame (abstract_of view backing old out) (abstract_of view backing failed_now out))
     refuses_stayed stays = outcome_refused view backing old new out out [] (λ sound. stays.works) (λ sound. stays.sound) number usable marked e marks (λ sound. inl stays.same)
 
-    module _ (memory : e ≡ I.Memory → IsTrue new.file.caches.is_changed → IsTrue marked) where
+    module _ (memory : e ≡ I.Memory → IsTrue (has_noted_change new) → IsTrue marked) where
       is_marked : InterruptedCall view backing old new out e → IsTrue marked × IsRefusalByFault (refusal_of e)
-      is_marked interrupted = marks_fault e (is_failed new) marked new.file.caches.is_changed interrupted.fault interrupted.noted marks memory
+      is_marked interrupted = marks_fault e (is_failed new) marked (has_noted_change new) interrupted.fault interrupted.noted marks memory
 
       refused_works : RefusedCall view backing old new out e → ImageInvariant view backing (pending_in view backing old out) old out → EffectOnSound (abstract_of view backing old out) (abstract_of view backing failed_now out) [] []
       refused_works (inl stays) sound = (refuses_stayed stays).acts.works sound

@@ -29,7 +29,7 @@ use Rattle.qcow2_image.specs.Clearing.{Clears, ClearsImageCovers, ClearsPart, Is
 use Rattle.qcow2_image.specs.declared.discarding.Clearance.{Clearance}
 use Rattle.qcow2_image.specs.declared.image.Qcow2.{Qcow2}
 use Rattle.qcow2_image.specs.declared.prepared.Prepared.{Prepared}
-use Rattle.qcow2_image.specs.Image.{number_of, is_external, is_failed, is_writable, size_of}
+use Rattle.qcow2_image.specs.Image.{number_of, is_external, is_failed, is_writable, size_of, has_noted_change}
 use Rattle.qcow2_image.specs.ImageInvariant.{ImageInvariant, abstract_of, disk_of, pending_in}
 use Rattle.qcow2_image.specs.Refusals.{passes, refuse_if}
 use Rattle.qcow2_image.proofs.Call.Marked.{MayMark}
@@ -182,16 +182,16 @@ module _ {S F : Type 0} (view : S → StorageView) (backing : F → BackingView)
         (record { begins = from_whole h some rows (size_of old) offset n; ends = to_whole h some rows (size_of old) offset n; within = to_within h some rows (size_of old) offset n; version = version })
 
     -- that was refused
-    refused_ungiven : (e : ImageError) (marked : Bool) → number_of entries ≡ number_of old → MayMark e (is_failed entries) marked → (e ≡ I.Memory → IsTrue entries.file.caches.is_changed → IsTrue marked)
+    refused_ungiven : (e : ImageError) (marked : Bool) → number_of entries ≡ number_of old → MayMark e (is_failed entries) marked → (e ≡ I.Memory → IsTrue (has_noted_change entries) → IsTrue marked)
         → ((out : List (Option Prepared)) → UnseenCall view backing old begun out → RefusedCall view backing begun entries out e) → (out : List (Option Prepared))
         → RefusedEffect (abstract_of view backing old out) (abstract_of view backing (record entries { is_failed = marked }) out) [] [] (refusal_of e) (IsSame (abstract_of view backing old out) (abstract_of view backing (record entries { is_failed = marked }) out))
     refused_ungiven e marked number marks memory refused out = refuses_left view backing out old usable entries marked number e marks memory (λ sound. refused_then view backing out old begun entries (begins out sound) e (refused out (begins out sound)))
 
-    pub ungiven_refused : (e : ImageError) (marked : Bool) → number_of entries ≡ number_of old → MayMark e (is_failed entries) marked → (e ≡ I.Memory → IsTrue entries.file.caches.is_changed → IsTrue marked)
+    pub ungiven_refused : (e : ImageError) (marked : Bool) → number_of entries ≡ number_of old → MayMark e (is_failed entries) marked → (e ≡ I.Memory → IsTrue (has_noted_change entries) → IsTrue marked)
         → ((out : List (Option Prepared)) → UnseenCall view backing old begun out → RefusedCall view backing begun entries out e) → RefusesUngiven view backing old (record entries { is_failed = marked }) e
     ungiven_refused e marked number marks memory refused none out = refused_ungiven e marked number marks memory refused out
 
-    pub clear_refused : (e : ImageError) (marked : Bool) → number_of entries ≡ number_of old → MayMark e (is_failed entries) marked → (e ≡ I.Memory → IsTrue entries.file.caches.is_changed → IsTrue marked)
+    pub clear_refused : (e : ImageError) (marked : Bool) → number_of entries ≡ number_of old → MayMark e (is_failed entries) marked → (e ≡ I.Memory → IsTrue (has_noted_change entries) → IsTrue marked)
         → ((out : List (Option Prepared)) → UnseenCall view backing old begun out → RefusedCall view backing begun entries out e) → Clears view backing how old (record entries { is_failed = marked }) offset n (Err e)
     clear_refused e marked number marks memory refused = λ out.
         refuses_more (abstract_of view backing old out) (abstract_of view backing (record entries { is_failed = marked }) out) given_bytes (refusal_of e) _

@@ -22,6 +22,7 @@ use Rattle.qcow2_laws.specs.Steps.{guest_at}
 use Rattle.qcow2_disk.specs.Stops.{GivenBytes}
 use Rattle.qcow2_laws.proofs.MappedRanges.{clusters_in_turn_are_a_range}
 use Rattle.qcow2_laws.proofs.SafeSteps.{entries_safe_throughout}
+use Rattle.qcow2_alloc.proofs.CachePins.{marks_none, marks_then}
 use Rattle.qcow2_alloc.specs.CachePins.{KeepsPinsAndNotes}
 use Rattle.qcow2_alloc.specs.declared.cache.MetadataCaches.{MetadataCaches}
 use Rattle.qcow2_alloc.specs.declared.clusters_to_free.ClustersToFreeEntry.{ClustersToFreeEntry}
@@ -132,7 +133,7 @@ module _ {S F : Type 0} (view : S → StorageView) (backing : F → BackingView)
   pub first_none : (how : Clearance) (t column : ℕ) (a : Qcow2 S F) → ClearsTable view backing how t column 0 a a
   first_none how t column a = record {
     rest = refl;
-    marks = record { pins = λ cluster. refl; room = λ room. room; changed = λ changed. changed };
+    marks = marks_none a.file.caches;
     new_data = λ some. some;
     part = λ out p row may. none_cleared how row column a out p may.sound;
     noted = λ out p row may some. absurd (omega (arith, some));
@@ -172,7 +173,7 @@ module _ {S F : Type 0} (view : S → StorageView) (backing : F → BackingView)
     pub first_next : ClearsTable view backing how t column (suc n) a c
     first_next = record {
       rest = clears_here.rest;
-      marks = record { pins = λ cluster. clears_here.marks.pins cluster ∙ first.marks.pins cluster; room = λ room. clears_here.marks.room (first.marks.room room); changed = λ changed. clears_here.marks.changed (first.marks.changed changed) };
+      marks = marks_then a.file.caches b.file.caches c.file.caches first.marks clears_here.marks;
       new_data = λ some. clears_here.new_data (first.new_data some);
       part = λ out p row may. next_cleared how t row column n a b.file.caches out p may (first.part out p row (fewer out p row may)) (first.new_data may.found) first.marks c (clears_at out p row may);
       noted = λ out p row may some.

@@ -1,4 +1,7 @@
 -- The shares of a prepared mapping are entered one after another, until nothing of it is private.
+use Rattle.qcow2_alloc.specs.KeptMarks.{KeepsFileNotes}
+use Rattle.qcow2_image.proofs.Call.Notes.{same_kept, table_kept}
+use Rattle.qcow2_alloc.proofs.KeptMarks.{notes_none, notes_then}
 use Rattle.std.proofs.Common.{◌≡◌, ◌⊎◌, inl, inr, ℕ, ◌+◌, ◌-◌, ◌*◌, ◌/◌, ◌%◌, ◌^◌, ◌<◌, ◌≤◌, Bool, true, false, List, length, [], ◌∷◌, ◌++◌, refl, sym, ap, ◌∙◌, subst, arith, min}
 use Rattle.std.specs.Prelude.{Option, Some, None, IsSome, IsTrue, slice_get, slice_set, ◌==◌}
 use Rattle.std.specs.Option.{option_map, option_map_or}
@@ -25,7 +28,7 @@ use Rattle.qcow2_alloc.specs.declared.async_lru_cache.slot.Slot.{Slot}
 use Rattle.qcow2_alloc.specs.MetadataCaches.{MapsCachedEntry, l2_at}
 use Rattle.qcow2_alloc.specs.ImageFile.{contents_in, known_in}
 use Rattle.qcow2_image.specs.BehindHeader.{StaysBehindHeader}
-use Rattle.qcow2_image.proofs.Call.BehindHeader.{behind_by, behind_caches, behind_none, behind_then}
+use Rattle.qcow2_image.proofs.Call.BehindHeader.{behind_by, behind_none, behind_tables, behind_then}
 use Rattle.qcow2_image.specs.declared.image.Qcow2.{Qcow2}
 use Rattle.qcow2_image.specs.declared.prepared.Prepared.{Prepared}
 use Rattle.qcow2_image.specs.declared.prepared.Share.{Share}
@@ -237,9 +240,10 @@ module _ {S F : Type 0} (view : S → StorageView) (backing : F → BackingView)
     pub parts : (out : List (Option Prepared)) (k : ℕ) → slice_get out k ≡ Some (Some p) → IsSome p.table → ImageInvariant view backing (pending_in view backing old out) old out
         → CommitsPart view backing old now out k p q × (IsTrue entered → IsTrue now.file.caches.is_changed)
     pub storage : now.file.storage ≡ old.file.storage
+    pub notes : KeepsFileNotes view old.file now.file
     pub below : now.backing ≡ old.backing
     pub quiet : DropsNothing p → DropsNothing q × (now.file.free_list ≡ old.file.free_list)
-    pub behind : StaysBehindHeader old now
+    pub behind : StaysBehindHeader view old now
 
   pub first_none : (old : Qcow2 S F) (p : Prepared) → EntersFirst old old p p 0 false
   first_none old p = record {
@@ -252,6 +256,7 @@ module _ {S F : Type 0} (view : S → StorageView) (backing : F → BackingView)
     in_place = λ j lt. absurd (omega arith);
     parts = λ out k placed some sound. (parts_none view backing out k old p placed sound, λ never. absurd (let e : false ≡ true = never in cc));
     storage = refl;
+    notes = notes_none;
     below = refl;
     quiet = λ none. (none, refl);
     behind = behind_none;
@@ -275,6 +280,7 @@ module _ {S F : Type 0} (view : S → StorageView) (backing : F → BackingView)
           ];
           parts = first.parts;
           storage = first.storage;
+          notes = first.notes;
           below = first.below;
           quiet = first.quiet;
           behind = first.behind;
@@ -317,6 +323,7 @@ module _ {S F : Type 0} (view : S → StorageView) (backing : F → BackingView)
                 λ _. entered_noted view backing now new n q r enters (slice_set out k (Some q)) k at there.0 there.1 before.sound,
               );
           storage = ap (λ (m : Qcow2 S F). m.file.storage) enters.lists ∙ ap (λ (m : Qcow2 S F). m.file.storage) enters.enters.rest ∙ first.storage;
+          notes = notes_then first.notes (notes_then (table_kept now enters.mid (ap (λ (m : Qcow2 S F). m.file.storage) enters.enters.rest) enters.enters.marks) (same_kept enters.mid new (ap (λ (m : Qcow2 S F). m.file.storage) enters.lists) (ap (λ (m : Qcow2 S F). m.file.caches) enters.lists)));
           below = ap (λ (m : Qcow2 S F). m.backing) enters.lists ∙ ap (λ (m : Qcow2 S F). m.backing) enters.enters.rest ∙ first.below;
           quiet = λ none.
               let before = first.quiet none in
@@ -325,7 +332,7 @@ module _ {S F : Type 0} (view : S → StorageView) (backing : F → BackingView)
                 λ i share at. left_of q r n enters before.0 i share at,
                 last ∙ ap (λ l. enters.mid.file.free_list ++ l) (before.0 n enters.share enters.was) ∙ append-nil enters.mid.file.free_list ∙ rest ∙ before.1,
               );
-          behind = behind_then first.behind (behind_then (behind_by enters.enters.rest (behind_caches enters.enters.behind)) (behind_by enters.lists behind_none));
+          behind = behind_then first.behind (behind_then (behind_by view enters.enters.rest (behind_tables enters.enters.behind)) (behind_by view enters.lists behind_none));
         }
 
   -- all are

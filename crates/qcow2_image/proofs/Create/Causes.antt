@@ -20,6 +20,7 @@ use Rattle.qcow2_alloc.specs.Faults.{FaultsTold}
 use Rattle.qcow2_alloc.proofs.Faults.{told_since}
 use Rattle.qcow2_image.proofs.Sizes.{sound_is_usable}
 use Rattle.qcow2_alloc.specs.ImageError.{IsFault}
+use Rattle.qcow2_image.specs.declared.image.Missing.TheVariants as N
 use Rattle.qcow2_image.specs.declared.image.Qcow2.{Qcow2}
 use Rattle.qcow2_image.specs.CountedOpening.{OpeningCounts}
 use Rattle.qcow2_image.specs.Faults.{CountsImageFaults, IsNotOfStorage}
@@ -41,13 +42,13 @@ faults_met (Ok x) fault = tt
 faults_met (Err e) fault = fault_met e fault
 
 -- what an opening is refused for is met
-pub opening_met : (contents : _) (writable : Bool) (e : ImageError) → IsRefusedRightly contents writable false e → IsMet e
+pub opening_met : (contents : _) (writable : Bool) (e : ImageError) → IsRefusedRightly contents writable N.Nothing e → IsMet e
 opening_met contents writable I.Metadata why = tt
 opening_met contents writable I.Limit why = tt
 opening_met contents writable I.UnalignedTable why = tt
 opening_met contents writable I.Memory why = tt
 opening_met contents writable I.Storage why = tt
-opening_met contents writable I.Dependency why = absurd (let bad : false ≡ true = why.0 in cc)
+opening_met contents writable I.Dependency why = absurd (let bad : false ≡ true = why.1.needs in cc)
 opening_met contents writable e why = absurd why
 
 -- no mode takes clusters over a disk below that isn't there
@@ -74,15 +75,15 @@ grown_alone view backing old new size mode (Err e) alone no_larger tables late =
 
 -- a step that asks no storage
 pub told_other : {T : Type 0} (before : ℕ) (e : ImageError) → IsNotOfStorage e → FaultsTold {T = T} before before (Err e)
-told_other before e other = record { no_fewer = omega arith; rose = λ is. absurd (other (cc is)) }
+told_other before e other = record { no_fewer = omega arith; rose = λ is. absurd (other (cc is)); told = λ no. refl }
 
 module _ {S F : Type 0} (view : S → StorageView) where
   -- an opening that is refused, and what it is told as
   pub told_opening : {T : Type 0} (before : ℕ) (storage : S) (e : ImageError) → OpeningCounts {F = F} view before (Err (storage, e)) → FaultsTold {T = T} before (view storage).faults (Err e)
-  told_opening before storage e counts = record { no_fewer = counts.no_fewer; rose = λ is. counts.rose (cc is) }
+  told_opening before storage e counts = record { no_fewer = counts.no_fewer; rose = λ is. counts.rose (cc is); told = counts.told }
 
   -- an image that is opened, changed and closed, with no disk below that fails
-  pub told_closed : {T : Type 0} (backing : F → BackingView) → ((b : F) → (backing b).faults ≡ 0) → (before : ℕ) (old new : Qcow2 S F) (last : S) (r : Result T ImageError) → before ≤ (view (storage_of_image old)).faults → CountsImageFaults view backing old new r
+  pub told_closed : {T : Type 0} (backing : F → BackingView) → ((b : F) → (backing b).faults ≡ 0) → (before : ℕ) (old new : Qcow2 S F) (last : S) (r : Result T ImageError) → (view (storage_of_image old)).faults ≡ before → CountsImageFaults view backing old new r
       → last ≡ storage_of_image new → FaultsTold before (view last).faults r
   told_closed {T} backing none before old new last r first counts is = subst (λ (s : S). FaultsTold before (view s).faults r) (sym is) (by r counts) where
     below : (disk : Option F) → faults_below view backing disk ≡ 0
@@ -90,13 +91,14 @@ module _ {S F : Type 0} (view : S → StorageView) where
     below (Some b) = none b
 
     by : (r : Result T ImageError) → CountsImageFaults view backing old new r → FaultsTold before (view (storage_of_image new)).faults r
-    by (Ok x) counts = record { no_fewer = omega (arith, first, counts.no_fewer.storage); rose = λ is. absurd (cc is) }
+    by (Ok x) counts = record { no_fewer = omega (arith, first, counts.no_fewer.storage); rose = λ is. absurd (cc is); told = counts.told.storage ∙ first }
     by (Err e) counts = record {
       no_fewer = omega (arith, first, counts.no_fewer.storage);
       rose = λ is. elim (counts.rose (cc is)) [
-        | inl rose ↦ rose_since before (view (storage_of_image old)).faults (view (storage_of_image new)).faults first rose
+        | inl rose ↦ rose_since before (view (storage_of_image old)).faults (view (storage_of_image new)).faults (omega (arith, first)) rose
         | inr rose ↦ absurd (omega (arith, rose, below old.backing, below new.backing))
       ];
+      told = λ other. (counts.told other).storage ∙ first;
     }
 
 -- ---- the whole call
@@ -154,25 +156,24 @@ module _ {S : Type 0} (builder : Qcow2CreateBuilder S) where
   reasons_met (Err e) met = reason_met e met
 
   -- the image that was made is opened
-  pub opening_reasons : {F : Type 0} (storage : StorageView) (r : Result (Qcow2 S F) (S × ImageError)) → storage.is_honest → OpensRightly storage true false r → IfErr r (λ refused. IsReasonNotToCreate builder refused.1)
+  pub opening_reasons : {F : Type 0} (storage : StorageView) (r : Result (Qcow2 S F) (S × ImageError)) → storage.is_honest → OpensRightly storage true N.Nothing r → IfErr r (λ refused. IsReasonNotToCreate builder refused.1)
   opening_reasons storage (Ok image) honest rightly = tt
   opening_reasons storage (Err refused) honest rightly = reason_met refused.1 (opening_met storage.contents true refused.1 (rightly.1 honest))
 
 module _ {S : Type 0} (view : S → StorageView) where
-  pub told_created : {T : Type 0} (image start mid wrote last : S) (r : Result T ImageError) → start ≡ image → mid ≡ wrote → (view start).faults ≤ (view wrote).faults → FaultsTold (view mid).faults (view last).faults r → FaultsTold (view image).faults (view last).faults r
-  told_created image start mid wrote last r same is le told =
+  pub told_created : {T : Type 0} (image start mid wrote last : S) (r : Result T ImageError) → start ≡ image → mid ≡ wrote → (view wrote).faults ≡ (view start).faults → FaultsTold (view mid).faults (view last).faults r → FaultsTold (view image).faults (view last).faults r
+  told_created image start mid wrote last r same is stays told =
       let e : (view start).faults ≡ (view image).faults = ap (λ s. (view s).faults) same in
       let f : (view mid).faults ≡ (view wrote).faults = ap (λ s. (view s).faults) is in
-      told_since (view image).faults (view mid).faults (view last).faults (omega (arith, le, e, f)) told
+      told_since (view image).faults (view mid).faults (view last).faults (f ∙ stays ∙ e) told
 
   pub told_refused : {T : Type 0} (image start wrote last : S) (e : ImageError) → start ≡ image → last ≡ wrote → FaultsTold {T = T} (view start).faults (view wrote).faults (Err e) → FaultsTold {T = T} (view image).faults (view last).faults (Err e)
   told_refused {T} image start wrote last e same is told = subst (λ (s : S). FaultsTold {T = T} (view s).faults (view last).faults (Err e)) same (subst (λ (s : S). FaultsTold {T = T} (view start).faults (view s).faults (Err e)) (sym is) told)
 
   -- an image that is made isn't opened
   pub counts_refused : {F T : Type 0} (before : ℕ) (storage : S) (e : ImageError) (r : Result T ImageError) → r ≡ Err e → FaultsTold before (view storage).faults r → OpeningCounts {F = F} view before (Err (storage, e))
-  counts_refused before storage e r is told = record { no_fewer = told.no_fewer; rose = λ storage. told.rose (is ∙ ap Err storage) }
+  counts_refused before storage e r is told = record { no_fewer = told.no_fewer; rose = λ storage. told.rose (is ∙ ap Err storage); told = λ other. (subst (λ (x : Result _ ImageError). FaultsTold before (view storage).faults x) is told).told other }
 
   -- it is
-  pub counts_opened : {F : Type 0} (before mid : ℕ) (r : Result (Qcow2 S F) (S × ImageError)) → before ≤ mid → OpeningCounts view mid r → OpeningCounts view before r
-  counts_opened before mid (Ok image) le counts = record { no_fewer = omega (arith, le, counts.no_fewer); rose = tt }
-  counts_opened before mid (Err refused) le counts = record { no_fewer = omega (arith, le, counts.no_fewer); rose = λ is. rose_since before mid (view refused.0).faults le (counts.rose is) }
+  pub counts_opened : {F : Type 0} (before mid : ℕ) (r : Result (Qcow2 S F) (S × ImageError)) → mid ≡ before → OpeningCounts view mid r → OpeningCounts view before r
+  counts_opened before mid r same counts = subst (λ n. OpeningCounts view n r) same counts

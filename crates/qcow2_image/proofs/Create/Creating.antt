@@ -24,6 +24,7 @@ use Rattle.qcow2_alloc.specs.declared.error.ImageError.{ImageError}
 use Rattle.qcow2_alloc.specs.declared.error.ImageError.TheVariants as I
 use Rattle.qcow2_alloc.specs.ImageFile.{nothing_given, view_in}
 use Rattle.qcow2_image.specs.declared.builder.Qcow2CreateBuilder.{Qcow2CreateBuilder}
+use Rattle.qcow2_image.specs.declared.image.Missing.TheVariants as N
 use Rattle.qcow2_image.specs.declared.image.Qcow2.{Qcow2}
 use Rattle.qcow2_image.specs.Created.{IsNewDisk, IsPreallocated, IsUnwritten, ShowsZeros, IsStopOfCreating, StopsCreating, StaysCreating, IsNewHeader, IsCreated, Enlarges}
 use Rattle.qcow2_image.specs.Growing.{SameFormat, GrowsWhole, ReachesSize}
@@ -205,7 +206,7 @@ module _ {S : Type 0} (view : S → StorageView) (builder : Qcow2CreateBuilder S
     no_compatible = ap (λ (k : HeaderFields). k.compatible) h;
     alone =
         let none : needs_another v ≡ false = ap (λ (w : HeaderView). needs_another w) is in
-        alone_still (view mid).contents (view last).contents unwritten.consistent (new_disk_consistent builder.preallocate builder.size (byte_at (view last).contents) done.new_disk) done.rest (not_needed v (view mid).contents stands none);
+        alone_still (view mid).contents (view last).contents unwritten.consistent (new_disk_consistent builder.preallocate builder.size (byte_at (view last).contents) done.new_disk) done.rest (not_needed N.OtherFiles v (view mid).contents stands none);
   }
   created_so clusters counts (Err e) stops exact stands = tt
 

@@ -1,4 +1,6 @@
 -- Clusters that are listed are freed: no guest sees it.
+use Rattle.qcow2_alloc.specs.ImageStorage.{is_changed_of}
+use Rattle.std.proofs.lemmas.Bool.{or_right}
 use Rattle.std.proofs.Common.{◌≡◌, ⊎_elim, inl, inr, ℕ, ◌<◌, Bool, false, List, [], Option, Some, refl, sym, ap, ◌∙◌, subst, arith}
 use Rattle.std.specs.Prelude.{Result, Ok, Err, IfOk, IfErr, IsTrue}
 use Rattle.image_access.specs.Backing.{BackingView}
@@ -27,7 +29,7 @@ use Rattle.qcow2_image.specs.declared.prepared.Prepared.{Prepared}
 use Rattle.qcow2_image.specs.CallParts.{EndsFreeing, RefusedCall, UnseenCall}
 use Rattle.qcow2_image.specs.UnseenSteps.{UnseenStep, UnseenFreeingStep, FreesListed}
 use Rattle.qcow2_image.specs.Calls.{FlushesImage, refusal_of}
-use Rattle.qcow2_image.specs.Image.{number_of, is_failed}
+use Rattle.qcow2_image.specs.Image.{number_of, is_failed, has_noted_change}
 use Rattle.qcow2_image.proofs.Call.Marked.{MayMarkBy}
 use Rattle.qcow2_image.specs.ImageInvariant.{ImageInvariant, pending_in, abstract_of}
 use Rattle.qcow2_image.proofs.Call.Answered.{freeing_step_kept, still_seen}
@@ -126,7 +128,7 @@ module _ {S F : Type 0} (view : S → StorageView) (backing : F → BackingView)
 
 module _ {S F : Type 0} (view : S → StorageView) (backing : F → BackingView) (old : Qcow2 S F) (usable : is_failed old ≡ false) (new : Qcow2 S F) (marked : Bool) (number : number_of new ≡ number_of old) where
   -- all that is known is written, and nothing is left of it; or it was refused
-  pub flushes_with_outcome : (r : Result (Unit {0}) ImageError) → MayMarkBy r (is_failed new) marked → IfErr r (λ e. e ≡ I.Memory → IsTrue new.file.caches.is_changed → IsTrue marked)
+  pub flushes_with_outcome : (r : Result (Unit {0}) ImageError) → MayMarkBy r (is_failed new) marked → IfErr r (λ e. e ≡ I.Memory → IsTrue (has_noted_change new) → IsTrue marked)
       → ((out : List (Option Prepared)) → ImageInvariant view backing (pending_in view backing old out) old out → FreesListed view backing (beside view backing old out) old new out r)
       → IfOk r (λ done. known_in view new.file ≡ contents_in view new.file) → FlushesImage view backing old (record new { is_failed = marked }) r
   flushes_with_outcome (Ok done) marks memory frees written = λ out.
@@ -137,12 +139,12 @@ module _ {S F : Type 0} (view : S → StorageView) (backing : F → BackingView)
 
   -- at the end of a call
   module _ (out : List (Option Prepared)) (sound : ImageInvariant view backing (pending_in view backing old out) old out) where
-    pub ends_freeing : (r : Result (Unit {0}) ImageError) → MayMarkBy r (is_failed new) marked → IfErr r (λ e. e ≡ I.Memory → IsTrue new.file.caches.is_changed → IsTrue marked) → (IsTrue old.file.caches.is_changed → IsTrue new.file.caches.is_changed)
+    pub ends_freeing : (r : Result (Unit {0}) ImageError) → MayMarkBy r (is_failed new) marked → IfErr r (λ e. e ≡ I.Memory → IsTrue (has_noted_change new) → IsTrue marked) → (IsTrue old.file.caches.is_changed → IsTrue new.file.caches.is_changed)
         → IfErr r FaultOfTables → FreesListed view backing (beside view backing old out) old new out r → EndsFreeing view backing old (record new { is_failed = marked }) out r
     ends_freeing (Ok done) marks memory noted fault frees =
         subst (λ (f : Bool). EndsFreeing view backing old (record new { is_failed = f }) out (Ok done)) (sym marks) (let stays = tidy_stays view backing old out new sound frees in record { works = stays.works; sound = stays.sound; same = stays.same; header = stays.header; covers = stays.covers })
     ends_freeing (Err e) marks memory noted fault frees = (
       refuses_left view backing out old usable new marked number e marks memory (λ s. freed_refused view backing old out new e s frees),
       ⊎_elim (λ (failed : e ≡ I.Storage). subst (λ (x : ImageError). IsRefusalByFault (refusal_of x)) (sym failed) tt) (λ (want : e ≡ I.Memory). subst (λ (x : ImageError). IsRefusalByFault (refusal_of x)) (sym want) tt) fault,
-      λ changed. (marks_fault e (is_failed new) marked new.file.caches.is_changed fault (λ _. noted changed) marks memory).0,
+      λ changed. (marks_fault e (is_failed new) marked (has_noted_change new) fault (λ _. or_right (is_changed_of new.file.storage) new.file.caches.is_changed (noted changed)) marks memory).0,
     )

@@ -1,4 +1,5 @@
 -- The header is written to name a longer L1 table, which is the image's own then.
+use Rattle.std.proofs.lemmas.Bool.{or_right}
 use Rattle.std.proofs.Common.{◌≡◌, ℕ, ◌+◌, ◌*◌, ◌/◌, ◌^◌, ◌<◌, ◌≤◌, List, [], length, Option, Some, Result, Ok, Err, inr, refl, sym, ap, ◌∙◌, subst, arith}
 use Rattle.std.specs.Prelude.{IfSome, IsTrue}
 use Rattle.std.proofs.lemmas.List.{append-nil}
@@ -29,7 +30,7 @@ use Rattle.qcow2_alloc.specs.declared.allocation.Allocator.{Allocator}
 use Rattle.qcow2_alloc.specs.declared.image_storage.ImageStorage.{ImageStorage}
 use Rattle.qcow2_alloc.specs.ImageFile.{nothing_given, view_in, contents_in, known_in, state_in}
 use Rattle.qcow2_alloc.specs.ImageError.{of_storage}
-use Rattle.qcow2_alloc.specs.ImageStorage.{storage_of}
+use Rattle.qcow2_alloc.specs.ImageStorage.{storage_of, is_changed_of}
 use Rattle.qcow2_alloc.specs.MetadataCaches.{order_of, known_of}
 use Rattle.qcow2_alloc.proofs.AllocationSteps.{fault_of_storage}
 use Rattle.qcow2_alloc.proofs.FileSteps.{pending_same}
@@ -219,7 +220,7 @@ module _ {S F : Type 0} (view : S → StorageView) (backing : F → BackingView)
         → Calls (view asked) (view (storage_of storage)) result → (e : StorageError) → IsTrue old.file.caches.is_changed
         → NamesTable view backing p old (record old { file = record old.file { storage = storage; header = header } }) out t cluster (Err (of_storage e))
     named_interruption result storage asked same wrote called e noted = inr (record {
-      interrupted = record { fault = fault_of_storage e; noted = λ is. noted; since = lasts_named result asked (storage_of storage) same (pointer_written_as result asked (storage_of storage) wrote) called };
+      interrupted = record { fault = fault_of_storage e; noted = λ is. or_right (is_changed_of storage) old.file.caches.is_changed noted; since = lasts_named result asked (storage_of storage) same (pointer_written_as result asked (storage_of storage) wrote) called };
       header = subst (λ (v : HeaderView). MovesTables old.file.header.fields v.fields) (sym header_now) refl;
       below = refl;
     })

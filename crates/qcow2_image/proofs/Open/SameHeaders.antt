@@ -1,23 +1,27 @@
 -- The header that stands in an image's bytes is one alone; and an image that needs another file is refused for that.
-use Rattle.std.proofs.Common.{◌≡◌, ◌⊎◌, ◌<◌, ◌/◌, ◌%◌, ℕ, ◌+◌, is_some, List, [], ◌∷◌, true, false, length, Bool, refl, sym, ap, ◌∙◌, subst, inl, inr}
+use Rattle.std.proofs.Common.{◌≡◌, ◌≢◌, ◌⊎◌, ◌<◌, Result, ◌/◌, ◌%◌, ℕ, ◌+◌, is_some, List, [], ◌∷◌, true, false, length, Bool, refl, sym, ap, ◌∙◌, subst, inl, inr}
 use Rattle.std.specs.Prelude.{◌&&◌, ◌||◌, ◌==◌}
-use Rattle.image_access.specs.Moments.{StorageView, ContentsStay}
+use Rattle.image_access.specs.Moments.{StorageView}
 use Rattle.qcow2_metadata.specs.Bytes.{Bytes, byte_at, bytes_from}
 use Rattle.qcow2_metadata.specs.Consistent.{IsConsistent}
 use Rattle.qcow2_disk.specs.HeaderRest.{KeepsHeaderRest}
 use Rattle.qcow2_disk.proofs.HeaderRest.{header_rest_back}
 use Rattle.qcow2_disk.proofs.HeaderNames.{names_stay}
-use Rattle.qcow2_metadata.specs.Header.{header, HeaderView, HeaderReads, AreExtensions, IsExtension, behind_extension, first_of_kind, data_file_kind}
+use Rattle.qcow2_metadata.specs.Header.{header, HeaderView, HeaderReads, AreExtensions, IsExtension, behind_extension, first_of_kind, data_file_kind, has_data_file}
 use Rattle.qcow2_metadata.specs.declared.header.HeaderFields.{HeaderFields}
 use Rattle.qcow2_metadata.specs.HeaderLoad.{IsHeaderIn, IsReasonToRefuse}
+use Rattle.qcow2_metadata.specs.MetadataError.{OnlyReads}
 use Rattle.qcow2_metadata.specs.declared.error.MetadataError.{MetadataError}
 use Rattle.qcow2_metadata.specs.declared.error.MetadataError.TheVariants as M
 use Rattle.image_access.specs.declared.error.StorageError.TheVariants as T
 use Rattle.qcow2_alloc.specs.declared.error.ImageError.{ImageError}
 use Rattle.qcow2_alloc.specs.declared.error.ImageError.TheVariants.{Dependency, UnalignedTable}
 use Rattle.qcow2_alloc.specs.ImageError.{of_metadata, IsFault}
-use Rattle.qcow2_image.specs.Opened.{needs_another, NeedsAnother}
+use Rattle.qcow2_image.specs.Opened.{needs_missing, needs_another, NeedsAnother, NeedsMissing}
+use Rattle.qcow2_image.specs.declared.image.Missing.{Missing}
+use Rattle.qcow2_image.specs.declared.image.Missing.TheVariants as N
 use Rattle.qcow2_image.specs.Refusals.{IsMet}
+use Rattle.qcow2_image.specs.Unwritten.{ContentsStayThroughout}
 
 abbrev made : ℕ → List ℕ → ℕ × List ℕ
 made kind bytes = (kind, bytes)
@@ -61,26 +65,26 @@ refused_before h b writable M.Unaligned reads why = inl refl
 refused_before h b writable M.Limit reads why = absurd (why.1 reads.within_limits)
 refused_before h b writable M.Format reads why = absurd (why reads.well_formed)
 
-pub both : (a b : Bool) → (a && b) ≡ true → (a ≡ true) × (b ≡ true)
-both true true e = (refl, refl)
-both true false e = absurd (let bad : false ≡ true = e in cc)
-both false b e = absurd (let bad : false ≡ true = e in cc)
+pub lacks_so : (missing : Missing) (v w : HeaderView) (contents : List ℕ) → IsHeaderIn v contents → IsHeaderIn w contents → needs_missing missing v ≡ needs_missing missing w
+lacks_so N.Nothing v w contents is it = refl
+lacks_so N.DataFile v w contents is it = ap has_data_file (is.fields ∙ sym it.fields)
+lacks_so N.OtherFiles v w contents is it = needs_so v w contents is it
 
-pub not_both : (a b : Bool) → (a && b) ≡ false → a ≡ true → b ≡ false
-not_both true b e so = e
-not_both false b e so = absurd (let bad : false ≡ true = so in cc)
+-- where no file is missing none is needed
+pub some_missing : (missing : Missing) (v : HeaderView) → needs_missing missing v ≡ true → missing ≢ N.Nothing
+some_missing missing v needs none = let bad : false ≡ true = ap (λ (m : Missing). needs_missing m v) (sym none) ∙ needs in cc
 
 -- what is met where the work is isn't a missing file
 pub not_missing : (e : ImageError) → IsMet e → e ≡ Dependency → ⊥
 not_missing e met is = subst IsMet is met
 
--- a header that needs no other file isn't that of an image that does
-pub not_needed : (v : HeaderView) (contents : List ℕ) → IsHeaderIn v contents → needs_another v ≡ false → NeedsAnother contents → ⊥
-not_needed v contents is none needs = let same = needs_so v needs.header contents is needs.stands in let some = needs.needs in let bad : true ≡ false = sym some ∙ sym same ∙ none in cc
+-- a header that needs no file that is missing isn't that of an image that does
+pub not_needed : (missing : Missing) (v : HeaderView) (contents : List ℕ) → IsHeaderIn v contents → needs_missing missing v ≡ false → NeedsMissing missing contents → ⊥
+not_needed missing v contents is none needs = let same = lacks_so missing v needs.header contents is needs.stands in let some = needs.needs in let bad : true ≡ false = sym some ∙ sym same ∙ none in cc
 
 -- a storage that was read, as it was handed in and is handed back
-pub stays_so : {S : Type 0} (view : S → StorageView) (old mid last out : S) → mid ≡ old → out ≡ last → ((view mid).is_honest → (view last).contents ≡ (view mid).contents) → ContentsStay (view old) (view out)
-stays_so view old mid last out is at same = subst (λ s. ContentsStay (view s) (view out)) is (subst (λ s. ContentsStay (view mid) (view s)) (sym at) same)
+pub stays_so : {S T : Type 0} (view : S → StorageView) (old mid last out : S) (result : Result T MetadataError) → mid ≡ old → out ≡ last → OnlyReads (view mid) (view last) result → (view old).is_honest → ContentsStayThroughout (view old) (view out)
+stays_so view old mid last out result is at reads = subst (λ s. (view s).is_honest → ContentsStayThroughout (view s) (view out)) is (subst (λ s. (view mid).is_honest → ContentsStayThroughout (view mid) (view s)) (sym at) (λ honest. (reads.same, reads.time honest)))
 
 -- A consistent image that needs no other file needs none while the rest of its header stays.
 pub alone_still : (old new : List ℕ) → IsConsistent (byte_at old) → IsConsistent (byte_at new) → KeepsHeaderRest (byte_at old) (byte_at new) → (NeedsAnother old → ⊥) → NeedsAnother new → ⊥

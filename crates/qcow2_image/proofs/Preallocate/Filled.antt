@@ -16,6 +16,7 @@ use Rattle.qcow2_alloc.specs.ImageError.{IsFault as FaultOfTables}
 use Rattle.qcow2_alloc.specs.ImageFile.{known_in}
 use Rattle.qcow2_alloc.specs.declared.error.ImageError.{ImageError}
 use Rattle.qcow2_alloc.specs.declared.error.ImageError.TheVariants as I
+use Rattle.qcow2_image.specs.Image.{has_noted_change}
 use Rattle.qcow2_image.specs.CallParts.{RefusedCall, UnseenCall}
 use Rattle.qcow2_image.specs.Clearing.{ClearsPart, IsUnderMapping}
 use Rattle.qcow2_image.specs.declared.discarding.Clearance.TheVariants.{KeptZeros}
@@ -75,7 +76,7 @@ module _ {S F : Type 0} (view : S → StorageView) (backing : F → BackingView)
       works_less (abstract_of view backing old out) (abstract_of view backing new out) (given_by_zeros from to ∷ []) (given_by_zeros from' to' ∷ []) [] (λ o w given. inr (zeros_wider from to from' to' low high o w given)) works
 
   -- a sound image that is marked as failed
-  pub given_broken : (given : List GivenBytes) (old new : Qcow2 S F) (e : ImageError) → FaultOfTables e → (e ≡ I.Memory → IsTrue new.file.caches.is_changed) → ImageInvariant view backing (pending_in view backing new out) new out
+  pub given_broken : (given : List GivenBytes) (old new : Qcow2 S F) (e : ImageError) → FaultOfTables e → (e ≡ I.Memory → IsTrue (has_noted_change new)) → ImageInvariant view backing (pending_in view backing new out) new out
       → EffectOnSound (abstract_of view backing old out) (abstract_of view backing new out) given [] → InterruptedGiving view backing given old new out e
   given_broken given old new e fault noted sound works = record {
     fault = fault;

@@ -48,8 +48,8 @@ module _ {S F : Type 0} (view : S → StorageView) (backing : F → BackingView)
   -- ---- a preparation
 
   -- clusters that are listed are freed behind the refusal, or that is refused
-  pub far_then_freed : (old mid new : Qcow2 S F) (refusal e : ImageError) → refusal ≡ I.Overflow → mid ≡ old → (HasNothingToFree mid → (e ≡ refusal) × (new ≡ mid))
-      → ((out : List (Option Prepared)) → ImageInvariant view backing (pending_in view backing mid out) mid out → (e ≡ refusal) ⊎ IsFault e) → IsRefusedAsFar view backing old new (Err e)
+  pub far_then_freed : {A : Type 0} (old mid new : Qcow2 S F) (refusal e : ImageError) → refusal ≡ I.Overflow → mid ≡ old → (HasNothingToFree mid → (e ≡ refusal) × (new ≡ mid))
+      → ((out : List (Option Prepared)) → ImageInvariant view backing (pending_in view backing mid out) mid out → (e ≡ refusal) ⊎ IsFault e) → IsRefusedAsFar view backing {A = A} old new (Err e)
   far_then_freed old mid new refusal e far same idle told = record {
     idle = λ none. let kept = idle (ap (λ (i : Qcow2 S F). i.file.free_list) same ∙ none) in (ap Err (kept.0 ∙ far), kept.1 ∙ same);
     told = λ out sound. elim (told out (subst (λ (i : Qcow2 S F). ImageInvariant view backing (pending_in view backing i out) i out) (sym same) sound)) [
@@ -58,12 +58,26 @@ module _ {S F : Type 0} (view : S → StorageView) (backing : F → BackingView)
     ];
   }
 
-  -- the call begins, prepares, and marks a failure
-  pub far_prepared : (early : Option ImageError) (offset : ℕ) (old begun new last : Qcow2 S F) (r r' : Result Prepared ImageError) → IsBegun old begun
+  -- the call begins, does a part, and marks a failure
+  pub far_prepared : {A : Type 0} (early : Option ImageError) (offset : ℕ) (old begun new last : Qcow2 S F) (r r' : Result A ImageError) → IsBegun old begun
       → ((out : List (Option Prepared)) → ImageInvariant view backing (pending_in view backing old out) old out → ImageInvariant view backing (pending_in view backing begun out) begun out)
       → (NeedsFarEntry begun offset → IsRefusedAsFar view backing begun new r) → r' ≡ r → MarksFailed new last r → last ≡ record new { is_failed = is_failed last } → RefusesFarEntryFreeing view backing early offset old last r'
-  far_prepared early offset old begun new last r r' begins still far answer marks rest = λ none needs.
+  far_prepared {A} early offset old begun new last r r' begins still far answer marks rest = λ none needs.
       let refused = far (far_begun old begun offset offset refl begins needs) in (
         (λ empty. let found = far_then_marked old begun new last r begins (refused.idle (ap (λ (i : Qcow2 S F). i.file.free_list) begins.rest ∙ empty)) marks rest in (answer ∙ found.0, found.1)),
-        (λ out sound. subst (λ (x : Result Prepared ImageError). IsErrAnd x (λ e. (e ≡ I.Overflow) ⊎ IsFault e)) (sym answer) (refused.told out (still out sound))),
+        (λ out sound. subst (λ (x : Result A ImageError). IsErrAnd x (λ e. (e ≡ I.Overflow) ⊎ IsFault e)) (sym answer) (refused.told out (still out sound))),
       )
+
+  -- such a refusal is handed on by the call, and none is answered
+  pub far_call_on : {A B : Type 0} (early : Option ImageError) (offset : ℕ) (old new : Qcow2 S F) (r : Result A ImageError) (e : ImageError) (r' : Result B ImageError) → r ≡ Err e → RefusesFarEntryFreeing view backing early offset old new r → IsErr r' × IsErrAnd r' (λ x. x ≡ e)
+      → RefusesFarEntryFreeing view backing early offset old new r'
+  far_call_on early offset old new r e r' was far is = λ none needs.
+      let said = far none needs in
+      ((λ empty. far_handed_on r e r' was (said.0 empty) is), (λ out sound. handed_on (λ (x : Result _ _). IsErrAnd x (λ y. (y ≡ I.Overflow) ⊎ IsFault y)) r' e is (subst (λ (x : Result _ _). IsErrAnd x (λ y. (y ≡ I.Overflow) ⊎ IsFault y)) was (said.1 out sound))))
+
+  pub far_call_answered : {A B : Type 0} (early : Option ImageError) (offset : ℕ) (old begun new new' : Qcow2 S F) (r : Result A ImageError) (a : A) (r' : Result B ImageError) → r ≡ Ok a → IsBegun old begun
+      → ((out : List (Option Prepared)) → ImageInvariant view backing (pending_in view backing old out) old out → ImageInvariant view backing (pending_in view backing begun out) begun out)
+      → (NeedsFarEntry begun offset → IsRefusedAsFar view backing begun new r) → RefusesFarEntryFreeing view backing early offset old new' r'
+  far_call_answered {A} early offset old begun new new' r a r' was begins still far = λ none needs.
+      let refused = far (far_begun old begun offset offset refl begins needs) in
+      ((λ empty. absurd (far_unanswered r a was (refused.idle (ap (λ (i : Qcow2 S F). i.file.free_list) begins.rest ∙ empty)).0)), (λ out sound. absurd (subst (λ (x : Result A ImageError). IsErrAnd x (λ y. (y ≡ I.Overflow) ⊎ IsFault y)) was (refused.told out (still out sound)))))

@@ -1,9 +1,10 @@
 -- A range is prepared part by part, and let go where a part is refused.
-use Rattle.std.proofs.Common.{◌≡◌, inl, inr, ℕ, suc, ◌+◌, ◌-◌, ◌*◌, ◌/◌, ◌%◌, ◌<◌, ◌≤◌, Bool, true, false, List, length, [], ◌∷◌, Option, Some, None, refl, sym, ap, ◌∙◌, subst, arith, min}
+use Rattle.std.proofs.Common.{◌≡◌, ◌++◌, inl, inr, ℕ, suc, ◌+◌, ◌-◌, ◌*◌, ◌/◌, ◌%◌, ◌<◌, ◌≤◌, Bool, true, false, List, length, [], ◌∷◌, Option, Some, None, refl, sym, ap, ◌∙◌, subst, arith, min}
 use Rattle.std.specs.Prelude.{IfOk, Result, Ok, Err, slice_get, slice_set, vec_capacity, ◌==◌}
 use Rattle.std.proofs.lemmas.Grind.{common_steps}
 use Rattle.std.proofs.lemmas.Nat.{div-add-mod', mod-mul-add, mod_below, pow_pos}
 use mathlib.Core.Path.{fun_ext}
+use Rattle.std.specs.Prelude.{◌||◌}
 use Rattle.std.proofs.lemmas.Bool.{cases_eq, cases_lt, cond-true, cond-false, eq-eqb, ne_eqb}
 use Rattle.image_access.specs.Backing.{BackingView}
 use Rattle.image_access.specs.Moments.{StorageView}
@@ -50,6 +51,11 @@ slot_back x k b is = same_guest (with_slot x k b) x refl (fun_ext (λ j. elim (c
   | inl here ↦ cond-true (j == k) b (x.slots j) (eq-eqb _ _ here) ∙ sym is ∙ sym (ap x.slots here)
   | inr other ↦ cond-false (j == k) b (x.slots j) (ne_eqb _ _ other)
 ]))
+
+-- a list that goes on begins as before
+first_on : (l : List Share) (s share : Share) → slice_get l 0 ≡ Some share → slice_get (l ++ s ∷ []) 0 ≡ Some share
+first_on [] s share at = absurd (cc at)
+first_on (x ∷ l) s share at = at
 
 module _ {S F : Type 0} (view : S → StorageView) (backing : F → BackingView) (start mid new : Qcow2 S F) (out : List (Option Prepared)) (k n : ℕ) (overwrite : Bool) (p : Prepared) (free : slice_get out k ≡ Some None) (first : IsReadied view backing start mid out k p.guest n overwrite p) where
   abbrev out1 : List (Option Prepared)
@@ -135,7 +141,7 @@ module _ {S F : Type 0} (view : S → StorageView) (backing : F → BackingView)
     release_prepared_refused (inl still) = inl (release_prepared_still still)
     release_prepared_refused (inr interruption) = inr (record {
       fault = interruption.fault;
-      noted = λ memory. lets.changed ∙ interruption.noted memory;
+      noted = λ memory. ap (λ (i : Qcow2 S F). i.file.storage.is_changed || end.file.caches.is_changed) lets.rest ∙ ap (λ (b : Bool). new.file.storage.is_changed || b) lets.changed ∙ interruption.noted memory;
       works = works_then (abstract_of view backing start out) (abstract_of view backing mid out1) (abstract_of view backing (record end { is_failed = true }) out) [] [] first.sound first.works (release_prepared_failed interruption.works);
     })
 
@@ -251,6 +257,7 @@ module _ {S F : Type 0} (view : S → StorageView) (backing : F → BackingView)
             guest = r_guest ∙ so.longer.guest;
             place = ap (λ (x : Prepared). x.offset) next.rest ∙ so.longer.place;
             under = ap (λ (x : Prepared). x.table) next.rest ∙ so.longer.under;
+            first = λ share at. ap (λ (l : List Share). slice_get l 0) next.shares ∙ first_on q.shares.items next.share share (so.longer.first share at);
             more = let l = length_is in let m = so.longer.more in omega arith;
             most = λ past. absurd (let l = length_is in omega arith);
             whole = r_whole;

@@ -1,5 +1,5 @@
 -- Preparing as a call: it is answered, or refused and perhaps marked as failed.
-use Rattle.std.proofs.Common.{◌≡◌, ◌∙◌, ℕ, Bool, false, List, [], Option, Some, inl, inr, refl, sym, ap, subst}
+use Rattle.std.proofs.Common.{◌≡◌, ℕ, Bool, false, List, [], Option, Some, refl, sym, subst}
 use Rattle.std.specs.Prelude.{Result, Ok, Err, IfErr, IsTrue, slice_set}
 use Rattle.image_access.specs.Backing.{BackingView}
 use Rattle.image_access.specs.Moments.{StorageView}
@@ -11,12 +11,13 @@ use Rattle.qcow2_alloc.specs.declared.error.ImageError.TheVariants as I
 use Rattle.qcow2_image.specs.declared.image.Qcow2.{Qcow2}
 use Rattle.qcow2_image.specs.declared.prepared.Prepared.{Prepared}
 use Rattle.qcow2_image.specs.Calls.{Prepares}
-use Rattle.qcow2_image.specs.Image.{number_of, is_failed}
-use Rattle.qcow2_image.specs.L1Entries.{HasOwnTable, ReachesOffset}
+use Rattle.qcow2_image.specs.Image.{number_of, is_failed, has_noted_change}
+use Rattle.qcow2_image.specs.L1Entries.{ReachesOffset}
 use Rattle.qcow2_image.specs.ListedClusters.{PreparesList}
 use Rattle.qcow2_image.specs.CallParts.{IsExisting, IsReadied, PreparesRange}
 use Rattle.qcow2_image.proofs.Call.Marked.{MayMarkBy}
 use Rattle.qcow2_image.specs.ImageInvariant.{pending_in, abstract_of, meaning, ImageInvariant}
+use Rattle.qcow2_image.proofs.Prepare.Listing.{lists_as}
 use Rattle.qcow2_image.proofs.Prepare.Preparing.{readied_existing}
 use Rattle.qcow2_image.proofs.Call.CallOutcomes.{outcome_answered}
 use Rattle.qcow2_image.proofs.Call.Refused.{refuses_left}
@@ -32,7 +33,7 @@ module _ {S F : Type 0} (view : S → StorageView) (backing : F → BackingView)
     abbrev failed_now : Qcow2 S F
     failed_now = record new { is_failed = marked }
 
-    pub prepares_with_outcome : (offset n : ℕ) (overwrite : Bool) (r : Result Prepared ImageError) → MayMarkBy r (is_failed new) marked → IfErr r (λ e. e ≡ I.Memory → IsTrue new.file.caches.is_changed → IsTrue marked)
+    pub prepares_with_outcome : (offset n : ℕ) (overwrite : Bool) (r : Result Prepared ImageError) → MayMarkBy r (is_failed new) marked → IfErr r (λ e. e ≡ I.Memory → IsTrue (has_noted_change new) → IsTrue marked)
         → ((out : List (Option Prepared)) → ImageInvariant view backing (pending_in view backing old out) old out → PreparesRange view backing old new out offset n overwrite r) → Prepares view backing old failed_now offset n overwrite r
     prepares_with_outcome offset n overwrite (Ok p) marks memory readies = λ out k free.
         let ready : ImageInvariant view backing (pending_in view backing old out) old out → IsReadied view backing old new out k offset n overwrite p = λ sound. readies out sound k free in
@@ -48,11 +49,6 @@ module _ {S F : Type 0} where
       → PreparesList offset begun new r → PreparesList offset old (record new { is_failed = failed }) r
   lists_begun old begun new failed offset (Ok p) rest lists = record {
     reaches = subst (λ (i : Qcow2 S F). ReachesOffset offset i.file.header.fields new.file.header.fields) rest lists.reaches;
-    held = lists.held;
-    freed = elim lists.freed [
-      | inl own ↦ inl (subst (λ (i : Qcow2 S F). HasOwnTable i offset) rest own.0, record { allocator = own.1.allocator ∙ ap (λ (i : Qcow2 S F). i.allocator) rest; list = own.1.list ∙ ap (λ (i : Qcow2 S F). i.file.free_list) rest })
-      | inr none ↦ inr none
-    ];
-    since = record { before = lists.since.before; after = lists.since.after; was = lists.since.was; is = lists.since.is; behind = lists.since.behind };
+    lists = lists_as offset old begun new failed rest lists.lists;
   }
   lists_begun old begun new failed offset (Err e) rest lists = lists

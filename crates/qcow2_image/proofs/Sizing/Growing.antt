@@ -28,7 +28,7 @@ use Rattle.qcow2_image.specs.declared.image.Qcow2.{Qcow2}
 use Rattle.qcow2_image.specs.declared.prepared.Prepared.{Prepared}
 use Rattle.qcow2_image.specs.Found.{l1_index_of}
 use Rattle.qcow2_image.specs.Growing.{ReachesSize}
-use Rattle.qcow2_image.specs.Image.{is_failed, number_of, size_of}
+use Rattle.qcow2_image.specs.Image.{is_failed, number_of, size_of, has_noted_change}
 use Rattle.qcow2_image.specs.ImageInvariant.{ImageInvariant, abstract_of, disk_of, pending_in}
 use Rattle.qcow2_image.specs.Preallocation.{FillsGrown, RefusedGrown, filled_to, all_given_by_growing}
 use Rattle.qcow2_image.proofs.Call.Marked.{MayMark, MayMarkBy}
@@ -66,11 +66,11 @@ module _ {S F : Type 0} (view : S → StorageView) (backing : F → BackingView)
   -- ---- the L1 table was refused
   module _ (begun mid : Qcow2 S F) (e : ImageError) (marked : Bool) (first : (out : List (Option Prepared)) → ImageInvariant view backing (pending_in view backing old out) old out → UnseenCall view backing old begun out)
       (left : (out : List (Option Prepared)) → ImageInvariant view backing (pending_in view backing begun out) begun out → RefusedCall view backing begun mid out e) where
-    pub unchanged_not : number_of mid ≡ number_of old → MayMark e (is_failed mid) marked → (e ≡ I.Memory → IsTrue mid.file.caches.is_changed → IsTrue marked) → (out : List (Option Prepared)) → RefusesUnchanged view backing old (record mid { is_failed = marked }) out e
+    pub unchanged_not : number_of mid ≡ number_of old → MayMark e (is_failed mid) marked → (e ≡ I.Memory → IsTrue (has_noted_change mid) → IsTrue marked) → (out : List (Option Prepared)) → RefusesUnchanged view backing old (record mid { is_failed = marked }) out e
     unchanged_not number marks memory out =
         refuses_left view backing out old usable mid marked number e marks memory (λ sound. let call = first out sound in refused_then view backing out old begun mid call e (left out call.sound))
 
-    pub grows_not : number_of mid ≡ number_of old → MayMark e (is_failed mid) marked → (e ≡ I.Memory → IsTrue mid.file.caches.is_changed → IsTrue marked) → GrowsTo view backing old (record mid { is_failed = marked }) size mode (Err e)
+    pub grows_not : number_of mid ≡ number_of old → MayMark e (is_failed mid) marked → (e ≡ I.Memory → IsTrue (has_noted_change mid) → IsTrue marked) → GrowsTo view backing old (record mid { is_failed = marked }) size mode (Err e)
     grows_not number marks memory out = grows_same (record mid { is_failed = marked }) e out (unchanged_not number marks memory out)
 
     pub last_not : (out : List (Option Prepared)) → ImageInvariant view backing (pending_in view backing old out) old out → WritesSizeLast view backing old (record mid { is_failed = marked })

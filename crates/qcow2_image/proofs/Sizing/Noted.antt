@@ -1,5 +1,5 @@
 -- What a call noted is seen by no guest: what it did, it did also to the image with other notes.
-use Rattle.std.proofs.Common.{◌≡◌, Bool, Option, Some, None, List, ℕ, inl, inr, sym, subst, arith}
+use Rattle.std.proofs.Common.{◌≡◌, Bool, Option, Some, None, List, ℕ, inl, inr, refl, sym, subst, arith}
 use Rattle.std.specs.Prelude.{IfSome, Result, Ok, Err}
 use Rattle.image_access.specs.Backing.{BackingView}
 use Rattle.image_access.specs.Moments.{StorageView}
@@ -13,7 +13,7 @@ use Rattle.qcow2_alloc.specs.KeptAllocators.{IsAllocatorOf}
 use Rattle.qcow2_alloc.specs.ImageStorage.{is_changed_of}
 use Rattle.qcow2_image.specs.declared.image.Qcow2.{Qcow2}
 use Rattle.qcow2_image.specs.declared.prepared.Prepared.{Prepared}
-use Rattle.qcow2_image.specs.Faults.{CountsImageFaults, NoFewerFaults}
+use Rattle.qcow2_image.specs.Faults.{CountsImageFaults, SameFaults}
 use Rattle.qcow2_image.specs.Image.{is_failed, with_marks}
 use Rattle.qcow2_image.specs.ImageInvariant.{ImageInvariant, abstract_of, pending_in}
 use Rattle.qcow2_image.specs.Resizing.{GrowsTables, GrowsTo, RefusesUnchanged, Shrinks}
@@ -86,10 +86,10 @@ module _ {S F : Type 0} (view : S → StorageView) (backing : F → BackingView)
       tables_noted out (Err e) tables = record { taken = tables.taken; zeros = λ zero lacks. unchanged_noted out e (tables.zeros zero lacks) }
 
   -- ---- the number of faults stays
-  pub fewer_noted : (last new : Qcow2 S F) (noted failed : Bool) → new ≡ with_marks last noted failed → NoFewerFaults view backing last new
-  fewer_noted last new noted failed rest = subst (λ (i : Qcow2 S F). NoFewerFaults view backing last i) (sym rest) (record { storage = omega arith; below = omega arith })
+  pub same_noted : (last new : Qcow2 S F) (noted failed : Bool) → new ≡ with_marks last noted failed → SameFaults view backing last new
+  same_noted last new noted failed rest = subst (λ (i : Qcow2 S F). SameFaults view backing last i) (sym rest) (record { storage = refl; below = refl })
 
-  pub counted_noted : {T : Type 0} (old mid last new : Qcow2 S F) (done result : Result T ImageError) → NoFewerFaults view backing old mid → CountsImageFaults view backing mid last done → result ≡ done
+  pub counted_noted : {T : Type 0} (old mid last new : Qcow2 S F) (done result : Result T ImageError) → SameFaults view backing old mid → CountsImageFaults view backing mid last done → result ≡ done
       → new ≡ with_marks last (is_changed_of new.file.storage) (is_failed new) → CountsImageFaults view backing old new result
   counted_noted old mid last new done result first told is rest =
-      subst (λ r. CountsImageFaults view backing old new r) (sym is) (counted_still view backing old last new done (counted_since view backing old mid last done first told) (fewer_noted last new _ _ rest))
+      subst (λ r. CountsImageFaults view backing old new r) (sym is) (counted_still view backing old last new done (counted_since view backing old mid last done first told) (same_noted last new _ _ rest))

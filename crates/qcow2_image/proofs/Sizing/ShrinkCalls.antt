@@ -1,6 +1,6 @@
 -- A smaller disk as a call: it is refused, or has nothing to do, before any work.
-use Rattle.std.proofs.Common.{◌≡◌, inr, ℕ, ◌<◌, ◌≤◌, Bool, true, false, [], ◌∷◌, refl, sym, ap, ◌∙◌, arith}
-use Rattle.std.specs.Prelude.{Some, None, Ok, Err, IsTrue, not}
+use Rattle.std.proofs.Common.{◌≡◌, inl, inr, Result, subst, ℕ, ◌<◌, ◌≤◌, Bool, true, false, [], ◌∷◌, refl, sym, ap, ◌∙◌, arith}
+use Rattle.std.specs.Prelude.{Some, None, Ok, Err, IfErr, IsTrue, not}
 use Rattle.std.specs.Option.{option_or}
 use Rattle.image_access.specs.Backing.{BackingView}
 use Rattle.image_access.specs.Moments.{StorageView}
@@ -8,6 +8,7 @@ use Rattle.qcow2_disk.specs.Calls.{another, storage}
 use Rattle.qcow2_disk.proofs.Compose.{works_less}
 use Rattle.qcow2_alloc.specs.declared.error.ImageError.{ImageError}
 use Rattle.qcow2_alloc.specs.declared.error.ImageError.TheVariants as I
+use Rattle.qcow2_alloc.specs.ImageError.{IsFault}
 use Rattle.qcow2_alloc.specs.ImageFile.{l2_pins}
 use Rattle.qcow2_image.specs.Calls.{refusal_of}
 use Rattle.qcow2_image.specs.declared.image.Qcow2.{Qcow2}
@@ -27,6 +28,15 @@ none_fails true b c x is fault = let same : I.Failed ≡ x = cc in absurd (let n
 none_fails false true c x is fault = let same : I.Dependency ≡ x = cc in absurd (let no : another 12 ≡ storage = ap refusal_of same ∙ fault in cc)
 none_fails false false true x is fault = let same : I.ReadOnly ≡ x = cc in absurd (let no : another 1 ≡ storage = ap refusal_of same ∙ fault in cc)
 none_fails false false false x is fault = absurd cc
+
+-- a fault isn't a prepared mapping
+pub fault_unprepared : {T : Type 0} (r : Result T ImageError) → IfErr r IsFault → r ≡ Err I.MappingPrepared → ⊥
+fault_unprepared {T} r fault is =
+    let told : IsFault I.MappingPrepared = subst (λ (x : Result T ImageError). IfErr x IsFault) is fault in
+    elim told [
+      | inl broken ↦ let no : I.MappingPrepared ≡ I.Storage = broken in cc
+      | inr wanting ↦ let no : I.MappingPrepared ≡ I.Memory = wanting in cc
+    ]
 
 pub resize_works : {S F : Type 0} (image : Qcow2 S F) → refuses_to_resize image ≡ None → is_failed image ≡ false
 resize_works image is = works_if (is_failed image) (refuse_if (is_external image) I.Dependency) _ is

@@ -107,7 +107,7 @@ module _ {S F : Type 0} (view : S → StorageView) (backing : F → BackingView)
       some : 0 < cluster_size old.file.header.fields
       some = pow_pos old.file.header.fields.cluster_bits
 
-      same_size : cluster_size now.file.header.fields ≡ cluster_size old.file.header.fields
+      pub same_size : cluster_size now.file.header.fields ≡ cluster_size old.file.header.fields
       same_size = ap (λ (s : Setting). s.cluster_size) (so.so_far out sound).0.works.setting
 
     pub next_so_far : (next : ℕ) → at < next → next ≤ size_of now → UncoversNext view backing now new at (Ok next) → IsSameImage now new → is_failed new ≡ is_failed now → IsUncoveredSoFar old new size next end
@@ -287,7 +287,7 @@ module _ {S F : Type 0} (view : S → StorageView) (backing : F → BackingView)
     }
 
     -- ---- it was refused
-    module _ (new : Qcow2 S F) (e : ImageError) (marked : Bool) (number : number_of new ≡ number_of old) (fault : IsFaultOfTables e) (marks : MayMark e (is_failed new) marked) (changed : nat_lt (rounded_up cs size) at ≡ true → marked ≡ true) where
+    module _ (new : Qcow2 S F) (e : ImageError) (marked : Bool) (number : number_of new ≡ number_of old) (fault : IsFaultOfTables e) (marks : MayMark e (is_failed new) marked) (changed : (out : List (Option Prepared)) → ImageInvariant view backing (pending_in view backing old out) old out → nat_lt (rounded_up cs size) at ≡ true → marked ≡ true) where
       abbrev final : Qcow2 S F
       final = record new { is_failed = marked }
 
@@ -307,12 +307,12 @@ module _ {S F : Type 0} (view : S → StorageView) (backing : F → BackingView)
       left_works out (inr (so, works)) = subst (λ (f : Bool). EffectOnSound (abstract_of view backing old out) (abstract_of view backing (record new { is_failed = f }) out) (all_given_by_shrink view backing old size) (size ∷ [])) (sym so) works
 
       -- where nothing was uncovered, all is as it was
-      unmarked : (out : List (Option Prepared)) → ImageInvariant view backing (pending_in view backing new out) new out × ShowsBelow view backing size at old new out × Ends → (f : Bool) → marked ≡ f
+      unmarked : (out : List (Option Prepared)) → ImageInvariant view backing (pending_in view backing old out) old out → ImageInvariant view backing (pending_in view backing new out) new out × ShowsBelow view backing size at old new out × Ends → (f : Bool) → marked ≡ f
           → ((abstract_of view backing final out).is_sound × IsSame (abstract_of view backing old out) (abstract_of view backing final out)) ⊎ (IsRefusalByFault (refusal_of e) × IsTrue marked)
-      unmarked out still true is = inr (of_fault e fault, is)
-      unmarked out still false is =
+      unmarked out sound still true is = inr (of_fault e fault, is)
+      unmarked out sound still false is =
           let same : new ≡ record new { is_failed = marked } = ap (λ (f : Bool). record new { is_failed = f }) (still.0.works ∙ sym is) in
-          let low : at ≤ rounded_up cs size = elim (cases_lt (rounded_up cs size) at) [ inl lt ↦ absurd (let yes = changed (lt-ltb (rounded_up cs size) at lt) in let no : true ≡ false = sym yes ∙ is in cc) | inr le ↦ le ] in
+          let low : at ≤ rounded_up cs size = elim (cases_lt (rounded_up cs size) at) [ inl lt ↦ absurd (let yes = changed out sound (lt-ltb (rounded_up cs size) at lt) in let no : true ≡ false = sym yes ∙ is in cc) | inr le ↦ le ] in
           let none = none_between cs large size at low in
           inl (
             subst (λ (i : Qcow2 S F). ImageInvariant view backing (pending_in view backing i out) i out) same still.0,
@@ -320,14 +320,14 @@ module _ {S F : Type 0} (view : S → StorageView) (backing : F → BackingView)
                 (still.1 ∙ ap (λ e. with_disk (guest_of (abstract_of view backing old out)) e) (none_below x d first (boundary_in old at - first) (omega (arith, none)))),
           )
 
-      left_answer : (out : List (Option Prepared)) → Left out → ((abstract_of view backing final out).is_sound × IsSame (abstract_of view backing old out) (abstract_of view backing final out)) ⊎ (IsRefusalByFault (refusal_of e) × IsTrue marked)
-      left_answer out (inl (works, still)) = unmarked out still marked refl
-      left_answer out (inr (so, works)) = inr (of_fault e fault, so)
+      left_answer : (out : List (Option Prepared)) → ImageInvariant view backing (pending_in view backing old out) old out → Left out → ((abstract_of view backing final out).is_sound × IsSame (abstract_of view backing old out) (abstract_of view backing final out)) ⊎ (IsRefusalByFault (refusal_of e) × IsTrue marked)
+      left_answer out sound (inl (works, still)) = unmarked out sound still marked refl
+      left_answer out sound (inr (so, works)) = inr (of_fault e fault, so)
 
       pub shrinks_refused : ((out : List (Option Prepared)) → ImageInvariant view backing (pending_in view backing old out) old out → Left out) → Shrinks view backing old final size (Err e)
       shrinks_refused left out = record {
         acts = record { number = number; works = λ sound. left_works out (left out sound); rests = λ failed. absurd (let no : true ≡ false = sym failed ∙ usable in cc) };
-        answer = λ sound. left_answer out (left out sound);
+        answer = λ sound. left_answer out sound (left out sound);
         fault = is_fault e (is_failed new) marked (outcome e (is_failed new) marked marks);
       }
 
@@ -338,7 +338,7 @@ module _ {S F : Type 0} (view : S → StorageView) (backing : F → BackingView)
       ]
 
     -- a turn was refused by a fault
-    module _ (e : ImageError) (marked : Bool) (number : number_of mid ≡ number_of old) (fault : IsFaultOfTables e) (marks : MayMark e (is_failed mid) marked) (changed : nat_lt (rounded_up cs size) at ≡ true → marked ≡ true)
+    module _ (e : ImageError) (marked : Bool) (number : number_of mid ≡ number_of old) (fault : IsFaultOfTables e) (marks : MayMark e (is_failed mid) marked) (changed : (out : List (Option Prepared)) → ImageInvariant view backing (pending_in view backing old out) old out → nat_lt (rounded_up cs size) at ≡ true → marked ≡ true)
         (tail : (out : List (Option Prepared)) → ImageInvariant view backing (pending_in view backing old out) old out → UncoversTail view backing old mid size at (Some e) out) where
       tail_left : (out : List (Option Prepared)) → ImageInvariant view backing (pending_in view backing old out) old out → Left mid e marked number fault marks changed out
       tail_left out sound =
@@ -357,7 +357,7 @@ module _ {S F : Type 0} (view : S → StorageView) (backing : F → BackingView)
       shrinks_stopped = shrinks_refused mid e marked number fault marks changed tail_left
 
     -- the size was refused
-    module _ (new : Qcow2 S F) (e : ImageError) (marked : Bool) (number : number_of new ≡ number_of old) (fault : IsFaultOfTables e) (marks : MayMark e (is_failed new) marked) (changed : nat_lt (rounded_up cs size) at ≡ true → marked ≡ true)
+    module _ (new : Qcow2 S F) (e : ImageError) (marked : Bool) (number : number_of new ≡ number_of old) (fault : IsFaultOfTables e) (marks : MayMark e (is_failed new) marked) (changed : (out : List (Option Prepared)) → ImageInvariant view backing (pending_in view backing old out) old out → nat_lt (rounded_up cs size) at ≡ true → marked ≡ true)
         (tail : (out : List (Option Prepared)) → ImageInvariant view backing (pending_in view backing old out) old out → UncoversTail view backing old mid size at None out)
         (writes : (out : List (Option Prepared)) → ImageInvariant view backing (pending_in view backing mid out) mid out → WritesSize view backing mid new out size (Err e)) where
       size_left : (out : List (Option Prepared)) → ImageInvariant view backing (pending_in view backing old out) old out → Left new e marked number fault marks changed out

@@ -145,24 +145,17 @@ module _ {S F : Type 0} (view : S → StorageView) (backing : F → BackingView)
             | inr lacks ↦ inr (inr (subst (λ k. LacksTable view new (rounded_up k at)) (sym same_size) lacks))
           ]
 
+  -- a turn before whose end a cluster begins touches one
+  pub turn_touches : end ≡ size_of old → at < size_of old → (out : List (Option Prepared)) → ImageInvariant view backing (pending_in view backing old out) old out → boundary_in old at < size_of old
+      → touched_from (cluster_size h) at < touched_to (cluster_size h) (size_of old) at (end - at)
+  turn_touches is lt out sound before = subst (λ n. rounded_up (cluster_size h) at < touched_to (cluster_size h) (size_of old) at (n - at)) (sym is) (touches_before h (some out sound) (rows out sound) (size_of old) at lt before)
+
   -- what an answered turn leaves to be freed: nothing, where it cleared a cluster, or where nothing was listed and it cleared none
   pub turn_frees : end ≡ size_of old → at < size_of old → (touched_from (cluster_size h) at < touched_to (cluster_size h) (size_of old) at (end - at) → HasNothingToFree new)
       → (touched_to (cluster_size h) (size_of old) at (end - at) ≤ touched_from (cluster_size h) at → new ≡ old) → (out : List (Option Prepared)) → ImageInvariant view backing (pending_in view backing old out) old out
       → (boundary_in old at < size_of old) ⊎ HasNothingToFree old → HasNothingToFree new
-  turn_frees is lt clears nothing out sound (inl before) =
-      clears (subst (λ n. rounded_up (cluster_size h) at < touched_to (cluster_size h) (size_of old) at (n - at)) (sym is) (touches_before h (some out sound) (rows out sound) (size_of old) at lt before))
+  turn_frees is lt clears nothing out sound (inl before) = clears (turn_touches is lt out sound before)
   turn_frees is lt clears nothing out sound (inr none) = elim (cases_lt (touched_from (cluster_size h) at) (touched_to (cluster_size h) (size_of old) at (end - at))) [
     | inl touched ↦ clears touched
     | inr least ↦ subst (λ (i : Qcow2 S F). HasNothingToFree i) (sym (nothing least)) none
-  ]
-
-  -- an answered turn that passes no boundary changes nothing
-  pub turn_idle : end ≡ size_of old → at < size_of old → end < 2 ^ 64 → (range : ℕ × ℕ) → range ≡ answered (cluster_size h) (size_of old) at (end - at)
-      → (touched_to (cluster_size h) (size_of old) at (end - at) ≤ touched_from (cluster_size h) at → new ≡ old) → (next : ℕ) → (next ≡ min (range.0 + range.1) (2 ^ 64 - 1)) ⊎ (next ≡ end) → next ≤ boundary_in old at → new ≡ old
-  turn_idle is lt near range range_is nothing next branch least = elim (cases_lt (touched_from (cluster_size h) at) (touched_to (cluster_size h) (size_of old) at (end - at))) [
-    | inl touched ↦
-        let on = passes_boundary (cluster_size h) (pow_pos h.cluster_bits) end at (omega (arith, lt, is)) range (range_is ∙ ap (λ n. answered (cluster_size h) n at (end - at)) (sym is)) near next branch
-        (subst (λ n. touched_from (cluster_size h) at < touched_to (cluster_size h) n at (end - at)) (sym is) touched) in
-        absurd (omega (arith, on, least))
-    | inr none ↦ nothing none
   ]

@@ -50,7 +50,7 @@ returns-in_err-grow_by-clause-faults g c =
     c.grow_by.ensures.faults c.in_err-grow_by.was c.from_residual.ensures
 
 pub returns-clause-faults : goal.returns-clause-faults
-returns-clause-faults g c = counted_since g.S.Storage.view g.F.BackingDisk.backing c.args.image.now c.grow_by.new.image c.flush.new.self c.flush.result c.grow_by.ensures.faults.no_fewer c.flush.ensures.faults
+returns-clause-faults g c = counted_since g.S.Storage.view g.F.BackingDisk.backing c.args.image.now c.grow_by.new.image c.flush.new.self c.flush.result c.in_ok-grow_by.ensures.faults.told c.flush.ensures.faults
 
 pub returns-clause-leaks : goal.returns-clause-leaks
 returns-clause-leaks g c = λ opened writable none.

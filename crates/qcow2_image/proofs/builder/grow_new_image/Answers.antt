@@ -38,7 +38,7 @@ returns-in-Ok-clause-cause g c = λ honest unwritten.
 
 pub returns-in-Ok-clause-faults : goal.returns-in-Ok-clause-faults
 returns-in-Ok-clause-faults g c = λ none.
-    told_closed g.S.Storage.view g.F.BackingDisk.backing none (g.S.Storage.view (storage_of c.args.storage)).faults c.in-Ok.image c.grow_and_flush-done.new.image c.into_storage.result c.grow_and_flush-done.result c.in-Ok.ensures.faults.no_fewer
+    told_closed g.S.Storage.view g.F.BackingDisk.backing none (g.S.Storage.view (storage_of c.args.storage)).faults c.in-Ok.image c.grow_and_flush-done.new.image c.into_storage.result c.grow_and_flush-done.result c.in-Ok.ensures.faults.told
     c.grow_and_flush-done.ensures.faults c.into_storage.ensures
 
 pub returns-in-Ok-clause-leaks : goal.returns-in-Ok-clause-leaks

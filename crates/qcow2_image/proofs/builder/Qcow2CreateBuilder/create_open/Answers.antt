@@ -1,3 +1,4 @@
+use Rattle.qcow2_alloc.specs.Faults.{FaultsTold}
 use Rattle.std.proofs.Common.{◌≡◌, ◌∙◌, Result, Ok, Err, sym, subst}
 use Rattle.std.specs.Prelude.{IfErr, IfOk}
 use Rattle.qcow2_alloc.specs.declared.error.ImageError.{ImageError}
@@ -6,6 +7,9 @@ use Rattle.qcow2_image.specs.Created.{IsCreated, IsReasonNotToCreate}
 use Rattle.qcow2_image.specs.Opened.{storage_after}
 use Rattle.qcow2_image.proofs.Create.Causes.{counts_opened, counts_refused, opening_reasons}
 use Rattle.qcow2_image.proofs.Create.Creating.{created_opened, made_so, no_surplus, opened_new, refused_open, stops_opened}
+use Rattle.qcow2_metadata.specs.Bytes.{byte_at}
+use Rattle.qcow2_image.proofs.Create.NewDisks.{new_disk_consistent}
+use Rattle.qcow2_image.proofs.Open.NamedBehind.{lies_if}
 use Rattle.qcow2_image.proofs.builder.Qcow2CreateBuilder.create_open.Goals as goal
 
 pub returns-clause-new_disk : goal.returns-clause-new_disk
@@ -26,7 +30,7 @@ returns-clause-cause g c = λ honest.
     opening_reasons c.args.self (view c.create-storage.result.0) c.open_image.result made.honest c.open_image.ensures.cause
 
 pub returns-clause-faults : goal.returns-clause-faults
-returns-clause-faults g c = counts_opened g.S.Storage.view (g.S.Storage.view c.args.self.image).faults (g.S.Storage.view c.create-storage.result.0).faults c.open_image.result c.create-storage.ensures.faults.no_fewer c.open_image.ensures.faults
+returns-clause-faults g c = counts_opened g.S.Storage.view (g.S.Storage.view c.args.self.image).faults (g.S.Storage.view c.create-storage.result.0).faults c.open_image.result (subst (λ (r : Result _ _). FaultsTold (g.S.Storage.view c.args.self.image).faults (g.S.Storage.view c.create-storage.result.0).faults r) c.in_default.is c.create-storage.ensures.faults).told c.open_image.ensures.faults
 
 pub returns-in-Err-clause-stops : goal.returns-in-Err-clause-stops
 returns-in-Err-clause-stops g c = λ honest. c.create-storage.ensures.stops honest
@@ -56,3 +60,12 @@ pub returns-clause-refused : goal.returns-clause-refused
 returns-clause-refused g c = λ none.
     let told = (c.create-storage.ensures.refused none).0 in
     absurd (let bad : ◌≡◌ {A = Result _ ImageError} (Ok c.in_default.field-0) (Err I.InvalidOption) = sym c.in_default.is ∙ told in cc)
+
+pub returns-clause-header_cluster : goal.returns-clause-header_cluster
+returns-clause-header_cluster g c =
+    let view = g.S.Storage.view in
+    lies_if view g.F.BackingDisk.backing (view c.args.self.image).is_honest (view c.create-storage.result.0) c.open_image.result
+    (λ honest.
+    let made = made_so view c.args.self c.create-storage.result.0 c.create-storage.result.1 c.in_default.field-0 c.in_default.is (c.create-storage.ensures.created honest) in
+    (made.honest, new_disk_consistent c.args.self.preallocate c.args.self.size (byte_at (view c.create-storage.result.0).contents) made.new_disk))
+    c.open_image.ensures.opens c.open_image.ensures.header_cluster

@@ -1,3 +1,4 @@
+use Rattle.qcow2_alloc.proofs.KeptMarks.{notes_none}
 use Rattle.std.proofs.Common.{◌≡◌, ◌≤◌, ◌%◌, ◌∙◌, ap, subst, sym}
 use Rattle.std.proofs.lemmas.Nat.{pow_pos}
 use Rattle.qcow2_metadata.specs.Header.{cluster_size, rounded_up}
@@ -28,3 +29,9 @@ returns-in_default-clause-header_cluster g c = behind_none
 
 pub returns-clause-header_cluster : goal.returns-clause-header_cluster
 returns-clause-header_cluster g c = c.fill_range.ensures.header_cluster
+
+pub returns-in_default-clause-notes : goal.returns-in_default-clause-notes
+returns-in_default-clause-notes g c = notes_none
+
+pub returns-clause-notes : goal.returns-clause-notes
+returns-clause-notes g c = c.fill_range.ensures.notes

@@ -2,6 +2,9 @@ use Rattle.std.proofs.Common.{◌≡◌, ◌≤◌, IsTrue, true, false, sym, su
 use Rattle.qcow2_image.specs.Found.{IsFoundInImage, IsFoundWhole, IsMappedAs}
 use Rattle.qcow2_image.proofs.Map.Looked.{found_before, found_whole, mapped_as}
 use Rattle.qcow2_image.proofs.image.Qcow2.check_mapped.Goals.{else-found-length-via-then-found-length+else-is, else-found-length-via-else-found-length}
+use Rattle.qcow2_alloc.proofs.AllocationSteps.{handed_on}
+use Rattle.qcow2_image.specs.Refusals.{IsUnlimited}
+use Rattle.std.specs.Prelude.{IfErr, Result}
 use Rattle.qcow2_image.proofs.image.Qcow2.check_mapped.Goals as goal
 
 pub returns-then-is-clause-mapped : goal.returns-then-is-clause-mapped
@@ -28,3 +31,7 @@ returns-then-is-clause-found g c = λ p out sound.
     let whole : c.in_ok-kind.found ≡ c.args.length = let least = c.if-found-length.true in let most : c.in_ok-kind.found ≤ c.args.length = c.in_ok-kind.ensures.within in omega arith in
     found_before view g.F.BackingDisk.backing c.args.self.now new out p p offset n c.args.wanted.now (c.in_ok-kind.ensures.keeps p out sound)
     (subst (λ k. IsFoundWhole view new offset k n) (sym same) (subst (λ m. IsFoundInImage view new offset n c.in_ok-kind.kind m) whole (c.in_ok-kind.ensures.found p out sound)))
+
+pub returns-in_err-kind-clause-limited : goal.returns-in_err-kind-clause-limited
+returns-in_err-kind-clause-limited g c = λ p out sound.
+    handed_on (λ (r : Result _ _). IfErr r IsUnlimited) c.from_residual.result c.in_err-kind.field-0.0 c.from_residual.ensures (c.in_err-kind.ensures.limited p out sound)

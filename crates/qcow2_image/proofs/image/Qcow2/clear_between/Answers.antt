@@ -1,135 +1,69 @@
-use Rattle.std.proofs.Common.{◌≡◌, inl, ◌-◌, ◌/◌, ◌%◌, ◌^◌, ◌++◌, ap, ◌∙◌, subst, arith, ◌+◌, ◌≤◌, sym}
-use Rattle.qcow2_alloc.proofs.AllocationSteps.{handed_on}
-use Rattle.qcow2_metadata.specs.Header.{cluster_size, entries_per_cluster}
-use Rattle.qcow2_alloc.specs.CachePins.{l2_pins}
-use Rattle.qcow2_image.specs.declared.image.Qcow2.{Qcow2}
-use Rattle.qcow2_image.specs.Clearing.{ClearsOrRefuses, ClearsTable, ReadsAll}
-use Rattle.qcow2_image.specs.Found.{l2_index_of, l1_index_of}
-use Rattle.qcow2_image.proofs.Clear.Between.{clears_between, no_pins, pinned_under, under_pinned, fits_table}
-use Rattle.std.specs.Prelude.{IfErr}
-use Rattle.qcow2_alloc.specs.ImageFile.{known_in}
-use Rattle.qcow2_alloc.specs.MetadataCaches.{IsEntryAt}
-use Rattle.qcow2_image.specs.ImageInvariant.{pending_in}
-use Rattle.qcow2_image.specs.NewTables.{IsFaultOrLacksTable}
-use Rattle.qcow2_image.proofs.Backings.{some_prepared}
-use Rattle.qcow2_image.proofs.Prepare.FarEntries.{far_handed_on, far_unanswered}
-use Rattle.qcow2_alloc.specs.KeptNotes.{kept_then}
-use Rattle.qcow2_image.proofs.Call.Notes.{same_kept}
-use Rattle.qcow2_image.proofs.Call.BehindHeader.{behind_by, behind_caches, behind_then}
+use Rattle.std.proofs.Common.{subst, sym, refl}
+use Rattle.std.specs.Prelude.{IsTrue}
+use Rattle.qcow2_alloc.proofs.KeptMarks.{notes_then}
+use Rattle.qcow2_image.proofs.Call.BehindHeader.{behind_then}
+use Rattle.qcow2_image.proofs.Call.FaultCounts.{counted_as, counted_of, untouched}
+use Rattle.qcow2_image.proofs.Call.FreedBehind.{lacking_freed, refused_freed}
+use Rattle.qcow2_image.proofs.Call.Refused.{back_then_freed}
+use Rattle.qcow2_image.proofs.Prepare.FarEntries.{far_refusal, far_then_freed, far_unanswered}
 use Rattle.qcow2_image.proofs.image.Qcow2.clear_between.Goals as goal
 
-pub returns-in_err-table-clause-clears : goal.returns-in_err-table-clause-clears
-returns-in_err-table-clause-clears g c = λ out sound whole.
-    handed_on (λ r. ClearsOrRefuses g.S.Storage.view g.F.BackingDisk.backing c.args.how c.args.from c.args.to c.args.self.now c.table_for.new.self out r) c.from_residual.result c.in_err-table.field-0.0 c.from_residual.ensures
-    (c.in_err-table.ensures.finds out sound)
+pub returns-in-Ok-clause-clears : goal.returns-in-Ok-clause-clears
+returns-in-Ok-clause-clears g c = λ out sound whole. c.in-Ok.ensures.clears out sound whole
 
-pub returns-then-l2_is_pinned-clause-clears : goal.returns-then-l2_is_pinned-clause-clears
-returns-then-l2_is_pinned-clause-clears g c = λ out sound whole. inl (c.in_ok-table.ensures.finds out sound).0
+pub returns-in-Err-clause-clears : goal.returns-in-Err-clause-clears
+returns-in-Err-clause-clears g c = λ out sound whole.
+    back_then_freed g.S.Storage.view g.F.BackingDisk.backing out c.args.self.now c.clear_in_table.new.self c.free_after.new.self c.in-Err.refusal c.free_after.result (c.in-Err.ensures.clears out sound whole) c.free_after.ensures.fault (c.free_after.ensures.frees out)
 
-pub returns-then-l2_is_pinned-clause-taken : goal.returns-then-l2_is_pinned-clause-taken
-returns-then-l2_is_pinned-clause-taken g c = λ out sound is.
-    let found = c.in_ok-table.ensures.finds out sound in
-    pinned_under g.S.Storage.view g.F.BackingDisk.backing out c.args.self.now c.table_for.new.self c.args.from c.in_ok-table.table found.0 found.1 (c.l2_is_pinned.ensures.0 c.if-l2_is_pinned.true)
+pub returns-in-Err-clause-lacks : goal.returns-in-Err-clause-lacks
+returns-in-Err-clause-lacks g c = λ out sound whole none.
+    lacking_freed g.S.Storage.view g.F.BackingDisk.backing out c.args.self.now c.clear_in_table.new.self c.free_after.new.self c.in-Err.refusal c.free_after.result (c.in-Err.ensures.clears out sound whole) c.free_after.ensures.fault
+    c.args.from c.free_after.ensures.table c.free_after.ensures.keeps_rest.header (c.free_after.ensures.frees out) (c.in-Err.ensures.lacks out sound whole none)
 
-pub returns-in_err-old_data-clause-clears : goal.returns-in_err-old_data-clause-clears
-returns-in_err-old_data-clause-clears g c = λ out sound whole.
-    handed_on (λ r. ClearsOrRefuses g.S.Storage.view g.F.BackingDisk.backing c.args.how c.args.from c.args.to c.args.self.now c.table_for.new.self out r) c.from_residual-in_err-old_data.result c.in_err-old_data.field-0.0 c.from_residual-in_err-old_data.ensures
-    (inl (c.in_ok-table.ensures.finds out sound).0)
+pub returns-in-Err-clause-freed : goal.returns-in-Err-clause-freed
+returns-in-Err-clause-freed g c = λ out sound whole.
+    refused_freed g.S.Storage.view g.F.BackingDisk.backing out c.args.self.now c.clear_in_table.new.self c.free_after.new.self c.in-Err.refusal c.free_after.result (c.in-Err.ensures.clears out sound whole) c.free_after.ensures.fault
+    (c.free_after.ensures.emptied (subst IsTrue (sym c.clear_in_table.ensures.stays.image.writable) c.requires.writable) out)
 
-pub returns-clause-clears : goal.returns-clause-clears
-returns-clause-clears g c = λ out sound whole.
+pub returns-in-Err-clause-taken : goal.returns-in-Err-clause-taken
+returns-in-Err-clause-taken g c = λ out sound is. c.in-Err.ensures.taken out sound (c.free_after.ensures.taken c.in-Err.ensures.cause is)
+
+pub returns-in-Ok-clause-free : goal.returns-in-Ok-clause-free
+returns-in-Ok-clause-free g c = λ out sound. c.in-Ok.ensures.free out sound
+
+pub returns-in-Ok-clause-reaches : goal.returns-in-Ok-clause-reaches
+returns-in-Ok-clause-reaches g c = λ out sound. c.in-Ok.ensures.reaches out sound
+
+pub returns-in-Err-clause-faults : goal.returns-in-Err-clause-faults
+returns-in-Err-clause-faults g c =
     let view = g.S.Storage.view in
     let below = g.F.BackingDisk.backing in
     let old = c.args.self.now in
-    let mid = c.table_for.new.self in
-    let b = c.clear_entries.new.self in
-    let how = c.args.how in
-    let from = c.args.from in
-    let to = c.args.to in
-    let table = c.in_ok-table.table in
-    let list = c.in_ok-old_data.old_data in
-    let h = mid.file.header.fields in
-    let found = c.in_ok-table.ensures.finds out sound in
-    let bits = c.cluster_bits-bits.ensures.value in
-    let first : c.cluster-first.result ≡ c.args.from / cluster_size c.table_for.new.self.file.header.fields = c.cluster-first.ensures ∙ ap (λ o. o / 2 ^ c.cluster_bits-bits.result) c.new.ensures ∙ ap (λ n. from / 2 ^ n) bits in
-    let column : c.l2_index.result ≡ l2_index_of c.table_for.new.self.file.header.fields c.args.from = c.l2_index.ensures.value ∙ ap (λ x. x % (2 ^ c.cluster_bits-bits.result / 8)) first ∙ ap (λ n. from / cluster_size h % (2 ^ n / 8)) bits in
-    let count : (c.args.to - c.args.from) / 2 ^ c.cluster_bits-bits.result ≡ (c.args.to - c.args.from) / cluster_size c.table_for.new.self.file.header.fields = ap (λ n. (to - from) / 2 ^ n) bits in
-    let reads = subst (λ n. ReadsAll view below how table (from / cluster_size h) n mid list) count (subst (λ n. ReadsAll view below how table n ((to - from) / 2 ^ c.cluster_bits-bits.result) mid list) first c.in_ok-old_data.ensures.reads) in
-    let clears = subst (λ n. ClearsTable view below how table (l2_index_of h from) n mid b) count (subst (λ n. ClearsTable view below how table n ((to - from) / 2 ^ c.cluster_bits-bits.result) mid b) column c.clear_entries.ensures.clears) in
-    clears_between view below out old mid b (record b { file = record b.file { free_list = c.hand_back.new.list } }) how from to table found.0 found.1 whole c.requires.some
-    (no_pins c.l2_is_pinned.result (l2_pins mid.file.caches table) c.l2_is_pinned.ensures c.if-l2_is_pinned.false) list reads clears
-    (ap (λ l. record b { file = record b.file { free_list = l } }) (c.hand_back.ensures ∙ ap (λ l. b.file.free_list ++ l) c.take.ensures.taken))
+    counted_of view below old c.free_after.new.self c.free_after.result
+    (c.free_after.ensures.faults old (counted_as view below old old c.clear_in_table.new.self c.clear_in_table.result c.in-Err.refusal (untouched view below old old refl refl) c.clear_in_table.ensures.faults c.in-Err.is))
 
-pub returns-clause-free : goal.returns-clause-free
-returns-clause-free g c = λ out sound under.
-    let found = c.in_ok-table.ensures.finds out sound in
-    let pinned = under_pinned g.S.Storage.view g.F.BackingDisk.backing out c.args.self.now c.table_for.new.self c.args.from c.in_ok-table.table found.0 found.1 under in
-    let none = no_pins c.l2_is_pinned.result (l2_pins c.table_for.new.self.file.caches c.in_ok-table.table) c.l2_is_pinned.ensures c.if-l2_is_pinned.false in
-    omega (arith, pinned, none)
+pub returns-in-Ok-clause-far : goal.returns-in-Ok-clause-far
+returns-in-Ok-clause-far g c = λ needs. absurd (far_unanswered c.clear_in_table.result c.in-Ok.field-0 c.in-Ok.is (c.clear_in_table.ensures.far needs).0)
 
-pub returns-in_err-table-clause-lacks : goal.returns-in_err-table-clause-lacks
-returns-in_err-table-clause-lacks g c = λ out sound whole none.
-    handed_on (λ r. IfErr r (IsFaultOrLacksTable g.S.Storage.view c.table_for.new.self c.args.from)) c.from_residual.result c.in_err-table.field-0.0 c.from_residual.ensures (c.in_err-table.ensures.lacks out sound none)
+pub returns-in-Err-clause-far : goal.returns-in-Err-clause-far
+returns-in-Err-clause-far g c = λ needs.
+    let far = c.clear_in_table.ensures.far needs in
+    far_then_freed g.S.Storage.view g.F.BackingDisk.backing c.args.self.now c.clear_in_table.new.self c.free_after.new.self c.in-Err.refusal c.free_after.result (far_refusal c.clear_in_table.result c.in-Err.refusal c.in-Err.is far.0) far.1 c.free_after.ensures.idle c.free_after.ensures.told
 
-pub returns-then-l2_is_pinned-clause-lacks : goal.returns-then-l2_is_pinned-clause-lacks
-returns-then-l2_is_pinned-clause-lacks g c = λ out sound whole none.
-    let found = c.in_ok-table.ensures.finds out sound in
-    absurd (none (some_prepared g.S.Storage.view g.F.BackingDisk.backing c.table_for.new.self out found.0.sound c.in_ok-table.table (c.l2_is_pinned.ensures.0 c.if-l2_is_pinned.true)))
+pub returns-in-Ok-clause-notes : goal.returns-in-Ok-clause-notes
+returns-in-Ok-clause-notes g c = c.clear_in_table.ensures.notes
 
-pub returns-in_err-old_data-clause-lacks : goal.returns-in_err-old_data-clause-lacks
-returns-in_err-old_data-clause-lacks g c = λ out sound whole none.
-    let view = g.S.Storage.view in
-    let below = g.F.BackingDisk.backing in
-    let old = c.args.self.now in
-    let mid = c.table_for.new.self in
-    let h = mid.file.header.fields in
-    let from = c.args.from in
-    let to = c.args.to in
-    let found = c.in_ok-table.ensures.finds out sound in
-    let bits = c.cluster_bits-bits.ensures.value in
-    let first : c.cluster-first.result ≡ c.args.from / cluster_size c.table_for.new.self.file.header.fields = c.cluster-first.ensures ∙ ap (λ o. o / 2 ^ c.cluster_bits-bits.result) c.new.ensures ∙ ap (λ n. from / 2 ^ n) bits in
-    let count : (c.args.to - c.args.from) / 2 ^ c.cluster_bits-bits.result ≡ (c.args.to - c.args.from) / cluster_size c.table_for.new.self.file.header.fields = ap (λ n. (to - from) / 2 ^ n) bits in
-    let fits = subst (λ n. n % entries_per_cluster h + (to - from) / 2 ^ c.cluster_bits-bits.result ≤ entries_per_cluster h) (sym first)
-    (subst (λ n. from / cluster_size h % entries_per_cluster h + n ≤ entries_per_cluster h) (sym count) (fits_table view below out old mid c.args.how from to found.0 whole c.requires.some)) in
-    let at = subst (λ n. IsEntryAt h (known_in view mid.file) (l1_index_of h from) c.in_ok-table.table (n % entries_per_cluster h)) (sym first) found.1.entry in
-    handed_on (λ r. IfErr r (IsFaultOrLacksTable view mid from)) c.from_residual-in_err-old_data.result c.in_err-old_data.field-0.0 c.from_residual-in_err-old_data.ensures
-    (inl (c.in_err-old_data.ensures.only_faults (pending_in view below mid out) (l1_index_of h from) found.0.sound.file at (ap (λ n. n / entries_per_cluster h) first) fits found.1.new_data))
+pub returns-in-Err-clause-notes : goal.returns-in-Err-clause-notes
+returns-in-Err-clause-notes g c = notes_then c.clear_in_table.ensures.notes c.free_after.ensures.notes
 
-pub returns-clause-reaches : goal.returns-clause-reaches
-returns-clause-reaches g c = λ out sound. ap (λ (i : Qcow2 _ _). i.file.header.fields.l1_entries) c.clear_entries.ensures.clears.rest ∙ c.in_ok-table.ensures.reaches out sound
+pub returns-in-Ok-clause-header_cluster : goal.returns-in-Ok-clause-header_cluster
+returns-in-Ok-clause-header_cluster g c = c.clear_in_table.ensures.header_cluster
 
-pub returns-in_err-table-clause-far : goal.returns-in_err-table-clause-far
-returns-in_err-table-clause-far g c = λ needs. far_handed_on c.table_for.result c.in_err-table.field-0.0 c.from_residual.result c.in_err-table.was (c.table_for.ensures.far needs) c.from_residual.ensures
+pub returns-in-Err-clause-header_cluster : goal.returns-in-Err-clause-header_cluster
+returns-in-Err-clause-header_cluster g c = behind_then c.clear_in_table.ensures.header_cluster c.free_after.ensures.header_cluster
 
-pub returns-then-l2_is_pinned-clause-far : goal.returns-then-l2_is_pinned-clause-far
-returns-then-l2_is_pinned-clause-far g c = λ needs. absurd (far_unanswered c.table_for.result c.in_ok-table.table c.in_ok-table.was (c.table_for.ensures.far needs).0)
+pub returns-in-Ok-clause-pinned : goal.returns-in-Ok-clause-pinned
+returns-in-Ok-clause-pinned g c = λ own. c.in-Ok.ensures.pinned own
 
-pub returns-in_err-old_data-clause-far : goal.returns-in_err-old_data-clause-far
-returns-in_err-old_data-clause-far g c = λ needs. absurd (far_unanswered c.table_for.result c.in_ok-table.table c.in_ok-table.was (c.table_for.ensures.far needs).0)
-
-pub returns-clause-far : goal.returns-clause-far
-returns-clause-far g c = λ needs. absurd (far_unanswered c.table_for.result c.in_ok-table.table c.in_ok-table.was (c.table_for.ensures.far needs).0)
-
-pub returns-in_err-table-clause-notes : goal.returns-in_err-table-clause-notes
-returns-in_err-table-clause-notes g c = c.table_for.ensures.notes
-
-pub returns-then-l2_is_pinned-clause-notes : goal.returns-then-l2_is_pinned-clause-notes
-returns-then-l2_is_pinned-clause-notes g c = c.table_for.ensures.notes
-
-pub returns-in_err-old_data-clause-notes : goal.returns-in_err-old_data-clause-notes
-returns-in_err-old_data-clause-notes g c = c.table_for.ensures.notes
-
-pub returns-clause-notes : goal.returns-clause-notes
-returns-clause-notes g c = kept_then _ _ _ c.table_for.ensures.notes (same_kept c.table_for.new.self c.clear_entries.new.self (ap (λ (i : Qcow2 _ _). i.file.storage) c.clear_entries.ensures.clears.rest))
-
-pub returns-in_err-table-clause-header_cluster : goal.returns-in_err-table-clause-header_cluster
-returns-in_err-table-clause-header_cluster g c = c.table_for.ensures.header_cluster
-
-pub returns-then-l2_is_pinned-clause-header_cluster : goal.returns-then-l2_is_pinned-clause-header_cluster
-returns-then-l2_is_pinned-clause-header_cluster g c = c.table_for.ensures.header_cluster
-
-pub returns-in_err-old_data-clause-header_cluster : goal.returns-in_err-old_data-clause-header_cluster
-returns-in_err-old_data-clause-header_cluster g c = c.table_for.ensures.header_cluster
-
-pub returns-clause-header_cluster : goal.returns-clause-header_cluster
-returns-clause-header_cluster g c = behind_then c.table_for.ensures.header_cluster (behind_by c.clear_entries.ensures.clears.rest (behind_caches c.clear_entries.ensures.clears.behind))
+pub returns-in-Err-clause-pinned : goal.returns-in-Err-clause-pinned
+returns-in-Err-clause-pinned g c = λ own is. c.in-Err.ensures.pinned own (c.free_after.ensures.taken c.in-Err.ensures.cause is)

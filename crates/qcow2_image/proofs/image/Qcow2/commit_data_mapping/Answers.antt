@@ -11,11 +11,10 @@ use Rattle.qcow2_image.specs.ImageInvariant.{abstract_of, pending_in}
 use Rattle.qcow2_image.proofs.Call.Marked.{may_mark_refused}
 use Rattle.qcow2_image.proofs.Call.CallOutcomes.{is_fault, outcome}
 use Rattle.qcow2_image.proofs.Commit.CommitCalls.{commit_interruption, commit_break_off, commit_done, commit_existing, commit_kept, refuses_unsound, true_or_false}
-use Rattle.qcow2_image.proofs.Call.FaultCounts.{counted_as, fewer_then}
+use Rattle.qcow2_image.proofs.Call.FaultCounts.{fewer_of, counted_as, faults_then}
 use Rattle.qcow2_image.specs.Faults.{CountsImageFaults}
-use Rattle.qcow2_alloc.specs.KeptNotes.{kept_then}
-use Rattle.qcow2_image.proofs.Call.Notes.{same_kept}
-use Rattle.qcow2_image.proofs.Call.OnceWritten.{written_once}
+use Rattle.qcow2_alloc.proofs.KeptMarks.{notes_then}
+use Rattle.qcow2_image.proofs.Call.OnceWritten.{once_none, once_marked}
 use Rattle.qcow2_image.proofs.Call.BehindHeader.{behind_begun, behind_then}
 use Rattle.qcow2_image.proofs.Commit.Copied.{stands_copied}
 use Rattle.qcow2_image.proofs.image.Qcow2.commit_data_mapping.Goals.{then-entered, else-entered}
@@ -98,8 +97,9 @@ returns-in-Ok-clause-faults g c =
     let old = c.args.self.now in
     let entered = c.enter_shares-entered.new.self in
     let freed = c.end_freeing.new.self in
-    let first = fewer_then view below old c.begin.new.self entered c.begin.ensures.faults c.enter_shares-entered.ensures.faults in
-    (fewer_then view below old freed c.release_prepared-in-Ok.new.self (fewer_then view below old entered freed first c.end_freeing.ensures.faults.no_fewer) c.release_prepared-in-Ok.ensures.faults, tt)
+    let first = faults_then view below old c.begin.new.self entered c.begin.ensures.faults c.enter_shares-entered.ensures.faults in
+    let all = faults_then view below old freed c.release_prepared-in-Ok.new.self (faults_then view below old entered freed first c.in-Ok.ensures.faults.told) c.release_prepared-in-Ok.ensures.faults in
+    (fewer_of view below old c.release_prepared-in-Ok.new.self all, tt, all)
 
 pub returns-after-entered-clause-faults : goal.returns-after-entered-clause-faults
 returns-after-entered-clause-faults g c =
@@ -107,24 +107,26 @@ returns-after-entered-clause-faults g c =
     let below = g.F.BackingDisk.backing in
     let old = c.args.self.now in
     let entered = c.enter_shares-entered.new.self in
-    let first = fewer_then view below old c.begin.new.self entered c.begin.ensures.faults c.enter_shares-entered.ensures.faults in
+    let first = faults_then view below old c.begin.new.self entered c.begin.ensures.faults c.enter_shares-entered.ensures.faults in
     let told : CountsImageFaults view below {T = Unit {0}} old c.end_freeing.new.self (Err c.in-Err.refusal) = counted_as view below old entered c.end_freeing.new.self c.end_freeing.result c.in-Err.refusal first c.end_freeing.ensures.faults c.in-Err.is in
-    (told.no_fewer, λ is. told.rose (sym c.refused_commit.ensures.reason ∙ is))
+    (told.no_fewer, λ is. told.rose (sym c.refused_commit.ensures.reason ∙ is), λ other. told.told (λ is. other (c.refused_commit.ensures.reason ∙ is)))
 
 pub returns-then-prepared-self-clause-once_written : goal.returns-then-prepared-self-clause-once_written
-returns-then-prepared-self-clause-once_written g c = λ memory works honest. refl
+returns-then-prepared-self-clause-once_written g c = λ memory. once_none g.S.Storage.view c.args.self.now
 
 pub returns-after-entered-clause-once_written : goal.returns-after-entered-clause-once_written
-returns-after-entered-clause-once_written g c = λ memory works. written_once g.S.Storage.view c.args.self.now c.begin.new.self c.enter_shares-entered.new.self c.end_freeing.new.self c.end_freeing.result c.begin.ensures.storage (kept_then _ _ _ (same_kept c.begin.new.self c.enter_shares-entered.new.self c.enter_shares-entered.ensures.storage) c.end_freeing.ensures.notes) c.end_freeing.ensures.marks (c.in-Err.is ∙ ap Err (sym c.refused_commit.ensures.reason ∙ memory)) works
+returns-after-entered-clause-once_written g c = λ memory.
+    once_marked g.S.Storage.view c.args.self.now c.begin.new.self c.begin.ensures.begun c.enter_shares-entered.new.self c.end_freeing.new.self c.end_freeing.result (notes_then c.enter_shares-entered.ensures.notes c.end_freeing.ensures.notes)
+    (c.enter_shares-entered.ensures.stays.failed ∙ c.begin.ensures.stays.failed) c.end_freeing.ensures.marks (c.in-Err.is ∙ ap Err (sym c.refused_commit.ensures.reason ∙ memory))
 
 pub returns-then-is_none-clause-header_cluster : goal.returns-then-is_none-clause-header_cluster
 returns-then-is_none-clause-header_cluster g c = c.release_prepared.ensures.header_cluster
 
 pub returns-in-Ok-clause-header_cluster : goal.returns-in-Ok-clause-header_cluster
-returns-in-Ok-clause-header_cluster g c = behind_then (behind_then (behind_then (behind_begun c.begin.ensures.begun) c.enter_shares-entered.ensures.header_cluster) c.end_freeing.ensures.header_cluster) c.release_prepared-in-Ok.ensures.header_cluster
+returns-in-Ok-clause-header_cluster g c = behind_then (behind_then (behind_then (behind_begun g.S.Storage.view c.begin.ensures.begun) c.enter_shares-entered.ensures.header_cluster) c.end_freeing.ensures.header_cluster) c.release_prepared-in-Ok.ensures.header_cluster
 
 pub returns-after-entered-clause-header_cluster : goal.returns-after-entered-clause-header_cluster
-returns-after-entered-clause-header_cluster g c = behind_then (behind_then (behind_begun c.begin.ensures.begun) c.enter_shares-entered.ensures.header_cluster) c.end_freeing.ensures.header_cluster
+returns-after-entered-clause-header_cluster g c = behind_then (behind_then (behind_begun g.S.Storage.view c.begin.ensures.begun) c.enter_shares-entered.ensures.header_cluster) c.end_freeing.ensures.header_cluster
 
 pub returns-then-is_none-clause-copied : goal.returns-then-is_none-clause-copied
 returns-then-is_none-clause-copied g c = λ out k placed sound some.

@@ -1,3 +1,4 @@
+use Rattle.qcow2_alloc.proofs.KeptMarks.{notes_then}
 use Rattle.std.proofs.Common.{◌≡◌, None, ap, ◌∙◌, rules}
 use Rattle.std.specs.Prelude.{IsSome}
 use Rattle.qcow2_image.specs.declared.image.Qcow2.{Qcow2}
@@ -27,3 +28,9 @@ returns-then-is_none-clause-header_cluster g c = c.release_prepared.ensures.head
 
 pub returns-clause-header_cluster : goal.returns-clause-header_cluster
 returns-clause-header_cluster g c = behind_then c.enter_shares-entered.ensures.header_cluster c.release_prepared-2.ensures.header_cluster
+
+pub returns-then-is_none-clause-notes : goal.returns-then-is_none-clause-notes
+returns-then-is_none-clause-notes g c = c.release_prepared.ensures.notes
+
+pub returns-clause-notes : goal.returns-clause-notes
+returns-clause-notes g c = notes_then c.enter_shares-entered.ensures.notes c.release_prepared-2.ensures.notes

@@ -41,3 +41,12 @@ returns-clause-once_written g c = c.discard_to_zero_unsafe.ensures.once_written
 
 pub returns-clause-header_cluster : goal.returns-clause-header_cluster
 returns-clause-header_cluster g c = c.discard_to_zero_unsafe.ensures.header_cluster
+
+pub returns-clause-range : goal.returns-clause-range
+returns-clause-range g c = c.discard_to_zero_unsafe.ensures.range
+
+pub returns-clause-freed : goal.returns-clause-freed
+returns-clause-freed g c = c.discard_to_zero_unsafe.ensures.freed
+
+pub returns-clause-pinned : goal.returns-clause-pinned
+returns-clause-pinned g c = c.discard_to_zero_unsafe.ensures.pinned

@@ -1,4 +1,3 @@
-use Rattle.qcow2_image.proofs.Call.OnceWritten.{noted_once}
 use Rattle.qcow2_image.proofs.image.Qcow2.discard_to_backing_unsafe.Goals as goal
 
 pub returns-clause-far : goal.returns-clause-far
@@ -38,7 +37,16 @@ pub returns-clause-faults : goal.returns-clause-faults
 returns-clause-faults g c = c.clear_range.ensures.faults
 
 pub returns-clause-once_written : goal.returns-clause-once_written
-returns-clause-once_written g c = noted_once g.S.Storage.view c.args.self.now c.args.self.now c.clear_range.new.self c.clear_range.result c.clear_range.ensures.since c.clear_range.ensures.image.1
+returns-clause-once_written g c = c.clear_range.ensures.once_written
 
 pub returns-clause-header_cluster : goal.returns-clause-header_cluster
 returns-clause-header_cluster g c = c.clear_range.ensures.header_cluster
+
+pub returns-clause-range : goal.returns-clause-range
+returns-clause-range g c = c.clear_range.ensures.range
+
+pub returns-clause-freed : goal.returns-clause-freed
+returns-clause-freed g c = c.clear_range.ensures.freed
+
+pub returns-clause-pinned : goal.returns-clause-pinned
+returns-clause-pinned g c = c.clear_range.ensures.pinned

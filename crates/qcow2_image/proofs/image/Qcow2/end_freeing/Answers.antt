@@ -9,7 +9,7 @@ use Rattle.qcow2_image.specs.Refusals.{MarksFailed}
 use Rattle.qcow2_image.proofs.Flush.Freeing.{all_listed, beside, ends_freeing}
 use Rattle.qcow2_image.proofs.Call.FaultCounts.{counted_marked, untouched}
 use Rattle.qcow2_image.proofs.Call.Marked.{marks_memory, may_mark}
-use Rattle.qcow2_alloc.specs.KeptNotes.{kept_then}
+use Rattle.qcow2_alloc.proofs.KeptMarks.{notes_then}
 use Rattle.qcow2_image.proofs.Call.Notes.{same_kept}
 use Rattle.qcow2_image.proofs.Call.BehindHeader.{behind_by, behind_none, behind_then}
 use Rattle.qcow2_image.proofs.image.Qcow2.end_freeing.Goals as goal
@@ -47,7 +47,7 @@ pub returns-clause-table : goal.returns-clause-table
 returns-clause-table g c = ap (λ (i : Qcow2 _ _). i.l1_table) c.mark_failure.ensures.rest ∙ c.free_listed-freed.ensures.table
 
 pub returns-clause-notes : goal.returns-clause-notes
-returns-clause-notes g c = kept_then _ _ _ c.free_listed-freed.ensures.notes (same_kept c.free_listed-freed.new.self c.mark_failure.new.self (ap (λ (i : Qcow2 _ _). i.file.storage) c.mark_failure.ensures.rest))
+returns-clause-notes g c = notes_then c.free_listed-freed.ensures.notes (same_kept c.free_listed-freed.new.self c.mark_failure.new.self (ap (λ (i : Qcow2 _ _). i.file.storage) c.mark_failure.ensures.rest) (ap (λ (i : Qcow2 _ _). i.file.caches) c.mark_failure.ensures.rest))
 
 pub returns-clause-header_cluster : goal.returns-clause-header_cluster
-returns-clause-header_cluster g c = behind_then c.free_listed-freed.ensures.header_cluster (behind_by c.mark_failure.ensures.rest behind_none)
+returns-clause-header_cluster g c = behind_then c.free_listed-freed.ensures.header_cluster (behind_by g.S.Storage.view c.mark_failure.ensures.rest behind_none)

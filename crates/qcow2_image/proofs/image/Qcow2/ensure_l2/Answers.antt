@@ -1,4 +1,4 @@
-use Rattle.std.proofs.Common.{ap, inl}
+use Rattle.std.proofs.Common.{ap, inl, ◌∙◌}
 use Rattle.qcow2_alloc.proofs.AllocationSteps.{handed_on}
 use Rattle.qcow2_image.specs.declared.image.Qcow2.{Qcow2}
 use Rattle.qcow2_image.specs.UnseenSteps.{Ensures, pending_with_listed}
@@ -9,8 +9,10 @@ use Rattle.qcow2_image.specs.NewTables.{IsFaultOrLacksTable}
 use Rattle.qcow2_alloc.specs.ImageFile.{contents_in}
 use Rattle.qcow2_image.specs.Found.{l1_index_of}
 use Rattle.qcow2_image.proofs.Prepare.Lacking.{fault_alone, named_place}
-use Rattle.qcow2_alloc.specs.KeptNotes.{kept_then}
+use Rattle.qcow2_alloc.proofs.KeptMarks.{notes_then, notes_of_both}
 use Rattle.qcow2_image.proofs.Call.BehindHeader.{behind_caches, behind_then}
+use Rattle.qcow2_alloc.specs.CachePins.{l2_pins}
+use Rattle.qcow2_image.specs.PinnedTables.{FindsOwn}
 use Rattle.qcow2_image.proofs.image.Qcow2.ensure_l2.Goals as goal
 
 pub returns-in_err-cluster-clause-ready : goal.returns-in_err-cluster-clause-ready
@@ -71,19 +73,37 @@ pub returns-in_err-cluster-clause-notes : goal.returns-in_err-cluster-clause-not
 returns-in_err-cluster-clause-notes g c = c.own_l2.ensures.notes
 
 pub returns-in_err-l2_get_or_insert-clause-notes : goal.returns-in_err-l2_get_or_insert-clause-notes
-returns-in_err-l2_get_or_insert-clause-notes g c = kept_then _ _ _ c.own_l2.ensures.notes c.l2_get_or_insert.ensures.notes
+returns-in_err-l2_get_or_insert-clause-notes g c = notes_then c.own_l2.ensures.notes (notes_of_both c.l2_get_or_insert.ensures.marks c.l2_get_or_insert.ensures.notes)
 
 pub returns-clause-notes : goal.returns-clause-notes
-returns-clause-notes g c = kept_then _ _ _ c.own_l2.ensures.notes c.l2_get_or_insert.ensures.notes
+returns-clause-notes g c = notes_then c.own_l2.ensures.notes (notes_of_both c.l2_get_or_insert.ensures.marks c.l2_get_or_insert.ensures.notes)
 
 pub returns-in_err-cluster-clause-header_cluster : goal.returns-in_err-cluster-clause-header_cluster
 returns-in_err-cluster-clause-header_cluster g c = c.own_l2.ensures.header_cluster
 
 pub returns-in_err-l2_get_or_insert-clause-header_cluster : goal.returns-in_err-l2_get_or_insert-clause-header_cluster
-returns-in_err-l2_get_or_insert-clause-header_cluster g c = behind_then c.own_l2.ensures.header_cluster (behind_caches (c.l2_get_or_insert.ensures.header_cluster c.in_ok-cluster.ensures.elsewhere).behind)
+returns-in_err-l2_get_or_insert-clause-header_cluster g c = behind_then c.own_l2.ensures.header_cluster (behind_caches (c.l2_get_or_insert.ensures.header_cluster c.in_ok-cluster.ensures.elsewhere))
 
 pub returns-clause-header_cluster : goal.returns-clause-header_cluster
-returns-clause-header_cluster g c = behind_then c.own_l2.ensures.header_cluster (behind_caches (c.l2_get_or_insert.ensures.header_cluster c.in_ok-cluster.ensures.elsewhere).behind)
+returns-clause-header_cluster g c = behind_then c.own_l2.ensures.header_cluster (behind_caches (c.l2_get_or_insert.ensures.header_cluster c.in_ok-cluster.ensures.elsewhere))
 
 pub returns-clause-elsewhere : goal.returns-clause-elsewhere
 returns-clause-elsewhere g c = c.in_ok-cluster.ensures.elsewhere
+
+pub returns-in_err-cluster-clause-own : goal.returns-in_err-cluster-clause-own
+returns-in_err-cluster-clause-own g c = λ own.
+    let same = c.own_l2.ensures.quiet own in
+    handed_on (λ r. FindsOwn c.args.self.now c.own_l2.new.self c.args.offset r) c.from_residual.result c.in_err-cluster.field-0.0 c.from_residual.ensures
+    (record { table = tt; pins = λ t. ap (λ (i : Qcow2 _ _). l2_pins i.file.caches t) same })
+
+pub returns-in_err-l2_get_or_insert-clause-own : goal.returns-in_err-l2_get_or_insert-clause-own
+returns-in_err-l2_get_or_insert-clause-own g c = λ own.
+    let mid = c.own_l2.new.self in
+    let same = c.own_l2.ensures.quiet own in
+    handed_on (λ r. FindsOwn c.args.self.now (record mid { file = record mid.file { storage = c.l2_get_or_insert.new.storage; caches = c.l2_get_or_insert.new.self } }) c.args.offset r) c.from_residual-in_err-l2_get_or_insert.result c.in_err-l2_get_or_insert.field-0.0 c.from_residual-in_err-l2_get_or_insert.ensures
+    (record { table = tt; pins = λ t. c.l2_get_or_insert.ensures.marks.pins t ∙ ap (λ (i : Qcow2 _ _). l2_pins i.file.caches t) same })
+
+pub returns-clause-own : goal.returns-clause-own
+returns-clause-own g c = λ own.
+    let same = c.own_l2.ensures.quiet own in
+    record { table = c.in_ok-cluster.ensures.own own; pins = λ t. c.l2_get_or_insert.ensures.marks.pins t ∙ ap (λ (i : Qcow2 _ _). l2_pins i.file.caches t) same }

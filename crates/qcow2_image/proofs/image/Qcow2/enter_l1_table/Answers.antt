@@ -1,3 +1,4 @@
+use Rattle.qcow2_alloc.proofs.Outcomes.{on_no_ok, on_ok}
 use Rattle.std.proofs.Common.{refl, ◌∙◌, subst}
 use Rattle.std.specs.Prelude.{IfSome, Some, false}
 use Rattle.qcow2_alloc.specs.Allocation.{run_at, taken_as, UnseenAllocatorGrowth}
@@ -6,8 +7,10 @@ use Rattle.qcow2_alloc.specs.KeptAllocators.{IsAllocatorOf}
 use Rattle.qcow2_alloc.proofs.AllocationSteps.{handed_on}
 use Rattle.qcow2_image.specs.LongerTables.{TakesTable}
 use Rattle.qcow2_image.proofs.Grow.Lengthened.{none_taken_for_table, refused_none, table_named_blocks}
-use Rattle.qcow2_alloc.specs.KeptNotes.{kept_same, kept_then}
+use Rattle.qcow2_alloc.proofs.KeptMarks.{notes_none, notes_then, notes_of_marks}
 use Rattle.qcow2_image.proofs.Call.BehindHeader.{behind_allocated, behind_none, behind_then}
+use Rattle.qcow2_image.proofs.Prepare.Listing.{gave_former, gave_still}
+use Rattle.qcow2_alloc.proofs.KeptTables.Turning.{always_ok}
 use Rattle.qcow2_image.proofs.image.Qcow2.enter_l1_table.Goals as goal
 
 pub returns-in_default-clause-takes : goal.returns-in_default-clause-takes
@@ -33,19 +36,32 @@ returns-clause-takes g c = λ p out sound longer.
     (λ placed. c.write_taken.ensures.names (pending_then p old.file.free_list c.allocate_meta.new.file.free_list) out placed c.in_ok-pending.ensures.noted) c.write_taken.ensures.kept c.write_taken.ensures.listed
 
 pub returns-in_default-clause-notes : goal.returns-in_default-clause-notes
-returns-in_default-clause-notes g c = kept_same c.args.self.now.file.storage
+returns-in_default-clause-notes g c = notes_none
 
 pub returns-in_err-pending-clause-notes : goal.returns-in_err-pending-clause-notes
-returns-in_err-pending-clause-notes g c = c.allocate_meta.ensures.marks.notes
+returns-in_err-pending-clause-notes g c = (notes_of_marks c.allocate_meta.ensures.marks)
 
 pub returns-clause-notes : goal.returns-clause-notes
-returns-clause-notes g c = kept_then _ _ _ c.allocate_meta.ensures.marks.notes c.write_taken.ensures.notes
+returns-clause-notes g c = notes_then (notes_of_marks c.allocate_meta.ensures.marks) c.write_taken.ensures.notes
 
 pub returns-in_default-clause-header_cluster : goal.returns-in_default-clause-header_cluster
-returns-in_default-clause-header_cluster g c = behind_none
+returns-in_default-clause-header_cluster g c = λ as_wide. behind_none
 
 pub returns-in_err-pending-clause-header_cluster : goal.returns-in_err-pending-clause-header_cluster
-returns-in_err-pending-clause-header_cluster g c = behind_allocated c.in-Some.is c.allocate_meta.ensures.header_cluster
+returns-in_err-pending-clause-header_cluster g c = λ as_wide. behind_allocated c.in-Some.is c.allocate_meta.ensures.header_cluster
 
 pub returns-clause-header_cluster : goal.returns-clause-header_cluster
-returns-clause-header_cluster g c = behind_then (behind_allocated c.in-Some.is c.allocate_meta.ensures.header_cluster) c.write_taken.ensures.header_cluster
+returns-clause-header_cluster g c = λ as_wide. behind_then (behind_allocated c.in-Some.is c.allocate_meta.ensures.header_cluster) (c.write_taken.ensures.header_cluster as_wide c.in_ok-pending.ensures.elsewhere)
+
+pub returns-clause-former : goal.returns-clause-former
+returns-clause-former g c =
+    let old = c.args.self.now in
+    let mid = record c.args.self.now { file = c.allocate_meta.new.file; allocator = Some c.allocate_meta.new.self } in
+    let took = gave_former old mid (record { before = c.in-Some.allocator; after = c.allocate_meta.new.self; was = c.in-Some.is; is = refl; behind = c.allocate_meta.ensures.former }) in
+    always_ok c.write_taken.result (_, gave_still _ old mid c.write_taken.new.self took c.write_taken.ensures.allocator)
+
+pub returns-in_err-pending-clause-noted : goal.returns-in_err-pending-clause-noted
+returns-in_err-pending-clause-noted g c = on_no_ok _ c.from_residual.result c.in_err-pending.field-0.0 c.from_residual.ensures
+
+pub returns-clause-noted : goal.returns-clause-noted
+returns-clause-noted g c = on_ok _ c.write_taken.result (c.write_taken.ensures.notes.tables.noted c.in_ok-pending.ensures.noted)

@@ -1,4 +1,4 @@
-use Rattle.std.proofs.Common.{sym, ◌∙◌, subst, ◌<◌}
+use Rattle.std.proofs.Common.{refl, sym, ◌∙◌, subst, ◌<◌}
 use Rattle.std.specs.Prelude.{IfSome, Some, false}
 use Rattle.qcow2_alloc.specs.Allocation.{run_at, taken_as, UnseenAllocatorGrowth}
 use Rattle.qcow2_alloc.specs.FreeList.{pending_then}
@@ -6,8 +6,9 @@ use Rattle.qcow2_alloc.specs.KeptAllocators.{IsAllocatorOf}
 use Rattle.qcow2_alloc.proofs.AllocationSteps.{handed_on}
 use Rattle.qcow2_image.specs.NewTables.{EntersTable}
 use Rattle.qcow2_image.proofs.Prepare.Entering.{none_taken, table_entered, table_refused}
-use Rattle.qcow2_alloc.specs.KeptNotes.{kept_then}
+use Rattle.qcow2_alloc.proofs.KeptMarks.{notes_then, notes_of_marks}
 use Rattle.qcow2_image.proofs.Call.BehindHeader.{behind_allocated, behind_then}
+use Rattle.qcow2_image.proofs.Prepare.Listing.{gave_former, gave_still}
 use Rattle.qcow2_image.proofs.image.Qcow2.enter_l2.Goals as goal
 
 pub returns-in_err-pending-clause-enters : goal.returns-in_err-pending-clause-enters
@@ -42,13 +43,13 @@ returns-in-Err-clause-enters g c = λ p out sound may says.
     (λ sound may says. c.write_l2.ensures.writes (pending_then p old.file.free_list c.allocate_meta.new.file.free_list) out sound may c.in_ok-pending.ensures.noted says) c.in-Err.refusal c.in_ok-pending.pending c.hand_back.new.list c.in-Err.is (sym c.cluster-cluster.ensures) (took.0 ∙ c.new.ensures) took.1 c.hand_back.ensures
 
 pub returns-in_err-pending-clause-notes : goal.returns-in_err-pending-clause-notes
-returns-in_err-pending-clause-notes g c = c.allocate_meta.ensures.marks.notes
+returns-in_err-pending-clause-notes g c = (notes_of_marks c.allocate_meta.ensures.marks)
 
 pub returns-in-Ok-clause-notes : goal.returns-in-Ok-clause-notes
-returns-in-Ok-clause-notes g c = kept_then _ _ _ c.allocate_meta.ensures.marks.notes c.write_l2.ensures.notes
+returns-in-Ok-clause-notes g c = notes_then (notes_of_marks c.allocate_meta.ensures.marks) c.write_l2.ensures.notes
 
 pub returns-in-Err-clause-notes : goal.returns-in-Err-clause-notes
-returns-in-Err-clause-notes g c = kept_then _ _ _ c.allocate_meta.ensures.marks.notes c.write_l2.ensures.notes
+returns-in-Err-clause-notes g c = notes_then (notes_of_marks c.allocate_meta.ensures.marks) c.write_l2.ensures.notes
 
 pub returns-in_err-pending-clause-header_cluster : goal.returns-in_err-pending-clause-header_cluster
 returns-in_err-pending-clause-header_cluster g c = behind_allocated c.in-Some.is c.allocate_meta.ensures.header_cluster
@@ -61,3 +62,10 @@ returns-in-Err-clause-header_cluster g c = behind_then (behind_allocated c.in-So
 
 pub returns-in-Ok-clause-elsewhere : goal.returns-in-Ok-clause-elsewhere
 returns-in-Ok-clause-elsewhere g c = subst (λ n. 0 < n) (sym c.cluster-cluster.ensures) c.in_ok-pending.ensures.elsewhere
+
+pub returns-in-Ok-clause-former : goal.returns-in-Ok-clause-former
+returns-in-Ok-clause-former g c =
+    let old = c.args.self.now in
+    let mid = record c.args.self.now { file = c.allocate_meta.new.file; allocator = Some c.allocate_meta.new.self } in
+    let took = gave_former old mid (record { before = c.in-Some.allocator; after = c.allocate_meta.new.self; was = c.in-Some.is; is = refl; behind = c.allocate_meta.ensures.former }) in
+    (_, gave_still _ old mid c.write_l2.new.self took c.write_l2.ensures.allocator)

@@ -57,3 +57,6 @@ returns-clause-faults g c = untouched g.S.Storage.view g.F.BackingDisk.backing c
 
 pub returns-clause-header_cluster : goal.returns-clause-header_cluster
 returns-clause-header_cluster g c = c.loop-i.invariant.behind
+
+pub returns-clause-notes : goal.returns-clause-notes
+returns-clause-notes g c = c.loop-i.invariant.notes

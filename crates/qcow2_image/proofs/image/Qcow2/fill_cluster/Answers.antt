@@ -11,7 +11,7 @@ use Rattle.qcow2_disk.specs.Found.{kind_at}
 use Rattle.qcow2_image.proofs.Prepare.Copied.{none_has, some_has}
 use Rattle.qcow2_image.proofs.Prepare.Filling.{alike_within, image_step_none}
 use Rattle.qcow2_image.proofs.Map.Loading.{if_ok, if_ok_any}
-use Rattle.qcow2_alloc.specs.KeptNotes.{kept_same}
+use Rattle.qcow2_alloc.proofs.KeptMarks.{notes_none}
 use Rattle.qcow2_image.proofs.Call.BehindHeader.{behind_none}
 use Rattle.qcow2_image.proofs.image.Qcow2.fill_cluster.Goals as goal
 
@@ -72,10 +72,10 @@ returns-clause-fills g c = λ p out sound holds some none covered.
     ]
 
 pub returns-in_default-clause-notes : goal.returns-in_default-clause-notes
-returns-in_default-clause-notes g c = kept_same c.args.self.now.file.storage
+returns-in_default-clause-notes g c = notes_none
 
 pub returns-in_default-checked_add-clause-notes : goal.returns-in_default-checked_add-clause-notes
-returns-in_default-checked_add-clause-notes g c = kept_same c.args.self.now.file.storage
+returns-in_default-checked_add-clause-notes g c = notes_none
 
 pub returns-clause-notes : goal.returns-clause-notes
 returns-clause-notes g c = c.copy_old.ensures.notes

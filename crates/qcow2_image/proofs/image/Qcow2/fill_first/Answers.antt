@@ -1,3 +1,4 @@
+use Rattle.qcow2_alloc.proofs.KeptMarks.{notes_then}
 use Rattle.std.specs.Prelude.{Err, IsTrue}
 use Rattle.std.proofs.Common.{◌≡◌, ◌∙◌, ◌+◌, ◌^◌, ◌≤◌, ◌<◌, ◌∷◌, [], None, inl, min, refl, sym, ap, subst, arith, rules}
 use Rattle.qcow2_laws.specs.CrashInvariant.{Pending}
@@ -122,7 +123,7 @@ returns-in-Err-clause-faults g c =
     let below = g.F.BackingDisk.backing in
     let old = c.args.self.now in
     let e = c.in-Err.refusal in
-    let told : CountsImageFaults view below {T = Unit {0}} old c.put_zeros.new.self (Err c.in-Err.refusal) = counted_as view below old c.prepare.new.self c.put_zeros.new.self c.put_zeros.result e c.prepare.ensures.faults.no_fewer c.put_zeros.ensures.faults c.in-Err.is in
+    let told : CountsImageFaults view below {T = Unit {0}} old c.put_zeros.new.self (Err c.in-Err.refusal) = counted_as view below old c.prepare.new.self c.put_zeros.new.self c.put_zeros.result e c.in_ok-prepared.ensures.faults.told c.put_zeros.ensures.faults c.in-Err.is in
     counted_of view below old c.free_after.new.self c.free_after.result (c.free_after.ensures.faults old (counted_still view below old c.put_zeros.new.self c.release_prepared.new.self (Err e) told c.release_prepared.ensures.faults))
 
 pub returns-clause-emptied : goal.returns-clause-emptied
@@ -140,3 +141,15 @@ returns-in_err-free_listed-clause-header_cluster g c = behind_then (behind_then 
 
 pub returns-clause-header_cluster : goal.returns-clause-header_cluster
 returns-clause-header_cluster g c = behind_then (behind_then (behind_then c.prepare.ensures.header_cluster c.put_zeros.ensures.header_cluster) c.commit_filled.ensures.header_cluster) c.free_listed.ensures.header_cluster
+
+pub returns-in_err-prepared-clause-notes : goal.returns-in_err-prepared-clause-notes
+returns-in_err-prepared-clause-notes g c = c.prepare.ensures.notes
+
+pub returns-in-Err-clause-notes : goal.returns-in-Err-clause-notes
+returns-in-Err-clause-notes g c = notes_then (notes_then (notes_then c.prepare.ensures.notes c.put_zeros.ensures.notes) c.release_prepared.ensures.notes) c.free_after.ensures.notes
+
+pub returns-in_err-free_listed-clause-notes : goal.returns-in_err-free_listed-clause-notes
+returns-in_err-free_listed-clause-notes g c = notes_then (notes_then (notes_then c.prepare.ensures.notes c.put_zeros.ensures.notes) c.commit_filled.ensures.notes) c.free_listed.ensures.notes
+
+pub returns-clause-notes : goal.returns-clause-notes
+returns-clause-notes g c = notes_then (notes_then (notes_then c.prepare.ensures.notes c.put_zeros.ensures.notes) c.commit_filled.ensures.notes) c.free_listed.ensures.notes

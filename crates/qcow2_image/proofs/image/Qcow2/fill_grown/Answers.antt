@@ -1,57 +1,64 @@
-use Rattle.std.proofs.Common.{◌<◌, ap, subst, sym, arith}
-use Rattle.qcow2_disk.specs.Calls.{shows_old}
-use Rattle.qcow2_alloc.proofs.AllocationSteps.{handed_on}
-use Rattle.qcow2_metadata.specs.Header.{cluster_size, rounded_up}
-use Rattle.qcow2_image.specs.Preallocation.{first_zeros, FillsGrownOrRefuses}
-use Rattle.qcow2_image.proofs.Preallocate.Grown.{early_refused, grown_none, grown_or_refused}
-use Rattle.qcow2_image.proofs.Call.BehindHeader.{behind_none}
+use Rattle.qcow2_alloc.proofs.KeptMarks.{notes_then}
+use Rattle.std.proofs.Common.{◌≡◌, ◌∙◌, ap, subst, sym, refl, Ok, Err}
+use Rattle.std.specs.Prelude.{IsTrue}
+use Rattle.qcow2_alloc.specs.declared.error.ImageError.TheVariants.{Version}
+use Rattle.qcow2_image.specs.declared.image.Qcow2.{Qcow2}
+use Rattle.qcow2_image.proofs.Call.BehindHeader.{behind_then}
+use Rattle.qcow2_image.proofs.Call.FaultCounts.{counted_as, counted_of, untouched}
+use Rattle.qcow2_image.proofs.Preallocate.FreedBehind.{grown_freed, grown_left, same_refusal}
 use Rattle.qcow2_image.proofs.image.Qcow2.fill_grown.Goals as goal
 
-pub returns-in-None-clause-fills : goal.returns-in-None-clause-fills
-returns-in-None-clause-fills g c = λ out sound.
-    grown_none g.S.Storage.view g.F.BackingDisk.backing out c.args.self.now sound c.args.size c.args.mode (subst (λ n. n < c.args.size) c.requires.end c.requires.larger) c.in-None.is
+pub returns-in-Err-clause-emptied : goal.returns-in-Err-clause-emptied
+returns-in-Err-clause-emptied g c = λ none. tt
 
-pub returns-in-Zero-clause-fills : goal.returns-in-Zero-clause-fills
-returns-in-Zero-clause-fills g c = λ out sound.
-    let larger = c.requires.larger in
-    grown_or_refused g.S.Storage.view g.F.BackingDisk.backing out c.args.self.now sound c.args.size c.args.mode (subst (λ n. n < c.args.size) c.requires.end c.requires.larger) (ap shows_old c.in-Zero.is) c.zero_grown.new.self (rounded_up (cluster_size c.args.self.now.file.header.fields) c.args.old) c.args.old (sym (ap (first_zeros (cluster_size c.args.self.now.file.header.fields) c.args.old c.args.size) c.in-Zero.is)) c.requires.end c.zero_grown.result
-    (c.zero_grown.ensures.fills out sound (omega (arith, larger)))
+pub returns-in-Ok-clause-version : goal.returns-in-Ok-clause-version
+returns-in-Ok-clause-version g c = λ none zero low. absurd (let no : Ok tt ≡ Err Version = sym c.in-Ok.is ∙ (c.fill_behind.ensures.version zero low).0 in cc)
 
-pub returns-in-FormatAllocate-clause-fills : goal.returns-in-FormatAllocate-clause-fills
-returns-in-FormatAllocate-clause-fills g c = λ out sound.
-    let larger = c.requires.larger in
-    grown_or_refused g.S.Storage.view g.F.BackingDisk.backing out c.args.self.now sound c.args.size c.args.mode (subst (λ n. n < c.args.size) c.requires.end c.requires.larger) (ap shows_old c.in-FormatAllocate.is) c.allocate_grown.new.self (rounded_up (cluster_size c.args.self.now.file.header.fields) c.args.size) c.args.old (sym (ap (first_zeros (cluster_size c.args.self.now.file.header.fields) c.args.old c.args.size) c.in-FormatAllocate.is)) c.requires.end c.allocate_grown.result
-    (c.allocate_grown.ensures.fills out sound (omega (arith, larger)))
+pub returns-in-Err-clause-version : goal.returns-in-Err-clause-version
+returns-in-Err-clause-version g c = λ none zero low.
+    let refused = c.fill_behind.ensures.version zero low in
+    let kept = c.free_after.ensures.idle (ap (λ (i : Qcow2 _ _). i.file.free_list) refused.1 ∙ none) in
+    (ap Err (kept.0 ∙ same_refusal c.fill_behind.result c.in-Err.refusal Version c.in-Err.is refused.0), kept.1 ∙ refused.1)
 
-pub returns-in-FullAllocate-clause-fills : goal.returns-in-FullAllocate-clause-fills
-returns-in-FullAllocate-clause-fills g c = λ out sound.
-    let larger = c.requires.larger in
-    grown_or_refused g.S.Storage.view g.F.BackingDisk.backing out c.args.self.now sound c.args.size c.args.mode (subst (λ n. n < c.args.size) c.requires.end c.requires.larger) (ap shows_old c.in-FullAllocate.is) c.allocate_grown-in-FullAllocate.new.self (rounded_up (cluster_size c.args.self.now.file.header.fields) c.args.size) c.args.old (sym (ap (first_zeros (cluster_size c.args.self.now.file.header.fields) c.args.old c.args.size) c.in-FullAllocate.is)) c.requires.end c.allocate_grown-in-FullAllocate.result
-    (c.allocate_grown-in-FullAllocate.ensures.fills out sound (omega (arith, larger)))
+pub returns-in-Ok-clause-fills : goal.returns-in-Ok-clause-fills
+returns-in-Ok-clause-fills g c = λ out sound. c.in-Ok.ensures.fills out sound
 
-pub returns-in_ok-writes-in-WriteData-clause-fills : goal.returns-in_ok-writes-in-WriteData-clause-fills
-returns-in_ok-writes-in-WriteData-clause-fills g c = λ out sound.
-    let larger = c.requires.larger in
-    grown_or_refused g.S.Storage.view g.F.BackingDisk.backing out c.args.self.now sound c.args.size c.args.mode (subst (λ n. n < c.args.size) c.requires.end c.requires.larger) (ap shows_old c.in-WriteData.is) c.allocate_grown-in-WriteData.new.self (rounded_up (cluster_size c.args.self.now.file.header.fields) c.args.size) c.args.old (sym (ap (first_zeros (cluster_size c.args.self.now.file.header.fields) c.args.old c.args.size) c.in-WriteData.is)) c.requires.end c.allocate_grown-in-WriteData.result
-    (c.allocate_grown-in-WriteData.ensures.fills out sound (omega (arith, larger)))
+pub returns-in-Err-clause-fills : goal.returns-in-Err-clause-fills
+returns-in-Err-clause-fills g c = λ out sound.
+    let refused = c.in-Err.ensures.fills out sound in
+    record {
+      left = grown_freed g.S.Storage.view g.F.BackingDisk.backing out c.args.self.now c.fill_behind.new.self c.free_after.new.self c.args.size c.args.mode c.in-Err.refusal c.free_after.result refused.left c.free_after.ensures.fault (c.free_after.ensures.frees out);
+      taken = λ is. refused.taken (c.free_after.ensures.taken c.in-Err.ensures.cause is);
+    }
 
-pub returns-in_err-writes-in-WriteData-clause-fills : goal.returns-in_err-writes-in-WriteData-clause-fills
-returns-in_err-writes-in-WriteData-clause-fills g c = λ out sound.
+pub returns-in-Err-clause-freed : goal.returns-in-Err-clause-freed
+returns-in-Err-clause-freed g c = λ out sound.
+    let refused = c.in-Err.ensures.fills out sound in
+    grown_left g.S.Storage.view g.F.BackingDisk.backing out c.args.self.now c.fill_behind.new.self c.free_after.new.self c.args.size c.args.mode c.in-Err.refusal c.free_after.result refused.left c.free_after.ensures.fault
+    (c.free_after.ensures.emptied (subst IsTrue (sym c.fill_behind.ensures.stays.image.writable) c.requires.writable) out)
+
+pub returns-in-Err-clause-unfilled : goal.returns-in-Err-clause-unfilled
+returns-in-Err-clause-unfilled g c = λ none. absurd (let no : Ok tt ≡ Err c.in-Err.refusal = sym (c.fill_behind.ensures.unfilled none).0 ∙ c.in-Err.is in cc)
+
+pub returns-in-Ok-clause-unfilled : goal.returns-in-Ok-clause-unfilled
+returns-in-Ok-clause-unfilled g c = λ none. (c.fill_behind.ensures.unfilled none).1
+
+pub returns-in-Err-clause-faults : goal.returns-in-Err-clause-faults
+returns-in-Err-clause-faults g c =
     let view = g.S.Storage.view in
     let below = g.F.BackingDisk.backing in
     let old = c.args.self.now in
-    let e = c.in_err-writes-in-WriteData.field-0.0 in
-    handed_on (λ r. FillsGrownOrRefuses view below c.args.size c.args.mode old old out r) c.from_residual.result e c.from_residual.ensures
-    (early_refused view below out old sound c.args.size c.args.mode (subst (λ n. n < c.args.size) c.requires.end c.requires.larger) (ap shows_old c.in-WriteData.is) e c.in_err-writes-in-WriteData.ensures.cause)
+    counted_of view below old c.free_after.new.self c.free_after.result
+    (c.free_after.ensures.faults old (counted_as view below old old c.fill_behind.new.self c.fill_behind.result c.in-Err.refusal (untouched view below old old refl refl) c.fill_behind.ensures.faults c.in-Err.is))
 
-pub returns-in-None-clause-header_cluster : goal.returns-in-None-clause-header_cluster
-returns-in-None-clause-header_cluster g c = behind_none
+pub returns-in-Ok-clause-header_cluster : goal.returns-in-Ok-clause-header_cluster
+returns-in-Ok-clause-header_cluster g c = c.fill_behind.ensures.header_cluster
 
-pub returns-in-Zero-clause-header_cluster : goal.returns-in-Zero-clause-header_cluster
-returns-in-Zero-clause-header_cluster g c = c.zero_grown.ensures.header_cluster
+pub returns-in-Err-clause-header_cluster : goal.returns-in-Err-clause-header_cluster
+returns-in-Err-clause-header_cluster g c = behind_then c.fill_behind.ensures.header_cluster c.free_after.ensures.header_cluster
 
-pub returns-in-FormatAllocate-clause-header_cluster : goal.returns-in-FormatAllocate-clause-header_cluster
-returns-in-FormatAllocate-clause-header_cluster g c = c.allocate_grown.ensures.header_cluster
+pub returns-in-Ok-clause-notes : goal.returns-in-Ok-clause-notes
+returns-in-Ok-clause-notes g c = c.fill_behind.ensures.notes
 
-pub returns-in_err-writes-in-WriteData-clause-header_cluster : goal.returns-in_err-writes-in-WriteData-clause-header_cluster
-returns-in_err-writes-in-WriteData-clause-header_cluster g c = behind_none
+pub returns-in-Err-clause-notes : goal.returns-in-Err-clause-notes
+returns-in-Err-clause-notes g c = notes_then c.fill_behind.ensures.notes c.free_after.ensures.notes

@@ -2,7 +2,7 @@ use Rattle.std.proofs.Common.{◌-◌, arith}
 use Rattle.qcow2_image.proofs.Prepare.Copied.{none_has, some_has}
 use Rattle.qcow2_image.proofs.Prepare.Filling.{image_step_none}
 use Rattle.qcow2_image.proofs.Prepare.Keeping.{filled_by_none, filled_with_zeros, image_step_filled}
-use Rattle.qcow2_alloc.specs.KeptNotes.{kept_same}
+use Rattle.qcow2_alloc.proofs.KeptMarks.{notes_none}
 use Rattle.qcow2_image.proofs.Call.BehindHeader.{behind_none}
 use Rattle.qcow2_image.proofs.image.Qcow2.fill_kept.Goals as goal
 
@@ -26,7 +26,7 @@ returns-in-Some-clause-fills g c = λ p out sound kept.
     (λ i lt none. some_has c.part_to_fill.result c.in-Some.range i c.in-Some.is (c.part_to_fill.ensures.all i lt none)) c.write_zeros.result c.write_zeros.ensures.written
 
 pub returns-in-None-clause-notes : goal.returns-in-None-clause-notes
-returns-in-None-clause-notes g c = kept_same c.args.self.now.file.storage
+returns-in-None-clause-notes g c = notes_none
 
 pub returns-in-Some-clause-notes : goal.returns-in-Some-clause-notes
 returns-in-Some-clause-notes g c = c.write_zeros.ensures.notes

@@ -1,8 +1,9 @@
+use Rattle.qcow2_alloc.proofs.KeptMarks.{notes_none, notes_then}
 use Rattle.std.proofs.Common.{◌≡◌, refl, subst, arith}
 use Rattle.qcow2_alloc.proofs.AllocationSteps.{handed_on}
 use Rattle.qcow2_image.specs.Preallocation.{FillsOrRefuses, FillsPart}
 use Rattle.qcow2_image.proofs.Preallocate.Turns.{filled_first, filled_next, filled_refused}
-use Rattle.qcow2_image.proofs.Call.FaultCounts.{counted_ok, counted_on, fewer_then, untouched}
+use Rattle.qcow2_image.proofs.Call.FaultCounts.{counted_ok, counted_on, faults_then, untouched}
 use Rattle.qcow2_image.proofs.Call.BehindHeader.{behind_none, behind_then}
 use Rattle.qcow2_image.proofs.image.Qcow2.fill_range.Goals as goal
 
@@ -12,6 +13,7 @@ loop-at-init g c = record {
   faults = untouched g.S.Storage.view g.F.BackingDisk.backing c.args.self.now c.args.self.now refl refl;
   emptied = λ none. none;
   behind = behind_none;
+  notes = notes_none;
 }
 
 pub returns-in_err-at-clause-fills : goal.returns-in_err-at-clause-fills
@@ -27,9 +29,10 @@ loop-at-preserved g c =
     let next = c.in_ok-at.ensures.next in
     record {
       turns = filled_next g.S.Storage.view g.F.BackingDisk.backing c.args.from c.args.to c.loop-at.at c.args.self.now c.loop-at.self c.fill_first.new.self c.loop-at-test.true c.loop-at.invariant.turns c.in_ok-at.at c.fill_first.ensures.stays next.0 next.1 c.in_ok-at.ensures.fills;
-      faults = fewer_then g.S.Storage.view g.F.BackingDisk.backing c.args.self.now c.loop-at.self c.fill_first.new.self c.loop-at.invariant.faults c.fill_first.ensures.faults.no_fewer;
+      faults = faults_then g.S.Storage.view g.F.BackingDisk.backing c.args.self.now c.loop-at.self c.fill_first.new.self c.loop-at.invariant.faults c.in_ok-at.ensures.faults.told;
       emptied = λ none. c.in_ok-at.ensures.emptied (c.loop-at.invariant.emptied none);
       behind = behind_then c.loop-at.invariant.behind c.fill_first.ensures.header_cluster;
+      notes = notes_then c.loop-at.invariant.notes c.fill_first.ensures.notes;
     }
 
 pub returns-clause-fills : goal.returns-clause-fills
@@ -56,3 +59,9 @@ returns-in_err-at-clause-header_cluster g c = behind_then c.loop-at.invariant.be
 
 pub returns-clause-header_cluster : goal.returns-clause-header_cluster
 returns-clause-header_cluster g c = c.loop-at.invariant.behind
+
+pub returns-in_err-at-clause-notes : goal.returns-in_err-at-clause-notes
+returns-in_err-at-clause-notes g c = notes_then c.loop-at.invariant.notes c.fill_first.ensures.notes
+
+pub returns-clause-notes : goal.returns-clause-notes
+returns-clause-notes g c = c.loop-at.invariant.notes

@@ -1,11 +1,11 @@
-use Rattle.std.proofs.Common.{[], sym, ◌∙◌, subst, ap}
+use Rattle.std.proofs.Common.{◌≡◌, true, false, [], sym, ◌∙◌, subst, ap}
 use Rattle.std.specs.Prelude.{Result}
 use Rattle.qcow2_laws.specs.CrashInvariant.{Pending}
 use Rattle.qcow2_alloc.specs.FreeList.{with_listed}
 use Rattle.qcow2_image.specs.Calls.{FlushesImage}
 use Rattle.qcow2_image.specs.declared.image.Qcow2.{Qcow2}
 use Rattle.qcow2_image.specs.Image.{is_failed}
-use Rattle.qcow2_image.specs.ImageInvariant.{ImageInvariant}
+use Rattle.qcow2_image.specs.ImageInvariant.{ImageInvariant, pending_in}
 use Rattle.qcow2_image.proofs.Grow.Grown.{written_back}
 use Rattle.qcow2_image.proofs.Flush.Freeing.{all_listed, beside, flushes_with_outcome, frees_on}
 use Rattle.qcow2_image.proofs.Call.FaultCounts.{counted_marked}
@@ -13,6 +13,9 @@ use Rattle.qcow2_image.proofs.Map.Unmodified.{read_call}
 use Rattle.qcow2_image.proofs.Call.Marked.{marks_memory, may_mark}
 use Rattle.qcow2_image.proofs.Call.OnceWritten.{once_written}
 use Rattle.qcow2_image.proofs.Call.BehindHeader.{behind_call}
+use Rattle.std.specs.Prelude.{IfErr}
+use Rattle.qcow2_alloc.specs.ImageError.{IsFault}
+use Rattle.qcow2_image.proofs.Call.Called.{quiet_sound}
 use Rattle.qcow2_image.proofs.image.Qcow2.flush.Goals as goal
 
 pub returns-clause-sees : goal.returns-clause-sees
@@ -56,7 +59,19 @@ returns-clause-unwritten g c = λ reading.
     (c.write_back-done.ensures.unwritten (c.begin.ensures.stays.image.writable ∙ reading)) c.mark_failure.ensures.rest
 
 pub returns-clause-once_written : goal.returns-clause-once_written
-returns-clause-once_written g c = λ memory. once_written g.S.Storage.view c.args.self.now c.begin.new.self c.write_back-done.new.self c.mark_failure.new.self c.write_back-done.result c.begin.ensures.storage c.write_back-done.ensures.notes c.mark_failure.ensures.marks c.mark_failure.ensures.rest (sym c.mark_failure.ensures.answer ∙ memory)
+returns-clause-once_written g c = λ memory. once_written g.S.Storage.view c.args.self.now c.begin.new.self c.begin.ensures.begun c.write_back-done.new.self c.mark_failure.new.self c.write_back-done.result c.write_back-done.ensures.notes (c.write_back-done.ensures.stays.failed ∙ c.begin.ensures.stays.failed) c.mark_failure.ensures.marks c.mark_failure.ensures.rest (sym c.mark_failure.ensures.answer ∙ memory)
 
 pub returns-clause-header_cluster : goal.returns-clause-header_cluster
-returns-clause-header_cluster g c = behind_call c.begin.ensures.begun c.write_back-done.ensures.header_cluster c.mark_failure.ensures.rest
+returns-clause-header_cluster g c = behind_call g.S.Storage.view c.begin.ensures.begun c.write_back-done.ensures.header_cluster c.mark_failure.ensures.rest
+
+pub returns-clause-fault : goal.returns-clause-fault
+returns-clause-fault g c = λ out sound.
+    let view = g.S.Storage.view in
+    let below = g.F.BackingDisk.backing in
+    let begun = c.begin.new.self in
+    let kept = quiet_sound view below out c.args.self.now begun (λ s. record { keeps = c.begin.ensures.keeps (pending_in view below c.args.self.now out) out s; list = c.begin.ensures.list }) sound in
+    subst (λ (r : Result _ _). IfErr r IsFault) (sym c.mark_failure.ensures.answer)
+    (c.write_back-done.ensures.fault (beside view below begun out) out (subst (λ (x : Pending). ImageInvariant view below x begun out) (all_listed view below begun out) kept))
+
+pub returns-then-self-clause-fault : goal.returns-then-self-clause-fault
+returns-then-self-clause-fault g c = λ out sound. absurd (let no : true ≡ false = sym c.if-self.true ∙ sound.works in cc)

@@ -1,9 +1,10 @@
+use Rattle.qcow2_alloc.proofs.Outcomes.{not_both}
 use Rattle.std.proofs.Common.{◌≡◌, inl, inr, refl, sym, ◌∙◌, subst, Ok, Err}
 use Rattle.qcow2_laws.specs.CrashInvariant.{Pending}
 use Rattle.qcow2_image.specs.ImageInvariant.{ImageInvariant}
 use Rattle.qcow2_image.proofs.Flush.Freeing.{all_listed, beside, freed_refused, tidy_stays}
 use Rattle.qcow2_image.proofs.Call.FaultCounts.{counted_as, counted_still}
-use Rattle.qcow2_alloc.specs.KeptNotes.{kept_same}
+use Rattle.qcow2_alloc.proofs.KeptMarks.{notes_none}
 use Rattle.qcow2_image.proofs.Call.BehindHeader.{behind_none}
 use Rattle.qcow2_image.proofs.image.Qcow2.free_after.Goals as goal
 
@@ -33,11 +34,11 @@ returns-then-is_last-clause-faults g c = λ start told. told
 
 pub returns-in-Ok-clause-faults : goal.returns-in-Ok-clause-faults
 returns-in-Ok-clause-faults g c = λ start told.
-    counted_still g.S.Storage.view g.F.BackingDisk.backing start c.args.self.now c.free_listed.new.self (Err c.args.refusal) told c.free_listed.ensures.counts.no_fewer
+    counted_still g.S.Storage.view g.F.BackingDisk.backing start c.args.self.now c.free_listed.new.self (Err c.args.refusal) told c.in-Ok.ensures.counts.told
 
 pub returns-in-Err-clause-faults : goal.returns-in-Err-clause-faults
 returns-in-Err-clause-faults g c = λ start told.
-    counted_as g.S.Storage.view g.F.BackingDisk.backing start c.args.self.now c.free_listed.new.self c.free_listed.result c.in-Err.fault told.no_fewer c.free_listed.ensures.counts c.in-Err.is
+    counted_as g.S.Storage.view g.F.BackingDisk.backing start c.args.self.now c.free_listed.new.self c.free_listed.result c.in-Err.fault (told.told (λ is. not_both c.is_last.result (c.is_last.ensures.fault (inl is)) c.if-is_last.false)) c.free_listed.ensures.counts c.in-Err.is
 
 pub returns-then-is_last-clause-idle : goal.returns-then-is_last-clause-idle
 returns-then-is_last-clause-idle g c = λ none. (refl, refl)
@@ -62,7 +63,7 @@ returns-in-Err-clause-told g c = λ out sound.
     inr (c.in-Err.ensures.faults (beside view below old out) out (subst (λ (x : Pending). ImageInvariant view below x old out) (all_listed view below old out) sound))
 
 pub returns-then-is_last-clause-notes : goal.returns-then-is_last-clause-notes
-returns-then-is_last-clause-notes g c = kept_same c.args.self.now.file.storage
+returns-then-is_last-clause-notes g c = notes_none
 
 pub returns-in-Ok-clause-notes : goal.returns-in-Ok-clause-notes
 returns-in-Ok-clause-notes g c = c.free_listed.ensures.notes
@@ -78,3 +79,30 @@ returns-in-Ok-clause-header_cluster g c = c.free_listed.ensures.header_cluster
 
 pub returns-in-Err-clause-header_cluster : goal.returns-in-Err-clause-header_cluster
 returns-in-Err-clause-header_cluster g c = c.free_listed.ensures.header_cluster
+
+pub returns-then-is_last-clause-keeps_rest : goal.returns-then-is_last-clause-keeps_rest
+returns-then-is_last-clause-keeps_rest g c = record { header = refl; backing = refl }
+
+pub returns-in-Ok-clause-keeps_rest : goal.returns-in-Ok-clause-keeps_rest
+returns-in-Ok-clause-keeps_rest g c = c.free_listed.ensures.keeps_rest
+
+pub returns-in-Err-clause-keeps_rest : goal.returns-in-Err-clause-keeps_rest
+returns-in-Err-clause-keeps_rest g c = c.free_listed.ensures.keeps_rest
+
+pub returns-then-is_last-clause-table : goal.returns-then-is_last-clause-table
+returns-then-is_last-clause-table g c = refl
+
+pub returns-in-Ok-clause-table : goal.returns-in-Ok-clause-table
+returns-in-Ok-clause-table g c = c.free_listed.ensures.table
+
+pub returns-in-Err-clause-table : goal.returns-in-Err-clause-table
+returns-in-Err-clause-table g c = c.free_listed.ensures.table
+
+pub returns-then-is_last-clause-handed : goal.returns-then-is_last-clause-handed
+returns-then-is_last-clause-handed g c = inl refl
+
+pub returns-in-Ok-clause-handed : goal.returns-in-Ok-clause-handed
+returns-in-Ok-clause-handed g c = inl refl
+
+pub returns-in-Err-clause-handed : goal.returns-in-Err-clause-handed
+returns-in-Err-clause-handed g c = inr c.in-Err.ensures.cause

@@ -1,12 +1,14 @@
-use Rattle.std.proofs.Common.{subst}
+use Rattle.std.proofs.Common.{◌∙◌, ap, refl, subst, sym}
 use Rattle.std.specs.Prelude.{IfSome}
 use Rattle.qcow2_alloc.specs.FreeList.{with_listed}
 use Rattle.qcow2_alloc.specs.KeptAllocators.{IsAllocatorOf}
 use Rattle.qcow2_image.proofs.Call.Answered.{freeing_step_kept}
 use Rattle.qcow2_image.proofs.Flush.Freeing.{frees_listed, frees_fault}
 use Rattle.qcow2_image.proofs.Prepare.Entering.{keeps_none}
-use Rattle.qcow2_alloc.specs.KeptNotes.{kept_same}
-use Rattle.qcow2_image.proofs.Call.BehindHeader.{behind_allocated, behind_none}
+use Rattle.qcow2_alloc.proofs.KeptMarks.{notes_none, notes_of_both}
+use Rattle.qcow2_image.proofs.Call.BehindHeader.{behind_none, behind_freed}
+use Rattle.qcow2_image.proofs.Prepare.Listing.{same_value}
+use Rattle.qcow2_alloc.specs.declared.allocation.Allocator.{Allocator}
 use Rattle.qcow2_image.proofs.image.Qcow2.free_listed.Goals as goal
 
 pub returns-then-is_empty-clause-frees : goal.returns-then-is_empty-clause-frees
@@ -32,13 +34,13 @@ returns-clause-faults g c = λ p out sound.
     (c.free.ensures.sound p (record { sound = sound.file; reftable = own.reftable }))
 
 pub returns-then-is_empty-clause-notes : goal.returns-then-is_empty-clause-notes
-returns-then-is_empty-clause-notes g c = kept_same c.args.self.now.file.storage
+returns-then-is_empty-clause-notes g c = notes_none
 
 pub returns-in_default-clause-notes : goal.returns-in_default-clause-notes
-returns-in_default-clause-notes g c = kept_same c.args.self.now.file.storage
+returns-in_default-clause-notes g c = notes_none
 
 pub returns-clause-notes : goal.returns-clause-notes
-returns-clause-notes g c = c.free.ensures.notes
+returns-clause-notes g c = (notes_of_both c.free.ensures.marks c.free.ensures.notes)
 
 pub returns-then-is_empty-clause-header_cluster : goal.returns-then-is_empty-clause-header_cluster
 returns-then-is_empty-clause-header_cluster g c = behind_none
@@ -47,4 +49,13 @@ pub returns-in_default-clause-header_cluster : goal.returns-in_default-clause-he
 returns-in_default-clause-header_cluster g c = behind_none
 
 pub returns-clause-header_cluster : goal.returns-clause-header_cluster
-returns-clause-header_cluster g c = behind_allocated c.in-Some.is c.free.ensures.header_cluster
+returns-clause-header_cluster g c = behind_freed c.in-Some.is c.free.ensures.header_cluster
+
+pub returns-then-is_empty-clause-former : goal.returns-then-is_empty-clause-former
+returns-then-is_empty-clause-former g c = λ before is. (before, is, refl)
+
+pub returns-in_default-clause-former : goal.returns-in_default-clause-former
+returns-in_default-clause-former g c = λ before is. (before, is, refl)
+
+pub returns-clause-former : goal.returns-clause-former
+returns-clause-former g c = λ before is. (c.free.new.self, refl, c.free.ensures.reftable ∙ ap (λ (a : Allocator). a.reftable) (same_value c.in-Some.allocator before (sym c.in-Some.is ∙ is)))

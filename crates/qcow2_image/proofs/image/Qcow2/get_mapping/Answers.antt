@@ -19,6 +19,12 @@ use Rattle.qcow2_alloc.proofs.AllocationSteps.{handed_on}
 use Rattle.qcow2_alloc.proofs.Outcomes.{err_as}
 use Rattle.qcow2_alloc.specs.declared.error.ImageError.TheVariants.{Memory}
 use Rattle.qcow2_image.proofs.Call.BehindHeader.{behind_call}
+use Rattle.std.specs.Prelude.{IfErr}
+use Rattle.qcow2_image.specs.Refusals.{IsUnlimited}
+use Rattle.qcow2_image.proofs.Sizes.{sound_is_usable}
+use Rattle.qcow2_image.proofs.Clear.ClearCalls.{refused_for}
+use Rattle.qcow2_image.specs.Refusals.{unusable}
+use Rattle.std.specs.Prelude.{None, Some}
 use Rattle.qcow2_image.proofs.image.Qcow2.get_mapping.Goals as goal
 
 pub returns-in_err-kind-clause-sees : goal.returns-in_err-kind-clause-sees
@@ -84,13 +90,26 @@ returns-clause-unwritten g c = read_call g.S.Storage.view g.F.BackingDisk.backin
 pub returns-in_err-kind-clause-once_written : goal.returns-in_err-kind-clause-once_written
 returns-in_err-kind-clause-once_written g c =
     handed_on (λ r. FailsOnceWritten g.S.Storage.view c.args.self.now c.mark_failure.new.self r) c.from_residual-in_err-kind.result c.in_err-kind.field-0.0 c.from_residual-in_err-kind.ensures
-    (λ memory. once_written g.S.Storage.view c.args.self.now c.begin.new.self c.look_up-found.new.self c.mark_failure.new.self c.look_up-found.result c.begin.ensures.storage c.look_up-found.ensures.notes c.mark_failure.ensures.marks c.mark_failure.ensures.rest (sym c.mark_failure.ensures.answer ∙ c.in_err-kind.was ∙ err_as c.in_err-kind.field-0.0 Memory memory))
+    (λ memory. once_written g.S.Storage.view c.args.self.now c.begin.new.self c.begin.ensures.begun c.look_up-found.new.self c.mark_failure.new.self c.look_up-found.result c.look_up-found.ensures.notes (c.look_up-found.ensures.stays.failed ∙ c.begin.ensures.stays.failed) c.mark_failure.ensures.marks c.mark_failure.ensures.rest (sym c.mark_failure.ensures.answer ∙ c.in_err-kind.was ∙ err_as c.in_err-kind.field-0.0 Memory memory))
 
 pub returns-clause-once_written : goal.returns-clause-once_written
 returns-clause-once_written g c = λ bad. absurd (cc)
 
 pub returns-in_err-kind-clause-header_cluster : goal.returns-in_err-kind-clause-header_cluster
-returns-in_err-kind-clause-header_cluster g c = behind_call c.begin.ensures.begun c.look_up-found.ensures.header_cluster c.mark_failure.ensures.rest
+returns-in_err-kind-clause-header_cluster g c = behind_call g.S.Storage.view c.begin.ensures.begun c.look_up-found.ensures.header_cluster c.mark_failure.ensures.rest
 
 pub returns-clause-header_cluster : goal.returns-clause-header_cluster
-returns-clause-header_cluster g c = behind_call c.begin.ensures.begun c.look_up-found.ensures.header_cluster c.mark_failure.ensures.rest
+returns-clause-header_cluster g c = behind_call g.S.Storage.view c.begin.ensures.begun c.look_up-found.ensures.header_cluster c.mark_failure.ensures.rest
+
+pub returns-in_err-kind-clause-limited : goal.returns-in_err-kind-clause-limited
+returns-in_err-kind-clause-limited g c = λ out sound.
+    let p = pending_in g.S.Storage.view g.F.BackingDisk.backing c.args.self.now out in
+    handed_on (λ r. IfErr r IsUnlimited) c.from_residual-in_err-kind.result c.in_err-kind.field-0.0 c.from_residual-in_err-kind.ensures
+    (subst (λ r. IfErr r IsUnlimited) (sym c.mark_failure.ensures.answer ∙ c.in_err-kind.was) (c.look_up-found.ensures.limited p out (c.begin.ensures.keeps p out sound).sound))
+
+pub returns-in_err-check_usable-clause-limited : goal.returns-in_err-check_usable-clause-limited
+returns-in_err-check_usable-clause-limited g c = λ out sound.
+    let old = c.args.self.now in
+    let e = c.in_err-check_usable.field-0.0 in
+    let refused = refused_for c.check_usable.result tt (unusable old) e c.check_usable.ensures c.in_err-check_usable.was in
+    absurd (let no : None ≡ Some c.in_err-check_usable.field-0.0 = sym (sound_is_usable g.S.Storage.view g.F.BackingDisk.backing old out sound) ∙ refused in cc)

@@ -1,4 +1,9 @@
-use Rattle.std.proofs.Common.{◌≡◌, ◌∙◌, ◌+◌, ◌-◌, ◌<◌, max, sym, ap, subst, arith, refl}
+use Rattle.std.proofs.lemmas.Bool.{or_right}
+use Rattle.qcow2_alloc.specs.declared.image_file.ImageFile.{ImageFile}
+use Rattle.qcow2_alloc.specs.ImageFile.{has_noted}
+use Rattle.qcow2_image.proofs.Call.Notes.{same_kept}
+use Rattle.qcow2_alloc.proofs.KeptMarks.{notes_then}
+use Rattle.std.proofs.Common.{inl, ◌≡◌, ◌∙◌, ◌+◌, ◌-◌, ◌<◌, max, sym, ap, subst, arith, refl}
 use Rattle.std.specs.Prelude.{Err, IfErr, IsTrue, Ok, OnOk, Result}
 use Rattle.qcow2_metadata.specs.declared.header.HeaderFields.{HeaderFields}
 use Rattle.qcow2_metadata.specs.EntryTable.{entry_count}
@@ -10,12 +15,13 @@ use Rattle.qcow2_image.specs.CallParts.{UnseenCall}
 use Rattle.qcow2_image.specs.declared.image.Qcow2.{Qcow2}
 use Rattle.qcow2_image.specs.Found.{l1_index_of}
 use Rattle.qcow2_image.specs.Growing.{ReachesSize}
-use Rattle.qcow2_image.specs.Image.{HasNothingToFree, is_failed, with_marks}
+use Rattle.qcow2_image.specs.Image.{HasNothingToFree, is_failed, with_marks, has_noted_change}
 use Rattle.qcow2_image.specs.ImageInvariant.{ImageInvariant, pending_in}
 use Rattle.qcow2_image.specs.LongerTables.{MakesEntry}
 use Rattle.qcow2_image.specs.L1Entries.{ReachesOffset}
 use Rattle.qcow2_image.specs.Preallocation.{FillsGrown, FillsGrownOrRefuses}
-use Rattle.qcow2_image.specs.Refusals.{IsMet}
+use Rattle.qcow2_image.specs.Refusals.{FreesRefused, IsMet}
+use Rattle.qcow2_image.proofs.Prepare.Taken.{if_err}
 use Rattle.qcow2_image.proofs.Call.Marked.{MayMarkBy, marks_memory, may_mark}
 use Rattle.qcow2_image.specs.Resizing.{GrowsTables, GrowsTo, LacksZeros, RefusesUnchanged, WritesSizeLast}
 use Rattle.image_access.specs.declared.storage.PreallocateMode.TheVariants.{Zero}
@@ -29,11 +35,11 @@ use Rattle.qcow2_image.proofs.Sizing.Growing.{grows_in_part, grows_not, grows_si
 use Rattle.qcow2_image.proofs.Sizing.GrownTables.{leaves_sized, reaches_filled, refuses_version, tables_sized, taken_behind}
 use Rattle.qcow2_image.proofs.Sizing.Noted.{counted_noted, grows_noted, tables_noted, unchanged_noted}
 use Rattle.qcow2_image.proofs.Sizing.Shrinking.{begun_call}
-use Rattle.qcow2_image.proofs.Call.FaultCounts.{counted_marked, counted_on, untouched}
+use Rattle.qcow2_image.proofs.Call.FaultCounts.{same_of, counted_marked, counted_on, untouched}
 use Rattle.qcow2_alloc.proofs.AllocationSteps.{handed_on}
 use Rattle.qcow2_alloc.proofs.Outcomes.{err_as}
 use Rattle.qcow2_image.specs.Noted.{FailsOnceWritten}
-use Rattle.qcow2_image.proofs.Call.OnceWritten.{once_written, failed_once}
+use Rattle.qcow2_image.proofs.Call.OnceWritten.{once_written, kept_noted, once_marked}
 use Rattle.qcow2_image.proofs.Call.BehindHeader.{behind_by, behind_call, behind_none, behind_then}
 use Rattle.qcow2_image.proofs.image.Qcow2.grow_disk.Goals as goal
 
@@ -54,7 +60,7 @@ returns-in_err-mark_failure-clause-sees g c =
     (λ out sound. subst (MakesEntry view below begun mid out) done (c.renew_l1_table-longer.ensures.makes out sound))
     (c.renew_l1_table-longer.ensures.stays.image.number ∙ c.begin.ensures.stays.image.number)
     (subst (λ (r : Result _ _). MayMarkBy r (is_failed mid) marked) done (may_mark c.renew_l1_table-longer.new.self c.mark_failure.new.self c.renew_l1_table-longer.result c.mark_failure.ensures.marks))
-    (subst (λ (r : Result _ _). IfErr r (λ x. x ≡ Memory → IsTrue mid.file.caches.is_changed → IsTrue marked)) done (marks_memory c.renew_l1_table-longer.new.self c.mark_failure.new.self c.renew_l1_table-longer.new.self c.renew_l1_table-longer.result c.mark_failure.ensures.marks (ap (λ (i : Qcow2 _ _). i.file) c.mark_failure.ensures.rest)))))
+    (subst (λ (r : Result _ _). IfErr r (λ x. x ≡ Memory → IsTrue (has_noted_change mid) → IsTrue marked)) done (marks_memory c.renew_l1_table-longer.new.self c.mark_failure.new.self c.renew_l1_table-longer.new.self c.renew_l1_table-longer.result c.mark_failure.ensures.marks (ap (λ (i : Qcow2 _ _). i.file) c.mark_failure.ensures.rest)))))
 
 pub returns-in_err-mark_failure-clause-last : goal.returns-in_err-mark_failure-clause-last
 returns-in_err-mark_failure-clause-last g c = λ out sound.
@@ -200,7 +206,7 @@ returns-in_err-mark_failure-clause-tables g c = λ out sound.
           (λ list still. subst (MakesEntry view below begun mid list) done (c.renew_l1_table-longer.ensures.makes list still))
           (c.renew_l1_table-longer.ensures.stays.image.number ∙ c.begin.ensures.stays.image.number)
           (subst (λ (r : Result _ _). MayMarkBy r (is_failed mid) marked) done (may_mark c.renew_l1_table-longer.new.self c.mark_failure.new.self c.renew_l1_table-longer.result c.mark_failure.ensures.marks))
-          (subst (λ (r : Result _ _). IfErr r (λ x. x ≡ Memory → IsTrue mid.file.caches.is_changed → IsTrue marked)) done (marks_memory c.renew_l1_table-longer.new.self c.mark_failure.new.self c.renew_l1_table-longer.new.self c.renew_l1_table-longer.result c.mark_failure.ensures.marks (ap (λ (i : Qcow2 _ _). i.file) c.mark_failure.ensures.rest))) out);
+          (subst (λ (r : Result _ _). IfErr r (λ x. x ≡ Memory → IsTrue (has_noted_change mid) → IsTrue marked)) done (marks_memory c.renew_l1_table-longer.new.self c.mark_failure.new.self c.renew_l1_table-longer.new.self c.renew_l1_table-longer.result c.mark_failure.ensures.marks (ap (λ (i : Qcow2 _ _). i.file) c.mark_failure.ensures.rest))) out);
     })
 
 pub returns-in_err-mark_fault-clause-tables : goal.returns-in_err-mark_fault-clause-tables
@@ -227,7 +233,8 @@ returns-in_err-mark_fault-clause-tables g c = λ out sound.
       taken = taken_behind view below out old long filled c.args.size c.args.mode e call
           (subst (FillsGrownOrRefuses view below c.args.size c.args.mode long filled out) done (c.fill_grown-filled.ensures.fills out call.sound));
       zeros = λ zero lacks.
-          let refused = c.fill_grown-filled.ensures.version zero (subst (λ n. n < 3) (sym (same_version old.file.header.fields long.file.header.fields call.header)) lacks) in
+          let empty : HasNothingToFree c.mark_failure.new.self = subst (λ (i : Qcow2 _ _). HasNothingToFree i) (sym same) (subst (λ (r : Result _ _). OnOk r (HasNothingToFree mid)) made c.renew_l1_table-longer.ensures.emptied) in
+          let refused = c.fill_grown-filled.ensures.version empty zero (subst (λ n. n < 3) (sym (same_version old.file.header.fields long.file.header.fields call.header)) lacks) in
           let fault : Err e ≡ Err Version = sym done ∙ refused.0 in
           subst (λ (image : Qcow2 _ _). RefusesUnchanged view below old image out e) (sym c.mark_fault.ensures.rest)
           (unchanged_noted view below old (record filled { is_failed = marked }) (is_changed_of c.mark_fault.new.self.file.storage) c.args.size out e (refuses_version view below out old long filled e marked c.requires.usable call refused.1 (let is : e ≡ Version = cc in is)
@@ -265,7 +272,8 @@ returns-clause-tables g c = λ out sound.
     let longer = subst (λ (image : Qcow2 _ _). ReachesOffset (c.args.size - 1) old.file.header.fields image.file.header.fields) (sym same) told in
     let as_long = reaches_on old.file.header.fields long.file.header.fields c.mark_fault.new.self.file.header.fields c.args.size (let l = c.requires.larger in omega (arith, l)) call.header longer grown.length in
     let never : c.args.mode ≡ Zero → LacksZeros old → ⊥ = λ zero lacks.
-    let refused = c.fill_grown-filled.ensures.version zero (subst (λ n. n < 3) (sym (same_version old.file.header.fields long.file.header.fields call.header)) lacks) in
+    let empty : HasNothingToFree c.mark_failure.new.self = subst (λ (i : Qcow2 _ _). HasNothingToFree i) (sym same) (subst (λ (r : Result _ _). OnOk r (HasNothingToFree mid)) made c.renew_l1_table-longer.ensures.emptied) in
+    let refused = c.fill_grown-filled.ensures.version empty zero (subst (λ n. n < 3) (sym (same_version old.file.header.fields long.file.header.fields call.header)) lacks) in
     absurd (let no : Ok c.in_ok-mark_fault.field-0 ≡ Err Version = sym put ∙ refused.0 in cc) in
     let new = c.write_size-written.new.self in
     let none : HasNothingToFree mid = subst (λ (r : Result _ _). OnOk r (HasNothingToFree mid)) made c.renew_l1_table-longer.ensures.emptied in
@@ -291,7 +299,7 @@ returns-in_err-mark_fault-clause-faults g c =
     let below = g.F.BackingDisk.backing in
     let old = c.args.self.now in
     let longer = counted_marked view below old c.begin.new.self c.renew_l1_table-longer.new.self c.mark_failure.new.self c.renew_l1_table-longer.result c.mark_failure.result c.begin.ensures.faults c.renew_l1_table-longer.ensures.faults c.mark_failure.ensures.answer c.mark_failure.ensures.rest in
-    let filled = counted_noted view below old c.mark_failure.new.self c.fill_grown-filled.new.self c.mark_fault.new.self c.fill_grown-filled.result c.mark_fault.result longer.no_fewer c.fill_grown-filled.ensures.faults c.mark_fault.ensures.answer c.mark_fault.ensures.rest in
+    let filled = counted_noted view below old c.mark_failure.new.self c.fill_grown-filled.new.self c.mark_fault.new.self c.fill_grown-filled.result c.mark_fault.result (same_of view below old c.mark_failure.new.self c.mark_failure.result _ longer c.in_ok-mark_failure.was) c.fill_grown-filled.ensures.faults c.mark_fault.ensures.answer c.mark_fault.ensures.rest in
     counted_on view below old old c.mark_fault.new.self c.mark_fault.result c.in_err-mark_fault.field-0.0 c.from_residual-in_err-mark_fault.result (untouched view below old old refl refl) filled c.in_err-mark_fault.was c.from_residual-in_err-mark_fault.ensures
 
 pub returns-clause-faults : goal.returns-clause-faults
@@ -300,27 +308,94 @@ returns-clause-faults g c =
     let below = g.F.BackingDisk.backing in
     let old = c.args.self.now in
     let longer = counted_marked view below old c.begin.new.self c.renew_l1_table-longer.new.self c.mark_failure.new.self c.renew_l1_table-longer.result c.mark_failure.result c.begin.ensures.faults c.renew_l1_table-longer.ensures.faults c.mark_failure.ensures.answer c.mark_failure.ensures.rest in
-    let filled = counted_noted view below old c.mark_failure.new.self c.fill_grown-filled.new.self c.mark_fault.new.self c.fill_grown-filled.result c.mark_fault.result longer.no_fewer c.fill_grown-filled.ensures.faults c.mark_fault.ensures.answer c.mark_fault.ensures.rest in
-    counted_noted view below old c.mark_fault.new.self c.write_size-written.new.self c.mark_fault-2.new.self c.write_size-written.result c.mark_fault-2.result filled.no_fewer c.write_size-written.ensures.faults c.mark_fault-2.ensures.answer c.mark_fault-2.ensures.rest
+    let filled = counted_noted view below old c.mark_failure.new.self c.fill_grown-filled.new.self c.mark_fault.new.self c.fill_grown-filled.result c.mark_fault.result (same_of view below old c.mark_failure.new.self c.mark_failure.result _ longer c.in_ok-mark_failure.was) c.fill_grown-filled.ensures.faults c.mark_fault.ensures.answer c.mark_fault.ensures.rest in
+    counted_noted view below old c.mark_fault.new.self c.write_size-written.new.self c.mark_fault-2.new.self c.write_size-written.result c.mark_fault-2.result (same_of view below old c.mark_fault.new.self c.mark_fault.result _ filled c.in_ok-mark_fault.was) c.write_size-written.ensures.faults c.mark_fault-2.ensures.answer c.mark_fault-2.ensures.rest
 
 pub returns-in_err-mark_failure-clause-once_written : goal.returns-in_err-mark_failure-clause-once_written
 returns-in_err-mark_failure-clause-once_written g c =
     handed_on (λ r. FailsOnceWritten g.S.Storage.view c.args.self.now c.mark_failure.new.self r) c.from_residual.result c.in_err-mark_failure.field-0.0 c.from_residual.ensures
-    (λ memory. once_written g.S.Storage.view c.args.self.now c.begin.new.self c.renew_l1_table-longer.new.self c.mark_failure.new.self c.renew_l1_table-longer.result c.begin.ensures.storage c.renew_l1_table-longer.ensures.notes c.mark_failure.ensures.marks c.mark_failure.ensures.rest (sym c.mark_failure.ensures.answer ∙ c.in_err-mark_failure.was ∙ err_as c.in_err-mark_failure.field-0.0 Memory memory))
+    (λ memory. once_written g.S.Storage.view c.args.self.now c.begin.new.self c.begin.ensures.begun c.renew_l1_table-longer.new.self c.mark_failure.new.self c.renew_l1_table-longer.result c.renew_l1_table-longer.ensures.notes (c.renew_l1_table-longer.ensures.stays.failed ∙ c.begin.ensures.stays.failed) c.mark_failure.ensures.marks c.mark_failure.ensures.rest (sym c.mark_failure.ensures.answer ∙ c.in_err-mark_failure.was ∙ err_as c.in_err-mark_failure.field-0.0 Memory memory))
 
 pub returns-in_err-mark_fault-clause-once_written : goal.returns-in_err-mark_fault-clause-once_written
 returns-in_err-mark_fault-clause-once_written g c =
+    let made : c.renew_l1_table-longer.result ≡ Ok c.in_ok-mark_failure.field-0 = sym c.mark_failure.ensures.answer ∙ c.in_ok-mark_failure.was in
+    let long : is_failed c.mark_failure.new.self ≡ is_failed c.args.self.now = subst (λ (r : Result _ _). MayMarkBy r (is_failed c.renew_l1_table-longer.new.self) (is_failed c.mark_failure.new.self)) made (may_mark c.renew_l1_table-longer.new.self c.mark_failure.new.self c.renew_l1_table-longer.result c.mark_failure.ensures.marks)
+    ∙ c.renew_l1_table-longer.ensures.stays.failed ∙ c.begin.ensures.stays.failed in
     handed_on (λ r. FailsOnceWritten g.S.Storage.view c.args.self.now c.mark_fault.new.self r) c.from_residual-in_err-mark_fault.result c.in_err-mark_fault.field-0.0 c.from_residual-in_err-mark_fault.ensures
-    (failed_once g.S.Storage.view c.args.self.now c.mark_fault.new.self c.fill_grown-filled.result (Err c.in_err-mark_fault.field-0.0) (sym c.in_err-mark_fault.was ∙ c.mark_fault.ensures.answer) c.mark_fault.ensures.fault)
+    (λ memory. once_marked g.S.Storage.view c.args.self.now c.begin.new.self c.begin.ensures.begun c.fill_grown-filled.new.self c.mark_fault.new.self c.fill_grown-filled.result (notes_then (notes_then (notes_then c.renew_l1_table-longer.ensures.notes (same_kept c.renew_l1_table-longer.new.self c.mark_failure.new.self (ap (λ (i : Qcow2 _ _). i.file.storage) c.mark_failure.ensures.rest) (ap (λ (i : Qcow2 _ _). i.file.caches) c.mark_failure.ensures.rest))) c.fill_grown-filled.ensures.notes) (same_kept c.fill_grown-filled.new.self c.mark_fault.new.self (ap (λ (f : ImageFile _). f.storage) c.mark_fault.ensures.file) (ap (λ (f : ImageFile _). f.caches) c.mark_fault.ensures.file)))
+    (c.fill_grown-filled.ensures.stays.failed ∙ long) c.mark_fault.ensures.marks (sym c.mark_fault.ensures.answer ∙ c.in_err-mark_fault.was ∙ err_as c.in_err-mark_fault.field-0.0 Memory memory))
 
 pub returns-clause-once_written : goal.returns-clause-once_written
-returns-clause-once_written g c = failed_once g.S.Storage.view c.args.self.now c.mark_fault-2.new.self c.write_size-written.result c.mark_fault-2.result c.mark_fault-2.ensures.answer c.mark_fault-2.ensures.fault
+returns-clause-once_written g c = λ memory.
+    let made : c.renew_l1_table-longer.result ≡ Ok c.in_ok-mark_failure.field-0 = sym c.mark_failure.ensures.answer ∙ c.in_ok-mark_failure.was in
+    let long : is_failed c.mark_failure.new.self ≡ is_failed c.args.self.now = subst (λ (r : Result _ _). MayMarkBy r (is_failed c.renew_l1_table-longer.new.self) (is_failed c.mark_failure.new.self)) made (may_mark c.renew_l1_table-longer.new.self c.mark_failure.new.self c.renew_l1_table-longer.result c.mark_failure.ensures.marks)
+    ∙ c.renew_l1_table-longer.ensures.stays.failed ∙ c.begin.ensures.stays.failed in
+    let put : c.fill_grown-filled.result ≡ Ok c.in_ok-mark_fault.field-0 = sym c.mark_fault.ensures.answer ∙ c.in_ok-mark_fault.was in
+    let whole : c.mark_fault.new.self ≡ c.fill_grown-filled.new.self = subst (λ (r : Result _ _). OnOk r (c.mark_fault.new.self ≡ c.fill_grown-filled.new.self)) put c.mark_fault.ensures.same in
+    once_marked g.S.Storage.view c.args.self.now c.begin.new.self c.begin.ensures.begun c.write_size-written.new.self c.mark_fault-2.new.self c.write_size-written.result (notes_then (notes_then (notes_then (notes_then (notes_then c.renew_l1_table-longer.ensures.notes (same_kept c.renew_l1_table-longer.new.self c.mark_failure.new.self (ap (λ (i : Qcow2 _ _). i.file.storage) c.mark_failure.ensures.rest) (ap (λ (i : Qcow2 _ _). i.file.caches) c.mark_failure.ensures.rest))) c.fill_grown-filled.ensures.notes) (same_kept c.fill_grown-filled.new.self c.mark_fault.new.self (ap (λ (f : ImageFile _). f.storage) c.mark_fault.ensures.file) (ap (λ (f : ImageFile _). f.caches) c.mark_fault.ensures.file))) c.write_size-written.ensures.notes) (same_kept c.write_size-written.new.self c.mark_fault-2.new.self (ap (λ (f : ImageFile _). f.storage) c.mark_fault-2.ensures.file) (ap (λ (f : ImageFile _). f.caches) c.mark_fault-2.ensures.file)))
+    (ap (λ (i : Qcow2 _ _). i.is_failed) c.write_size-written.ensures.rest ∙ ap (λ (i : Qcow2 _ _). i.is_failed) whole ∙ c.fill_grown-filled.ensures.stays.failed ∙ long) c.mark_fault-2.ensures.marks (sym c.mark_fault-2.ensures.answer ∙ memory)
 
 pub returns-in_err-mark_failure-clause-header_cluster : goal.returns-in_err-mark_failure-clause-header_cluster
-returns-in_err-mark_failure-clause-header_cluster g c = behind_call c.begin.ensures.begun c.renew_l1_table-longer.ensures.header_cluster c.mark_failure.ensures.rest
+returns-in_err-mark_failure-clause-header_cluster g c = behind_call g.S.Storage.view c.begin.ensures.begun c.renew_l1_table-longer.ensures.header_cluster c.mark_failure.ensures.rest
 
 pub returns-in_err-mark_fault-clause-header_cluster : goal.returns-in_err-mark_fault-clause-header_cluster
-returns-in_err-mark_fault-clause-header_cluster g c = behind_then (behind_then (behind_call c.begin.ensures.begun c.renew_l1_table-longer.ensures.header_cluster c.mark_failure.ensures.rest) c.fill_grown-filled.ensures.header_cluster) (behind_by c.mark_fault.ensures.rest behind_none)
+returns-in_err-mark_fault-clause-header_cluster g c = behind_then (behind_then (behind_call g.S.Storage.view c.begin.ensures.begun c.renew_l1_table-longer.ensures.header_cluster c.mark_failure.ensures.rest) c.fill_grown-filled.ensures.header_cluster) (behind_by g.S.Storage.view c.mark_fault.ensures.rest behind_none)
 
 pub returns-clause-header_cluster : goal.returns-clause-header_cluster
-returns-clause-header_cluster g c = behind_then (behind_then (behind_then (behind_then (behind_call c.begin.ensures.begun c.renew_l1_table-longer.ensures.header_cluster c.mark_failure.ensures.rest) c.fill_grown-filled.ensures.header_cluster) (behind_by c.mark_fault.ensures.rest behind_none)) c.write_size-written.ensures.header_cluster) (behind_by c.mark_fault-2.ensures.rest behind_none)
+returns-clause-header_cluster g c = behind_then (behind_then (behind_then (behind_then (behind_call g.S.Storage.view c.begin.ensures.begun c.renew_l1_table-longer.ensures.header_cluster c.mark_failure.ensures.rest) c.fill_grown-filled.ensures.header_cluster) (behind_by g.S.Storage.view c.mark_fault.ensures.rest behind_none)) c.write_size-written.ensures.header_cluster) (behind_by g.S.Storage.view c.mark_fault-2.ensures.rest behind_none)
+
+pub mark_fault-requires : goal.mark_fault-requires
+mark_fault-requires g c =
+    let made : c.renew_l1_table-longer.result ≡ Ok c.in_ok-mark_failure.field-0 = sym c.mark_failure.ensures.answer ∙ c.in_ok-mark_failure.was in
+    record { noted = kept_noted g.S.Storage.view c.mark_failure.new.self c.fill_grown-filled.new.self c.fill_grown-filled.ensures.notes (subst (λ (f : ImageFile _). IsTrue (has_noted f)) (sym (ap (λ (i : Qcow2 _ _). i.file) c.mark_failure.ensures.rest)) (or_right (is_changed_of c.renew_l1_table-longer.new.self.file.storage) c.renew_l1_table-longer.new.self.file.caches.is_changed (subst (λ (r : Result _ _). OnOk r (IsTrue c.renew_l1_table-longer.new.self.file.caches.is_changed)) made c.renew_l1_table-longer.ensures.noted))) }
+
+pub mark_fault-requires-2 : goal.mark_fault-requires-2
+mark_fault-requires-2 g c =
+    let made : c.renew_l1_table-longer.result ≡ Ok c.in_ok-mark_failure.field-0 = sym c.mark_failure.ensures.answer ∙ c.in_ok-mark_failure.was in
+    record {
+      noted = kept_noted g.S.Storage.view c.mark_fault.new.self c.write_size-written.new.self c.write_size-written.ensures.notes
+          (subst (λ (f : ImageFile _). IsTrue (has_noted f)) (sym c.mark_fault.ensures.file) (kept_noted g.S.Storage.view c.mark_failure.new.self c.fill_grown-filled.new.self c.fill_grown-filled.ensures.notes (subst (λ (f : ImageFile _). IsTrue (has_noted f)) (sym (ap (λ (i : Qcow2 _ _). i.file) c.mark_failure.ensures.rest)) (or_right (is_changed_of c.renew_l1_table-longer.new.self.file.storage) c.renew_l1_table-longer.new.self.file.caches.is_changed (subst (λ (r : Result _ _). OnOk r (IsTrue c.renew_l1_table-longer.new.self.file.caches.is_changed)) made c.renew_l1_table-longer.ensures.noted)))));
+    }
+
+pub returns-in_err-mark_failure-clause-freed : goal.returns-in_err-mark_failure-clause-freed
+returns-in_err-mark_failure-clause-freed g c = λ out sound.
+    let view = g.S.Storage.view in
+    let below = g.F.BackingDisk.backing in
+    let old = c.args.self.now in
+    let begun = c.begin.new.self in
+    let mid = c.renew_l1_table-longer.new.self in
+    let first = begun_call view below old begun (λ out sound. record { keeps = c.begin.ensures.keeps (pending_in view below old out) out sound; list = c.begin.ensures.list }) in
+    let e = c.in_err-mark_failure.field-0.0 in
+    let marked = is_failed c.mark_failure.new.self in
+    let done : c.renew_l1_table-longer.result ≡ Err c.in_err-mark_failure.field-0.0 = sym c.mark_failure.ensures.answer ∙ c.in_err-mark_failure.was in
+    let freed = subst (λ (r : Result _ _). IfErr r (FreesRefused mid)) done (c.renew_l1_table-longer.ensures.freed out (first out sound).sound) in
+    subst (λ (r : Result _ _). IfErr r (FreesRefused c.mark_failure.new.self)) (sym (err_is c.from_residual.result c.from_residual.ensures))
+    (subst (λ (image : Qcow2 _ _). FreesRefused image e) (sym c.mark_failure.ensures.rest) freed)
+
+pub returns-in_err-mark_fault-clause-freed : goal.returns-in_err-mark_fault-clause-freed
+returns-in_err-mark_fault-clause-freed g c = λ out sound.
+    let view = g.S.Storage.view in
+    let below = g.F.BackingDisk.backing in
+    let old = c.args.self.now in
+    let begun = c.begin.new.self in
+    let mid = c.renew_l1_table-longer.new.self in
+    let first = begun_call view below old begun (λ out sound. record { keeps = c.begin.ensures.keeps (pending_in view below old out) out sound; list = c.begin.ensures.list }) in
+    let long = c.mark_failure.new.self in
+    let made : c.renew_l1_table-longer.result ≡ Ok c.in_ok-mark_failure.field-0 = sym c.mark_failure.ensures.answer ∙ c.in_ok-mark_failure.was in
+    let kept = subst (λ (r : Result _ _). MayMarkBy r (is_failed mid) (is_failed long)) made (may_mark c.renew_l1_table-longer.new.self c.mark_failure.new.self c.renew_l1_table-longer.result c.mark_failure.ensures.marks) in
+    let same : c.mark_failure.new.self ≡ c.renew_l1_table-longer.new.self = c.mark_failure.ensures.rest ∙ ap (λ f. record mid { is_failed = f }) kept in
+    let begins = first out sound in
+    let lengthens = subst (MakesEntry view below begun mid out) made (c.renew_l1_table-longer.ensures.makes out begins.sound) in
+    let call : UnseenCall view below old c.mark_failure.new.self out = subst (λ (image : Qcow2 _ _). UnseenCall view below old image out) (sym same) (stays_then view below out old begun mid begins lengthens) in
+    let filled = c.fill_grown-filled.new.self in
+    let e = c.in_err-mark_fault.field-0.0 in
+    let marked = is_failed c.mark_fault.new.self in
+    let done : c.fill_grown-filled.result ≡ Err c.in_err-mark_fault.field-0.0 = sym c.mark_fault.ensures.answer ∙ c.in_err-mark_fault.was in
+    let freed = subst (λ (r : Result _ _). IfErr r (FreesRefused filled)) done (c.fill_grown-filled.ensures.freed out call.sound) in
+    subst (λ (r : Result _ _). IfErr r (FreesRefused c.mark_fault.new.self)) (sym (err_is c.from_residual-in_err-mark_fault.result c.from_residual-in_err-mark_fault.ensures))
+    (subst (λ (image : Qcow2 _ _). FreesRefused image e) (sym c.mark_fault.ensures.rest) freed)
+
+pub returns-clause-freed : goal.returns-clause-freed
+returns-clause-freed g c = λ out sound.
+    let new = c.mark_fault-2.new.self in
+    subst (λ (r : Result _ _). IfErr r (FreesRefused new)) (sym c.mark_fault-2.ensures.answer) (if_err c.write_size-written.result (λ e fault. inl fault) c.write_size-written.ensures.cause)

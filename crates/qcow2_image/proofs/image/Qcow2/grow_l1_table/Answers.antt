@@ -1,11 +1,12 @@
-use Rattle.std.proofs.Common.{◌≤◌, arith}
-use Rattle.qcow2_metadata.specs.EntryTable.{entry_count}
+use Rattle.std.proofs.Common.{◌≤◌, arith, refl, ap}
+use Rattle.qcow2_metadata.specs.EntryTable.{entry_count, EntryTableView}
 use Rattle.qcow2_alloc.proofs.AllocationSteps.{handed_on}
 use Rattle.qcow2_image.specs.LongerTables.{Lengthens}
 use Rattle.qcow2_image.proofs.Grow.Lengthened.{is_longer, lengthened, refused_none}
 use Rattle.qcow2_image.proofs.Prepare.Owning.{refused}
-use Rattle.qcow2_alloc.specs.KeptNotes.{kept_same}
+use Rattle.qcow2_alloc.proofs.KeptMarks.{notes_none}
 use Rattle.qcow2_image.proofs.Call.BehindHeader.{behind_none}
+use Rattle.qcow2_image.proofs.Prepare.Listing.{some_still}
 use Rattle.qcow2_image.proofs.image.Qcow2.grow_l1_table.Goals as goal
 
 pub returns-then-index-ge-MAX_L1_ENTRIES-clause-lengthens : goal.returns-then-index-ge-MAX_L1_ENTRIES-clause-lengthens
@@ -40,13 +41,13 @@ pub returns-in-Ok-clause-length : goal.returns-in-Ok-clause-length
 returns-in-Ok-clause-length g c = omega (arith, c.in-Ok.ensures.entries, c.in_ok-table.ensures.length, c.max-entries.ensures, c.len.ensures.value)
 
 pub returns-then-index-ge-MAX_L1_ENTRIES-clause-notes : goal.returns-then-index-ge-MAX_L1_ENTRIES-clause-notes
-returns-then-index-ge-MAX_L1_ENTRIES-clause-notes g c = kept_same c.args.self.now.file.storage
+returns-then-index-ge-MAX_L1_ENTRIES-clause-notes g c = notes_none
 
 pub returns-in_err-table-clause-notes : goal.returns-in_err-table-clause-notes
-returns-in_err-table-clause-notes g c = kept_same c.args.self.now.file.storage
+returns-in_err-table-clause-notes g c = notes_none
 
 pub returns-in_err-old-clause-notes : goal.returns-in_err-old-clause-notes
-returns-in_err-old-clause-notes g c = kept_same c.args.self.now.file.storage
+returns-in_err-old-clause-notes g c = notes_none
 
 pub returns-in-Ok-clause-notes : goal.returns-in-Ok-clause-notes
 returns-in-Ok-clause-notes g c = c.enter_l1_table.ensures.notes
@@ -64,7 +65,13 @@ pub returns-in_err-old-clause-header_cluster : goal.returns-in_err-old-clause-he
 returns-in_err-old-clause-header_cluster g c = behind_none
 
 pub returns-in-Ok-clause-header_cluster : goal.returns-in-Ok-clause-header_cluster
-returns-in-Ok-clause-header_cluster g c = c.enter_l1_table.ensures.header_cluster
+returns-in-Ok-clause-header_cluster g c = c.enter_l1_table.ensures.header_cluster (ap (λ (t : EntryTableView). t.cluster_bits) c.in_ok-table.ensures.table)
 
 pub returns-in-Err-clause-header_cluster : goal.returns-in-Err-clause-header_cluster
-returns-in-Err-clause-header_cluster g c = c.enter_l1_table.ensures.header_cluster
+returns-in-Err-clause-header_cluster g c = c.enter_l1_table.ensures.header_cluster (ap (λ (t : EntryTableView). t.cluster_bits) c.in_ok-table.ensures.table)
+
+pub returns-in-Ok-clause-former : goal.returns-in-Ok-clause-former
+returns-in-Ok-clause-former g c = some_still c.args.self.now c.enter_l1_table.new.self (record c.enter_l1_table.new.self { file = record c.enter_l1_table.new.self.file { free_list = c.hand_back.new.list } }) c.in-Ok.ensures.former refl
+
+pub returns-in-Ok-clause-noted : goal.returns-in-Ok-clause-noted
+returns-in-Ok-clause-noted g c = c.in-Ok.ensures.noted

@@ -38,7 +38,7 @@ returns-in_err-grow_l1_table-clause-faults g c =
     c.grow_l1_table.ensures.faults c.in_err-grow_l1_table.was c.from_residual.ensures
 
 pub returns-clause-faults : goal.returns-clause-faults
-returns-clause-faults g c = counted_since g.S.Storage.view g.F.BackingDisk.backing c.args.self.now c.grow_l1_table.new.self c.write_size.new.self c.write_size.result c.grow_l1_table.ensures.faults.no_fewer c.write_size.ensures.faults
+returns-clause-faults g c = counted_since g.S.Storage.view g.F.BackingDisk.backing c.args.self.now c.grow_l1_table.new.self c.write_size.new.self c.write_size.result c.in_ok-grow_l1_table.ensures.faults.told c.write_size.ensures.faults
 
 pub returns-clause-cause : goal.returns-clause-cause
 returns-clause-cause g c = λ writable. faults_met c.write_size.result c.write_size.ensures.cause

@@ -1,4 +1,4 @@
-use Rattle.std.proofs.Common.{Result, true, sym, ap, subst, arith, ◌≡◌, ◌∙◌, ◌<◌}
+use Rattle.std.proofs.Common.{Result, true, sym, ap, subst, arith, ◌≡◌, ◌∙◌, ◌<◌, refl}
 use Rattle.std.specs.Prelude.{MatchResult}
 use Rattle.qcow2_alloc.specs.declared.error.ImageError.{ImageError}
 use Rattle.qcow2_alloc.specs.ImageError.{of_storage}
@@ -12,9 +12,9 @@ use Rattle.qcow2_image.proofs.Open.Opening.{new_tables_read, new_tables_then, ke
 use Rattle.qcow2_image.proofs.Open.Clearing.{stays_after, kept_after}
 use Rattle.qcow2_metadata.proofs.StillHeader.{autoclear_still}
 use Rattle.qcow2_metadata.proofs.WrittenHeader.{autoclear_after}
-use Rattle.qcow2_metadata.specs.Header.{HeaderView}
+use Rattle.qcow2_metadata.specs.Header.{HeaderView, without_autoclear}
 use Rattle.qcow2_alloc.specs.declared.image_file.ImageFile.{ImageFile}
-use Rattle.qcow2_image.proofs.Call.BehindHeader.{behind_loaded}
+use Rattle.qcow2_image.proofs.Call.BehindHeader.{named_before, stands_still}
 use Rattle.qcow2_image.proofs.image.Qcow2.load_allocator.Goals as goal
 
 pub returns-clause-loaded : goal.returns-clause-loaded
@@ -106,7 +106,8 @@ returns-clause-storage g c =
     (file_cleared view file c.will_write.new.self c.clear_autoclear.new.self c.will_write.ensures.storage c.clear_autoclear.result cleared.calls cleared.written cleared.idle c.clear_autoclear.new.header c.in_ok-clear_autoclear.ensures.ok x _ c.in_ok-clear_autoclear.was)
 
 pub returns-clause-header_cluster : goal.returns-clause-header_cluster
-returns-clause-header_cluster g c = λ are some.
+returns-clause-header_cluster g c = λ are names.
     let cleared = c.in_ok-clear_autoclear.ensures.ok in
-    let offset : c.clear_autoclear.new.header.fields.reftable_offset ≡ c.args.file.now.header.fields.reftable_offset = ap (λ (v : HeaderView). v.fields.reftable_offset) cleared ∙ ap (λ (f : ImageFile _). f.header.fields.reftable_offset) c.new.ensures.rest in
-    behind_loaded c.clear_autoclear.new.header.fields.cluster_bits (c.in_ok-allocator.ensures.header_cluster (subst (λ n. 0 < n) offset some) are) (ap (λ (v : HeaderView). v.fields.cluster_bits) cleared)
+    let fields : c.clear_autoclear.new.header.fields ≡ without_autoclear c.args.file.now.header.fields = ap (λ (v : HeaderView). v.fields) cleared ∙ ap (λ (f : ImageFile _). without_autoclear f.header.fields) c.new.ensures.rest in
+    let before = named_before c.args.file.now.header.fields c.clear_autoclear.new.header.fields fields names in
+    (before, stands_still refl (ap (λ (v : HeaderView). v.fields.cluster_bits) cleared) (c.in_ok-allocator.ensures.header_cluster before.reftable are))

@@ -1,4 +1,4 @@
-use Rattle.std.proofs.Common.{◌≡◌, ℕ, ◌*◌, ◌<◌, ◌^◌, Result, refl, sym, ap, ◌∙◌, subst, arith}
+use Rattle.std.proofs.Common.{◌≡◌, ℕ, ◌*◌, ◌<◌, ◌^◌, Result, refl, sym, ap, ◌∙◌, subst, arith, inl, inr}
 use Rattle.std.specs.Prelude.{MatchResult}
 use Rattle.image_access.specs.Contents.{bytes_at}
 use Rattle.qcow2_metadata.specs.Bytes.{byte_at}
@@ -15,6 +15,7 @@ use Rattle.qcow2_alloc.proofs.AllocationSteps.{handed_on}
 use Rattle.qcow2_alloc.proofs.LoadedTables.{entries_read, not_loaded}
 use Rattle.qcow2_image.proofs.Open.Reading.{none_reads}
 use Rattle.qcow2_image.proofs.Open.Opening.{l1_cleared, l1_loaded}
+use Rattle.qcow2_image.proofs.Call.BehindHeader.{l1_nowhere, l1_somewhere}
 use Rattle.qcow2_image.proofs.image.Qcow2.load_l1_table.Goals as goal
 
 pub returns-clause-table : goal.returns-clause-table
@@ -56,3 +57,13 @@ returns-in_err-table-clause-why g c = λ honest.
 
 pub returns-then-entries-eq0-clause-why : goal.returns-then-entries-eq0-clause-why
 returns-then-entries-eq0-clause-why g c = λ honest. none_reads c.args.file.now.header.fields (contents_in g.S.Storage.view c.args.file.now) (sym c.l1_table_entries-entries.ensures.value ∙ c.if-entries-eq0.true)
+
+pub returns-then-entries-eq0-clause-header_cluster : goal.returns-then-entries-eq0-clause-header_cluster
+returns-then-entries-eq0-clause-header_cluster g c = λ names. l1_nowhere c.args.file.now.header.fields c.in_ok-new_cleared.field-0 _ c.in_ok-new_cleared.ensures.table
+
+pub returns-clause-header_cluster : goal.returns-clause-header_cluster
+returns-clause-header_cluster g c = λ names.
+    let h = c.args.file.now.header.fields in
+    let entries : c.l1_table_entries-entries.result ≡ h.l1_entries = c.l1_table_entries-entries.ensures.value in
+    let at : c.in-Some.cluster * 2 ^ h.cluster_bits ≡ h.l1_offset = ap (λ n. c.in-Some.cluster * 2 ^ n) (sym c.cluster_bits-bits.ensures.value) ∙ c.in-Some.ensures.cluster ∙ c.l1_table_offset.ensures in
+    l1_somewhere h c.in_ok-table.table c.in-Some.cluster _ c.in_ok-table.ensures.table at (elim names.l1_table [ inl none ↦ absurd (c.if-entries-eq0.false (entries ∙ none)) | inr some ↦ some ])

@@ -1,3 +1,4 @@
+use Rattle.qcow2_alloc.proofs.KeptMarks.{notes_of_both}
 use Rattle.qcow2_image.proofs.Prepare.Filling.{same_new_data}
 use Rattle.qcow2_image.proofs.Map.Loading.{caches_moved}
 use Rattle.qcow2_image.proofs.Call.BehindHeader.{behind_caches}
@@ -15,7 +16,7 @@ returns-clause-contents g c = λ p out sound.
     (c.l2_get_or_insert.ensures.keeps c.args.self.now.file.header.fields p sound.file.honest sound.file.caches) c.l2_get_or_insert.ensures.marks.room c.l2_get_or_insert.ensures.marks.pins)
 
 pub returns-clause-notes : goal.returns-clause-notes
-returns-clause-notes g c = c.l2_get_or_insert.ensures.notes
+returns-clause-notes g c = (notes_of_both c.l2_get_or_insert.ensures.marks c.l2_get_or_insert.ensures.notes)
 
 pub returns-clause-header_cluster : goal.returns-clause-header_cluster
-returns-clause-header_cluster g c = λ some. behind_caches (c.l2_get_or_insert.ensures.header_cluster some).behind
+returns-clause-header_cluster g c = λ some. behind_caches (c.l2_get_or_insert.ensures.header_cluster some)

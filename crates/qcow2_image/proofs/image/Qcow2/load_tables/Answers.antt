@@ -1,4 +1,4 @@
-use Rattle.std.proofs.Common.{◌≡◌, ◌∙◌, Bool, Result, Ok, Err, true, false, inl, inr, subst, sym, refl, None}
+use Rattle.std.proofs.Common.{◌≡◌, ◌∙◌, Bool, Result, Ok, Err, true, false, inl, inr, subst, sym, refl, None, ap}
 use Rattle.std.specs.Prelude.{MatchResult}
 use Rattle.qcow2_alloc.specs.declared.allocation.Allocator.{Allocator}
 use Rattle.qcow2_alloc.specs.declared.error.ImageError.{ImageError}
@@ -12,7 +12,9 @@ use Rattle.qcow2_image.proofs.Open.Reading.{so_before}
 use Rattle.qcow2_image.proofs.Open.Opening.{new_tables_then, kept_read, kept_then}
 use Rattle.qcow2_alloc.specs.declared.image_file.ImageFile.{ImageFile}
 use Rattle.qcow2_alloc.specs.BehindHeader.{AreBehindHeader}
-use Rattle.qcow2_image.specs.BehindHeader.{TablesBehindHeader}
+use Rattle.qcow2_image.specs.BehindHeader.{TablesBehindHeader, IsL1TableBehind, NamesTablesBehind}
+use Rattle.qcow2_image.proofs.Call.BehindHeader.{behind_loaded}
+use Rattle.qcow2_metadata.specs.declared.header.HeaderFields.{HeaderFields}
 use Rattle.qcow2_image.proofs.image.Qcow2.load_tables.Goals as goal
 
 pub returns-then-not-writable-clause-loaded : goal.returns-then-not-writable-clause-loaded
@@ -123,9 +125,16 @@ returns-clause-storage g c =
     (subst (λ (w : Bool). LeavesFile view w mid new (Ok x)) (sym c.if-not-writable.false) c.in_ok-allocator.ensures.storage)
 
 pub returns-then-not-writable-clause-header_cluster : goal.returns-then-not-writable-clause-header_cluster
-returns-then-not-writable-clause-header_cluster g c = λ are some.
-    subst (λ (f : ImageFile _). TablesBehindHeader f.header.fields.cluster_bits f.header.fields.cluster_bits f.caches None) (sym c.load_l1_table.ensures.rest) (record { header = refl; caches = are; reftable = tt })
+returns-then-not-writable-clause-header_cluster g c = λ are names.
+    let same = c.load_l1_table.ensures.rest in
+    let l1 = c.in_ok-l1_table.ensures.header_cluster (subst (λ (f : ImageFile _). NamesTablesBehind f.header.fields) same names) in
+    subst (λ (f : ImageFile _). TablesBehindHeader f.header.fields.cluster_bits f.header.fields.cluster_bits c.in_ok-l1_table.l1_table f.caches None) (sym same) (record { header = refl; l1 = l1; caches = are; reftable = tt })
 
 pub returns-clause-header_cluster : goal.returns-clause-header_cluster
-returns-clause-header_cluster g c = λ are.
-    c.in_ok-allocator.ensures.header_cluster (subst (λ (f : ImageFile _). AreBehindHeader f.header.fields.cluster_bits f.caches) (sym c.load_l1_table.ensures.rest) are)
+returns-clause-header_cluster g c = λ are names.
+    let same = c.load_l1_table.ensures.rest in
+    let loaded = c.in_ok-allocator.ensures.header_cluster (subst (λ (f : ImageFile _). AreBehindHeader f.header.fields.cluster_bits f.caches) (sym same) are) names in
+    let l1 = c.in_ok-l1_table.ensures.header_cluster (subst (λ (f : ImageFile _). NamesTablesBehind f.header.fields) same loaded.0) in
+    let as_wide : c.load_allocator.new.file.header.fields.cluster_bits ≡ c.args.file.now.header.fields.cluster_bits =
+    ap (λ (h : HeaderFields). h.cluster_bits) c.in_ok-allocator.ensures.format ∙ ap (λ (f : ImageFile _). f.header.fields.cluster_bits) same in
+    behind_loaded loaded.1 (subst (λ n. IsL1TableBehind n c.in_ok-l1_table.l1_table) (sym as_wide) l1)

@@ -14,6 +14,11 @@ use Rattle.qcow2_image.proofs.Map.Looked.{none_found}
 use Rattle.qcow2_image.proofs.Map.Unmodified.{read_caches, read_none}
 use Rattle.qcow2_image.proofs.Call.BehindHeader.{behind_caches}
 use Rattle.std.specs.Prelude.{IfSome}
+use Rattle.std.specs.Prelude.{IfErr}
+use Rattle.qcow2_alloc.proofs.AllocationSteps.{handed_on}
+use Rattle.qcow2_image.specs.Refusals.{IsUnlimited}
+use Rattle.qcow2_image.proofs.Call.Unlimited.{in_use_unlimited}
+use Rattle.qcow2_image.proofs.Prepare.Lacking.{named_place}
 use Rattle.qcow2_image.proofs.image.Qcow2.look_up.Goals as goal
 
 pub returns-in_err-l2_get_or_insert-in-Some-clause-keeps :
@@ -95,7 +100,18 @@ pub returns-in-None-clause-unwritten : goal.returns-in-None-clause-unwritten
 returns-in-None-clause-unwritten g c = λ p out sound clean. read_none g.S.Storage.view c.args.self.now clean
 
 pub returns-in_err-l2_get_or_insert-in-Some-clause-header_cluster : goal.returns-in_err-l2_get_or_insert-in-Some-clause-header_cluster
-returns-in_err-l2_get_or_insert-in-Some-clause-header_cluster g c = behind_caches (c.l2_get_or_insert.ensures.header_cluster (subst (λ t. IfSome t (λ n. 0 < n)) c.in-Some.is c.in_ok-l2_cluster.ensures.elsewhere)).behind
+returns-in_err-l2_get_or_insert-in-Some-clause-header_cluster g c = behind_caches (c.l2_get_or_insert.ensures.header_cluster (subst (λ t. IfSome t (λ n. 0 < n)) c.in-Some.is c.in_ok-l2_cluster.ensures.elsewhere))
 
 pub returns-in_ok-l2_get_or_insert-in-Some-clause-header_cluster : goal.returns-in_ok-l2_get_or_insert-in-Some-clause-header_cluster
-returns-in_ok-l2_get_or_insert-in-Some-clause-header_cluster g c = behind_caches (c.l2_get_or_insert.ensures.header_cluster (subst (λ t. IfSome t (λ n. 0 < n)) c.in-Some.is c.in_ok-l2_cluster.ensures.elsewhere)).behind
+returns-in_ok-l2_get_or_insert-in-Some-clause-header_cluster g c = behind_caches (c.l2_get_or_insert.ensures.header_cluster (subst (λ t. IfSome t (λ n. 0 < n)) c.in-Some.is c.in_ok-l2_cluster.ensures.elsewhere))
+
+pub returns-in_err-l2_get_or_insert-in-Some-clause-limited : goal.returns-in_err-l2_get_or_insert-in-Some-clause-limited
+returns-in_err-l2_get_or_insert-in-Some-clause-limited g c = λ p out sound.
+    let view = g.S.Storage.view in
+    let h = c.args.self.now.file.header.fields in
+    let names : NamesL2Table view c.args.self.now c.args.offset (Some c.in-Some.table) =
+    subst (NamesL2Table view c.args.self.now c.args.offset) c.in-Some.is (c.in_ok-l2_cluster.ensures.names sound.l1_table) in
+    let e = c.in_err-l2_get_or_insert-in-Some.field-0.0 in
+    handed_on (λ r. IfErr r IsUnlimited) c.from_residual-in_err-l2_get_or_insert-in-Some.result e c.from_residual-in_err-l2_get_or_insert-in-Some.ensures
+    (in_use_unlimited c.args.self.now.file.caches e
+    (c.in_err-l2_get_or_insert-in-Some.ensures.refusals h (named_place h (contents_in view c.args.self.now.file) (l1_index_of h c.args.offset) c.in-Some.table names.0) p sound.file.honest sound.file.caches sound.file.named_blocks))

@@ -5,9 +5,9 @@ use Rattle.qcow2_alloc.specs.ImageStorage.{storage_of}
 use Rattle.qcow2_alloc.proofs.AllocationSteps.{handed_on}
 use Rattle.qcow2_image.specs.LongerTables.{NamesTable}
 use Rattle.qcow2_image.proofs.Grow.NamedL1.{named_interruption, named_so}
-use Rattle.qcow2_alloc.specs.KeptNotes.{kept_same}
+use Rattle.qcow2_alloc.proofs.KeptMarks.{notes_none, notes_of_storage}
 use Rattle.qcow2_alloc.proofs.KeptMarks.{told_kept}
-use Rattle.qcow2_image.proofs.Call.BehindHeader.{behind_bits}
+use Rattle.qcow2_image.proofs.Call.BehindHeader.{behind_bits, behind_l1, behind_pointer, behind_then}
 use Rattle.qcow2_metadata.specs.Header.{HeaderView}
 use Rattle.qcow2_image.proofs.image.Qcow2.name_l1_table.Goals as goal
 
@@ -34,19 +34,19 @@ returns-clause-names g c = λ p out sound noted ready.
     c.write_l1_table_pointer.new.self (storage_of c.will_write.new.self) c.will_write.ensures.storage c.write_l1_table_pointer.ensures.written c.write_l1_table_pointer.ensures.calls c.in_ok-write_l1_table_pointer.field-0 c.in_ok-write_l1_table_pointer.was
 
 pub returns-in_err-set_l1_table-clause-notes : goal.returns-in_err-set_l1_table-clause-notes
-returns-in_err-set_l1_table-clause-notes g c = kept_same c.args.self.now.file.storage
+returns-in_err-set_l1_table-clause-notes g c = notes_none
 
 pub returns-in_err-write_l1_table_pointer-clause-notes : goal.returns-in_err-write_l1_table_pointer-clause-notes
-returns-in_err-write_l1_table_pointer-clause-notes g c = told_kept c.args.self.now.file.storage c.will_write.new.self c.write_l1_table_pointer.new.self c.write_l1_table_pointer.result c.will_write.ensures.storage c.will_write.ensures.changed _ c.write_l1_table_pointer.ensures.written c.write_l1_table_pointer.ensures.calls c.write_l1_table_pointer.ensures.noted
+returns-in_err-write_l1_table_pointer-clause-notes g c = notes_of_storage (told_kept c.args.self.now.file.storage c.will_write.new.self c.write_l1_table_pointer.new.self c.write_l1_table_pointer.result c.will_write.ensures.storage c.will_write.ensures.changed _ c.write_l1_table_pointer.ensures.written c.write_l1_table_pointer.ensures.calls c.write_l1_table_pointer.ensures.noted)
 
 pub returns-clause-notes : goal.returns-clause-notes
-returns-clause-notes g c = told_kept c.args.self.now.file.storage c.will_write.new.self c.write_l1_table_pointer.new.self c.write_l1_table_pointer.result c.will_write.ensures.storage c.will_write.ensures.changed _ c.write_l1_table_pointer.ensures.written c.write_l1_table_pointer.ensures.calls c.write_l1_table_pointer.ensures.noted
+returns-clause-notes g c = notes_of_storage (told_kept c.args.self.now.file.storage c.will_write.new.self c.write_l1_table_pointer.new.self c.write_l1_table_pointer.result c.will_write.ensures.storage c.will_write.ensures.changed _ c.write_l1_table_pointer.ensures.written c.write_l1_table_pointer.ensures.calls c.write_l1_table_pointer.ensures.noted)
 
 pub returns-in_err-set_l1_table-clause-header_cluster : goal.returns-in_err-set_l1_table-clause-header_cluster
-returns-in_err-set_l1_table-clause-header_cluster g c = behind_bits (ap (λ (v : HeaderView). v.fields.cluster_bits) c.in_err-set_l1_table.ensures.same)
+returns-in_err-set_l1_table-clause-header_cluster g c = λ keeps. behind_bits (ap (λ (v : HeaderView). v.fields.cluster_bits) c.in_err-set_l1_table.ensures.same)
 
 pub returns-in_err-write_l1_table_pointer-clause-header_cluster : goal.returns-in_err-write_l1_table_pointer-clause-header_cluster
-returns-in_err-write_l1_table_pointer-clause-header_cluster g c = behind_bits (ap (λ (v : HeaderView). v.fields.cluster_bits) c.in_ok-set_l1_table.ensures.ok)
+returns-in_err-write_l1_table_pointer-clause-header_cluster g c = λ keeps. behind_then (behind_pointer c.write_l1_table_pointer.result c.set_l1_table.new.self.fields (ap g.S.Storage.view c.will_write.ensures.storage) c.write_l1_table_pointer.ensures.written c.write_l1_table_pointer.ensures.calls) (behind_bits (ap (λ (v : HeaderView). v.fields.cluster_bits) c.in_ok-set_l1_table.ensures.ok))
 
 pub returns-clause-header_cluster : goal.returns-clause-header_cluster
-returns-clause-header_cluster g c = behind_bits (ap (λ (v : HeaderView). v.fields.cluster_bits) c.in_ok-set_l1_table.ensures.ok)
+returns-clause-header_cluster g c = λ keeps. behind_then (behind_then (behind_pointer c.write_l1_table_pointer.result c.set_l1_table.new.self.fields (ap g.S.Storage.view c.will_write.ensures.storage) c.write_l1_table_pointer.ensures.written c.write_l1_table_pointer.ensures.calls) (behind_bits (ap (λ (v : HeaderView). v.fields.cluster_bits) c.in_ok-set_l1_table.ensures.ok))) (behind_l1 keeps)

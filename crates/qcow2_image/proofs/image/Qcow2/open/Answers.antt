@@ -15,7 +15,7 @@ use Rattle.qcow2_alloc.specs.ImageError.{of_metadata, IsFault}
 use Rattle.qcow2_image.proofs.Call.MetErrors.{metadata_met}
 use Rattle.qcow2_image.specs.Readable.{IsRefusedRightly}
 use Rattle.qcow2_image.proofs.Open.Reading.{header_refused, needs_so, opened_rightly, refused_rightly}
-use Rattle.qcow2_image.proofs.Open.SameHeaders.{both, not_both, not_missing, not_needed, refused_before, stays_so}
+use Rattle.qcow2_image.proofs.Open.SameHeaders.{not_missing, not_needed, refused_before, some_missing, stays_so}
 use Rattle.qcow2_image.proofs.image.Qcow2.open.Goals as goal
 
 pub returns-in-Ok-load_tables-clause-opens : goal.returns-in-Ok-load_tables-clause-opens
@@ -77,11 +77,11 @@ returns-in-Ok-load_tables-clause-names g c =
     λ honest. named_still c.in-Ok.header c.load_tables.new.file.header (view c.args.storage.storage).contents (c.in-Ok.ensures.ok honest) c.in-Ok-load_tables.ensures.names
 
 pub returns-in-Err-clause-another : goal.returns-in-Err-clause-another
-returns-in-Err-clause-another g c = λ alone honest needs.
+returns-in-Err-clause-another g c = λ honest needs.
     let view = g.S.Storage.view in
     let reads : HeaderReads (header (byte_at (view c.args.storage.storage).contents)) (byte_at (view c.args.storage.storage).contents) = needs.stands.reads in
     let why = c.in-Err.ensures.refused honest in
-    (subst (λ (e : ImageError). (e ≡ Dependency) ⊎ (e ≡ UnalignedTable) ⊎ IsFault e) (sym c.from.ensures) (inr (refused_before _ _ c.args.writable c.in-Err.e reads why)), stays_so view c.args.storage.storage c.args.storage.storage c.load.new.storage.storage _ refl c.into_inner.ensures c.load.ensures.reads.same)
+    (subst (λ (e : ImageError). (e ≡ Dependency) ⊎ (e ≡ UnalignedTable) ⊎ IsFault e) (sym c.from.ensures) (inr (refused_before _ _ c.args.writable c.in-Err.e reads why)), stays_so view c.args.storage.storage c.args.storage.storage c.load.new.storage.storage _ c.load.result refl c.into_inner.ensures c.load.ensures.reads honest)
 
 pub returns-then-lacks_another-clause-since : goal.returns-then-lacks_another-clause-since
 returns-then-lacks_another-clause-since g c = λ honest consistent.
@@ -90,27 +90,27 @@ returns-then-lacks_another-clause-since g c = λ honest consistent.
     (kept_loaded {result = c.load.result} (view c.args.storage.storage) (view c.load.new.storage.storage) c.load.ensures.reads honest)
 
 pub returns-then-lacks_another-clause-another : goal.returns-then-lacks_another-clause-another
-returns-then-lacks_another-clause-another g c = λ alone honest needs.
+returns-then-lacks_another-clause-another g c = λ honest needs.
     let view = g.S.Storage.view in
-    (inl refl, stays_so view c.args.storage.storage c.args.storage.storage c.load.new.storage.storage _ refl c.into_inner-then-lacks_another.ensures c.load.ensures.reads.same)
+    (inl refl, stays_so view c.args.storage.storage c.args.storage.storage c.load.new.storage.storage _ c.load.result refl c.into_inner-then-lacks_another.ensures c.load.ensures.reads honest)
 
 pub returns-in-Err-new-clause-another : goal.returns-in-Err-new-clause-another
-returns-in-Err-new-clause-another g c = λ alone honest needs.
+returns-in-Err-new-clause-another g c = λ honest needs.
     let view = g.S.Storage.view in
     let stands = c.in-Ok.ensures.ok honest in
-    absurd (not_needed c.in-Ok.header (view c.args.storage.storage).contents stands (not_both c.args.alone _ (sym c.lacks_another.ensures ∙ c.if-lacks_another.false) alone) needs)
+    absurd (not_needed c.args.missing c.in-Ok.header (view c.args.storage.storage).contents stands (sym c.lacks_another.ensures ∙ c.if-lacks_another.false) needs)
 
 pub returns-in-Ok-load_tables-clause-another : goal.returns-in-Ok-load_tables-clause-another
-returns-in-Ok-load_tables-clause-another g c = λ alone honest needs.
+returns-in-Ok-load_tables-clause-another g c = λ honest needs.
     let view = g.S.Storage.view in
     let stands = c.in-Ok.ensures.ok honest in
-    absurd (not_needed c.in-Ok.header (view c.args.storage.storage).contents stands (not_both c.args.alone _ (sym c.lacks_another.ensures ∙ c.if-lacks_another.false) alone) needs)
+    absurd (not_needed c.args.missing c.in-Ok.header (view c.args.storage.storage).contents stands (sym c.lacks_another.ensures ∙ c.if-lacks_another.false) needs)
 
 pub returns-in-Err-load_tables-clause-another : goal.returns-in-Err-load_tables-clause-another
-returns-in-Err-load_tables-clause-another g c = λ alone honest needs.
+returns-in-Err-load_tables-clause-another g c = λ honest needs.
     let view = g.S.Storage.view in
     let stands = c.in-Ok.ensures.ok honest in
-    absurd (not_needed c.in-Ok.header (view c.args.storage.storage).contents stands (not_both c.args.alone _ (sym c.lacks_another.ensures ∙ c.if-lacks_another.false) alone) needs)
+    absurd (not_needed c.args.missing c.in-Ok.header (view c.args.storage.storage).contents stands (sym c.lacks_another.ensures ∙ c.if-lacks_another.false) needs)
 
 pub returns-in-Err-clause-cause : goal.returns-in-Err-clause-cause
 returns-in-Err-clause-cause g c = (
@@ -118,29 +118,29 @@ returns-in-Err-clause-cause g c = (
   λ honest.
       let view = g.S.Storage.view in
       let why = c.in-Err.ensures.refused honest in
-      subst (IsRefusedRightly (view c.args.storage.storage).contents c.args.writable c.args.alone) (sym c.from.ensures) (header_refused (view c.args.storage.storage).contents c.args.writable c.args.alone c.in-Err.e why),
+      subst (IsRefusedRightly (view c.args.storage.storage).contents c.args.writable c.args.missing) (sym c.from.ensures) (header_refused (view c.args.storage.storage).contents c.args.writable c.args.missing c.in-Err.e why),
 )
 
 pub returns-then-lacks_another-clause-cause : goal.returns-then-lacks_another-clause-cause
 returns-then-lacks_another-clause-cause g c =
-    let so = both c.args.alone _ (sym c.lacks_another.ensures ∙ c.if-lacks_another.true) in
-    (λ is. so.0, needs_so g.S.Storage.view c.args.storage.storage c.args.storage.storage c.load.new.storage.storage refl c.args.writable c.args.alone c.load.result c.load.ensures.reads c.in-Ok.header c.in-Ok.ensures.ok c.in-Ok.ensures.aligned so.0 so.1)
+    let so = sym c.lacks_another.ensures ∙ c.if-lacks_another.true in
+    (λ is. some_missing c.args.missing c.in-Ok.header so, needs_so g.S.Storage.view c.args.storage.storage c.args.storage.storage c.load.new.storage.storage refl c.args.writable c.args.missing c.load.result c.load.ensures.reads c.in-Ok.header c.in-Ok.ensures.ok c.in-Ok.ensures.aligned so)
 
 pub returns-in-Err-new-clause-cause : goal.returns-in-Err-new-clause-cause
 returns-in-Err-new-clause-cause g c = (
   λ is. absurd (let bad : I.Memory ≡ Dependency = sym c.from-in-Err-new.ensures ∙ is in cc),
-  λ honest. subst (IsRefusedRightly (g.S.Storage.view c.args.storage.storage).contents c.args.writable c.args.alone) (sym c.from-in-Err-new.ensures) tt,
+  λ honest. subst (IsRefusedRightly (g.S.Storage.view c.args.storage.storage).contents c.args.writable c.args.missing) (sym c.from-in-Err-new.ensures) tt,
 )
 
 pub returns-in-Ok-load_tables-clause-cause : goal.returns-in-Ok-load_tables-clause-cause
 returns-in-Ok-load_tables-clause-cause g c =
-    opened_rightly g.S.Storage.view c.args.storage.storage c.args.storage.storage c.load.new.storage.storage refl c.args.writable c.args.alone c.load.result c.load.ensures.reads c.in-Ok.header c.in-Ok.ensures.ok c.in-Ok.ensures.aligned
+    opened_rightly g.S.Storage.view c.args.storage.storage c.args.storage.storage c.load.new.storage.storage refl c.args.writable c.args.missing c.load.result c.load.ensures.reads c.in-Ok.header c.in-Ok.ensures.ok c.in-Ok.ensures.aligned
     (sym c.lacks_another.ensures ∙ c.if-lacks_another.false) c.in-Ok-load_tables.ensures.why
 
 pub returns-in-Err-load_tables-clause-cause : goal.returns-in-Err-load_tables-clause-cause
 returns-in-Err-load_tables-clause-cause g c = (
   λ is. absurd (not_missing _ c.in-Err-load_tables.ensures.cause is),
-  refused_rightly g.S.Storage.view c.args.storage.storage c.args.storage.storage c.load.new.storage.storage refl c.args.writable c.args.alone c.load.result c.load.ensures.reads c.in-Ok.header c.in-Ok.ensures.ok c.in-Ok.ensures.aligned
+  refused_rightly g.S.Storage.view c.args.storage.storage c.args.storage.storage c.load.new.storage.storage refl c.args.writable c.args.missing c.load.result c.load.ensures.reads c.in-Ok.header c.in-Ok.ensures.ok c.in-Ok.ensures.aligned
       c.in-Err-load_tables.e (sym c.lacks_another.ensures ∙ c.if-lacks_another.false) c.in-Err-load_tables.ensures.why,
 )
 

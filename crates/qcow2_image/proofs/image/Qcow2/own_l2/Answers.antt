@@ -6,8 +6,10 @@ use Rattle.qcow2_image.proofs.Prepare.Owning.{refused, left_alone, may_none, say
 use Rattle.qcow2_metadata.specs.EntryTable.{entry_count}
 use Rattle.qcow2_metadata.specs.TableBytes.{entry_at}
 use Rattle.qcow2_image.proofs.Prepare.Lacking.{lacks_past, not_within, owns_or_lacks}
-use Rattle.qcow2_alloc.specs.KeptNotes.{kept_same}
+use Rattle.qcow2_alloc.proofs.KeptMarks.{notes_none}
 use Rattle.qcow2_image.proofs.Call.BehindHeader.{behind_first, behind_none}
+use Rattle.qcow2_image.proofs.Prepare.Listing.{some_none}
+use Rattle.qcow2_image.proofs.Prepare.Pinned.{whole_quotient}
 use Rattle.qcow2_image.proofs.image.Qcow2.own_l2.Goals as goal
 
 pub returns-then-not-in_bounds-clause-owns : goal.returns-then-not-in_bounds-clause-owns
@@ -99,13 +101,13 @@ returns-clause-quiet g c = λ own.
     absurd (let is = sym own.1 ∙ ap (λ i. is_copied (entry_at old.l1_table.bytes i)) (sym idx) ∙ sym c.in-Some.ensures.copied ∙ c.if-entry.false in cc)
 
 pub returns-then-not-in_bounds-clause-notes : goal.returns-then-not-in_bounds-clause-notes
-returns-then-not-in_bounds-clause-notes g c = kept_same c.args.self.now.file.storage
+returns-then-not-in_bounds-clause-notes g c = notes_none
 
 pub returns-in_err-table-clause-notes : goal.returns-in_err-table-clause-notes
-returns-in_err-table-clause-notes g c = kept_same c.args.self.now.file.storage
+returns-in_err-table-clause-notes g c = notes_none
 
 pub returns-then-entry-clause-notes : goal.returns-then-entry-clause-notes
-returns-then-entry-clause-notes g c = kept_same c.args.self.now.file.storage
+returns-then-entry-clause-notes g c = notes_none
 
 pub returns-in_default-clause-notes : goal.returns-in_default-clause-notes
 returns-in_default-clause-notes g c = c.enter_l2.ensures.notes
@@ -136,3 +138,34 @@ returns-in_default-clause-elsewhere g c = c.enter_l2.ensures.elsewhere
 
 pub returns-clause-elsewhere : goal.returns-clause-elsewhere
 returns-clause-elsewhere g c = c.replace_l2.ensures.elsewhere
+
+pub returns-then-entry-clause-former : goal.returns-then-entry-clause-former
+returns-then-entry-clause-former g c = some_none c.args.self.now c.requires.writable
+
+pub returns-in_default-clause-former : goal.returns-in_default-clause-former
+returns-in_default-clause-former g c = c.enter_l2.ensures.former
+
+pub returns-clause-former : goal.returns-clause-former
+returns-clause-former g c = c.replace_l2.ensures.former
+
+pub returns-then-entry-clause-own : goal.returns-then-entry-clause-own
+returns-then-entry-clause-own g c = λ own.
+    let old = c.args.self.now in
+    let idx : c.l1_index-index.result ≡ l1_index_of old.file.header.fields c.args.offset =
+    c.l1_index-index.ensures ∙ ap (λ n. n / 2 ^ c.cluster_bits-bits.result / (2 ^ c.cluster_bits-bits.result / 8)) c.new.ensures ∙ ap (λ b. c.args.offset / 2 ^ b / (2 ^ b / 8)) c.cluster_bits-bits.ensures.value in
+    let place : c.in-Some.entry.offset ≡ host_offset (entry_at c.args.self.now.l1_table.bytes (l1_index_of c.args.self.now.file.header.fields c.args.offset)) = sym (sym (ap (λ i. host_offset (entry_at old.l1_table.bytes i)) idx) ∙ sym c.in-Some.ensures.offset) in
+    whole_quotient old.file.header.fields.cluster_bits c.in-Some-checked_cluster.cluster _ (sym (ap (λ b. c.in-Some-checked_cluster.cluster * 2 ^ b) c.cluster_bits-bits.ensures.value) ∙ c.in-Some-checked_cluster.ensures.cluster ∙ place)
+
+pub returns-in_default-clause-own : goal.returns-in_default-clause-own
+returns-in_default-clause-own g c = λ own.
+    let old = c.args.self.now in
+    let idx : c.l1_index-index.result ≡ l1_index_of old.file.header.fields c.args.offset =
+    c.l1_index-index.ensures ∙ ap (λ n. n / 2 ^ c.cluster_bits-bits.result / (2 ^ c.cluster_bits-bits.result / 8)) c.new.ensures ∙ ap (λ b. c.args.offset / 2 ^ b / (2 ^ b / 8)) c.cluster_bits-bits.ensures.value in
+    absurd (own.0 (ap (λ i. host_offset (entry_at old.l1_table.bytes i)) (sym idx) ∙ c.in_default.ensures.none))
+
+pub returns-clause-own : goal.returns-clause-own
+returns-clause-own g c = λ own.
+    let old = c.args.self.now in
+    let idx : c.l1_index-index.result ≡ l1_index_of old.file.header.fields c.args.offset =
+    c.l1_index-index.ensures ∙ ap (λ n. n / 2 ^ c.cluster_bits-bits.result / (2 ^ c.cluster_bits-bits.result / 8)) c.new.ensures ∙ ap (λ b. c.args.offset / 2 ^ b / (2 ^ b / 8)) c.cluster_bits-bits.ensures.value in
+    absurd (let is = sym own.1 ∙ ap (λ i. is_copied (entry_at old.l1_table.bytes i)) (sym idx) ∙ sym c.in-Some.ensures.copied ∙ c.if-entry.false in cc)

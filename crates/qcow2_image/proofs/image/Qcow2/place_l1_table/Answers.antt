@@ -1,4 +1,4 @@
-use Rattle.std.proofs.Common.{refl, subst, sym, IsSome}
+use Rattle.std.proofs.Common.{refl, subst, sym, IsSome, ap, ◌*◌, ◌^◌}
 use Rattle.qcow2_alloc.specs.ImageError.{of_storage}
 use Rattle.qcow2_alloc.specs.ImageStorage.{storage_of}
 use Rattle.qcow2_alloc.proofs.AllocationSteps.{handed_on}
@@ -7,10 +7,10 @@ use Rattle.qcow2_image.proofs.Call.Called.{keeps_then}
 use Rattle.qcow2_image.proofs.Map.Loading.{caches_moved, with_caches}
 use Rattle.qcow2_image.proofs.Prepare.Entering.{keeps_none}
 use Rattle.qcow2_image.proofs.Grow.LongerTables.{table_write_as, keeps_placed, stands_whole}
-use Rattle.qcow2_alloc.specs.KeptNotes.{kept_same, kept_then}
+use Rattle.qcow2_alloc.proofs.KeptMarks.{notes_none, notes_then, notes_of_both, notes_of_storage}
 use Rattle.qcow2_alloc.proofs.KeptMarks.{placed_kept}
 use Rattle.qcow2_metadata.specs.EntryTable.{EntryTableView}
-use Rattle.qcow2_image.proofs.Call.BehindHeader.{behind_caches, behind_none}
+use Rattle.qcow2_image.proofs.Call.BehindHeader.{behind_caches, behind_none, begins_behind, behind_placed, behind_then, l1_placed}
 use Rattle.qcow2_image.proofs.image.Qcow2.place_l1_table.Goals as goal
 
 pub returns-in_err-flush_rb-clause-places : goal.returns-in_err-flush_rb-clause-places
@@ -66,25 +66,31 @@ pub returns-then-not-is_nameable-clause-places : goal.returns-then-not-is_nameab
 returns-then-not-is_nameable-clause-places g c = λ p out sound longer. keeps_none g.S.Storage.view g.F.BackingDisk.backing out (with_table p c.args.table.now c.args.cluster) c.args.self.now sound
 
 pub returns-then-not-is_nameable-clause-notes : goal.returns-then-not-is_nameable-clause-notes
-returns-then-not-is_nameable-clause-notes g c = kept_same c.args.self.now.file.storage
+returns-then-not-is_nameable-clause-notes g c = notes_none
 
 pub returns-in_err-flush_rb-clause-notes : goal.returns-in_err-flush_rb-clause-notes
-returns-in_err-flush_rb-clause-notes g c = c.flush_rb.ensures.notes
+returns-in_err-flush_rb-clause-notes g c = (notes_of_both c.flush_rb.ensures.marks c.flush_rb.ensures.notes)
 
 pub returns-in_err-write_l1_table-clause-notes : goal.returns-in_err-write_l1_table-clause-notes
-returns-in_err-write_l1_table-clause-notes g c = kept_then _ _ _ c.flush_rb.ensures.notes (placed_kept c.flush_rb.new.storage c.will_write.new.self c.write_l1_table.new.self c.write_l1_table.result c.will_write.ensures.storage c.will_write.ensures.changed c.set_cluster.new.self.cluster _ (subst (λ (x : EntryTableView). IsSome x.cluster) (sym c.set_cluster.ensures) refl) c.write_l1_table.ensures.written c.write_l1_table.ensures.calls c.write_l1_table.ensures.noted)
+returns-in_err-write_l1_table-clause-notes g c = notes_then (notes_of_both c.flush_rb.ensures.marks c.flush_rb.ensures.notes) (notes_of_storage (placed_kept c.flush_rb.new.storage c.will_write.new.self c.write_l1_table.new.self c.write_l1_table.result c.will_write.ensures.storage c.will_write.ensures.changed c.set_cluster.new.self.cluster _ (subst (λ (x : EntryTableView). IsSome x.cluster) (sym c.set_cluster.ensures) refl) c.write_l1_table.ensures.written c.write_l1_table.ensures.calls c.write_l1_table.ensures.noted))
 
 pub returns-clause-notes : goal.returns-clause-notes
-returns-clause-notes g c = kept_then _ _ _ c.flush_rb.ensures.notes (placed_kept c.flush_rb.new.storage c.will_write.new.self c.write_l1_table.new.self c.write_l1_table.result c.will_write.ensures.storage c.will_write.ensures.changed c.set_cluster.new.self.cluster _ (subst (λ (x : EntryTableView). IsSome x.cluster) (sym c.set_cluster.ensures) refl) c.write_l1_table.ensures.written c.write_l1_table.ensures.calls c.write_l1_table.ensures.noted)
+returns-clause-notes g c = notes_then (notes_of_both c.flush_rb.ensures.marks c.flush_rb.ensures.notes) (notes_of_storage (placed_kept c.flush_rb.new.storage c.will_write.new.self c.write_l1_table.new.self c.write_l1_table.result c.will_write.ensures.storage c.will_write.ensures.changed c.set_cluster.new.self.cluster _ (subst (λ (x : EntryTableView). IsSome x.cluster) (sym c.set_cluster.ensures) refl) c.write_l1_table.ensures.written c.write_l1_table.ensures.calls c.write_l1_table.ensures.noted))
 
 pub returns-then-not-is_nameable-clause-header_cluster : goal.returns-then-not-is_nameable-clause-header_cluster
-returns-then-not-is_nameable-clause-header_cluster g c = behind_none
+returns-then-not-is_nameable-clause-header_cluster g c = λ as_wide some. behind_none
 
 pub returns-in_err-flush_rb-clause-header_cluster : goal.returns-in_err-flush_rb-clause-header_cluster
-returns-in_err-flush_rb-clause-header_cluster g c = behind_caches c.flush_rb.ensures.header_cluster.behind
+returns-in_err-flush_rb-clause-header_cluster g c = λ as_wide some. behind_caches c.flush_rb.ensures.header_cluster
 
 pub returns-in_err-write_l1_table-clause-header_cluster : goal.returns-in_err-write_l1_table-clause-header_cluster
-returns-in_err-write_l1_table-clause-header_cluster g c = behind_caches c.flush_rb.ensures.header_cluster.behind
+returns-in_err-write_l1_table-clause-header_cluster g c = λ as_wide some.
+    behind_then (behind_caches c.flush_rb.ensures.header_cluster)
+    (behind_placed c.write_l1_table.result c.set_cluster.new.self.cluster (λ k. k * 2 ^ c.set_cluster.new.self.cluster_bits) _ (ap g.S.Storage.view c.will_write.ensures.storage) (subst (λ (x : EntryTableView). IsSome x.cluster) (sym c.set_cluster.ensures) refl)
+    (λ bits lies. begins_behind c.set_cluster.new.self bits (l1_placed c.args.self.now.l1_table c.args.self.now.l1_table c.args.table.now c.set_cluster.new.self c.args.cluster refl c.set_cluster.ensures as_wide some bits lies.l1)) c.write_l1_table.ensures.written c.write_l1_table.ensures.calls)
 
 pub returns-clause-header_cluster : goal.returns-clause-header_cluster
-returns-clause-header_cluster g c = behind_caches c.flush_rb.ensures.header_cluster.behind
+returns-clause-header_cluster g c = λ as_wide some.
+    behind_then (behind_caches c.flush_rb.ensures.header_cluster)
+    (behind_placed c.write_l1_table.result c.set_cluster.new.self.cluster (λ k. k * 2 ^ c.set_cluster.new.self.cluster_bits) _ (ap g.S.Storage.view c.will_write.ensures.storage) (subst (λ (x : EntryTableView). IsSome x.cluster) (sym c.set_cluster.ensures) refl)
+    (λ bits lies. begins_behind c.set_cluster.new.self bits (l1_placed c.args.self.now.l1_table c.args.self.now.l1_table c.args.table.now c.set_cluster.new.self c.args.cluster refl c.set_cluster.ensures as_wide some bits lies.l1)) c.write_l1_table.ensures.written c.write_l1_table.ensures.calls)

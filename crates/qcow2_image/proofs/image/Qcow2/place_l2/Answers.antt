@@ -1,4 +1,4 @@
-use Rattle.std.proofs.Common.{◌≡◌, ◌^◌, false, length, refl, ap, ◌∙◌, subst, sym, IsSome, ◌<◌}
+use Rattle.std.proofs.Common.{arith, ◌≡◌, ◌^◌, false, length, refl, ap, ◌∙◌, subst, sym, IsSome, ◌<◌, ◌*◌}
 use Rattle.std.specs.Prelude.{Some, IfSome, OnOk}
 use Rattle.qcow2_metadata.specs.L2Table.{L2TableView}
 use Rattle.qcow2_alloc.specs.ImageError.{of_storage}
@@ -10,9 +10,9 @@ use Rattle.qcow2_image.specs.NewTables.{PlacesNewTable}
 use Rattle.qcow2_image.proofs.Call.Called.{keeps_then}
 use Rattle.qcow2_image.proofs.Map.Loading.{if_ok}
 use Rattle.qcow2_image.proofs.Prepare.Placing.{holds, keeps_placed, keeps_put, keeps_stored, places_when, stands_ready, stands_there}
-use Rattle.qcow2_alloc.specs.KeptNotes.{kept_same, kept_then}
+use Rattle.qcow2_alloc.proofs.KeptMarks.{notes_none, notes_then, notes_of_both, notes_of_storage}
 use Rattle.qcow2_alloc.proofs.KeptMarks.{placed_kept}
-use Rattle.qcow2_image.proofs.Call.BehindHeader.{behind_caches, behind_none}
+use Rattle.qcow2_image.proofs.Call.BehindHeader.{behind_caches, behind_none, behind_placed, behind_then, table_behind}
 use Rattle.qcow2_alloc.specs.SparedHeaders.{CachesSpareHeader}
 use Rattle.qcow2_image.proofs.image.Qcow2.place_l2.Goals as goal
 
@@ -56,22 +56,29 @@ returns-clause-places g c = λ p out sound some format stored.
     (λ may. c.l2_insert.ensures.first may unmodified) (record c.args.table { cluster = Some at; is_modified = false }) found refl) new_data)
 
 pub returns-then-not-is_nameable-clause-notes : goal.returns-then-not-is_nameable-clause-notes
-returns-then-not-is_nameable-clause-notes g c = kept_same c.args.self.now.file.storage
+returns-then-not-is_nameable-clause-notes g c = notes_none
 
 pub returns-in_err-write_new_l2_table-clause-notes : goal.returns-in_err-write_new_l2_table-clause-notes
-returns-in_err-write_new_l2_table-clause-notes g c = placed_kept c.args.self.now.file.storage c.will_write.new.self c.write_new_l2_table.new.self c.write_new_l2_table.result c.will_write.ensures.storage c.will_write.ensures.changed c.set_cluster.new.self.cluster _ (subst (λ (x : L2TableView). IsSome x.cluster) (sym c.set_cluster.ensures) refl) c.write_new_l2_table.ensures.written c.write_new_l2_table.ensures.calls c.write_new_l2_table.ensures.noted
+returns-in_err-write_new_l2_table-clause-notes g c = notes_of_storage (placed_kept c.args.self.now.file.storage c.will_write.new.self c.write_new_l2_table.new.self c.write_new_l2_table.result c.will_write.ensures.storage c.will_write.ensures.changed c.set_cluster.new.self.cluster _ (subst (λ (x : L2TableView). IsSome x.cluster) (sym c.set_cluster.ensures) refl) c.write_new_l2_table.ensures.written c.write_new_l2_table.ensures.calls c.write_new_l2_table.ensures.noted)
 
 pub returns-clause-notes : goal.returns-clause-notes
-returns-clause-notes g c = kept_then _ _ _ (placed_kept c.args.self.now.file.storage c.will_write.new.self c.write_new_l2_table.new.self c.write_new_l2_table.result c.will_write.ensures.storage c.will_write.ensures.changed c.set_cluster.new.self.cluster _ (subst (λ (x : L2TableView). IsSome x.cluster) (sym c.set_cluster.ensures) refl) c.write_new_l2_table.ensures.written c.write_new_l2_table.ensures.calls c.write_new_l2_table.ensures.noted) c.l2_insert.ensures.notes
+returns-clause-notes g c = notes_then (notes_of_storage (placed_kept c.args.self.now.file.storage c.will_write.new.self c.write_new_l2_table.new.self c.write_new_l2_table.result c.will_write.ensures.storage c.will_write.ensures.changed c.set_cluster.new.self.cluster _ (subst (λ (x : L2TableView). IsSome x.cluster) (sym c.set_cluster.ensures) refl) c.write_new_l2_table.ensures.written c.write_new_l2_table.ensures.calls c.write_new_l2_table.ensures.noted)) (notes_of_both c.l2_insert.ensures.marks c.l2_insert.ensures.notes)
 
 pub returns-then-not-is_nameable-clause-header_cluster : goal.returns-then-not-is_nameable-clause-header_cluster
 returns-then-not-is_nameable-clause-header_cluster g c = λ some. behind_none
 
 pub returns-in_err-write_new_l2_table-clause-header_cluster : goal.returns-in_err-write_new_l2_table-clause-header_cluster
-returns-in_err-write_new_l2_table-clause-header_cluster g c = λ some. behind_none
+returns-in_err-write_new_l2_table-clause-header_cluster g c = λ some.
+    let as_wide : c.args.table.cluster_bits ≡ c.args.self.now.file.header.fields.cluster_bits = omega arith in
+    (behind_placed c.write_new_l2_table.result c.set_cluster.new.self.cluster (λ k. k * 2 ^ c.set_cluster.new.self.cluster_bits) c.set_cluster.new.self.bytes (ap g.S.Storage.view c.will_write.ensures.storage) (subst (λ (x : L2TableView). IsSome x.cluster) (sym c.set_cluster.ensures) refl)
+    (λ bits lies. table_behind c.args.table c.set_cluster.new.self c.args.cluster c.set_cluster.ensures bits (as_wide ∙ lies.header) some) c.write_new_l2_table.ensures.written c.write_new_l2_table.ensures.calls)
 
 pub returns-clause-header_cluster : goal.returns-clause-header_cluster
 returns-clause-header_cluster g c = λ some.
+    let as_wide : c.args.table.cluster_bits ≡ c.args.self.now.file.header.fields.cluster_bits = omega arith in
     let is : c.clear_modified.new.self ≡ record c.args.table { cluster = Some c.args.cluster; is_modified = false } = c.clear_modified.ensures ∙ ap (λ (t : L2TableView). record t { is_modified = false }) c.set_cluster.ensures in
     let spares = subst (λ (t : L2TableView). IfSome t.cluster (λ cluster. 0 < cluster → CachesSpareHeader g.S.Storage.view c.write_new_l2_table.new.self c.args.self.now.file.caches c.l2_insert.new.storage c.l2_insert.new.self)) is c.l2_insert.ensures.header_cluster in
-    behind_caches (spares some).behind
+    behind_then
+    (behind_placed c.write_new_l2_table.result c.set_cluster.new.self.cluster (λ k. k * 2 ^ c.set_cluster.new.self.cluster_bits) c.set_cluster.new.self.bytes (ap g.S.Storage.view c.will_write.ensures.storage) (subst (λ (x : L2TableView). IsSome x.cluster) (sym c.set_cluster.ensures) refl)
+    (λ bits lies. table_behind c.args.table c.set_cluster.new.self c.args.cluster c.set_cluster.ensures bits (as_wide ∙ lies.header) some) c.write_new_l2_table.ensures.written c.write_new_l2_table.ensures.calls)
+    (behind_caches (spares some))

@@ -1,10 +1,10 @@
-use Rattle.std.proofs.Common.{⊎_elim, inl, refl, sym, subst}
+use Rattle.std.proofs.Common.{⊎_elim, inl, inr, ◌∙◌, refl, sym, subst}
 use Rattle.std.specs.Prelude.{IsTrue}
 use Rattle.qcow2_alloc.specs.ImageError.{IsFault}
 use Rattle.qcow2_image.proofs.Call.Refused.{back_then_freed}
 use Rattle.qcow2_image.proofs.Call.FaultCounts.{counted_as, counted_of, untouched}
 use Rattle.qcow2_image.proofs.Prepare.FarEntries.{far_refusal, far_then_freed, far_unanswered}
-use Rattle.qcow2_alloc.specs.KeptNotes.{kept_then}
+use Rattle.qcow2_alloc.proofs.KeptMarks.{notes_then}
 use Rattle.qcow2_image.proofs.Call.BehindHeader.{behind_then}
 use Rattle.qcow2_image.proofs.image.Qcow2.prepare.Goals as goal
 
@@ -47,10 +47,28 @@ pub returns-in-Ok-clause-notes : goal.returns-in-Ok-clause-notes
 returns-in-Ok-clause-notes g c = c.prepare_range.ensures.notes
 
 pub returns-in-Err-clause-notes : goal.returns-in-Err-clause-notes
-returns-in-Err-clause-notes g c = kept_then _ _ _ c.prepare_range.ensures.notes c.free_after.ensures.notes
+returns-in-Err-clause-notes g c = notes_then c.prepare_range.ensures.notes c.free_after.ensures.notes
 
 pub returns-in-Ok-clause-header_cluster : goal.returns-in-Ok-clause-header_cluster
 returns-in-Ok-clause-header_cluster g c = c.prepare_range.ensures.header_cluster
 
 pub returns-in-Err-clause-header_cluster : goal.returns-in-Err-clause-header_cluster
 returns-in-Err-clause-header_cluster g c = behind_then c.prepare_range.ensures.header_cluster c.free_after.ensures.header_cluster
+
+pub returns-in-Ok-clause-lowest : goal.returns-in-Ok-clause-lowest
+returns-in-Ok-clause-lowest g c = λ out sound. c.in-Ok.ensures.lowest out sound
+
+pub returns-in-Ok-clause-pinned : goal.returns-in-Ok-clause-pinned
+returns-in-Ok-clause-pinned g c = c.in-Ok.ensures.pinned
+
+pub returns-in-Err-clause-pinned : goal.returns-in-Err-clause-pinned
+returns-in-Err-clause-pinned g c = λ own is. c.in-Err.ensures.pinned own (c.free_after.ensures.taken c.in-Err.ensures.cause is)
+
+pub returns-in-Ok-clause-far_refused : goal.returns-in-Ok-clause-far_refused
+returns-in-Ok-clause-far_refused g c = λ needs. absurd (far_unanswered c.prepare_range.result c.in-Ok.prepared c.in-Ok.is (c.prepare_range.ensures.far needs).0)
+
+pub returns-in-Err-clause-far_refused : goal.returns-in-Err-clause-far_refused
+returns-in-Err-clause-far_refused g c = λ needs. elim c.free_after.ensures.handed [
+  | inl still ↦ inl (still ∙ far_refusal c.prepare_range.result c.in-Err.refusal c.in-Err.is (c.prepare_range.ensures.far needs).0)
+  | inr met ↦ inr met
+]

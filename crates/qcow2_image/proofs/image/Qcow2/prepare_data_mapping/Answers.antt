@@ -1,6 +1,6 @@
-use Rattle.std.proofs.Common.{◌≡◌, ◌<◌, sym, ◌∙◌, subst, arith, ap, refl}
-use Rattle.std.specs.Prelude.{IfErr, IfOk, None, Result, Some}
-use Rattle.qcow2_alloc.specs.declared.error.ImageError.TheVariants.{TablePrepared}
+use Rattle.std.proofs.Common.{◌≡◌, ◌⊎◌, ◌<◌, sym, ◌∙◌, subst, arith, ap, refl}
+use Rattle.std.specs.Prelude.{IfErr, IfOk, IsErrAnd, None, Result, Some}
+use Rattle.qcow2_alloc.specs.declared.error.ImageError.TheVariants.{Overflow, TablePrepared}
 use Rattle.qcow2_alloc.specs.ImageFile.{known_in}
 use Rattle.qcow2_image.specs.Preparing.{IsAnswered, IsTaken}
 use Rattle.qcow2_image.proofs.Map.Loading.{if_ok}
@@ -15,14 +15,18 @@ use Rattle.qcow2_image.specs.ImageInvariant.{meaning, pending_in}
 use Rattle.qcow2_image.specs.Refusals.{refuses_to_prepare}
 use Rattle.qcow2_image.proofs.Call.Called.{listed, quiet_sound}
 use Rattle.qcow2_image.proofs.Clear.ClearCalls.{refused_for}
-use Rattle.qcow2_image.proofs.Prepare.FarEntries.{far_prepared}
+use Rattle.qcow2_image.proofs.Prepare.FarEntries.{far_begun, far_prepared}
+use Rattle.qcow2_alloc.specs.ImageError.{IsOfTables}
 use Rattle.qcow2_image.proofs.Call.Answers.{prepare_usable}
 use Rattle.qcow2_image.proofs.Prepare.PrepareCalls.{lists_begun, prepares_nothing, prepares_with_outcome}
 use Rattle.qcow2_image.proofs.Call.Refused.{prepares_after, stays_kept}
 use Rattle.qcow2_image.proofs.Call.FaultCounts.{counted_marked}
 use Rattle.qcow2_image.proofs.Call.Marked.{marks_memory, may_mark}
-use Rattle.qcow2_image.proofs.Call.OnceWritten.{once_written}
+use Rattle.qcow2_image.proofs.Call.OnceWritten.{once_written, once_none}
 use Rattle.qcow2_image.proofs.Call.BehindHeader.{behind_call, behind_none}
+use Rattle.qcow2_image.proofs.Prepare.Pinned.{begun_own, unpinned_begun}
+use Rattle.qcow2_image.specs.PinnedTables.{PreparesUnpinned}
+use Rattle.qcow2_image.specs.LowestPlaces.{BeginsLowest}
 use Rattle.qcow2_image.proofs.image.Qcow2.prepare_data_mapping.Goals as goal
 
 pub returns-then-length-eq0-clause-sees : goal.returns-then-length-eq0-clause-sees
@@ -115,10 +119,10 @@ returns-clause-far g c = λ some.
     c.prepare-prepared.ensures.far c.mark_failure.ensures.answer c.mark_failure.ensures.marks c.mark_failure.ensures.rest
 
 pub returns-in_err-check_prepare-clause-once_written : goal.returns-in_err-check_prepare-clause-once_written
-returns-in_err-check_prepare-clause-once_written g c = λ memory works honest. refl
+returns-in_err-check_prepare-clause-once_written g c = λ memory. once_none g.S.Storage.view c.args.self.now
 
 pub returns-clause-once_written : goal.returns-clause-once_written
-returns-clause-once_written g c = λ memory. once_written g.S.Storage.view c.args.self.now c.begin.new.self c.prepare-prepared.new.self c.mark_failure.new.self c.prepare-prepared.result c.begin.ensures.storage c.prepare-prepared.ensures.notes c.mark_failure.ensures.marks c.mark_failure.ensures.rest (sym c.mark_failure.ensures.answer ∙ memory)
+returns-clause-once_written g c = λ memory. once_written g.S.Storage.view c.args.self.now c.begin.new.self c.begin.ensures.begun c.prepare-prepared.new.self c.mark_failure.new.self c.prepare-prepared.result c.prepare-prepared.ensures.notes (c.prepare-prepared.ensures.stays.failed ∙ c.begin.ensures.stays.failed) c.mark_failure.ensures.marks c.mark_failure.ensures.rest (sym c.mark_failure.ensures.answer ∙ memory)
 
 pub returns-in_err-check_prepare-clause-header_cluster : goal.returns-in_err-check_prepare-clause-header_cluster
 returns-in_err-check_prepare-clause-header_cluster g c = behind_none
@@ -127,4 +131,45 @@ pub returns-then-length-eq0-clause-header_cluster : goal.returns-then-length-eq0
 returns-then-length-eq0-clause-header_cluster g c = behind_none
 
 pub returns-clause-header_cluster : goal.returns-clause-header_cluster
-returns-clause-header_cluster g c = behind_call c.begin.ensures.begun c.prepare-prepared.ensures.header_cluster c.mark_failure.ensures.rest
+returns-clause-header_cluster g c = behind_call g.S.Storage.view c.begin.ensures.begun c.prepare-prepared.ensures.header_cluster c.mark_failure.ensures.rest
+
+pub returns-in_err-check_prepare-clause-pinned : goal.returns-in_err-check_prepare-clause-pinned
+returns-in_err-check_prepare-clause-pinned g c = λ some none own.
+    let refused = refused_for c.check_prepare.result tt (refuses_to_prepare c.args.self.now c.args.offset c.args.length) c.in_err-check_prepare.field-0.0 c.check_prepare.ensures.refusal c.in_err-check_prepare.was in
+    absurd (let no : None ≡ Some c.in_err-check_prepare.field-0.0 = sym none ∙ refused in cc)
+
+pub returns-then-length-eq0-clause-pinned : goal.returns-then-length-eq0-clause-pinned
+returns-then-length-eq0-clause-pinned g c = λ some none own. absurd (let is = c.if-length-eq0.true in omega (arith, is, some))
+
+pub returns-clause-pinned : goal.returns-clause-pinned
+returns-clause-pinned g c = λ some none own.
+    let old = c.args.self.now in
+    subst (λ (r : Result _ _). PreparesUnpinned old c.args.offset r) (sym c.mark_failure.ensures.answer)
+    (unpinned_begun old c.begin.new.self c.args.offset c.prepare-prepared.result c.begin.ensures.begun (c.prepare-prepared.ensures.pinned (begun_own old c.begin.new.self c.args.offset c.begin.ensures.begun own)))
+
+pub returns-in_err-check_prepare-clause-far_refused : goal.returns-in_err-check_prepare-clause-far_refused
+returns-in_err-check_prepare-clause-far_refused g c = λ some none needs.
+    let refused = refused_for c.check_prepare.result tt (refuses_to_prepare c.args.self.now c.args.offset c.args.length) c.in_err-check_prepare.field-0.0 c.check_prepare.ensures.refusal c.in_err-check_prepare.was in
+    absurd (let no : None ≡ Some c.in_err-check_prepare.field-0.0 = sym none ∙ refused in cc)
+
+pub returns-then-length-eq0-clause-far_refused : goal.returns-then-length-eq0-clause-far_refused
+returns-then-length-eq0-clause-far_refused g c = λ some none needs. absurd (let is = c.if-length-eq0.true in omega (arith, is, some))
+
+pub returns-clause-far_refused : goal.returns-clause-far_refused
+returns-clause-far_refused g c = λ some none needs.
+    subst (λ (r : Result _ _). IsErrAnd r (λ e. (e ≡ Overflow) ⊎ IsOfTables e)) (sym c.mark_failure.ensures.answer)
+    (c.prepare-prepared.ensures.far_refused (far_begun c.args.self.now c.begin.new.self c.args.offset c.args.offset refl c.begin.ensures.begun needs))
+
+pub returns-then-length-eq0-clause-lowest : goal.returns-then-length-eq0-clause-lowest
+returns-then-length-eq0-clause-lowest g c = λ some out sound. absurd (let none : c.args.length ≡ 0 = c.if-length-eq0.true in omega (arith, none, some))
+
+pub returns-clause-lowest : goal.returns-clause-lowest
+returns-clause-lowest g c = λ some out sound.
+    let view = g.S.Storage.view in
+    let below = g.F.BackingDisk.backing in
+    let old = c.args.self.now in
+    let mid = c.begin.new.self in
+    let new = c.prepare-prepared.new.self in
+    let stays = stays_kept view below out old mid sound (listed view below out old mid (λ s. record { keeps = c.begin.ensures.keeps (pending_in view below old out) out s; list = c.begin.ensures.list }) sound) in
+    subst (λ (image : Qcow2 _ _). IfOk c.mark_failure.result (BeginsLowest view image)) (sym c.mark_failure.ensures.rest)
+    (subst (λ r. IfOk r (BeginsLowest view new)) (sym c.mark_failure.ensures.answer) (c.prepare-prepared.ensures.lowest out stays.sound))

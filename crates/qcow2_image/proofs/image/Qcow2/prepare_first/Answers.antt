@@ -17,9 +17,13 @@ use Rattle.qcow2_image.proofs.Prepare.Owning.{refused as any_refusal}
 use Rattle.qcow2_image.proofs.Prepare.ReadyingNew.{back_none, first_stands, not_pinned, readied_in_place}
 use Rattle.qcow2_image.proofs.Prepare.Listing.{lists_none, lists_still}
 use Rattle.qcow2_image.specs.declared.image.Qcow2.{Qcow2}
-use Rattle.qcow2_alloc.specs.KeptNotes.{kept_same}
-use Rattle.qcow2_image.proofs.Call.Notes.{same_kept}
-use Rattle.qcow2_image.proofs.Call.BehindHeader.{behind_by, behind_caches, behind_none}
+use Rattle.qcow2_alloc.proofs.KeptMarks.{notes_none}
+use Rattle.qcow2_image.proofs.Call.Notes.{pins_kept}
+use Rattle.qcow2_image.proofs.Call.BehindHeader.{behind_by, behind_none, behind_tables}
+use Rattle.qcow2_image.proofs.Prepare.InUse.{in_place_lowest}
+use Rattle.qcow2_alloc.proofs.KeptTables.Turning.{always_ok}
+use Rattle.qcow2_alloc.specs.CachePins.{l2_pins}
+use Rattle.qcow2_image.proofs.Clear.Between.{no_pins}
 use Rattle.qcow2_image.proofs.image.Qcow2.prepare_first.Goals as goal
 
 pub returns-then-l2_is_pinned-clause-readies : goal.returns-then-l2_is_pinned-clause-readies
@@ -98,16 +102,16 @@ returns-in-Some-clause-former g c =
     (record { allocator = ap (λ (image : Qcow2 _ _). image.allocator) then; list = ap (λ (image : Qcow2 _ _). image.file.free_list) then })
 
 pub returns-then-l2_is_pinned-clause-notes : goal.returns-then-l2_is_pinned-clause-notes
-returns-then-l2_is_pinned-clause-notes g c = kept_same c.args.self.now.file.storage
+returns-then-l2_is_pinned-clause-notes g c = notes_none
 
 pub returns-in_err-room-clause-notes : goal.returns-in_err-room-clause-notes
-returns-in_err-room-clause-notes g c = kept_same c.args.self.now.file.storage
+returns-in_err-room-clause-notes g c = notes_none
 
 pub returns-in_err-old-clause-notes : goal.returns-in_err-old-clause-notes
-returns-in_err-old-clause-notes g c = kept_same c.args.self.now.file.storage
+returns-in_err-old-clause-notes g c = notes_none
 
 pub returns-in-Some-clause-notes : goal.returns-in-Some-clause-notes
-returns-in-Some-clause-notes g c = same_kept c.args.self.now c.prepare_at.new.self (ap (λ (i : Qcow2 _ _). i.file.storage) c.prepare_at.ensures.pins.rest)
+returns-in-Some-clause-notes g c = pins_kept c.args.self.now c.prepare_at.new.self (ap (λ (i : Qcow2 _ _). i.file.storage) c.prepare_at.ensures.pins.rest) c.prepare_at.ensures.pins.changed c.prepare_at.ensures.pins.counted
 
 pub returns-in-None-clause-notes : goal.returns-in-None-clause-notes
 returns-in-None-clause-notes g c = c.prepare_private.ensures.notes
@@ -122,7 +126,19 @@ pub returns-in_err-old-clause-header_cluster : goal.returns-in_err-old-clause-he
 returns-in_err-old-clause-header_cluster g c = λ some. behind_none
 
 pub returns-in-Some-clause-header_cluster : goal.returns-in-Some-clause-header_cluster
-returns-in-Some-clause-header_cluster g c = λ some. behind_by c.prepare_at.ensures.pins.rest (behind_caches c.prepare_at.ensures.pins.tables.behind)
+returns-in-Some-clause-header_cluster g c = λ some. behind_by g.S.Storage.view c.prepare_at.ensures.pins.rest (behind_tables c.prepare_at.ensures.pins.tables.behind)
 
 pub returns-in-None-clause-header_cluster : goal.returns-in-None-clause-header_cluster
 returns-in-None-clause-header_cluster g c = c.prepare_private.ensures.header_cluster
+
+pub returns-in-Some-clause-lowest : goal.returns-in-Some-clause-lowest
+returns-in-Some-clause-lowest g c = λ out sound. in_place_lowest g.S.Storage.view g.F.BackingDisk.backing c.prepare_at.new.self c.prepare_at.result c.prepare_at.ensures.share
+
+pub returns-in-None-clause-lowest : goal.returns-in-None-clause-lowest
+returns-in-None-clause-lowest g c = λ out sound. c.prepare_private.ensures.lowest out sound
+
+pub returns-in-Some-clause-unpinned : goal.returns-in-Some-clause-unpinned
+returns-in-Some-clause-unpinned g c = no_pins c.l2_is_pinned.result (l2_pins c.args.self.now.file.caches c.args.table) c.l2_is_pinned.ensures c.if-l2_is_pinned.false
+
+pub returns-in-None-clause-unpinned : goal.returns-in-None-clause-unpinned
+returns-in-None-clause-unpinned g c = always_ok c.prepare_private.result (no_pins c.l2_is_pinned.result (l2_pins c.args.self.now.file.caches c.args.table) c.l2_is_pinned.ensures c.if-l2_is_pinned.false)

@@ -13,9 +13,9 @@ use Rattle.qcow2_image.proofs.Free.{free_places}
 use Rattle.qcow2_image.proofs.Prepare.Onward.{release_prepared_broken, refused_free}
 use Rattle.qcow2_image.proofs.Call.FaultCounts.{counted_as, counted_still}
 use Rattle.qcow2_image.proofs.Prepare.Listing.{lists_then}
-use Rattle.qcow2_alloc.specs.KeptNotes.{kept_then}
-use Rattle.qcow2_image.proofs.Call.Notes.{same_kept}
+use Rattle.qcow2_alloc.proofs.KeptMarks.{notes_then}
 use Rattle.qcow2_image.proofs.Call.BehindHeader.{behind_then}
+use Rattle.qcow2_image.proofs.Prepare.InUse.{first_of, longer_lowest}
 use Rattle.qcow2_image.proofs.image.Qcow2.prepare_in.Goals as goal
 
 pub returns-in_err-prepared-clause-readies : goal.returns-in_err-prepared-clause-readies
@@ -89,7 +89,7 @@ returns-in-Err-clause-faults g c =
     let old = c.args.self.now in
     let e = c.in-Err.refusal in
     counted_still view below old c.prepare_rest.new.self c.release_prepared.new.self (Err e)
-    (counted_as view below old c.prepare_first.new.self c.prepare_rest.new.self c.prepare_rest.result e c.prepare_first.ensures.faults.no_fewer c.prepare_rest.ensures.faults c.in-Err.is) c.release_prepared.ensures.faults
+    (counted_as view below old c.prepare_first.new.self c.prepare_rest.new.self c.prepare_rest.result e c.in_ok-prepared.ensures.faults.told c.prepare_rest.ensures.faults c.in-Err.is) c.release_prepared.ensures.faults
 
 pub returns-in-Ok-clause-header : goal.returns-in-Ok-clause-header
 returns-in-Ok-clause-header g c = header_then c.args.self.now.file.header c.prepare_first.new.self.file.header c.prepare_rest.new.self.file.header c.prepare_first.ensures.header c.prepare_rest.ensures.header
@@ -107,10 +107,10 @@ pub returns-in_err-prepared-clause-notes : goal.returns-in_err-prepared-clause-n
 returns-in_err-prepared-clause-notes g c = c.prepare_first.ensures.notes
 
 pub returns-in-Ok-clause-notes : goal.returns-in-Ok-clause-notes
-returns-in-Ok-clause-notes g c = kept_then _ _ _ c.prepare_first.ensures.notes c.prepare_rest.ensures.notes
+returns-in-Ok-clause-notes g c = notes_then c.prepare_first.ensures.notes c.prepare_rest.ensures.notes
 
 pub returns-in-Err-clause-notes : goal.returns-in-Err-clause-notes
-returns-in-Err-clause-notes g c = kept_then _ _ _ (kept_then _ _ _ c.prepare_first.ensures.notes c.prepare_rest.ensures.notes) (same_kept c.prepare_rest.new.self c.release_prepared.new.self (ap (λ (i : Qcow2 _ _). i.file.storage) c.release_prepared.ensures.rest.rest))
+returns-in-Err-clause-notes g c = notes_then (notes_then c.prepare_first.ensures.notes c.prepare_rest.ensures.notes) c.release_prepared.ensures.notes
 
 pub returns-in_err-prepared-clause-header_cluster : goal.returns-in_err-prepared-clause-header_cluster
 returns-in_err-prepared-clause-header_cluster g c = c.prepare_first.ensures.header_cluster
@@ -120,3 +120,22 @@ returns-in-Ok-clause-header_cluster g c = λ some. behind_then (c.prepare_first.
 
 pub returns-in-Err-clause-header_cluster : goal.returns-in-Err-clause-header_cluster
 returns-in-Err-clause-header_cluster g c = λ some. behind_then (behind_then (c.prepare_first.ensures.header_cluster some) c.prepare_rest.ensures.header_cluster) c.release_prepared.ensures.header_cluster
+
+pub returns-in-Ok-clause-lowest : goal.returns-in-Ok-clause-lowest
+returns-in-Ok-clause-lowest g c = λ out k free sound holds.
+    let view = g.S.Storage.view in
+    let below = g.F.BackingDisk.backing in
+    let old = c.args.self.now in
+    let mid = c.prepare_first.new.self in
+    let new = c.prepare_rest.new.self in
+    let p = c.in_ok-prepared.prepared in
+    let q = c.prepare_rest.new.prepared in
+    let first = c.in_ok-prepared.ensures.first in
+    let longer = c.in-Ok.ensures.longer in
+    let ready = subst (λ o. IsReadied view below old mid out k o c.args.length c.args.overwrite p) (sym first.guest) (c.in_ok-prepared.ensures.readies out sound holds k free) in
+    let size : cluster_size new.file.header.fields ≡ cluster_size mid.file.header.fields = ap (λ (x : HeaderFields). cluster_size x) (header_format mid.file.header new.file.header c.in-Ok.ensures.header) in
+    let one = first_of p.shares.items first.one in
+    longer_lowest view below mid new p q one.0 one.1 (longer.first one.0 one.1) longer.place size (c.in-Ok.ensures.uses old out k free first.under ready) (c.in_ok-prepared.ensures.lowest out sound)
+
+pub returns-in-Ok-clause-unpinned : goal.returns-in-Ok-clause-unpinned
+returns-in-Ok-clause-unpinned g c = c.in_ok-prepared.ensures.unpinned

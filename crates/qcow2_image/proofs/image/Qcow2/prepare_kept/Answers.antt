@@ -10,9 +10,10 @@ use Rattle.qcow2_image.specs.Ranges.{IsFirst}
 use Rattle.qcow2_image.specs.UnseenSteps.{UnseenFillingStep}
 use Rattle.qcow2_image.proofs.Prepare.Gaining.{listed_after_same}
 use Rattle.qcow2_image.proofs.Prepare.KeptShares.{first_alone, readied_kept}
-use Rattle.qcow2_alloc.specs.KeptNotes.{kept_then}
-use Rattle.qcow2_image.proofs.Call.Notes.{same_kept}
-use Rattle.qcow2_image.proofs.Call.BehindHeader.{behind_by, behind_caches, behind_then}
+use Rattle.qcow2_alloc.proofs.KeptMarks.{notes_then}
+use Rattle.qcow2_image.proofs.Call.Notes.{pins_kept}
+use Rattle.qcow2_image.proofs.Call.BehindHeader.{behind_by, behind_tables, behind_then}
+use Rattle.qcow2_image.proofs.Prepare.InUse.{kept_lowest}
 use Rattle.qcow2_image.proofs.image.Qcow2.prepare_kept.Goals as goal
 
 pub returns-in_err-fill_kept-clause-readies : goal.returns-in_err-fill_kept-clause-readies
@@ -62,10 +63,13 @@ pub returns-in_err-fill_kept-clause-notes : goal.returns-in_err-fill_kept-clause
 returns-in_err-fill_kept-clause-notes g c = c.fill_kept.ensures.notes
 
 pub returns-clause-notes : goal.returns-clause-notes
-returns-clause-notes g c = kept_then _ _ _ c.fill_kept.ensures.notes (same_kept c.fill_kept.new.self c.prepare_at.new.self (ap (λ (i : Qcow2 _ _). i.file.storage) c.prepare_at.ensures.pins.rest))
+returns-clause-notes g c = notes_then c.fill_kept.ensures.notes (pins_kept c.fill_kept.new.self c.prepare_at.new.self (ap (λ (i : Qcow2 _ _). i.file.storage) c.prepare_at.ensures.pins.rest) c.prepare_at.ensures.pins.changed c.prepare_at.ensures.pins.counted)
 
 pub returns-in_err-fill_kept-clause-header_cluster : goal.returns-in_err-fill_kept-clause-header_cluster
 returns-in_err-fill_kept-clause-header_cluster g c = c.fill_kept.ensures.header_cluster
 
 pub returns-clause-header_cluster : goal.returns-clause-header_cluster
-returns-clause-header_cluster g c = behind_then c.fill_kept.ensures.header_cluster (behind_by c.prepare_at.ensures.pins.rest (behind_caches c.prepare_at.ensures.pins.tables.behind))
+returns-clause-header_cluster g c = behind_then c.fill_kept.ensures.header_cluster (behind_by g.S.Storage.view c.prepare_at.ensures.pins.rest (behind_tables c.prepare_at.ensures.pins.tables.behind))
+
+pub returns-clause-lowest : goal.returns-clause-lowest
+returns-clause-lowest g c = kept_lowest g.S.Storage.view g.F.BackingDisk.backing c.prepare_at.new.self c.prepare_at.result c.prepare_at.ensures.share

@@ -17,9 +17,12 @@ use Rattle.qcow2_image.proofs.Prepare.Filling.{image_step_kept, image_step_then}
 use Rattle.qcow2_image.proofs.Prepare.Owning.{refused as any_refusal}
 use Rattle.qcow2_image.proofs.Prepare.ReadyingNew.{back_none, readied_new}
 use Rattle.qcow2_image.proofs.Prepare.Listing.{lists_still}
-use Rattle.qcow2_alloc.specs.KeptNotes.{kept_same, kept_then}
-use Rattle.qcow2_image.proofs.Call.Notes.{same_kept}
-use Rattle.qcow2_image.proofs.Call.BehindHeader.{behind_by, behind_caches, behind_none, behind_then}
+use Rattle.qcow2_alloc.proofs.KeptMarks.{notes_none, notes_then}
+use Rattle.qcow2_image.proofs.Call.Notes.{same_kept, pins_kept}
+use Rattle.qcow2_image.proofs.Call.BehindHeader.{behind_by, behind_none, behind_tables, behind_then}
+use Rattle.std.proofs.Common.{◌+◌, ◌/◌, ◌<◌}
+use Rattle.std.proofs.lemmas.Nat.{div-mul-add, mod_below, pow_pos}
+use Rattle.qcow2_image.proofs.Prepare.InUse.{used_pinned, used_stays}
 use Rattle.qcow2_image.proofs.image.Qcow2.prepare_new.Goals as goal
 
 pub returns-in_err-old_data-clause-readies : goal.returns-in_err-old_data-clause-readies
@@ -91,16 +94,16 @@ returns-in-Ok-clause-former g c =
     (record { allocator = ap (λ (image : Qcow2 _ _). image.allocator) then ∙ c.load_l2.ensures.allocator; list = ap (λ (image : Qcow2 _ _). image.file.free_list) then ∙ c.load_l2.ensures.list })
 
 pub returns-in_err-old_data-clause-notes : goal.returns-in_err-old_data-clause-notes
-returns-in_err-old_data-clause-notes g c = kept_same c.args.self.now.file.storage
+returns-in_err-old_data-clause-notes g c = notes_none
 
 pub returns-in_err-pending-clause-notes : goal.returns-in_err-pending-clause-notes
 returns-in_err-pending-clause-notes g c = c.new_cluster.ensures.notes
 
 pub returns-in-Ok-clause-notes : goal.returns-in-Ok-clause-notes
-returns-in-Ok-clause-notes g c = kept_then _ _ _ (kept_then _ _ _ c.new_cluster.ensures.notes c.load_l2.ensures.notes) (same_kept c.load_l2.new.self c.prepare_at.new.self (ap (λ (i : Qcow2 _ _). i.file.storage) c.prepare_at.ensures.pins.rest))
+returns-in-Ok-clause-notes g c = notes_then (notes_then c.new_cluster.ensures.notes c.load_l2.ensures.notes) (pins_kept c.load_l2.new.self c.prepare_at.new.self (ap (λ (i : Qcow2 _ _). i.file.storage) c.prepare_at.ensures.pins.rest) c.prepare_at.ensures.pins.changed c.prepare_at.ensures.pins.counted)
 
 pub returns-in-Err-clause-notes : goal.returns-in-Err-clause-notes
-returns-in-Err-clause-notes g c = kept_then _ _ _ (kept_then _ _ _ c.new_cluster.ensures.notes c.load_l2.ensures.notes) (same_kept c.load_l2.new.self c.hand_back-in-Err.new.self (ap (λ (i : Qcow2 _ _). i.file.storage) c.hand_back-in-Err.ensures))
+returns-in-Err-clause-notes g c = notes_then (notes_then c.new_cluster.ensures.notes c.load_l2.ensures.notes) (same_kept c.load_l2.new.self c.hand_back-in-Err.new.self (ap (λ (i : Qcow2 _ _). i.file.storage) c.hand_back-in-Err.ensures) (ap (λ (i : Qcow2 _ _). i.file.caches) c.hand_back-in-Err.ensures))
 
 pub returns-in_err-old_data-clause-header_cluster : goal.returns-in_err-old_data-clause-header_cluster
 returns-in_err-old_data-clause-header_cluster g c = λ some. behind_none
@@ -109,7 +112,29 @@ pub returns-in_err-pending-clause-header_cluster : goal.returns-in_err-pending-c
 returns-in_err-pending-clause-header_cluster g c = λ some. c.new_cluster.ensures.header_cluster
 
 pub returns-in-Ok-clause-header_cluster : goal.returns-in-Ok-clause-header_cluster
-returns-in-Ok-clause-header_cluster g c = λ some. behind_then (behind_then c.new_cluster.ensures.header_cluster (c.load_l2.ensures.header_cluster some)) (behind_by c.prepare_at.ensures.pins.rest (behind_caches c.prepare_at.ensures.pins.tables.behind))
+returns-in-Ok-clause-header_cluster g c = λ some. behind_then (behind_then c.new_cluster.ensures.header_cluster (c.load_l2.ensures.header_cluster some)) (behind_by g.S.Storage.view c.prepare_at.ensures.pins.rest (behind_tables c.prepare_at.ensures.pins.tables.behind))
 
 pub returns-in-Err-clause-header_cluster : goal.returns-in-Err-clause-header_cluster
-returns-in-Err-clause-header_cluster g c = λ some. behind_then (behind_then c.new_cluster.ensures.header_cluster (c.load_l2.ensures.header_cluster some)) (behind_by c.hand_back-in-Err.ensures behind_none)
+returns-in-Err-clause-header_cluster g c = λ some. behind_then (behind_then c.new_cluster.ensures.header_cluster (c.load_l2.ensures.header_cluster some)) (behind_by g.S.Storage.view c.hand_back-in-Err.ensures behind_none)
+
+pub returns-in-Ok-clause-lowest : goal.returns-in-Ok-clause-lowest
+returns-in-Ok-clause-lowest g c = λ out sound taken old_data begins j lt.
+    let view = g.S.Storage.view in
+    let below = g.F.BackingDisk.backing in
+    let old = c.args.self.now in
+    let p = pending_in view below old out in
+    let filled = c.new_cluster.new.self in
+    let mid = c.load_l2.new.self in
+    let n = c.in_ok-pending.pending in
+    let gained = c.in_ok-pending.ensures.gains p out sound (λ x. omega arith) in
+    let new_data = with_new_data (pending_with_listed p old filled) (run_of n) in
+    let kept = c.in-Ok.ensures.keeps new_data out gained.image_step.sound in
+    let former = c.in_ok-pending.ensures.former in
+    let bits = c.cluster_bits-bits.ensures.value in
+    let cs = cluster_size mid.file.header.fields in
+    let host_is : c.value-host.result ≡ n.first_cluster * cs = c.value-host.ensures ∙ c.offset.ensures ∙ ap (λ x. x * 2 ^ c.cluster_bits-bits.result) c.cluster.ensures ∙ ap (λ b. c.in_ok-pending.pending.first_cluster * 2 ^ b) bits in
+    let off : c.prepare_at.result.offset ≡ n.first_cluster * cs + c.args.offset % cs = ap (λ (x : Prepared). x.offset) c.prepare_at.ensures.value ∙ ap (λ m. m + c.args.offset % cs) host_is in
+    let place : c.prepare_at.result.offset / cluster_size c.prepare_at.new.self.file.header.fields ≡ n.first_cluster = ap (λ m. c.prepare_at.result.offset / m) (ap (λ (i : Qcow2 _ _). cluster_size i.file.header.fields) c.prepare_at.ensures.pins.rest) ∙ ap (λ m. m / cs) off ∙ div-mul-add n.first_cluster cs (c.args.offset % cs) (mod_below c.args.offset cs (pow_pos mid.file.header.fields.cluster_bits)) in
+    used_pinned view below c.args.table mid c.prepare_at.new.self c.prepare_at.ensures.pins j
+    (used_stays view below out new_data former.after filled mid gained.image_step.sound kept.sound c.load_l2.ensures.header former.is c.load_l2.ensures.allocator c.load_l2.ensures.table kept.unseen.covers j
+    (c.in_ok-pending.ensures.lowest p out sound (λ x. omega arith) j (subst (λ m. j < m) place lt)))

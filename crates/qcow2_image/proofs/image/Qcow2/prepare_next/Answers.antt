@@ -39,3 +39,9 @@ returns-in_default-clause-header_cluster g c = c.share_behind.ensures.header_clu
 
 pub returns-clause-header_cluster : goal.returns-clause-header_cluster
 returns-clause-header_cluster g c = c.share_behind.ensures.header_cluster
+
+pub returns-in_default-clause-uses : goal.returns-in_default-clause-uses
+returns-in_default-clause-uses g c = λ out k at may sound. c.in_ok-share.ensures.uses out k at may sound
+
+pub returns-clause-uses : goal.returns-clause-uses
+returns-clause-uses g c = λ out k at may sound. c.in_ok-share.ensures.uses out k at may sound

@@ -28,3 +28,9 @@ returns-in-Some-clause-header_cluster g c = λ some. c.prepare_kept.ensures.head
 
 pub returns-in-None-clause-header_cluster : goal.returns-in-None-clause-header_cluster
 returns-in-None-clause-header_cluster g c = c.prepare_new.ensures.header_cluster
+
+pub returns-in-Some-clause-lowest : goal.returns-in-Some-clause-lowest
+returns-in-Some-clause-lowest g c = λ out sound. c.prepare_kept.ensures.lowest
+
+pub returns-in-None-clause-lowest : goal.returns-in-None-clause-lowest
+returns-in-None-clause-lowest g c = λ out sound. c.prepare_new.ensures.lowest out sound

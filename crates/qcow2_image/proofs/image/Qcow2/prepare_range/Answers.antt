@@ -1,4 +1,4 @@
-use Rattle.std.proofs.Common.{inl, refl, sym, ◌∙◌, subst, None, [], ◌∷◌}
+use Rattle.std.proofs.Common.{◌≡◌, true, false, inl, refl, sym, ◌∙◌, subst, None, Option, [], ◌∷◌}
 use Rattle.qcow2_alloc.specs.ImageFile.{known_in}
 use Rattle.qcow2_alloc.proofs.AllocationSteps.{handed_on}
 use Rattle.qcow2_image.specs.CallParts.{PreparesRange}
@@ -11,11 +11,13 @@ use Rattle.qcow2_image.proofs.Grow.Lengths.{kept_length, on_ok}
 use Rattle.qcow2_image.proofs.Prepare.Preparing.{readied_existing}
 use Rattle.qcow2_image.proofs.Call.Refused.{prepares_after, readied_after}
 use Rattle.qcow2_image.proofs.Prepare.Taken.{if_err, taken_by}
-use Rattle.qcow2_image.proofs.Prepare.Listing.{lists_none}
+use Rattle.qcow2_image.proofs.Prepare.Listing.{lists_since}
 use Rattle.qcow2_image.proofs.Prepare.FarEntries.{far_handed_on, far_unanswered}
-use Rattle.std.specs.Prelude.{IsTrue}
-use Rattle.qcow2_alloc.specs.KeptNotes.{kept_then}
+use Rattle.std.specs.Prelude.{IsSome, IsTrue}
+use Rattle.qcow2_alloc.proofs.KeptMarks.{notes_then}
 use Rattle.qcow2_image.proofs.Call.BehindHeader.{behind_then}
+use Rattle.qcow2_image.proofs.Prepare.InUse.{none_lowest}
+use Rattle.qcow2_image.proofs.Prepare.Pinned.{found_pins, met_untaken, prepared_unpinned, unpinned_refused}
 use Rattle.qcow2_image.proofs.image.Qcow2.prepare_range.Goals as goal
 
 pub returns-in_err-table-clause-readies : goal.returns-in_err-table-clause-readies
@@ -91,12 +93,9 @@ returns-in-None-clause-taken g c = λ some out sound.
 
 pub returns-in-Some-clause-tables : goal.returns-in-Some-clause-tables
 returns-in-Some-clause-tables g c = λ out sound.
-    let mid = c.table_for.new.self in
     record {
       reaches = c.in_ok-table.ensures.reaches out sound;
-      held = mid;
-      freed = c.in_ok-table.ensures.freed out sound;
-      since = lists_none mid (subst IsTrue (sym c.table_for.ensures.stays.image.writable) c.requires.writable);
+      lists = c.in_ok-table.ensures.freed out sound;
     }
 
 pub returns-in-None-clause-tables : goal.returns-in-None-clause-tables
@@ -104,9 +103,7 @@ returns-in-None-clause-tables g c = λ out sound.
     on_ok c.prepare_in.result
     (λ former. record {
       reaches = kept_length c.table_for.new.self.file.header c.prepare_in.new.self.file.header c.prepare_in.ensures.header ∙ c.in_ok-table.ensures.reaches out sound;
-      held = c.table_for.new.self;
-      freed = c.in_ok-table.ensures.freed out sound;
-      since = former;
+      lists = lists_since c.args.offset c.args.self.now c.table_for.new.self c.prepare_in.new.self (c.in_ok-table.ensures.freed out sound) former;
     }) c.prepare_in.ensures.former
 
 pub returns-in_err-table-clause-far : goal.returns-in_err-table-clause-far
@@ -131,7 +128,7 @@ pub returns-in-Some-clause-notes : goal.returns-in-Some-clause-notes
 returns-in-Some-clause-notes g c = c.table_for.ensures.notes
 
 pub returns-in-None-clause-notes : goal.returns-in-None-clause-notes
-returns-in-None-clause-notes g c = kept_then _ _ _ c.table_for.ensures.notes c.prepare_in.ensures.notes
+returns-in-None-clause-notes g c = notes_then c.table_for.ensures.notes c.prepare_in.ensures.notes
 
 pub returns-in_err-table-clause-header_cluster : goal.returns-in_err-table-clause-header_cluster
 returns-in_err-table-clause-header_cluster g c = c.table_for.ensures.header_cluster
@@ -144,3 +141,27 @@ returns-in-Some-clause-header_cluster g c = c.table_for.ensures.header_cluster
 
 pub returns-in-None-clause-header_cluster : goal.returns-in-None-clause-header_cluster
 returns-in-None-clause-header_cluster g c = behind_then c.table_for.ensures.header_cluster (c.prepare_in.ensures.header_cluster c.in_ok-table.ensures.elsewhere)
+
+pub returns-in-Some-clause-lowest : goal.returns-in-Some-clause-lowest
+returns-in-Some-clause-lowest g c = λ out sound. none_lowest g.S.Storage.view g.F.BackingDisk.backing c.table_for.new.self c.existing_at.result c.existing_at.ensures.existing.shares
+
+pub returns-in-None-clause-lowest : goal.returns-in-None-clause-lowest
+returns-in-None-clause-lowest g c = λ out sound.
+    let view = g.S.Storage.view in
+    let below = g.F.BackingDisk.backing in
+    let mid = c.table_for.new.self in
+    let found = c.in_ok-table.ensures.finds out sound in
+    c.prepare_in.ensures.lowest (None ∷ out) 0 refl ((free_places view below).free mid [] out found.0.sound) found.1
+
+pub returns-in_err-table-clause-pinned : goal.returns-in_err-table-clause-pinned
+returns-in_err-table-clause-pinned g c = λ own. unpinned_refused c.args.self.now c.args.offset c.from_residual.result c.in_err-table.field-0.0 c.from_residual.ensures (λ is. absurd (met_untaken c.in_err-table.field-0.0 c.in_err-table.ensures.cause is))
+
+pub returns-in_err-host-clause-pinned : goal.returns-in_err-host-clause-pinned
+returns-in_err-host-clause-pinned g c = λ own. unpinned_refused c.args.self.now c.args.offset c.from_residual-in_err-host.result c.in_err-host.field-0.0 c.from_residual-in_err-host.ensures (λ is. absurd (met_untaken c.in_err-host.field-0.0 c.in_err-host.ensures.cause is))
+
+pub returns-in-Some-clause-pinned : goal.returns-in-Some-clause-pinned
+returns-in-Some-clause-pinned g c = λ own some. absurd (let no : false ≡ true = subst (λ (t : Option _). IsSome t) c.existing_at.ensures.existing.table some in cc)
+
+pub returns-in-None-clause-pinned : goal.returns-in-None-clause-pinned
+returns-in-None-clause-pinned g c = λ own.
+    prepared_unpinned c.args.self.now c.args.offset _ c.prepare_in.result (found_pins c.args.self.now c.table_for.new.self c.args.offset c.in_ok-table.table (c.in_ok-table.ensures.own own)) c.prepare_in.ensures.taken c.prepare_in.ensures.unpinned

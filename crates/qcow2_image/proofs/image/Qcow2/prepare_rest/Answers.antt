@@ -6,9 +6,9 @@ use Rattle.qcow2_image.specs.CallParts.{IsReadied}
 use Rattle.qcow2_image.specs.Ranges.{BreaksOff, Ends, GoesNext, GoesOn}
 use Rattle.qcow2_image.proofs.Call.Slots.{get_set_same}
 use Rattle.qcow2_image.proofs.Prepare.Onward.{may_go_on, so_far_all, so_far_ends, so_far_next}
-use Rattle.qcow2_image.proofs.Call.FaultCounts.{counted_ok, counted_on, fewer_then}
+use Rattle.qcow2_image.proofs.Call.FaultCounts.{counted_ok, counted_on, faults_then}
 use Rattle.qcow2_image.proofs.Prepare.Listing.{lists_none, lists_then}
-use Rattle.qcow2_alloc.specs.KeptNotes.{kept_then}
+use Rattle.qcow2_alloc.proofs.KeptMarks.{notes_then}
 use Rattle.qcow2_image.proofs.Call.BehindHeader.{behind_then}
 use Rattle.qcow2_image.proofs.image.Qcow2.prepare_rest.Goals as goal
 
@@ -71,9 +71,10 @@ loop-prepared-preserved g c =
       turns = so_far_next view below c.args.self.now now c.args.prepared.now q n c.min-end.result c.args.table c.args.overwrite c.loop-prepared.invariant.turns bound c.loop-prepared-test.true new r c.prepare_next.ensures.stays c.prepare_next.ensures.header
           (c.prepare_next.ensures.next (c.in_ok-prepare_next.was ∙ ap Ok c.if-not-branch.false)) c.prepare_next.ensures.room
           (λ out k at may sound. subst (λ b. GoesNext view below now new out k n c.args.overwrite q r (Ok b)) c.if-not-branch.false (c.in_ok-prepare_next.ensures.image_step out k at may sound));
-      faults = fewer_then view below c.args.self.now now new c.loop-prepared.invariant.faults c.prepare_next.ensures.faults.no_fewer;
+      faults = faults_then view below c.args.self.now now new c.loop-prepared.invariant.faults c.in_ok-prepare_next.ensures.faults.told;
       former = lists_then c.args.self.now now new c.loop-prepared.invariant.former c.in_ok-prepare_next.ensures.former;
-      notes = kept_then _ _ _ c.loop-prepared.invariant.notes c.prepare_next.ensures.notes;
+      uses = λ start out k free under is j used. c.in_ok-prepare_next.ensures.uses (slice_set out k (Some q)) k (get_set_same out k (Some q) None free) (may_go_on view below c.args.self.now now c.args.prepared.now q n c.min-end.result c.args.table c.args.overwrite c.loop-prepared.invariant.turns bound c.loop-prepared-test.true start out k under is) (c.loop-prepared.invariant.turns.image_step start out k free under is).sound j (c.loop-prepared.invariant.uses start out k free under is j used);
+      notes = notes_then c.loop-prepared.invariant.notes c.prepare_next.ensures.notes;
       behind = behind_then c.loop-prepared.invariant.behind c.prepare_next.ensures.header_cluster;
     }
 
@@ -91,7 +92,7 @@ returns-in_err-prepare_next-clause-faults g c =
 pub returns-then-not-branch-clause-faults : goal.returns-then-not-branch-clause-faults
 returns-then-not-branch-clause-faults g c =
     counted_ok g.S.Storage.view g.F.BackingDisk.backing c.args.self.now c.prepare_next.new.self tt
-    (fewer_then g.S.Storage.view g.F.BackingDisk.backing c.args.self.now c.loop-prepared.self c.prepare_next.new.self c.loop-prepared.invariant.faults c.prepare_next.ensures.faults.no_fewer)
+    (faults_then g.S.Storage.view g.F.BackingDisk.backing c.args.self.now c.loop-prepared.self c.prepare_next.new.self c.loop-prepared.invariant.faults c.in_ok-prepare_next.ensures.faults.told)
 
 pub returns-clause-faults : goal.returns-clause-faults
 returns-clause-faults g c = counted_ok g.S.Storage.view g.F.BackingDisk.backing c.args.self.now c.loop-prepared.self tt c.loop-prepared.invariant.faults
@@ -100,10 +101,10 @@ pub returns-then-not-branch-clause-former : goal.returns-then-not-branch-clause-
 returns-then-not-branch-clause-former g c = lists_then c.args.self.now c.loop-prepared.self c.prepare_next.new.self c.loop-prepared.invariant.former c.in_ok-prepare_next.ensures.former
 
 pub returns-in_err-prepare_next-clause-notes : goal.returns-in_err-prepare_next-clause-notes
-returns-in_err-prepare_next-clause-notes g c = kept_then _ _ _ c.loop-prepared.invariant.notes c.prepare_next.ensures.notes
+returns-in_err-prepare_next-clause-notes g c = notes_then c.loop-prepared.invariant.notes c.prepare_next.ensures.notes
 
 pub returns-then-not-branch-clause-notes : goal.returns-then-not-branch-clause-notes
-returns-then-not-branch-clause-notes g c = kept_then _ _ _ c.loop-prepared.invariant.notes c.prepare_next.ensures.notes
+returns-then-not-branch-clause-notes g c = notes_then c.loop-prepared.invariant.notes c.prepare_next.ensures.notes
 
 pub returns-clause-notes : goal.returns-clause-notes
 returns-clause-notes g c = c.loop-prepared.invariant.notes
@@ -116,3 +117,16 @@ returns-then-not-branch-clause-header_cluster g c = behind_then c.loop-prepared.
 
 pub returns-clause-header_cluster : goal.returns-clause-header_cluster
 returns-clause-header_cluster g c = c.loop-prepared.invariant.behind
+
+pub returns-then-not-branch-clause-uses : goal.returns-then-not-branch-clause-uses
+returns-then-not-branch-clause-uses g c = λ start out k free under is j used.
+    let view = g.S.Storage.view in
+    let below = g.F.BackingDisk.backing in
+    let now = c.loop-prepared.self in
+    let q = c.loop-prepared.prepared in
+    let n = c.args.length in
+    let bound = c.min-end.ensures ∙ ap (min c.args.length) c.rest_of_table.ensures.value in
+    c.in_ok-prepare_next.ensures.uses (slice_set out k (Some q)) k (get_set_same out k (Some q) None free) (may_go_on view below c.args.self.now now c.args.prepared.now q n c.min-end.result c.args.table c.args.overwrite c.loop-prepared.invariant.turns bound c.loop-prepared-test.true start out k under is) (c.loop-prepared.invariant.turns.image_step start out k free under is).sound j (c.loop-prepared.invariant.uses start out k free under is j used)
+
+pub returns-clause-uses : goal.returns-clause-uses
+returns-clause-uses g c = λ start out k free under is. c.loop-prepared.invariant.uses start out k free under is

@@ -11,8 +11,9 @@ use Rattle.qcow2_image.proofs.Grow.Lengthened.{freed_then, makes_none, refused_m
 use Rattle.std.specs.Prelude.{IfErr}
 use Rattle.qcow2_image.specs.NewTables.{IsFaultOrLacksTable}
 use Rattle.qcow2_image.proofs.Prepare.Lacking.{fault_or_lacking, not_within, short_lacking}
-use Rattle.qcow2_alloc.specs.KeptNotes.{kept_same, kept_then}
+use Rattle.qcow2_alloc.proofs.KeptMarks.{notes_none, notes_then}
 use Rattle.qcow2_image.proofs.Call.BehindHeader.{behind_none, behind_then}
+use Rattle.qcow2_image.proofs.Prepare.Listing.{some_kept, some_none}
 use Rattle.qcow2_image.proofs.image.Qcow2.reach_entry.Goals as goal
 
 pub returns-then-in_bounds-clause-makes : goal.returns-then-in_bounds-clause-makes
@@ -77,13 +78,13 @@ returns-clause-lacks g c = λ out sound.
     fault_or_lacking view below out c.free_listed.new.self c.args.offset c.free_listed.result (c.free_listed.ensures.faults (beside view below mid out) out listed)
 
 pub returns-then-in_bounds-clause-notes : goal.returns-then-in_bounds-clause-notes
-returns-then-in_bounds-clause-notes g c = kept_same c.args.self.now.file.storage
+returns-then-in_bounds-clause-notes g c = notes_none
 
 pub returns-in_err-grow_l1_table-clause-notes : goal.returns-in_err-grow_l1_table-clause-notes
 returns-in_err-grow_l1_table-clause-notes g c = c.grow_l1_table.ensures.notes
 
 pub returns-clause-notes : goal.returns-clause-notes
-returns-clause-notes g c = kept_then _ _ _ c.grow_l1_table.ensures.notes c.free_listed.ensures.notes
+returns-clause-notes g c = notes_then c.grow_l1_table.ensures.notes c.free_listed.ensures.notes
 
 pub returns-then-in_bounds-clause-header_cluster : goal.returns-then-in_bounds-clause-header_cluster
 returns-then-in_bounds-clause-header_cluster g c = behind_none
@@ -93,3 +94,9 @@ returns-in_err-grow_l1_table-clause-header_cluster g c = c.grow_l1_table.ensures
 
 pub returns-clause-header_cluster : goal.returns-clause-header_cluster
 returns-clause-header_cluster g c = behind_then c.grow_l1_table.ensures.header_cluster c.free_listed.ensures.header_cluster
+
+pub returns-then-in_bounds-clause-former : goal.returns-then-in_bounds-clause-former
+returns-then-in_bounds-clause-former g c = some_none c.args.self.now c.requires.writable
+
+pub returns-clause-former : goal.returns-clause-former
+returns-clause-former g c = always_ok c.free_listed.result (some_kept c.args.self.now c.grow_l1_table.new.self c.free_listed.new.self c.in_ok-grow_l1_table.ensures.former c.free_listed.ensures.former)

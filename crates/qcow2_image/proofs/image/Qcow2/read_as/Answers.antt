@@ -11,11 +11,12 @@ use Rattle.qcow2_alloc.specs.MetadataCaches.{known_of}
 use Rattle.qcow2_alloc.specs.ImageFile.{known_in, state_in, view_in}
 use Rattle.qcow2_image.specs.Found.{found_kind, is_data_file}
 use Rattle.qcow2_image.specs.ImageInvariant.{backing_bytes, disk_of}
+use Rattle.qcow2_alloc.proofs.KeptMarks.{notes_of_storage}
 use Rattle.qcow2_image.proofs.Map.Loading.{read_moved, if_ok}
 use Rattle.qcow2_image.proofs.Map.Reading.{raw_shown, zero_shown, indirect_shown, none_below}
 use Rattle.qcow2_image.proofs.Map.Unmodified.{read_bytes, read_same}
 use Rattle.qcow2_alloc.proofs.KeptNotes.{read_kept}
-use Rattle.qcow2_image.proofs.Call.BehindHeader.{behind_none}
+use Rattle.qcow2_image.proofs.Call.BehindHeader.{behind_read}
 use Rattle.qcow2_image.proofs.image.Qcow2.read_as.Goals as goal
 
 pub returns-in_err-read-in-Raw-clause-keeps : goal.returns-in_err-read-in-Raw-clause-keeps
@@ -76,13 +77,13 @@ pub returns-in-Indirect-clause-unwritten : goal.returns-in-Indirect-clause-unwri
 returns-in-Indirect-clause-unwritten g c = λ p out sound clean. read_same g.S.Storage.view c.args.self.now c.read_backing.new.self c.read_backing.ensures.file clean
 
 pub returns-in_err-read-in-Raw-clause-notes : goal.returns-in_err-read-in-Raw-clause-notes
-returns-in_err-read-in-Raw-clause-notes g c = read_kept _ _ c.read.result c.read.ensures.calls c.read.ensures.same c.read.ensures.unnoted
+returns-in_err-read-in-Raw-clause-notes g c = notes_of_storage (read_kept _ _ c.read.result c.read.ensures.calls c.read.ensures.same c.read.ensures.unnoted)
 
 pub returns-in_ok-read-in-Raw-clause-notes : goal.returns-in_ok-read-in-Raw-clause-notes
-returns-in_ok-read-in-Raw-clause-notes g c = read_kept _ _ c.read.result c.read.ensures.calls c.read.ensures.same c.read.ensures.unnoted
+returns-in_ok-read-in-Raw-clause-notes g c = notes_of_storage (read_kept _ _ c.read.result c.read.ensures.calls c.read.ensures.same c.read.ensures.unnoted)
 
 pub returns-in_err-read-in-Raw-clause-header_cluster : goal.returns-in_err-read-in-Raw-clause-header_cluster
-returns-in_err-read-in-Raw-clause-header_cluster g c = behind_none
+returns-in_err-read-in-Raw-clause-header_cluster g c = behind_read c.read.result c.read.ensures.calls c.read.ensures.same
 
 pub returns-in_ok-read-in-Raw-clause-header_cluster : goal.returns-in_ok-read-in-Raw-clause-header_cluster
-returns-in_ok-read-in-Raw-clause-header_cluster g c = behind_none
+returns-in_ok-read-in-Raw-clause-header_cluster g c = behind_read c.read.result c.read.ensures.calls c.read.ensures.same

@@ -8,8 +8,10 @@ use Rattle.qcow2_image.specs.ImageInvariant.{disk_of}
 use Rattle.qcow2_image.proofs.Call.Called.{keeps_then}
 use Rattle.qcow2_image.proofs.Map.Looked.{none_past}
 use Rattle.qcow2_image.proofs.Map.Unmodified.{reads_on}
-use Rattle.qcow2_alloc.specs.KeptNotes.{kept_then}
+use Rattle.qcow2_alloc.proofs.KeptMarks.{notes_then}
 use Rattle.qcow2_image.proofs.Call.BehindHeader.{behind_then}
+use Rattle.qcow2_image.specs.Refusals.{IsUnlimited}
+use Rattle.std.specs.Prelude.{IfErr, Result}
 use Rattle.qcow2_image.proofs.image.Qcow2.read_current.Goals as goal
 
 pub returns-clause-keeps : goal.returns-clause-keeps
@@ -44,7 +46,7 @@ pub returns-clause-unwritten : goal.returns-clause-unwritten
 returns-clause-unwritten g c = reads_on g.S.Storage.view g.F.BackingDisk.backing c.args.self.now c.check_mapped.new.self c.read_as.new.self c.in_ok-check_mapped.ensures.keeps c.in_ok-check_mapped.ensures.unwritten c.read_as.ensures.unwritten
 
 pub returns-clause-notes : goal.returns-clause-notes
-returns-clause-notes g c = kept_then _ _ _ c.check_mapped.ensures.notes c.read_as.ensures.notes
+returns-clause-notes g c = notes_then c.check_mapped.ensures.notes c.read_as.ensures.notes
 
 pub returns-clause-mapped : goal.returns-clause-mapped
 returns-clause-mapped g c = λ p out sound.
@@ -57,3 +59,10 @@ returns-clause-mapped g c = λ p out sound.
 
 pub returns-clause-header_cluster : goal.returns-clause-header_cluster
 returns-clause-header_cluster g c = behind_then c.check_mapped.ensures.header_cluster c.read_as.ensures.header_cluster
+
+pub returns-in_err-check_mapped-clause-limited : goal.returns-in_err-check_mapped-clause-limited
+returns-in_err-check_mapped-clause-limited g c = λ p out sound.
+    handed_on (λ (r : Result _ _). IfErr r IsUnlimited) c.from_residual-in_err-check_mapped.result c.in_err-check_mapped.field-0.0 c.from_residual-in_err-check_mapped.ensures (c.in_err-check_mapped.ensures.limited p out sound)
+
+pub returns-clause-limited : goal.returns-clause-limited
+returns-clause-limited g c = λ p out sound. c.read_as.ensures.limited

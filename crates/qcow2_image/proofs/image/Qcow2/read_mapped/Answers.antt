@@ -18,6 +18,12 @@ use Rattle.qcow2_image.proofs.Call.FaultCounts.{counted_marked}
 use Rattle.qcow2_image.proofs.Map.Unmodified.{read_call}
 use Rattle.qcow2_image.proofs.Call.OnceWritten.{once_written}
 use Rattle.qcow2_image.proofs.Call.BehindHeader.{behind_call}
+use Rattle.std.specs.Prelude.{IfErr}
+use Rattle.qcow2_image.specs.Refusals.{IsUnlimited}
+use Rattle.qcow2_image.proofs.Sizes.{sound_is_usable}
+use Rattle.qcow2_image.proofs.Clear.ClearCalls.{refused_for}
+use Rattle.qcow2_image.specs.Refusals.{unusable}
+use Rattle.std.specs.Prelude.{None, Some}
 use Rattle.qcow2_image.proofs.image.Qcow2.read_mapped.Goals as goal
 
 pub returns-clause-sees : goal.returns-clause-sees
@@ -57,7 +63,7 @@ pub returns-clause-unwritten : goal.returns-clause-unwritten
 returns-clause-unwritten g c = read_call g.S.Storage.view g.F.BackingDisk.backing c.args.self.now c.begin.new.self c.read_current-done.new.self c.mark_failure.new.self (is_failed c.mark_failure.new.self) c.begin.ensures.storage c.begin.ensures.keeps c.begin.ensures.known c.read_current-done.ensures.unwritten c.mark_failure.ensures.rest
 
 pub returns-clause-once_written : goal.returns-clause-once_written
-returns-clause-once_written g c = λ memory. once_written g.S.Storage.view c.args.self.now c.begin.new.self c.read_current-done.new.self c.mark_failure.new.self c.read_current-done.result c.begin.ensures.storage c.read_current-done.ensures.notes c.mark_failure.ensures.marks c.mark_failure.ensures.rest (sym c.mark_failure.ensures.answer ∙ memory)
+returns-clause-once_written g c = λ memory. once_written g.S.Storage.view c.args.self.now c.begin.new.self c.begin.ensures.begun c.read_current-done.new.self c.mark_failure.new.self c.read_current-done.result c.read_current-done.ensures.notes (c.read_current-done.ensures.stays.failed ∙ c.begin.ensures.stays.failed) c.mark_failure.ensures.marks c.mark_failure.ensures.rest (sym c.mark_failure.ensures.answer ∙ memory)
 
 pub returns-then-is_empty-clause-mapped : goal.returns-then-is_empty-clause-mapped
 returns-then-is_empty-clause-mapped g c = λ some out sound. absurd (let none : length c.args.bytes.now ≡ 0 = search rules in omega (arith, none, some))
@@ -76,4 +82,16 @@ returns-clause-mapped g c = λ some out sound.
     (on_ok c.read_current-done.result (λ whole. found_before view below old c.begin.new.self out p p place n kind begun whole) (c.read_current-done.ensures.mapped p out begun.sound))
 
 pub returns-clause-header_cluster : goal.returns-clause-header_cluster
-returns-clause-header_cluster g c = behind_call c.begin.ensures.begun c.read_current-done.ensures.header_cluster c.mark_failure.ensures.rest
+returns-clause-header_cluster g c = behind_call g.S.Storage.view c.begin.ensures.begun c.read_current-done.ensures.header_cluster c.mark_failure.ensures.rest
+
+pub returns-clause-limited : goal.returns-clause-limited
+returns-clause-limited g c = λ out sound.
+    let p = pending_in g.S.Storage.view g.F.BackingDisk.backing c.args.self.now out in
+    subst (λ (r : Result _ _). IfErr r IsUnlimited) (sym c.mark_failure.ensures.answer) (c.read_current-done.ensures.limited p out (c.begin.ensures.keeps p out sound).sound)
+
+pub returns-in_err-check_usable-clause-limited : goal.returns-in_err-check_usable-clause-limited
+returns-in_err-check_usable-clause-limited g c = λ out sound.
+    let old = c.args.self.now in
+    let e = c.in_err-check_usable.field-0.0 in
+    let refused = refused_for c.check_usable.result tt (unusable old) e c.check_usable.ensures c.in_err-check_usable.was in
+    absurd (let no : None ≡ Some c.in_err-check_usable.field-0.0 = sym (sound_is_usable g.S.Storage.view g.F.BackingDisk.backing old out sound) ∙ refused in cc)

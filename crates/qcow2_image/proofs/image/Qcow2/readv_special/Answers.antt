@@ -11,6 +11,7 @@ use Rattle.qcow2_image.proofs.Sizes.{sound_is_usable}
 use Rattle.qcow2_image.specs.Noted.{FailsOnceWritten}
 use Rattle.qcow2_alloc.proofs.Outcomes.{err_as}
 use Rattle.qcow2_alloc.specs.declared.error.ImageError.TheVariants.{Memory}
+use Rattle.qcow2_image.specs.Refusals.{IsUnlimited}
 use Rattle.qcow2_image.proofs.image.Qcow2.readv_special.Goals as goal
 
 pub returns-in_err-try_readv_special-clause-tells :
@@ -43,3 +44,7 @@ returns-in_err-try_readv_special-clause-once_written g c =
 
 pub returns-in-Some-clause-once_written : goal.returns-in-Some-clause-once_written
 returns-in-Some-clause-once_written g c = λ bad. absurd (cc)
+
+pub returns-in_err-try_readv_special-clause-limited : goal.returns-in_err-try_readv_special-clause-limited
+returns-in_err-try_readv_special-clause-limited g c = λ out sound.
+    handed_on (λ r. IfErr r IsUnlimited) c.from_residual.result c.in_err-try_readv_special.field-0.0 c.from_residual.ensures (c.in_err-try_readv_special.ensures.limited out sound)

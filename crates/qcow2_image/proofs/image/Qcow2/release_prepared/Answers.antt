@@ -1,3 +1,4 @@
+use Rattle.qcow2_image.proofs.Call.Notes.{pins_kept}
 use Rattle.std.proofs.Common.{◌≡◌, ℕ, ◌-◌, refl, sym, ap, ◌∙◌, subst}
 use Rattle.qcow2_alloc.specs.CachePins.{SameTables, l2_pins}
 use Rattle.qcow2_image.specs.declared.image.Qcow2.{Qcow2}
@@ -7,7 +8,7 @@ use Rattle.qcow2_image.specs.Calls.{Discards}
 use Rattle.qcow2_image.specs.ImageInvariant.{pins_of}
 use Rattle.qcow2_image.proofs.Commit.Released.{discards}
 use Rattle.qcow2_image.proofs.Call.FaultCounts.{untouched}
-use Rattle.qcow2_image.proofs.Call.BehindHeader.{behind_by, behind_caches, behind_none, behind_then}
+use Rattle.qcow2_image.proofs.Call.BehindHeader.{behind_by, behind_none, behind_tables, behind_then}
 use Rattle.qcow2_image.proofs.image.Qcow2.release_prepared.Goals as goal
 
 pub returns-clause-sees : goal.returns-clause-sees
@@ -35,7 +36,8 @@ returns-clause-rest g c =
     let same = un.rest ∙ ap (λ (m : Qcow2 _ _). record m { file = record m.file { caches = caches } }) freed in
     let tables : SameTables old.file.caches caches = subst (λ (m : Qcow2 _ _). SameTables m.file.caches caches) freed un.tables in
     let changed : caches.is_changed ≡ old.file.caches.is_changed = un.changed ∙ ap (λ (m : Qcow2 _ _). m.file.caches.is_changed) freed in
-    subst (λ (image : Qcow2 _ _). ReleasesOneMapping view old image) (sym same) (record { rest = refl; known = tables.known old.file.header.fields (contents_in view old.file); changed = changed })
+    let counted : caches.changes ≡ old.file.caches.changes = un.counted ∙ ap (λ (m : Qcow2 _ _). m.file.caches.changes) freed in
+    subst (λ (image : Qcow2 _ _). ReleasesOneMapping view old image) (sym same) (record { rest = refl; known = tables.known old.file.header.fields (contents_in view old.file); changed = changed; counted = counted })
 
 pub returns-clause-faults : goal.returns-clause-faults
 returns-clause-faults g c =
@@ -44,4 +46,9 @@ returns-clause-faults g c =
     (ap (λ (m : Qcow2 _ _). m.backing) c.unpin.ensures.rest ∙ ap (λ (m : Qcow2 _ _). m.backing) c.free_later.ensures)
 
 pub returns-clause-header_cluster : goal.returns-clause-header_cluster
-returns-clause-header_cluster g c = behind_then (behind_by c.free_later.ensures behind_none) (behind_by c.unpin.ensures.rest (behind_caches c.unpin.ensures.tables.behind))
+returns-clause-header_cluster g c = behind_then (behind_by g.S.Storage.view c.free_later.ensures behind_none) (behind_by g.S.Storage.view c.unpin.ensures.rest (behind_tables c.unpin.ensures.tables.behind))
+
+pub returns-clause-notes : goal.returns-clause-notes
+returns-clause-notes g c =
+    pins_kept c.args.self.now c.unpin.new.self (ap (λ (m : Qcow2 _ _). m.file.storage) c.unpin.ensures.rest ∙ ap (λ (m : Qcow2 _ _). m.file.storage) c.free_later.ensures)
+    (c.unpin.ensures.changed ∙ ap (λ (m : Qcow2 _ _). m.file.caches.is_changed) c.free_later.ensures) (c.unpin.ensures.counted ∙ ap (λ (m : Qcow2 _ _). m.file.caches.changes) c.free_later.ensures)

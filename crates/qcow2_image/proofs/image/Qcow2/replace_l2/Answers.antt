@@ -3,8 +3,10 @@ use Rattle.qcow2_image.specs.NewTables.{OwnsTable}
 use Rattle.qcow2_image.proofs.Prepare.Entering.{as_listed_after}
 use Rattle.qcow2_image.proofs.Map.Loading.{caches_moved, with_caches}
 use Rattle.qcow2_image.proofs.Prepare.Owning.{refused, says_copy, shared_still, owned_then}
-use Rattle.qcow2_alloc.specs.KeptNotes.{kept_then}
+use Rattle.qcow2_alloc.proofs.KeptMarks.{notes_then, notes_of_both}
 use Rattle.qcow2_image.proofs.Call.BehindHeader.{behind_caches, behind_then}
+use Rattle.qcow2_image.proofs.Grow.Lengths.{on_ok}
+use Rattle.qcow2_image.proofs.Prepare.Listing.{some_from}
 use Rattle.qcow2_image.proofs.image.Qcow2.replace_l2.Goals as goal
 
 pub returns-in_err-l2_get_or_insert-clause-owns : goal.returns-in_err-l2_get_or_insert-clause-owns
@@ -36,22 +38,28 @@ returns-clause-owns g c = λ p out sound shared.
     (says_copy g.S.Storage.view g.F.BackingDisk.backing out p mid kept.sound c.args.index c.args.old still c.in-Some.held.now c.in_ok-table.table c.in-Some.ensures.shows c.in_ok-table.ensures.ok))
 
 pub returns-in_err-l2_get_or_insert-clause-notes : goal.returns-in_err-l2_get_or_insert-clause-notes
-returns-in_err-l2_get_or_insert-clause-notes g c = c.l2_get_or_insert.ensures.notes
+returns-in_err-l2_get_or_insert-clause-notes g c = (notes_of_both c.l2_get_or_insert.ensures.marks c.l2_get_or_insert.ensures.notes)
 
 pub returns-in_err-table-clause-notes : goal.returns-in_err-table-clause-notes
-returns-in_err-table-clause-notes g c = c.l2_get_or_insert.ensures.notes
+returns-in_err-table-clause-notes g c = (notes_of_both c.l2_get_or_insert.ensures.marks c.l2_get_or_insert.ensures.notes)
 
 pub returns-clause-notes : goal.returns-clause-notes
-returns-clause-notes g c = kept_then _ _ _ c.l2_get_or_insert.ensures.notes c.swap_l2.ensures.notes
+returns-clause-notes g c = notes_then (notes_of_both c.l2_get_or_insert.ensures.marks c.l2_get_or_insert.ensures.notes) c.swap_l2.ensures.notes
 
 pub returns-in_err-l2_get_or_insert-clause-header_cluster : goal.returns-in_err-l2_get_or_insert-clause-header_cluster
-returns-in_err-l2_get_or_insert-clause-header_cluster g c = λ some. behind_caches (c.l2_get_or_insert.ensures.header_cluster some).behind
+returns-in_err-l2_get_or_insert-clause-header_cluster g c = λ some. behind_caches (c.l2_get_or_insert.ensures.header_cluster some)
 
 pub returns-in_err-table-clause-header_cluster : goal.returns-in_err-table-clause-header_cluster
-returns-in_err-table-clause-header_cluster g c = λ some. behind_caches (c.l2_get_or_insert.ensures.header_cluster some).behind
+returns-in_err-table-clause-header_cluster g c = λ some. behind_caches (c.l2_get_or_insert.ensures.header_cluster some)
 
 pub returns-clause-header_cluster : goal.returns-clause-header_cluster
-returns-clause-header_cluster g c = λ some. behind_then (behind_caches (c.l2_get_or_insert.ensures.header_cluster some).behind) c.swap_l2.ensures.header_cluster
+returns-clause-header_cluster g c = λ some. behind_then (behind_caches (c.l2_get_or_insert.ensures.header_cluster some)) c.swap_l2.ensures.header_cluster
 
 pub returns-clause-elsewhere : goal.returns-clause-elsewhere
 returns-clause-elsewhere g c = c.swap_l2.ensures.elsewhere
+
+pub returns-clause-former : goal.returns-clause-former
+returns-clause-former g c =
+    let old = c.args.self.now in
+    let mid = record old { file = record old.file { storage = c.l2_get_or_insert.new.storage; caches = c.l2_get_or_insert.new.self } } in
+    on_ok c.swap_l2.result (λ gave. some_from old mid c.swap_l2.new.self refl gave) c.swap_l2.ensures.former

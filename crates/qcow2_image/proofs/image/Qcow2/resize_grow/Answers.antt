@@ -1,3 +1,4 @@
+use Rattle.qcow2_image.proofs.Call.OnceWritten.{once_none}
 use Rattle.std.proofs.Common.{◌≡◌, ◌≤◌, ◌∙◌, true, false, sym, ap, subst, refl}
 use Rattle.std.specs.Prelude.{Result}
 use Rattle.qcow2_image.specs.Resizing.{GrowsTo, refuses_to_resize, takes_over}
@@ -31,10 +32,16 @@ returns-then-takes_over-clause-tables g c = λ none larger out sound. record {
 }
 
 pub returns-in_err-check_resize-clause-once_written : goal.returns-in_err-check_resize-clause-once_written
-returns-in_err-check_resize-clause-once_written g c = λ memory works honest. refl
+returns-in_err-check_resize-clause-once_written g c = λ memory. once_none g.S.Storage.view c.args.self.now
 
 pub returns-then-takes_over-clause-once_written : goal.returns-then-takes_over-clause-once_written
-returns-then-takes_over-clause-once_written g c = λ memory works honest. refl
+returns-then-takes_over-clause-once_written g c = λ memory. once_none g.S.Storage.view c.args.self.now
 
 pub returns-clause-header_cluster : goal.returns-clause-header_cluster
 returns-clause-header_cluster g c = c.grow_disk.ensures.header_cluster
+
+pub returns-then-takes_over-clause-freed : goal.returns-then-takes_over-clause-freed
+returns-then-takes_over-clause-freed g c = λ none larger isnt out sound. absurd (isnt (sym c.takes_over.ensures ∙ c.if-takes_over.true))
+
+pub returns-clause-freed : goal.returns-clause-freed
+returns-clause-freed g c = λ none larger isnt out sound. c.grow_disk.ensures.freed out sound

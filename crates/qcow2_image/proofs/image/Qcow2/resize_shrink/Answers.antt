@@ -1,5 +1,6 @@
-use Rattle.std.proofs.Common.{◌≤◌, ◌∙◌, refl, sym, subst, arith}
-use Rattle.std.specs.Prelude.{Ok, Result}
+use Rattle.qcow2_image.proofs.Call.OnceWritten.{once_none}
+use Rattle.std.proofs.Common.{◌≡◌, ◌≤◌, ◌∙◌, refl, sym, subst, arith}
+use Rattle.std.specs.Prelude.{None, Ok, Result, Some}
 use Rattle.qcow2_alloc.specs.ImageFile.{l2_pins}
 use Rattle.qcow2_image.specs.Resizing.{Shrinks, refuses_to_resize}
 use Rattle.std.proofs.lemmas.Nat.{pow_pos}
@@ -7,7 +8,7 @@ use Rattle.qcow2_metadata.specs.Header.{cluster_size}
 use Rattle.qcow2_image.proofs.Backings.{found_pinned, none_prepared}
 use Rattle.qcow2_image.proofs.Clear.Touched.{rounded_from}
 use Rattle.qcow2_image.proofs.Clear.ClearCalls.{err_is, not_refused, refused_for}
-use Rattle.qcow2_image.proofs.Sizing.ShrinkCalls.{met_prepared, resize_works, shrinks_early, shrinks_nothing, shrinks_prepared}
+use Rattle.qcow2_image.proofs.Sizing.ShrinkCalls.{fault_unprepared, met_prepared, resize_works, shrinks_early, shrinks_nothing, shrinks_prepared}
 use Rattle.qcow2_image.proofs.image.Qcow2.resize_shrink.Goals as goal
 
 pub returns-in_err-check_resize-clause-sees : goal.returns-in_err-check_resize-clause-sees
@@ -56,16 +57,36 @@ returns-then-size-clause-stops g c = λ out sound.
     record { stops = λ lt. absurd (omega (arith, lt, is)); emptied = λ before. absurd (omega (arith, le, up, before)) }
 
 pub returns-in_err-check_resize-clause-once_written : goal.returns-in_err-check_resize-clause-once_written
-returns-in_err-check_resize-clause-once_written g c = λ memory works honest. refl
+returns-in_err-check_resize-clause-once_written g c = λ memory. once_none g.S.Storage.view c.args.self.now
 
 pub returns-then-size-clause-once_written : goal.returns-then-size-clause-once_written
 returns-then-size-clause-once_written g c = λ bad. absurd (cc)
 
 pub returns-then-is_some-clause-once_written : goal.returns-then-is_some-clause-once_written
-returns-then-is_some-clause-once_written g c = λ memory works honest. refl
+returns-then-is_some-clause-once_written g c = λ memory. once_none g.S.Storage.view c.args.self.now
 
 pub returns-clause-once_written : goal.returns-clause-once_written
 returns-clause-once_written g c = c.shrink.ensures.once_written
 
 pub returns-clause-header_cluster : goal.returns-clause-header_cluster
 returns-clause-header_cluster g c = c.shrink.ensures.header_cluster
+
+pub returns-in_err-check_resize-clause-pinned : goal.returns-in_err-check_resize-clause-pinned
+returns-in_err-check_resize-clause-pinned g c = λ none smaller.
+    let e = c.in_err-check_resize.field-0.0 in
+    let refused = refused_for c.check_resize.result tt (refuses_to_resize c.args.self.now) e c.check_resize.ensures c.in_err-check_resize.was in
+    absurd (let no : None ≡ Some e = sym none ∙ refused in cc)
+
+pub returns-then-size-clause-pinned : goal.returns-then-size-clause-pinned
+returns-then-size-clause-pinned g c = λ none smaller. absurd (let le = c.if-size.true in let is = c.size.ensures in omega arith)
+
+pub returns-then-is_some-clause-pinned : goal.returns-then-is_some-clause-pinned
+returns-then-is_some-clause-pinned g c = λ none smaller.
+    let found = found_pinned (l2_pins c.args.self.now.file.caches) c.first_pinned_l2.result c.first_pinned_l2.ensures.some (sym c.is_some.ensures ∙ c.if-is_some.true) in
+    ((λ _. record { cluster = found.0; pins = found.1 }), (λ _. refl))
+
+pub returns-clause-pinned : goal.returns-clause-pinned
+returns-clause-pinned g c = λ none smaller. (
+  λ is. absurd (fault_unprepared c.shrink.result c.shrink.ensures.cause is),
+  λ has. absurd (let unpinned = c.first_pinned_l2.ensures.none (sym c.is_some.ensures ∙ c.if-is_some.false) has.cluster in let some = has.pins in omega arith),
+)

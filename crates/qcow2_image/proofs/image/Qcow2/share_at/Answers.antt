@@ -10,7 +10,7 @@ use Rattle.qcow2_image.specs.declared.prepared.Share.TheVariants.{New}
 use Rattle.qcow2_image.specs.Ranges.{GainsAt, SharesAt}
 use Rattle.qcow2_image.proofs.Prepare.Owning.{refused as any_refusal}
 use Rattle.qcow2_image.proofs.Prepare.ReadyingNew.{back_none}
-use Rattle.qcow2_alloc.specs.KeptNotes.{kept_same}
+use Rattle.qcow2_alloc.proofs.KeptMarks.{notes_none}
 use Rattle.qcow2_image.proofs.Call.BehindHeader.{behind_none}
 use Rattle.qcow2_image.proofs.image.Qcow2.share_at.Goals as goal
 
@@ -56,10 +56,10 @@ returns-clause-shares g c = λ p out sound holds.
     }
 
 pub returns-in_default-clause-notes : goal.returns-in_default-clause-notes
-returns-in_default-clause-notes g c = kept_same c.args.self.now.file.storage
+returns-in_default-clause-notes g c = notes_none
 
 pub returns-in_err-old_data-clause-notes : goal.returns-in_err-old_data-clause-notes
-returns-in_err-old_data-clause-notes g c = kept_same c.args.self.now.file.storage
+returns-in_err-old_data-clause-notes g c = notes_none
 
 pub returns-in_default-2-clause-notes : goal.returns-in_default-2-clause-notes
 returns-in_default-2-clause-notes g c = c.new_cluster_at.ensures.notes
@@ -78,3 +78,9 @@ returns-in_default-2-clause-header_cluster g c = c.new_cluster_at.ensures.header
 
 pub returns-clause-header_cluster : goal.returns-clause-header_cluster
 returns-clause-header_cluster g c = c.new_cluster_at.ensures.header_cluster
+
+pub returns-in_default-2-clause-uses : goal.returns-in_default-2-clause-uses
+returns-in_default-2-clause-uses g c = λ p out sound holds. c.in_ok-pending.ensures.uses p out sound holds
+
+pub returns-clause-uses : goal.returns-clause-uses
+returns-clause-uses g c = λ p out sound holds. c.in_ok-pending.ensures.uses p out sound holds

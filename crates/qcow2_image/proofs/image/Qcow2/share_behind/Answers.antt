@@ -14,8 +14,9 @@ use Rattle.qcow2_image.proofs.Prepare.Gaining.{listed_after_same}
 use Rattle.qcow2_image.proofs.Prepare.KeptShares.{behind_alone, behind_kept}
 use Rattle.qcow2_image.proofs.Prepare.Behind.{behind_in_place, ends_elsewhere, finds_shared, next_cluster, next_says}
 use Rattle.qcow2_image.proofs.Prepare.Listing.{lists_none, lists_still}
-use Rattle.qcow2_alloc.specs.KeptNotes.{kept_same}
+use Rattle.qcow2_alloc.proofs.KeptMarks.{notes_none}
 use Rattle.qcow2_image.proofs.Call.BehindHeader.{behind_none}
+use Rattle.qcow2_image.proofs.Prepare.InUse.{used_stays}
 use Rattle.qcow2_image.proofs.image.Qcow2.share_behind.Goals as goal
 
 pub returns-in-Some-copied_place-clause-finds : goal.returns-in-Some-copied_place-clause-finds
@@ -116,10 +117,10 @@ returns-in_ok-fill_kept-in-None-clause-former g c =
     (record { allocator = ap (λ (image : Qcow2 _ _). image.allocator) rest; list = ap (λ (image : Qcow2 _ _). image.file.free_list) rest })
 
 pub returns-in-Some-copied_place-clause-notes : goal.returns-in-Some-copied_place-clause-notes
-returns-in-Some-copied_place-clause-notes g c = kept_same c.args.self.now.file.storage
+returns-in-Some-copied_place-clause-notes g c = notes_none
 
 pub returns-in-Some-2-clause-notes : goal.returns-in-Some-2-clause-notes
-returns-in-Some-2-clause-notes g c = kept_same c.args.self.now.file.storage
+returns-in-Some-2-clause-notes g c = notes_none
 
 pub returns-in_err-fill_kept-in-None-clause-notes : goal.returns-in_err-fill_kept-in-None-clause-notes
 returns-in_err-fill_kept-in-None-clause-notes g c = c.fill_kept.ensures.notes
@@ -144,3 +145,32 @@ returns-in_ok-fill_kept-in-None-clause-header_cluster g c = c.fill_kept.ensures.
 
 pub returns-in-None-2-clause-header_cluster : goal.returns-in-None-2-clause-header_cluster
 returns-in-None-2-clause-header_cluster g c = c.share_at.ensures.header_cluster
+
+pub returns-in-Some-copied_place-clause-uses : goal.returns-in-Some-copied_place-clause-uses
+returns-in-Some-copied_place-clause-uses g c = λ out k at may sound j used. used
+
+pub returns-in-Some-2-clause-uses : goal.returns-in-Some-2-clause-uses
+returns-in-Some-2-clause-uses g c = λ out k at may sound j used. used
+
+pub returns-in-None-2-clause-uses : goal.returns-in-None-2-clause-uses
+returns-in-None-2-clause-uses g c = λ out k at may sound. c.share_at.ensures.uses (pending_in g.S.Storage.view g.F.BackingDisk.backing c.args.self.now out) out sound (λ m. omega arith)
+
+pub returns-in_ok-fill_kept-in-None-clause-uses : goal.returns-in_ok-fill_kept-in-None-clause-uses
+returns-in_ok-fill_kept-in-None-clause-uses g c = λ out k at may sound.
+    let view = g.S.Storage.view in
+    let below = g.F.BackingDisk.backing in
+    let old = c.args.self.now in
+    let new = c.fill_kept.new.self in
+    let p = c.args.prepared.now in
+    let before = pending_in view below old out in
+    let h = old.file.header.fields in
+    let host = c.in-Some-checked_add.host in
+    let cluster : c.cluster-cluster.result ≡ (p.guest + p.length) / cluster_size h = c.cluster-cluster.ensures ∙ ap (λ o. o / 2 ^ c.cluster_bits.result) (c.new.ensures ∙ c.in-Some.ensures.1) ∙ ap (λ b. (p.guest + p.length) / 2 ^ b) c.cluster_bits.ensures.value in
+    let covered = next_says view below old out k p at c.args.length c.args.table c.args.overwrite may sound c.cluster-cluster.result c.in_ok-old.old cluster (c.in_ok-old.ensures.says (pending_in view below old out) (l1_index_of h p.guest) sound.file) in
+    let kept : cover h (known_in view old.file) ((p.guest + p.length) / cluster_size h) ≡ Zero (Some (c.in-Some-checked_add.host, true)) =
+    ap (cover h (known_in view old.file)) (next_cluster view below old out k p at c.args.length c.args.table c.args.overwrite may sound) ∙ covered ∙ c.keeps.ensures.answer.0 c.if-keeps.true in
+    let alone = behind_alone view below old out k p at c.args.length c.args.table c.args.overwrite may sound c.in-Some-checked_add.host c.in-Some-checked_add.ensures.1 kept (c.keeps.ensures.reach c.if-keeps.true) in
+    let image_step = c.fill_kept.ensures.image_step before out sound (λ m. omega arith) (subst (λ x. IsKeptAlone view below old out x host) (sym c.in-Some.ensures.1) alone) in
+    let rest = c.fill_kept.ensures.rest in
+    let a = lists_none old c.requires.writable in
+    used_stays view below out before a.after old new sound image_step.sound (ap (λ (i : Qcow2 _ _). i.file.header) rest) a.is (ap (λ (i : Qcow2 _ _). i.allocator) rest) (ap (λ (i : Qcow2 _ _). i.l1_table) rest) image_step.covers

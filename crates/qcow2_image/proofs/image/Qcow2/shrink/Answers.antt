@@ -1,7 +1,9 @@
-use Rattle.std.proofs.Common.{◌≡◌, ◌∙◌, sym, ap, subst}
+use Rattle.std.proofs.Common.{◌≡◌, ◌∙◌, inl, inr, sym, ap, subst}
 use Rattle.std.specs.Prelude.{Err, IfSome, MatchOption, nat_lt}
 use Rattle.image_access.proofs.EachMomentSince.{passes_none}
-use Rattle.qcow2_metadata.specs.Header.{rounded_up}
+use Rattle.qcow2_metadata.specs.Header.{cluster_size, rounded_up}
+use Rattle.qcow2_alloc.specs.KeptMarks.{HaveRisen}
+use Rattle.std.proofs.lemmas.Bool.{ltb-true}
 use Rattle.qcow2_alloc.specs.ImageError.{IsFault}
 use Rattle.qcow2_alloc.specs.ImageFile.{view_in}
 use Rattle.qcow2_alloc.specs.ImageStorage.{is_changed_of, storage_of}
@@ -9,14 +11,13 @@ use Rattle.qcow2_image.specs.declared.image.Qcow2.{Qcow2}
 use Rattle.qcow2_image.specs.Image.{is_failed, size_of}
 use Rattle.qcow2_image.specs.Refusals.{MarksRefused}
 use Rattle.qcow2_image.specs.Resizing.{Shrinks, UncoversTail, WritesSizeLast, boundary_in}
-use Rattle.qcow2_image.proofs.Sizing.Noted.{fewer_noted, shrinks_noted}
+use Rattle.qcow2_image.proofs.Sizing.Noted.{same_noted, shrinks_noted}
 use Rattle.qcow2_image.proofs.Sizing.Shrinking.{shrinks_done, shrinks_stopped, shrinks_unwritten, size_is_last, uncovered_honest, written_stops}
 use Rattle.qcow2_image.proofs.Sizing.ShrinkCalls.{resize_writable}
-use Rattle.qcow2_image.proofs.Call.Marked.{may_mark_refused, refused_on, refused_since}
+use Rattle.qcow2_image.proofs.Call.Marked.{may_mark_refused, noted_marks, refused_on, refused_since}
 use Rattle.qcow2_image.proofs.Call.FaultCounts.{counted_as, counted_still}
-use Rattle.qcow2_image.specs.Faults.{TellsFault}
-use Rattle.qcow2_image.proofs.Call.OnceWritten.{notes_then, refused_once}
-use Rattle.qcow2_image.proofs.Sizing.IdleTurns.{not_passed}
+use Rattle.qcow2_image.specs.Faults.{TellsEachIn, TellsFault}
+use Rattle.qcow2_image.proofs.Call.OnceWritten.{call_then, changes_later, failed_part, kept_fewer, notes_part, refused_once}
 use Rattle.qcow2_image.proofs.Call.BehindHeader.{behind_by, behind_none, behind_then}
 use Rattle.qcow2_image.proofs.image.Qcow2.shrink.Goals as goal
 
@@ -31,7 +32,8 @@ returns-in-Some-clause-sees g c =
     let e = c.in-Some.refusal in
     subst (λ (image : Qcow2 _ _). Shrinks view below old image size (Err e)) (sym c.mark_refused.ensures.rest)
     (shrinks_noted view below old (record mid { is_failed = is_failed c.mark_refused.new.self }) (is_changed_of c.mark_refused.new.self.file.storage) size (Err e) (shrinks_stopped view below old mid size at c.requires.usable c.requires.smaller e (is_failed c.mark_refused.new.self) c.uncover_tail-end.ensures.image.number
-    (subst (λ r. IfSome r IsFault) c.in-Some.is c.uncover_tail-end.ensures.cause) (may_mark_refused mid c.mark_refused.new.self e c.mark_refused.ensures.marks) (λ any. c.mark_refused.ensures.changed (c.lies_between-any.ensures ∙ ap (λ n. nat_lt (rounded_up n size) at) c.cluster_size-cluster.ensures.value ∙ any))
+    (subst (λ r. IfSome r IsFault) c.in-Some.is c.uncover_tail-end.ensures.cause) (may_mark_refused mid c.mark_refused.new.self e c.mark_refused.ensures.marks) (λ out sound past. noted_marks mid c.mark_refused.new.self e (subst (λ r. IfSome r IsFault) c.in-Some.is c.uncover_tail-end.ensures.cause) c.mark_refused.ensures.marks
+    (c.mark_refused.ensures.changed (subst (λ n. HaveRisen n mid.file) (sym c.changes-before.ensures) (c.uncover_tail-end.ensures.changed out sound (ltb-true (rounded_up (cluster_size old.file.header.fields) size) at past)))))
     (λ out sound. subst (λ r. UncoversTail view below old mid size at r out) c.in-Some.is (c.uncover_tail-end.ensures.uncovers out sound))))
 
 pub returns-in-Some-clause-last : goal.returns-in-Some-clause-last
@@ -55,7 +57,8 @@ returns-in-Err-clause-sees g c =
     subst (λ (image : Qcow2 _ _). Shrinks view below old image size (Err e)) (sym c.mark_refused-in-Err.ensures.rest)
     (shrinks_noted view below old (record new { is_failed = is_failed c.mark_refused-in-Err.new.self }) (is_changed_of c.mark_refused-in-Err.new.self.file.storage) size (Err e) (shrinks_unwritten view below old mid size at c.requires.usable c.requires.smaller new e (is_failed c.mark_refused-in-Err.new.self) (ap (λ (i : Qcow2 _ _). i.number) c.write_size.ensures.rest ∙ c.uncover_tail-end.ensures.image.number)
     c.in-Err.ensures.cause (may_mark_refused new c.mark_refused-in-Err.new.self e c.mark_refused-in-Err.ensures.marks)
-    (λ any. c.mark_refused-in-Err.ensures.changed (c.lies_between-any.ensures ∙ ap (λ n. nat_lt (rounded_up n size) at) c.cluster_size-cluster.ensures.value ∙ any))
+    (λ out sound past. noted_marks new c.mark_refused-in-Err.new.self e c.in-Err.ensures.cause c.mark_refused-in-Err.ensures.marks
+    (c.mark_refused-in-Err.ensures.changed (subst (λ n. HaveRisen n new.file) (sym c.changes-before.ensures) (changes_later old mid new (kept_fewer view mid new c.write_size.ensures.notes) (c.uncover_tail-end.ensures.changed out sound (ltb-true (rounded_up (cluster_size old.file.header.fields) size) at past))))))
     (λ out sound. subst (λ r. UncoversTail view below old mid size at r out) c.in_default.is (c.uncover_tail-end.ensures.uncovers out sound)) c.in-Err.ensures.writes))
 
 pub returns-in-Err-clause-last : goal.returns-in-Err-clause-last
@@ -106,7 +109,7 @@ returns-in-Some-clause-faults g c =
     let old = c.args.self.now in
     let mid = c.uncover_tail-end.new.self in
     let tail = c.uncover_tail-end.ensures.faults in
-    counted_still view below old mid c.mark_refused.new.self (Err c.in-Some.refusal) (record { no_fewer = tail.0; rose = subst (λ r. IfSome r (TellsFault view below old mid)) c.in-Some.is tail.1 }) (fewer_noted view below mid c.mark_refused.new.self _ _ c.mark_refused.ensures.rest)
+    counted_still view below old mid c.mark_refused.new.self (Err c.in-Some.refusal) (record { no_fewer = tail.0; rose = subst (λ r. IfSome r (TellsFault view below old mid)) c.in-Some.is tail.1; told = subst (λ r. TellsEachIn view below old mid r) c.in-Some.is tail.2 }) (same_noted view below mid c.mark_refused.new.self _ _ c.mark_refused.ensures.rest)
 
 pub returns-in-Err-clause-faults : goal.returns-in-Err-clause-faults
 returns-in-Err-clause-faults g c =
@@ -115,7 +118,7 @@ returns-in-Err-clause-faults g c =
     let old = c.args.self.now in
     let e = c.in-Err.refusal in
     counted_still view below old c.write_size.new.self c.mark_refused-in-Err.new.self (Err e)
-    (counted_as view below old c.uncover_tail-end.new.self c.write_size.new.self c.write_size.result e c.uncover_tail-end.ensures.faults.0 c.write_size.ensures.faults c.in-Err.is) (fewer_noted view below c.write_size.new.self c.mark_refused-in-Err.new.self _ _ c.mark_refused-in-Err.ensures.rest)
+    (counted_as view below old c.uncover_tail-end.new.self c.write_size.new.self c.write_size.result e (subst (λ r. TellsEachIn view below old c.uncover_tail-end.new.self r) c.in_default.is c.uncover_tail-end.ensures.faults.2) c.write_size.ensures.faults c.in-Err.is) (same_noted view below c.write_size.new.self c.mark_refused-in-Err.new.self _ _ c.mark_refused-in-Err.ensures.rest)
 
 pub returns-in-Some-clause-marks : goal.returns-in-Some-clause-marks
 returns-in-Some-clause-marks g c =
@@ -132,28 +135,32 @@ pub returns-in-Some-clause-once_written : goal.returns-in-Some-clause-once_writt
 returns-in-Some-clause-once_written g c =
     let old = c.args.self.now in
     let tail = c.uncover_tail-end.new.self in
-    let passed = c.lies_between-any.ensures ∙ ap (λ n. nat_lt (rounded_up n c.args.size) c.uncover_tail-end.result.0) c.cluster_size-cluster.ensures.value in
-    refused_once g.S.Storage.view old tail c.mark_refused.new.self c.lies_between-any.result (Err c.in-Some.refusal) (λ none. c.uncover_tail-end.ensures.since (not_passed (boundary_in old c.args.size) c.uncover_tail-end.result.0 c.lies_between-any.result passed none))
-    (ap (λ (i : Qcow2 _ _). storage_of i.file.storage) c.mark_refused.ensures.rest) c.mark_refused.ensures.noted c.mark_refused.ensures.marks c.mark_refused.ensures.changed
+    let since = c.uncover_tail-end.ensures.since in
+    refused_once g.S.Storage.view old tail c.mark_refused.new.self (Err c.in-Some.refusal) since
+    (failed_part old tail (Err c.in-Some.refusal) since.why (subst (λ r. MatchOption r (is_failed tail ≡ is_failed old) (MarksRefused old tail)) c.in-Some.is c.uncover_tail-end.ensures.marks))
+    c.mark_refused.ensures.rest (λ rose. c.mark_refused.ensures.changed (subst (λ n. HaveRisen n tail.file) (sym c.changes-before.ensures) rose))
+    (λ noted. elim (c.mark_refused.ensures.why noted) [ inl was ↦ inl was | inr rose ↦ inr (subst (λ n. HaveRisen n tail.file) c.changes-before.ensures rose) ]) c.mark_refused.ensures.marks
 
 pub returns-in-Err-clause-once_written : goal.returns-in-Err-clause-once_written
 returns-in-Err-clause-once_written g c =
     let view = g.S.Storage.view in
     let old = c.args.self.now in
     let tail = c.uncover_tail-end.new.self in
-    let passed = c.lies_between-any.ensures ∙ ap (λ n. nat_lt (rounded_up n c.args.size) c.uncover_tail-end.result.0) c.cluster_size-cluster.ensures.value in
-    refused_once view old c.write_size.new.self c.mark_refused-in-Err.new.self c.lies_between-any.result (Err c.in-Err.refusal)
-    (λ none. notes_then view old tail c.write_size.new.self (c.uncover_tail-end.ensures.since (not_passed (boundary_in old c.args.size) c.uncover_tail-end.result.0 c.lies_between-any.result passed none)) c.write_size.ensures.notes)
-    (ap (λ (i : Qcow2 _ _). storage_of i.file.storage) c.mark_refused-in-Err.ensures.rest) c.mark_refused-in-Err.ensures.noted c.mark_refused-in-Err.ensures.marks c.mark_refused-in-Err.ensures.changed
+    let new = c.write_size.new.self in
+    let failed : is_failed new ≡ is_failed old =
+    ap (λ (i : Qcow2 _ _). i.is_failed) c.write_size.ensures.rest ∙ subst (λ r. MatchOption r (is_failed tail ≡ is_failed old) (MarksRefused old tail)) c.in_default.is c.uncover_tail-end.ensures.marks in
+    refused_once view old new c.mark_refused-in-Err.new.self (Err c.in-Err.refusal) (call_then view old tail new c.uncover_tail-end.ensures.since (notes_part view tail new c.write_size.ensures.notes))
+    (λ _ was. inl (sym failed ∙ was)) c.mark_refused-in-Err.ensures.rest (λ rose. c.mark_refused-in-Err.ensures.changed (subst (λ n. HaveRisen n new.file) (sym c.changes-before.ensures) rose))
+    (λ noted. elim (c.mark_refused-in-Err.ensures.why noted) [ inl was ↦ inl was | inr rose ↦ inr (subst (λ n. HaveRisen n new.file) c.changes-before.ensures rose) ]) c.mark_refused-in-Err.ensures.marks
 
 pub returns-clause-once_written : goal.returns-clause-once_written
 returns-clause-once_written g c = λ bad. absurd (cc)
 
 pub returns-in-Some-clause-header_cluster : goal.returns-in-Some-clause-header_cluster
-returns-in-Some-clause-header_cluster g c = behind_then c.uncover_tail-end.ensures.header_cluster (behind_by c.mark_refused.ensures.rest behind_none)
+returns-in-Some-clause-header_cluster g c = behind_then c.uncover_tail-end.ensures.header_cluster (behind_by g.S.Storage.view c.mark_refused.ensures.rest behind_none)
 
 pub returns-in-Err-clause-header_cluster : goal.returns-in-Err-clause-header_cluster
-returns-in-Err-clause-header_cluster g c = behind_then (behind_then c.uncover_tail-end.ensures.header_cluster c.write_size.ensures.header_cluster) (behind_by c.mark_refused-in-Err.ensures.rest behind_none)
+returns-in-Err-clause-header_cluster g c = behind_then (behind_then c.uncover_tail-end.ensures.header_cluster c.write_size.ensures.header_cluster) (behind_by g.S.Storage.view c.mark_refused-in-Err.ensures.rest behind_none)
 
 pub returns-clause-header_cluster : goal.returns-clause-header_cluster
 returns-clause-header_cluster g c = behind_then c.uncover_tail-end.ensures.header_cluster c.write_size.ensures.header_cluster

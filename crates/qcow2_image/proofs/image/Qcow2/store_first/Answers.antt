@@ -1,3 +1,4 @@
+use Rattle.qcow2_alloc.proofs.KeptMarks.{notes_of_both}
 use Rattle.qcow2_image.proofs.Map.Loading.{caches_moved, with_caches}
 use Rattle.qcow2_image.proofs.Prepare.Storing.{stores_counts}
 use Rattle.qcow2_image.proofs.Call.BehindHeader.{behind_caches}
@@ -12,7 +13,7 @@ returns-clause-stores g c = λ p out sound.
     c.flush_rb.result c.flush_rb.ensures.written c.flush_rb.ensures.first
 
 pub returns-clause-notes : goal.returns-clause-notes
-returns-clause-notes g c = c.flush_rb.ensures.notes
+returns-clause-notes g c = (notes_of_both c.flush_rb.ensures.marks c.flush_rb.ensures.notes)
 
 pub returns-clause-header_cluster : goal.returns-clause-header_cluster
-returns-clause-header_cluster g c = behind_caches c.flush_rb.ensures.header_cluster.behind
+returns-clause-header_cluster g c = behind_caches c.flush_rb.ensures.header_cluster

@@ -1,9 +1,10 @@
-use Rattle.std.proofs.Common.{ap, ◌∙◌}
+use Rattle.std.proofs.Common.{ap, refl, ◌∙◌}
 use Rattle.qcow2_alloc.specs.ClustersToFree.{metadata_entry}
 use Rattle.qcow2_image.specs.NewTables.{OwnsTable}
 use Rattle.qcow2_image.proofs.Prepare.Owning.{refused, left_alone, swapped_owns}
-use Rattle.qcow2_alloc.specs.KeptNotes.{kept_same}
+use Rattle.qcow2_alloc.proofs.KeptMarks.{notes_none}
 use Rattle.qcow2_image.proofs.Call.BehindHeader.{behind_none}
+use Rattle.qcow2_image.proofs.Prepare.Listing.{some_still}
 use Rattle.qcow2_image.proofs.image.Qcow2.swap_l2.Goals as goal
 
 pub returns-in-Err-clause-owns : goal.returns-in-Err-clause-owns
@@ -19,7 +20,7 @@ returns-in_err-dropped-clause-owns g c = λ p out sound shared says.
     refused (OwnsTable g.S.Storage.view g.F.BackingDisk.backing p c.args.self.now c.args.self.now out c.args.index) c.from_residual.result c.from_residual.ensures.0 (left_alone g.S.Storage.view g.F.BackingDisk.backing out p c.args.self.now sound c.args.index)
 
 pub returns-in_err-dropped-clause-notes : goal.returns-in_err-dropped-clause-notes
-returns-in_err-dropped-clause-notes g c = kept_same c.args.self.now.file.storage
+returns-in_err-dropped-clause-notes g c = notes_none
 
 pub returns-in-Ok-clause-notes : goal.returns-in-Ok-clause-notes
 returns-in-Ok-clause-notes g c = c.enter_l2.ensures.notes
@@ -38,3 +39,6 @@ returns-in-Err-clause-header_cluster g c = c.enter_l2.ensures.header_cluster
 
 pub returns-in-Ok-clause-elsewhere : goal.returns-in-Ok-clause-elsewhere
 returns-in-Ok-clause-elsewhere g c = c.in-Ok.ensures.elsewhere
+
+pub returns-in-Ok-clause-former : goal.returns-in-Ok-clause-former
+returns-in-Ok-clause-former g c = some_still c.args.self.now c.enter_l2.new.self (record c.enter_l2.new.self { file = record c.enter_l2.new.self.file { free_list = c.hand_back.new.list } }) c.in-Ok.ensures.former refl

@@ -1,4 +1,4 @@
-use Rattle.std.proofs.Common.{Err, ◌∙◌, refl, ap, sym, subst, inl, inr}
+use Rattle.std.proofs.Common.{◌≡◌, true, false, Err, ◌∙◌, refl, ap, sym, subst, inl, inr}
 use Rattle.qcow2_metadata.specs.Header.{HeaderView}
 use Rattle.qcow2_laws.specs.CrashInvariant.{Pending}
 use Rattle.qcow2_alloc.specs.declared.error.ImageError.TheVariants as I
@@ -14,8 +14,10 @@ use Rattle.qcow2_image.specs.UnseenSteps.{NamesOwn, pending_with_listed}
 use Rattle.qcow2_image.proofs.Prepare.Owning.{left_alone}
 use Rattle.qcow2_image.proofs.Grow.Lengths.{kept_length, own_after, own_reached, reaches_told, same_length}
 use Rattle.qcow2_image.specs.NewTables.{IsFaultOrLacksTable}
-use Rattle.qcow2_alloc.specs.KeptNotes.{kept_same, kept_then}
+use Rattle.qcow2_alloc.proofs.KeptMarks.{notes_none, notes_then}
 use Rattle.qcow2_image.proofs.Call.BehindHeader.{behind_none, behind_then}
+use Rattle.qcow2_image.proofs.Prepare.Listing.{lists_made, lists_own, some_kept, some_then}
+use Rattle.qcow2_image.proofs.Call.FaultCounts.{counted_since, same_of}
 use Rattle.qcow2_image.proofs.image.Qcow2.table_for.Goals as goal
 
 pub returns-then-has_own_l2-clause-finds : goal.returns-then-has_own_l2-clause-finds
@@ -152,7 +154,7 @@ returns-clause-reaches g c = λ out sound.
     (kept_length freed.file.header c.ensure_l2-2.new.self.file.header c.ensure_l2-2.ensures.keeps_rest.header ∙ same_length mid.file.header freed.file.header c.free_listed.ensures.keeps_rest.header ∙ kept_length long.file.header mid.file.header c.own_l2.ensures.keeps_rest.header ∙ told)
 
 pub returns-then-has_own_l2-clause-freed : goal.returns-then-has_own_l2-clause-freed
-returns-then-has_own_l2-clause-freed g c = λ out sound. let own = c.has_own_l2.ensures.0 c.if-has_own_l2.true in always_ok c.ensure_l2.result (inl (own, c.ensure_l2.ensures.quiet own))
+returns-then-has_own_l2-clause-freed g c = λ out sound. let own = c.has_own_l2.ensures.0 c.if-has_own_l2.true in always_ok c.ensure_l2.result (lists_own c.args.offset c.args.self.now c.ensure_l2.new.self c.requires.writable own (c.ensure_l2.ensures.quiet own))
 
 pub returns-clause-freed : goal.returns-clause-freed
 returns-clause-freed g c = λ out sound.
@@ -167,25 +169,26 @@ returns-clause-freed g c = λ out sound.
     let at = ap (λ (v : HeaderView). l1_index_of v.fields c.args.offset) c.own_l2.ensures.keeps_rest.header in
     let own = own_after view below out (pending_with_listed (pending_in view below long out) long mid) mid freed owned.0.sound c.args.offset (l1_index_of long.file.header.fields c.args.offset) at owned.1.own c.free_listed.ensures.table c.free_listed.ensures.keeps_rest.header in
     let writable = subst IsTrue (sym (c.own_l2.ensures.stays.image.writable ∙ c.reach_entry.ensures.stays.image.writable)) c.requires.writable in
-    always_ok c.ensure_l2-2.result (inr ((c.ensure_l2-2.ensures.quiet own).list ∙ c.in_ok-free_listed.ensures.emptied writable))
+    let gave = some_kept old mid freed (some_then old long mid c.in_ok-reach_entry.ensures.former c.in_ok-own_l2.ensures.former) c.free_listed.ensures.former in
+    always_ok c.ensure_l2-2.result (lists_made c.args.offset old freed c.ensure_l2-2.new.self (λ has. let some = c.has_own_l2.ensures.1 has in let is = sym c.if-has_own_l2.false ∙ some in cc) gave (c.ensure_l2-2.ensures.quiet own).allocator ((c.ensure_l2-2.ensures.quiet own).list ∙ c.in_ok-free_listed.ensures.emptied writable))
 
 pub returns-then-has_own_l2-clause-notes : goal.returns-then-has_own_l2-clause-notes
 returns-then-has_own_l2-clause-notes g c = c.ensure_l2.ensures.notes
 
 pub returns-then-has_far_entry-clause-notes : goal.returns-then-has_far_entry-clause-notes
-returns-then-has_far_entry-clause-notes g c = kept_same c.args.self.now.file.storage
+returns-then-has_far_entry-clause-notes g c = notes_none
 
 pub returns-in_err-reach_entry-clause-notes : goal.returns-in_err-reach_entry-clause-notes
 returns-in_err-reach_entry-clause-notes g c = c.reach_entry.ensures.notes
 
 pub returns-in_err-own_l2-clause-notes : goal.returns-in_err-own_l2-clause-notes
-returns-in_err-own_l2-clause-notes g c = kept_then _ _ _ c.reach_entry.ensures.notes c.own_l2.ensures.notes
+returns-in_err-own_l2-clause-notes g c = notes_then c.reach_entry.ensures.notes c.own_l2.ensures.notes
 
 pub returns-in_err-free_listed-clause-notes : goal.returns-in_err-free_listed-clause-notes
-returns-in_err-free_listed-clause-notes g c = kept_then _ _ _ (kept_then _ _ _ c.reach_entry.ensures.notes c.own_l2.ensures.notes) c.free_listed.ensures.notes
+returns-in_err-free_listed-clause-notes g c = notes_then (notes_then c.reach_entry.ensures.notes c.own_l2.ensures.notes) c.free_listed.ensures.notes
 
 pub returns-clause-notes : goal.returns-clause-notes
-returns-clause-notes g c = kept_then _ _ _ (kept_then _ _ _ (kept_then _ _ _ c.reach_entry.ensures.notes c.own_l2.ensures.notes) c.free_listed.ensures.notes) c.ensure_l2-2.ensures.notes
+returns-clause-notes g c = notes_then (notes_then (notes_then c.reach_entry.ensures.notes c.own_l2.ensures.notes) c.free_listed.ensures.notes) c.ensure_l2-2.ensures.notes
 
 pub returns-then-has_far_entry-clause-far : goal.returns-then-has_far_entry-clause-far
 returns-then-has_far_entry-clause-far g c = λ needs. (refl, refl)
@@ -213,3 +216,33 @@ returns-then-has_own_l2-clause-elsewhere g c = c.ensure_l2.ensures.elsewhere
 
 pub returns-clause-elsewhere : goal.returns-clause-elsewhere
 returns-clause-elsewhere g c = c.ensure_l2-2.ensures.elsewhere
+
+pub returns-then-has_own_l2-clause-own : goal.returns-then-has_own_l2-clause-own
+returns-then-has_own_l2-clause-own g c = c.ensure_l2.ensures.own
+
+pub returns-then-has_far_entry-clause-own : goal.returns-then-has_far_entry-clause-own
+returns-then-has_far_entry-clause-own g c = λ own. absurd (let no : false ≡ true = sym c.if-has_own_l2.false ∙ c.has_own_l2.ensures.1 own in cc)
+
+pub returns-in_err-reach_entry-clause-own : goal.returns-in_err-reach_entry-clause-own
+returns-in_err-reach_entry-clause-own g c = λ own. absurd (let no : false ≡ true = sym c.if-has_own_l2.false ∙ c.has_own_l2.ensures.1 own in cc)
+
+pub returns-in_err-own_l2-clause-own : goal.returns-in_err-own_l2-clause-own
+returns-in_err-own_l2-clause-own g c = λ own. absurd (let no : false ≡ true = sym c.if-has_own_l2.false ∙ c.has_own_l2.ensures.1 own in cc)
+
+pub returns-in_err-free_listed-clause-own : goal.returns-in_err-free_listed-clause-own
+returns-in_err-free_listed-clause-own g c = λ own. absurd (let no : false ≡ true = sym c.if-has_own_l2.false ∙ c.has_own_l2.ensures.1 own in cc)
+
+pub returns-clause-own : goal.returns-clause-own
+returns-clause-own g c = λ own. absurd (let no : false ≡ true = sym c.if-has_own_l2.false ∙ c.has_own_l2.ensures.1 own in cc)
+
+pub returns-clause-faults : goal.returns-clause-faults
+returns-clause-faults g c =
+    let view = g.S.Storage.view in
+    let below = g.F.BackingDisk.backing in
+    let old = c.args.self.now in
+    let reached = same_of view below old c.reach_entry.new.self c.reach_entry.result c.in_ok-reach_entry.field-0 c.reach_entry.ensures.faults c.in_ok-reach_entry.was in
+    let owned = same_of view below c.reach_entry.new.self c.own_l2.new.self c.own_l2.result c.in_ok-own_l2.field-0 c.own_l2.ensures.faults c.in_ok-own_l2.was in
+    let freed = same_of view below c.own_l2.new.self c.free_listed.new.self c.free_listed.result c.in_ok-free_listed.field-0 c.free_listed.ensures.counts c.in_ok-free_listed.was in
+    counted_since view below old c.reach_entry.new.self c.ensure_l2-2.new.self c.ensure_l2-2.result reached
+    (counted_since view below c.reach_entry.new.self c.own_l2.new.self c.ensure_l2-2.new.self c.ensure_l2-2.result owned
+    (counted_since view below c.own_l2.new.self c.free_listed.new.self c.ensure_l2-2.new.self c.ensure_l2-2.result freed c.ensure_l2-2.ensures.faults))

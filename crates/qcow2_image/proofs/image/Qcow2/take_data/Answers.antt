@@ -4,9 +4,14 @@ use Rattle.qcow2_alloc.specs.Allocation.{Allocates}
 use Rattle.qcow2_alloc.specs.FreeList.{pending_then}
 use Rattle.qcow2_alloc.specs.KeptAllocators.{IsAllocatorOf}
 use Rattle.qcow2_alloc.specs.declared.clusters_to_free.ClusterKind.TheVariants as Kind
+use Rattle.qcow2_alloc.proofs.KeptMarks.{notes_of_both}
 use Rattle.qcow2_image.proofs.Formats.{lists_grow}
 use Rattle.qcow2_image.proofs.Prepare.Gaining.{takes_data}
 use Rattle.qcow2_image.proofs.Call.BehindHeader.{behind_allocated}
+use Rattle.std.specs.Prelude.{IfOk}
+use Rattle.qcow2_alloc.specs.LowestRuns.{IsLowestRun}
+use Rattle.qcow2_image.proofs.Prepare.InUse.{all_used}
+use Rattle.qcow2_image.proofs.Map.Loading.{if_ok}
 use Rattle.qcow2_image.proofs.image.Qcow2.take_data.Goals as goal
 
 pub returns-clause-takes : goal.returns-clause-takes
@@ -26,7 +31,15 @@ pub returns-clause-former : goal.returns-clause-former
 returns-clause-former g c = record { before = c.in-Some.allocator; after = c.allocate_data.new.self; was = c.in-Some.is; is = refl; behind = c.allocate_data.ensures.former }
 
 pub returns-clause-notes : goal.returns-clause-notes
-returns-clause-notes g c = c.allocate_data.ensures.notes
+returns-clause-notes g c = (notes_of_both c.allocate_data.ensures.marks c.allocate_data.ensures.notes)
 
 pub returns-clause-header_cluster : goal.returns-clause-header_cluster
 returns-clause-header_cluster g c = behind_allocated c.in-Some.is c.allocate_data.ensures.header_cluster
+
+pub returns-clause-lowest : goal.returns-clause-lowest
+returns-clause-lowest g c = λ p out sound.
+    let view = g.S.Storage.view in
+    let one : c.new.result ≡ 1 = c.new.ensures in
+    let own = subst (λ x. IfSome x (IsAllocatorOf view c.args.self.now.file)) c.in-Some.is sound.reftable in
+    if_ok c.allocate_data.result (λ run low. all_used view c.allocate_data.new.file run.first_cluster low)
+    (subst (λ n. IfOk c.allocate_data.result (λ run. IsLowestRun view c.allocate_data.new.file run.first_cluster n)) one (c.allocate_data.ensures.lowest p (record { sound = record { sound = sound.file; reftable = own.reftable }; hint = own.hint })))

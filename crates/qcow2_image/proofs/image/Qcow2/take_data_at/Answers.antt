@@ -2,6 +2,7 @@ use Rattle.std.proofs.Common.{subst, refl}
 use Rattle.std.specs.Prelude.{IfSome, Some}
 use Rattle.qcow2_alloc.specs.ImageFile.{AllocatorInvariant}
 use Rattle.qcow2_alloc.specs.KeptAllocators.{IsAllocatorOf}
+use Rattle.qcow2_alloc.proofs.KeptMarks.{notes_of_both}
 use Rattle.qcow2_image.proofs.Formats.{lists_grow}
 use Rattle.qcow2_image.proofs.Prepare.Gaining.{takes_data_at}
 use Rattle.qcow2_image.proofs.Call.BehindHeader.{behind_allocated}
@@ -22,7 +23,12 @@ pub returns-clause-former : goal.returns-clause-former
 returns-clause-former g c = record { before = c.in-Some.allocator; after = c.allocate_data_at.new.self; was = c.in-Some.is; is = refl; behind = c.allocate_data_at.ensures.former }
 
 pub returns-clause-notes : goal.returns-clause-notes
-returns-clause-notes g c = c.allocate_data_at.ensures.notes
+returns-clause-notes g c = (notes_of_both c.allocate_data_at.ensures.marks c.allocate_data_at.ensures.notes)
 
 pub returns-clause-header_cluster : goal.returns-clause-header_cluster
 returns-clause-header_cluster g c = behind_allocated c.in-Some.is c.allocate_data_at.ensures.header_cluster
+
+pub returns-clause-uses : goal.returns-clause-uses
+returns-clause-uses g c = λ p out sound holds.
+    let own = subst (λ x. IfSome x (IsAllocatorOf g.S.Storage.view c.args.self.now.file)) c.in-Some.is sound.reftable in
+    c.allocate_data_at.ensures.uses p (record { sound = sound.file; reftable = own.reftable })

@@ -15,6 +15,12 @@ use Rattle.qcow2_image.proofs.Map.Unmodified.{read_call}
 use Rattle.qcow2_image.proofs.Call.Marked.{may_mark}
 use Rattle.qcow2_image.proofs.Call.OnceWritten.{once_written}
 use Rattle.qcow2_image.proofs.Call.BehindHeader.{behind_call}
+use Rattle.std.specs.Prelude.{IfErr}
+use Rattle.qcow2_image.specs.Refusals.{IsUnlimited}
+use Rattle.qcow2_image.proofs.Sizes.{sound_is_usable}
+use Rattle.qcow2_image.proofs.Clear.ClearCalls.{refused_for}
+use Rattle.qcow2_image.specs.Refusals.{unusable}
+use Rattle.std.specs.Prelude.{None, Some}
 use Rattle.qcow2_image.proofs.image.Qcow2.try_readv_special.Goals as goal
 
 pub returns-clause-sees : goal.returns-clause-sees
@@ -45,7 +51,19 @@ pub returns-clause-unwritten : goal.returns-clause-unwritten
 returns-clause-unwritten g c = read_call g.S.Storage.view g.F.BackingDisk.backing c.args.self.now c.begin.new.self c.plain_at-plain.new.self c.mark_failure.new.self (is_failed c.mark_failure.new.self) c.begin.ensures.storage c.begin.ensures.keeps c.begin.ensures.known c.plain_at-plain.ensures.unwritten c.mark_failure.ensures.rest
 
 pub returns-clause-once_written : goal.returns-clause-once_written
-returns-clause-once_written g c = λ memory. once_written g.S.Storage.view c.args.self.now c.begin.new.self c.plain_at-plain.new.self c.mark_failure.new.self c.plain_at-plain.result c.begin.ensures.storage c.plain_at-plain.ensures.notes c.mark_failure.ensures.marks c.mark_failure.ensures.rest (sym c.mark_failure.ensures.answer ∙ memory)
+returns-clause-once_written g c = λ memory. once_written g.S.Storage.view c.args.self.now c.begin.new.self c.begin.ensures.begun c.plain_at-plain.new.self c.mark_failure.new.self c.plain_at-plain.result c.plain_at-plain.ensures.notes (c.plain_at-plain.ensures.stays.failed ∙ c.begin.ensures.stays.failed) c.mark_failure.ensures.marks c.mark_failure.ensures.rest (sym c.mark_failure.ensures.answer ∙ memory)
 
 pub returns-clause-header_cluster : goal.returns-clause-header_cluster
-returns-clause-header_cluster g c = behind_call c.begin.ensures.begun c.plain_at-plain.ensures.header_cluster c.mark_failure.ensures.rest
+returns-clause-header_cluster g c = behind_call g.S.Storage.view c.begin.ensures.begun c.plain_at-plain.ensures.header_cluster c.mark_failure.ensures.rest
+
+pub returns-clause-limited : goal.returns-clause-limited
+returns-clause-limited g c = λ out sound.
+    let p = pending_in g.S.Storage.view g.F.BackingDisk.backing c.args.self.now out in
+    subst (λ (r : Result _ _). IfErr r IsUnlimited) (sym c.mark_failure.ensures.answer) (c.plain_at-plain.ensures.limited p out (c.begin.ensures.keeps p out sound).sound)
+
+pub returns-in_err-check_usable-clause-limited : goal.returns-in_err-check_usable-clause-limited
+returns-in_err-check_usable-clause-limited g c = λ out sound.
+    let old = c.args.self.now in
+    let e = c.in_err-check_usable.field-0.0 in
+    let refused = refused_for c.check_usable.result tt (unusable old) e c.check_usable.ensures c.in_err-check_usable.was in
+    absurd (let no : None ≡ Some c.in_err-check_usable.field-0.0 = sym (sound_is_usable g.S.Storage.view g.F.BackingDisk.backing old out sound) ∙ refused in cc)

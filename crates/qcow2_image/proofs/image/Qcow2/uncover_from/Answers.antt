@@ -1,7 +1,8 @@
+use Rattle.qcow2_image.proofs.Call.OnceWritten.{notes_part, parts_then}
 use Rattle.std.proofs.Common.{◌≡◌, ◌∙◌, inl, inr, refl, sym, subst}
 use Rattle.std.specs.Prelude.{Err, IfErr, IsTrue, Result}
 use Rattle.qcow2_alloc.proofs.AllocationSteps.{handed_on}
-use Rattle.qcow2_alloc.proofs.Outcomes.{not_both}
+use Rattle.qcow2_alloc.proofs.Outcomes.{not_both, if_no_ok}
 use Rattle.qcow2_alloc.specs.ImageError.{IsFault}
 use Rattle.qcow2_image.specs.Image.{has_noted_change, is_failed, size_of}
 use Rattle.qcow2_image.specs.ImageInvariant.{ImageInvariant, pending_in}
@@ -12,7 +13,6 @@ use Rattle.qcow2_image.proofs.Call.Marked.{refused_since}
 use Rattle.qcow2_image.proofs.Clear.ClearCalls.{err_is}
 use Rattle.qcow2_image.proofs.Sizing.RefusedTurns.{failed_other, not_marked, turn_ended, turn_still}
 use Rattle.qcow2_image.proofs.Sizing.Shrinking.{fault_of, written_stops}
-use Rattle.qcow2_image.proofs.Call.OnceWritten.{notes_then}
 use Rattle.qcow2_image.proofs.Call.BehindHeader.{behind_then}
 use Rattle.qcow2_image.proofs.image.Qcow2.uncover_from.Goals as goal
 
@@ -134,7 +134,7 @@ pub returns-in_err-end_freeing-in-Err-clause-faults : goal.returns-in_err-end_fr
 returns-in_err-end_freeing-in-Err-clause-faults g c =
     let view = g.S.Storage.view in
     let below = g.F.BackingDisk.backing in
-    counted_on view below c.args.self.now c.uncover_next.new.self c.end_freeing.new.self c.end_freeing.result c.in_err-end_freeing-in-Err.field-0.0 c.from_residual.result c.uncover_next.ensures.faults.no_fewer c.end_freeing.ensures.faults c.in_err-end_freeing-in-Err.was c.from_residual.ensures
+    counted_on view below c.args.self.now c.uncover_next.new.self c.end_freeing.new.self c.end_freeing.result c.in_err-end_freeing-in-Err.field-0.0 c.from_residual.result (c.in-Err.ensures.faults.told (λ is. not_both c.is_fault.result (c.is_fault.ensures.1 (inl is)) c.if-is_fault.false)) c.end_freeing.ensures.faults c.in_err-end_freeing-in-Err.was c.from_residual.ensures
 
 pub returns-in_ok-end_freeing-in-Err-clause-faults : goal.returns-in_ok-end_freeing-in-Err-clause-faults
 returns-in_ok-end_freeing-in-Err-clause-faults g c =
@@ -142,7 +142,7 @@ returns-in_ok-end_freeing-in-Err-clause-faults g c =
     let below = g.F.BackingDisk.backing in
     let old = c.args.self.now in
     let e = c.in-Err.refusal in
-    counted_still view below old c.uncover_next.new.self c.end_freeing.new.self (Err e) (counted_as view below old old c.uncover_next.new.self c.uncover_next.result e (untouched view below old old refl refl) c.uncover_next.ensures.faults c.in-Err.is) c.end_freeing.ensures.faults.no_fewer
+    counted_still view below old c.uncover_next.new.self c.end_freeing.new.self (Err e) (counted_as view below old old c.uncover_next.new.self c.uncover_next.result e (untouched view below old old refl refl) c.uncover_next.ensures.faults c.in-Err.is) c.in_ok-end_freeing-in-Err.ensures.faults.told
 
 pub returns-in-Ok-clause-since : goal.returns-in-Ok-clause-since
 returns-in-Ok-clause-since g c = c.uncover_next.ensures.since
@@ -151,13 +151,10 @@ pub returns-then-is_fault-clause-since : goal.returns-then-is_fault-clause-since
 returns-then-is_fault-clause-since g c = c.uncover_next.ensures.since
 
 pub returns-in_err-end_freeing-in-Err-clause-since : goal.returns-in_err-end_freeing-in-Err-clause-since
-returns-in_err-end_freeing-in-Err-clause-since g c = notes_then g.S.Storage.view c.args.self.now c.uncover_next.new.self c.end_freeing.new.self c.uncover_next.ensures.since c.end_freeing.ensures.notes
+returns-in_err-end_freeing-in-Err-clause-since g c = parts_then g.S.Storage.view c.args.self.now c.uncover_next.new.self c.end_freeing.new.self c.uncover_next.ensures.since (notes_part g.S.Storage.view c.uncover_next.new.self c.end_freeing.new.self c.end_freeing.ensures.notes)
 
 pub returns-in_ok-end_freeing-in-Err-clause-since : goal.returns-in_ok-end_freeing-in-Err-clause-since
-returns-in_ok-end_freeing-in-Err-clause-since g c = notes_then g.S.Storage.view c.args.self.now c.uncover_next.new.self c.end_freeing.new.self c.uncover_next.ensures.since c.end_freeing.ensures.notes
-
-pub returns-in-Ok-clause-idle : goal.returns-in-Ok-clause-idle
-returns-in-Ok-clause-idle g c = c.in-Ok.ensures.idle
+returns-in_ok-end_freeing-in-Err-clause-since g c = parts_then g.S.Storage.view c.args.self.now c.uncover_next.new.self c.end_freeing.new.self c.uncover_next.ensures.since (notes_part g.S.Storage.view c.uncover_next.new.self c.end_freeing.new.self c.end_freeing.ensures.notes)
 
 pub returns-in-Ok-clause-header_cluster : goal.returns-in-Ok-clause-header_cluster
 returns-in-Ok-clause-header_cluster g c = c.uncover_next.ensures.header_cluster
@@ -170,3 +167,9 @@ returns-in_err-end_freeing-in-Err-clause-header_cluster g c = behind_then c.unco
 
 pub returns-in_ok-end_freeing-in-Err-clause-header_cluster : goal.returns-in_ok-end_freeing-in-Err-clause-header_cluster
 returns-in_ok-end_freeing-in-Err-clause-header_cluster g c = behind_then c.uncover_next.ensures.header_cluster c.end_freeing.ensures.header_cluster
+
+pub returns-in-Ok-clause-changed : goal.returns-in-Ok-clause-changed
+returns-in-Ok-clause-changed g c = λ out sound. c.in-Ok.ensures.changed out sound
+
+pub returns-in_err-end_freeing-in-Err-clause-changed : goal.returns-in_err-end_freeing-in-Err-clause-changed
+returns-in_err-end_freeing-in-Err-clause-changed g c = λ out sound. if_no_ok _ c.from_residual.result c.in_err-end_freeing-in-Err.field-0.0 c.from_residual.ensures

@@ -1,10 +1,12 @@
+use Rattle.qcow2_alloc.proofs.Outcomes.{if_no_ok}
 use Rattle.std.proofs.Common.{◌-◌, ◌≤◌, inl, inr, refl, sym, subst, arith}
 use Rattle.std.specs.Prelude.{IfErr, Result}
 use Rattle.qcow2_alloc.proofs.AllocationSteps.{handed_on}
 use Rattle.qcow2_image.specs.Image.{size_of}
 use Rattle.qcow2_image.specs.Resizing.{IsFaultOrCantUncover, UncoversNext}
+use Rattle.qcow2_image.proofs.Call.FaultCounts.{counted_on, untouched}
 use Rattle.qcow2_image.proofs.Clear.ClearCalls.{err_is}
-use Rattle.qcow2_image.proofs.Sizing.Turns.{none_early, turn_done, turn_frees, turn_idle, turn_refused, turn_stops}
+use Rattle.qcow2_image.proofs.Sizing.Turns.{none_early, turn_done, turn_frees, turn_refused, turn_stops, turn_touches}
 use Rattle.qcow2_image.specs.Clearing.{refuses_to_clear}
 use Rattle.qcow2_image.specs.declared.discarding.Clearance.TheVariants.{Uncovered}
 use Rattle.qcow2_image.proofs.image.Qcow2.uncover_next.Goals as goal
@@ -61,20 +63,6 @@ returns-then-next-end-clause-since g c = c.clear_range.ensures.since
 pub returns-else-at-next-clause-since : goal.returns-else-at-next-clause-since
 returns-else-at-next-clause-since g c = c.clear_range.ensures.since
 
-pub returns-then-next-end-clause-idle : goal.returns-then-next-end-clause-idle
-returns-then-next-end-clause-idle g c =
-    let old = c.args.self.now in
-    let none = none_early _ (refuses_to_clear old c.args.at (c.size-end.result - c.args.at) Uncovered) (c.in_ok-from.from, c.in_ok-from.count) c.clear_range.result c.clear_range.ensures.early c.in_ok-from.was in
-    turn_idle g.S.Storage.view g.F.BackingDisk.backing old c.clear_range.new.self c.args.at c.size-end.result c.size-end.ensures c.requires.inside (omega (arith, c.size-end.type_inv)) (c.in_ok-from.from, c.in_ok-from.count) c.in_ok-from.ensures.range
-    (λ least. (c.in_ok-from.ensures.nothing none least).1) c.saturating_add-next.result (inl c.saturating_add-next.ensures)
-
-pub returns-else-at-next-clause-idle : goal.returns-else-at-next-clause-idle
-returns-else-at-next-clause-idle g c =
-    let old = c.args.self.now in
-    let none = none_early _ (refuses_to_clear old c.args.at (c.size-end.result - c.args.at) Uncovered) (c.in_ok-from.from, c.in_ok-from.count) c.clear_range.result c.clear_range.ensures.early c.in_ok-from.was in
-    turn_idle g.S.Storage.view g.F.BackingDisk.backing old c.clear_range.new.self c.args.at c.size-end.result c.size-end.ensures c.requires.inside (omega (arith, c.size-end.type_inv)) (c.in_ok-from.from, c.in_ok-from.count) c.in_ok-from.ensures.range
-    (λ least. (c.in_ok-from.ensures.nothing none least).1) c.size-end.result (inr refl)
-
 pub returns-in_err-from-clause-header_cluster : goal.returns-in_err-from-clause-header_cluster
 returns-in_err-from-clause-header_cluster g c = c.clear_range.ensures.header_cluster
 
@@ -83,3 +71,21 @@ returns-then-next-end-clause-header_cluster g c = c.clear_range.ensures.header_c
 
 pub returns-else-at-next-clause-header_cluster : goal.returns-else-at-next-clause-header_cluster
 returns-else-at-next-clause-header_cluster g c = c.clear_range.ensures.header_cluster
+
+pub returns-then-next-end-clause-changed : goal.returns-then-next-end-clause-changed
+returns-then-next-end-clause-changed g c = λ out sound past.
+    c.in_ok-from.ensures.changed out sound (turn_touches g.S.Storage.view g.F.BackingDisk.backing c.args.self.now c.clear_range.new.self c.args.at c.size-end.result c.size-end.ensures c.requires.inside out sound (let end = c.size-end.ensures in omega (arith, past, end, c.if-next-end.true)))
+
+pub returns-else-at-next-clause-changed : goal.returns-else-at-next-clause-changed
+returns-else-at-next-clause-changed g c = λ out sound past.
+    c.in_ok-from.ensures.changed out sound (turn_touches g.S.Storage.view g.F.BackingDisk.backing c.args.self.now c.clear_range.new.self c.args.at c.size-end.result c.size-end.ensures c.requires.inside out sound (let end = c.size-end.ensures in omega (arith, past, end)))
+
+pub returns-in_err-from-clause-changed : goal.returns-in_err-from-clause-changed
+returns-in_err-from-clause-changed g c = λ out sound. if_no_ok _ c.from_residual.result c.in_err-from.field-0.0 c.from_residual.ensures
+
+pub returns-in_err-from-clause-faults : goal.returns-in_err-from-clause-faults
+returns-in_err-from-clause-faults g c =
+    let view = g.S.Storage.view in
+    let below = g.F.BackingDisk.backing in
+    let old = c.args.self.now in
+    counted_on view below old old c.clear_range.new.self c.clear_range.result c.in_err-from.field-0.0 c.from_residual.result (untouched view below old old refl refl) c.clear_range.ensures.faults c.in_err-from.was c.from_residual.ensures

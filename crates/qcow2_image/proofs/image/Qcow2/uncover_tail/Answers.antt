@@ -1,13 +1,16 @@
+use Rattle.qcow2_image.proofs.Call.OnceWritten.{call_then, changes_later, notes_begun, part_none}
 use Rattle.std.proofs.Common.{◌∙◌, ◌<◌, arith, inl, inr, refl, sym, subst, Some, None, Err}
 use Rattle.std.specs.Prelude.{IsTrue}
 use Rattle.qcow2_alloc.proofs.Outcomes.{not_both}
 use Rattle.qcow2_image.specs.ImageInvariant.{pending_in}
 use Rattle.qcow2_image.proofs.Sizing.RefusedTurns.{frees_next}
-use Rattle.qcow2_image.proofs.Sizing.Shrinking.{next_so_far, none_so_far, tail_refused, tail_stops}
-use Rattle.qcow2_image.proofs.Call.FaultCounts.{counted_as, fewer_then}
+use Rattle.qcow2_image.proofs.Sizing.Shrinking.{next_so_far, none_so_far, same_size, tail_refused, tail_stops}
+use Rattle.qcow2_image.proofs.Call.FaultCounts.{fewer_of, counted_as, faults_then}
 use Rattle.qcow2_image.specs.Faults.{CountsImageFaults}
-use Rattle.qcow2_image.proofs.Call.OnceWritten.{notes_begun, notes_none}
-use Rattle.qcow2_image.proofs.Sizing.IdleTurns.{idle_next}
+use Rattle.qcow2_image.proofs.Sizing.CountedTurns.{turns_counted}
+use Rattle.qcow2_image.proofs.Clear.Touched.{rounded_from}
+use Rattle.std.proofs.lemmas.Nat.{pow_pos}
+use Rattle.qcow2_metadata.specs.Header.{cluster_size}
 use Rattle.qcow2_image.proofs.Call.BehindHeader.{behind_begun, behind_then}
 use Rattle.qcow2_image.proofs.image.Qcow2.uncover_tail.Goals as goal
 
@@ -20,20 +23,24 @@ loop-at-init g c =
           (λ out sound. record { keeps = c.begin.ensures.keeps (pending_in view below c.args.self.now out) out sound; list = c.begin.ensures.list });
       faults = c.begin.ensures.faults;
       emptied = λ writable out sound before. inl refl;
-      idle = λ least. c.begin.ensures.begun;
-      behind = behind_begun c.begin.ensures.begun;
+      since = notes_begun g.S.Storage.view c.args.self.now c.begin.new.self c.begin.ensures.begun c.begin.new.self (part_none g.S.Storage.view c.begin.new.self);
+      changed = λ out sound past. absurd (let up = rounded_from (cluster_size c.args.self.now.file.header.fields) c.args.size (pow_pos c.args.self.now.file.header.fields.cluster_bits) in omega (arith, past, up));
+      behind = behind_begun g.S.Storage.view c.begin.ensures.begun;
     }
 
 pub loop-at-preserved : goal.loop-at-preserved
 loop-at-preserved g c = record {
   turns = next_so_far g.S.Storage.view g.F.BackingDisk.backing c.args.self.now c.loop-at.self c.uncover_from.new.self c.args.size c.loop-at.at c.size-end.result c.loop-at.invariant.turns c.in-Ok.next c.in-Ok.ensures.on.0 c.in-Ok.ensures.on.1 c.in-Ok.ensures.uncovers
       c.uncover_from.ensures.image c.in-Ok.ensures.marks;
-  faults = fewer_then g.S.Storage.view g.F.BackingDisk.backing c.args.self.now c.loop-at.self c.uncover_from.new.self c.loop-at.invariant.faults c.uncover_from.ensures.faults.no_fewer;
+  faults = faults_then g.S.Storage.view g.F.BackingDisk.backing c.args.self.now c.loop-at.self c.uncover_from.new.self c.loop-at.invariant.faults c.in-Ok.ensures.faults.told;
   emptied = λ writable out sound before.
       let so = c.loop-at.invariant.turns in
       inr (c.in-Ok.ensures.emptied (subst IsTrue (sym so.image.writable) writable) out (so.so_far out sound).0.sound
       (frees_next g.S.Storage.view g.F.BackingDisk.backing c.args.self.now c.loop-at.self c.args.size c.loop-at.at c.size-end.result so out sound before (c.loop-at.invariant.emptied writable out sound before)));
-  idle = idle_next c.args.self.now c.loop-at.self c.uncover_from.new.self c.args.size c.loop-at.at c.in-Ok.next c.loop-at.invariant.turns.from c.in-Ok.ensures.on.0 c.loop-at.invariant.idle c.in-Ok.ensures.idle;
+  since = call_then g.S.Storage.view c.args.self.now c.loop-at.self c.uncover_from.new.self c.loop-at.invariant.since c.uncover_from.ensures.since;
+  changed = λ out sound.
+      turns_counted c.args.self.now c.loop-at.self c.uncover_from.new.self c.args.size c.loop-at.at c.in-Ok.next (same_size g.S.Storage.view g.F.BackingDisk.backing c.args.self.now c.loop-at.self c.uncover_from.new.self c.args.size c.loop-at.at c.size-end.result c.loop-at.invariant.turns out sound) c.loop-at.invariant.since.no_fewer c.uncover_from.ensures.since.no_fewer
+      (c.loop-at.invariant.changed out sound) (c.in-Ok.ensures.changed out (c.loop-at.invariant.turns.so_far out sound).0.sound);
   behind = behind_then c.loop-at.invariant.behind c.uncover_from.ensures.header_cluster;
 }
 
@@ -67,14 +74,15 @@ returns-then-is_fault-clause-faults g c =
     let old = c.args.self.now in
     let new = c.uncover_from.new.self in
     let told : CountsImageFaults view below {T = Unit {0}} old new (Err c.in-Err.refusal) = counted_as view below old c.loop-at.self new c.uncover_from.result c.in-Err.refusal c.loop-at.invariant.faults c.uncover_from.ensures.faults c.in-Err.is in
-    (told.no_fewer, told.rose)
+    (told.no_fewer, told.rose, told.told)
 
 pub returns-in-Err-clause-faults : goal.returns-in-Err-clause-faults
 returns-in-Err-clause-faults g c =
-    (fewer_then g.S.Storage.view g.F.BackingDisk.backing c.args.self.now c.loop-at.self c.uncover_from.new.self c.loop-at.invariant.faults c.uncover_from.ensures.faults.no_fewer, tt)
+    let all = faults_then g.S.Storage.view g.F.BackingDisk.backing c.args.self.now c.loop-at.self c.uncover_from.new.self c.loop-at.invariant.faults (c.in-Err.ensures.faults.told (λ is. not_both c.is_fault.result (c.is_fault.ensures.1 (inl is)) c.if-is_fault.false)) in
+    (fewer_of g.S.Storage.view g.F.BackingDisk.backing c.args.self.now c.uncover_from.new.self all, tt, all)
 
 pub returns-clause-faults : goal.returns-clause-faults
-returns-clause-faults g c = (c.loop-at.invariant.faults, tt)
+returns-clause-faults g c = (fewer_of g.S.Storage.view g.F.BackingDisk.backing c.args.self.now c.loop-at.self c.loop-at.invariant.faults, tt, c.loop-at.invariant.faults)
 
 pub returns-then-is_fault-clause-emptied : goal.returns-then-is_fault-clause-emptied
 returns-then-is_fault-clause-emptied g c = λ writable out sound is before. absurd cc
@@ -100,13 +108,13 @@ pub uncover_from-requires-clause-usable : goal.uncover_from-requires-clause-usab
 uncover_from-requires-clause-usable g c = c.loop-at.invariant.turns.failed ∙ c.requires.usable
 
 pub returns-then-is_fault-clause-since : goal.returns-then-is_fault-clause-since
-returns-then-is_fault-clause-since g c = λ least. notes_begun g.S.Storage.view c.args.self.now c.loop-at.self c.uncover_from.new.self (c.loop-at.invariant.idle least) c.uncover_from.ensures.since
+returns-then-is_fault-clause-since g c = call_then g.S.Storage.view c.args.self.now c.loop-at.self c.uncover_from.new.self c.loop-at.invariant.since c.uncover_from.ensures.since
 
 pub returns-in-Err-clause-since : goal.returns-in-Err-clause-since
-returns-in-Err-clause-since g c = λ least. notes_begun g.S.Storage.view c.args.self.now c.loop-at.self c.uncover_from.new.self (c.loop-at.invariant.idle least) c.uncover_from.ensures.since
+returns-in-Err-clause-since g c = call_then g.S.Storage.view c.args.self.now c.loop-at.self c.uncover_from.new.self c.loop-at.invariant.since c.uncover_from.ensures.since
 
 pub returns-clause-since : goal.returns-clause-since
-returns-clause-since g c = λ least. notes_begun g.S.Storage.view c.args.self.now c.loop-at.self c.loop-at.self (c.loop-at.invariant.idle least) (notes_none g.S.Storage.view c.loop-at.self)
+returns-clause-since g c = c.loop-at.invariant.since
 
 pub returns-then-is_fault-clause-header_cluster : goal.returns-then-is_fault-clause-header_cluster
 returns-then-is_fault-clause-header_cluster g c = behind_then c.loop-at.invariant.behind c.uncover_from.ensures.header_cluster
@@ -116,3 +124,12 @@ returns-in-Err-clause-header_cluster g c = behind_then c.loop-at.invariant.behin
 
 pub returns-clause-header_cluster : goal.returns-clause-header_cluster
 returns-clause-header_cluster g c = c.loop-at.invariant.behind
+
+pub returns-then-is_fault-clause-changed : goal.returns-then-is_fault-clause-changed
+returns-then-is_fault-clause-changed g c = λ out sound past. changes_later c.args.self.now c.loop-at.self c.uncover_from.new.self c.uncover_from.ensures.since.no_fewer (c.loop-at.invariant.changed out sound past)
+
+pub returns-in-Err-clause-changed : goal.returns-in-Err-clause-changed
+returns-in-Err-clause-changed g c = λ out sound past. changes_later c.args.self.now c.loop-at.self c.uncover_from.new.self c.uncover_from.ensures.since.no_fewer (c.loop-at.invariant.changed out sound past)
+
+pub returns-clause-changed : goal.returns-clause-changed
+returns-clause-changed g c = λ out sound past. c.loop-at.invariant.changed out sound past

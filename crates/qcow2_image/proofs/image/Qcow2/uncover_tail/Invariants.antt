@@ -2,22 +2,24 @@ use Rattle.std.proofs.Common.{◌-◌, ◌<◌, ◌≤◌, ◌≡◌, ◌⊎◌,
 use Rattle.std.specs.Prelude.{IsTrue}
 use Rattle.qcow2_image.specs.BehindHeader.{StaysBehindHeader}
 use Rattle.qcow2_image.specs.declared.prepared.Prepared.{Prepared}
-use Rattle.qcow2_image.specs.Image.{HasNothingToFree, IsBegun, is_writable}
+use Rattle.qcow2_image.specs.Image.{HasNothingToFree, is_writable}
 use Rattle.qcow2_image.specs.ImageInvariant.{ImageInvariant, pending_in}
 use Rattle.qcow2_image.specs.Resizing.{boundary_in}
-use Rattle.qcow2_image.specs.Faults.{NoFewerFaults}
+use Rattle.qcow2_image.specs.Noted.{ChangesRose, NotesChanges}
+use Rattle.qcow2_image.specs.Faults.{SameFaults}
 use Rattle.qcow2_image.proofs.Sizing.Shrinking.{IsUncoveredSoFar}
 use Rattle.qcow2_image.proofs.image.Qcow2.uncover_tail.Given as goal
 
--- the tail is uncovered up to where the next turn begins, and nothing is to be freed behind the first one; turns that passed no boundary changed nothing
+-- the tail is uncovered up to where the next turn begins, and nothing is to be freed behind the first one; a change was counted where turns passed a boundary
 abbrev pub invariant-loop-at : goal.invariant-loop-at
 invariant-loop-at g l = record {
   turns : IsUncoveredSoFar g.S.Storage.view g.F.BackingDisk.backing l.fn.self l.self l.fn.size l.at l.end;
-  faults : NoFewerFaults g.S.Storage.view g.F.BackingDisk.backing l.fn.self l.self;
+  faults : SameFaults g.S.Storage.view g.F.BackingDisk.backing l.fn.self l.self;
   emptied : IsTrue (is_writable l.fn.self) → (out : List (Option Prepared)) → ImageInvariant g.S.Storage.view g.F.BackingDisk.backing (pending_in g.S.Storage.view g.F.BackingDisk.backing l.fn.self out) l.fn.self out
       → boundary_in l.fn.self l.fn.size < l.end → (l.at ≡ l.fn.size) ⊎ HasNothingToFree l.self;
-  idle : l.at ≤ boundary_in l.fn.self l.fn.size → IsBegun l.fn.self l.self;
-  behind : StaysBehindHeader l.fn.self l.self;
+  since : NotesChanges g.S.Storage.view l.fn.self l.self;
+  changed : (out : List (Option Prepared)) → ImageInvariant g.S.Storage.view g.F.BackingDisk.backing (pending_in g.S.Storage.view g.F.BackingDisk.backing l.fn.self out) l.fn.self out → boundary_in l.fn.self l.fn.size < l.at → ChangesRose l.fn.self l.self;
+  behind : StaysBehindHeader g.S.Storage.view l.fn.self l.self;
 }
 
 abbrev pub decreases-loop-at : goal.decreases-loop-at

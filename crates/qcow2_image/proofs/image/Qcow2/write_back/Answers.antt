@@ -11,9 +11,12 @@ use Rattle.qcow2_image.specs.declared.image.Qcow2.{Qcow2}
 use Rattle.qcow2_image.specs.ImageInvariant.{ImageInvariant}
 use Rattle.qcow2_image.specs.Unwritten.{IsOnlyRead, IsUnmodified}
 use Rattle.qcow2_image.proofs.Map.Unmodified.{read_bytes, read_caches, read_same, read_then}
-use Rattle.qcow2_alloc.specs.KeptNotes.{kept_then}
+use Rattle.qcow2_alloc.proofs.KeptMarks.{notes_then, notes_of_both, notes_of_storage}
 use Rattle.qcow2_alloc.proofs.KeptNotes.{read_kept}
-use Rattle.qcow2_image.proofs.Call.BehindHeader.{behind_caches, behind_then}
+use Rattle.qcow2_image.proofs.Call.BehindHeader.{behind_caches, behind_then, behind_read}
+use Rattle.std.specs.Prelude.{IfErr, Result}
+use Rattle.qcow2_alloc.specs.ImageError.{IsFault, of_storage}
+use Rattle.qcow2_image.proofs.Call.Unlimited.{storage_fault}
 use Rattle.qcow2_image.proofs.image.Qcow2.write_back.Goals as goal
 
 pub returns-in_err-free_listed-clause-frees : goal.returns-in_err-free_listed-clause-frees
@@ -109,26 +112,39 @@ pub returns-in_err-free_listed-clause-notes : goal.returns-in_err-free_listed-cl
 returns-in_err-free_listed-clause-notes g c = c.free_listed.ensures.notes
 
 pub returns-in_err-flush_all-clause-notes : goal.returns-in_err-flush_all-clause-notes
-returns-in_err-flush_all-clause-notes g c = kept_then _ _ _ c.free_listed.ensures.notes c.flush_all.ensures.notes
+returns-in_err-flush_all-clause-notes g c = notes_then c.free_listed.ensures.notes (notes_of_both c.flush_all.ensures.marks c.flush_all.ensures.notes)
 
 pub returns-in_err-flush-clause-notes : goal.returns-in_err-flush-clause-notes
 returns-in_err-flush-clause-notes g c =
-    kept_then _ _ _ (kept_then _ _ _ c.free_listed.ensures.notes c.flush_all.ensures.notes)
-    (read_kept c.flush_all.new.storage c.flush.new.self c.flush.result c.flush.ensures.calls c.flush.ensures.same c.flush.ensures.unnoted)
+    notes_then (notes_then c.free_listed.ensures.notes (notes_of_both c.flush_all.ensures.marks c.flush_all.ensures.notes))
+    (notes_of_storage (read_kept c.flush_all.new.storage c.flush.new.self c.flush.result c.flush.ensures.calls c.flush.ensures.same c.flush.ensures.unnoted))
 
 pub returns-clause-notes : goal.returns-clause-notes
 returns-clause-notes g c =
-    kept_then _ _ _ (kept_then _ _ _ c.free_listed.ensures.notes c.flush_all.ensures.notes)
-    (read_kept c.flush_all.new.storage c.flush.new.self c.flush.result c.flush.ensures.calls c.flush.ensures.same c.flush.ensures.unnoted)
+    notes_then (notes_then c.free_listed.ensures.notes (notes_of_both c.flush_all.ensures.marks c.flush_all.ensures.notes))
+    (notes_of_storage (read_kept c.flush_all.new.storage c.flush.new.self c.flush.result c.flush.ensures.calls c.flush.ensures.same c.flush.ensures.unnoted))
 
 pub returns-in_err-free_listed-clause-header_cluster : goal.returns-in_err-free_listed-clause-header_cluster
 returns-in_err-free_listed-clause-header_cluster g c = c.free_listed.ensures.header_cluster
 
 pub returns-in_err-flush_all-clause-header_cluster : goal.returns-in_err-flush_all-clause-header_cluster
-returns-in_err-flush_all-clause-header_cluster g c = behind_then c.free_listed.ensures.header_cluster (behind_caches c.flush_all.ensures.header_cluster.behind)
+returns-in_err-flush_all-clause-header_cluster g c = behind_then c.free_listed.ensures.header_cluster (behind_caches c.flush_all.ensures.header_cluster)
 
 pub returns-in_err-flush-clause-header_cluster : goal.returns-in_err-flush-clause-header_cluster
-returns-in_err-flush-clause-header_cluster g c = behind_then c.free_listed.ensures.header_cluster (behind_caches c.flush_all.ensures.header_cluster.behind)
+returns-in_err-flush-clause-header_cluster g c = behind_then (behind_then c.free_listed.ensures.header_cluster (behind_caches c.flush_all.ensures.header_cluster)) (behind_read c.flush.result c.flush.ensures.calls c.flush.ensures.same)
 
 pub returns-clause-header_cluster : goal.returns-clause-header_cluster
-returns-clause-header_cluster g c = behind_then c.free_listed.ensures.header_cluster (behind_caches c.flush_all.ensures.header_cluster.behind)
+returns-clause-header_cluster g c = behind_then (behind_then c.free_listed.ensures.header_cluster (behind_caches c.flush_all.ensures.header_cluster)) (behind_read c.flush.result c.flush.ensures.calls c.flush.ensures.same)
+
+pub returns-in_err-flush_all-clause-fault : goal.returns-in_err-flush_all-clause-fault
+returns-in_err-flush_all-clause-fault g c = λ p out sound.
+    let freed = c.free_listed.new.self in
+    let first = c.in_ok-free_listed.ensures.frees p out sound in
+    handed_on (λ r. IfErr r IsFault) c.from_residual-in_err-flush_all.result c.in_err-flush_all.field-0.0 c.from_residual-in_err-flush_all.ensures
+    (c.in_err-flush_all.ensures.faults freed.file.header.fields (with_listed p freed.file.free_list) first.sound.file.honest first.sound.file.caches first.sound.file.named_blocks)
+
+pub returns-in_err-flush-clause-fault : goal.returns-in_err-flush-clause-fault
+returns-in_err-flush-clause-fault g c = λ p out sound. handed_on (λ (r : Result _ _). IfErr r IsFault) c.from_residual-in_err-flush.result (of_storage c.in_err-flush.field-0.0) c.from_residual-in_err-flush.ensures (storage_fault c.in_err-flush.field-0.0)
+
+pub returns-in_err-free_listed-clause-fault : goal.returns-in_err-free_listed-clause-fault
+returns-in_err-free_listed-clause-fault g c = λ p out sound. handed_on (λ r. IfErr r IsFault) c.from_residual.result c.in_err-free_listed.field-0.0 c.from_residual.ensures (c.in_err-free_listed.ensures.faults p out sound)

@@ -1,15 +1,23 @@
 use Rattle.qcow2_alloc.proofs.KeptNotes.{kept_told, write_kept}
-use Rattle.qcow2_image.proofs.Call.BehindHeader.{behind_none}
+use Rattle.qcow2_alloc.proofs.KeptMarks.{notes_none, notes_of_storage}
+use Rattle.qcow2_image.proofs.Call.BehindHeader.{behind_none, behind_guard, behind_wrote}
+use Rattle.std.proofs.Common.{ap}
 use Rattle.qcow2_image.proofs.image.Qcow2.write_data.Goals as goal
 
 pub returns-in_err-write_data-clause-notes : goal.returns-in_err-write_data-clause-notes
-returns-in_err-write_data-clause-notes g c = kept_told c.args.self.now.file.storage c.will_write.new.self c.write_data.new.self c.will_write.ensures.storage c.will_write.ensures.changed (write_kept _ _ c.write_data.result _ c.write_data.ensures.written c.write_data.ensures.calls c.write_data.ensures.noted)
+returns-in_err-write_data-clause-notes g c = notes_of_storage (kept_told c.args.self.now.file.storage c.will_write.new.self c.write_data.new.self c.will_write.ensures.storage c.will_write.ensures.changed (write_kept _ _ c.write_data.result _ c.write_data.ensures.written c.write_data.ensures.calls c.write_data.ensures.noted))
 
 pub returns-clause-notes : goal.returns-clause-notes
-returns-clause-notes g c = kept_told c.args.self.now.file.storage c.will_write.new.self c.write_data.new.self c.will_write.ensures.storage c.will_write.ensures.changed (write_kept _ _ c.write_data.result _ c.write_data.ensures.written c.write_data.ensures.calls c.write_data.ensures.noted)
+returns-clause-notes g c = notes_of_storage (kept_told c.args.self.now.file.storage c.will_write.new.self c.write_data.new.self c.will_write.ensures.storage c.will_write.ensures.changed (write_kept _ _ c.write_data.result _ c.write_data.ensures.written c.write_data.ensures.calls c.write_data.ensures.noted))
 
 pub returns-in_err-write_data-clause-header_cluster : goal.returns-in_err-write_data-clause-header_cluster
-returns-in_err-write_data-clause-header_cluster g c = behind_none
+returns-in_err-write_data-clause-header_cluster g c = behind_wrote c.write_data.result c.args.host c.args.bytes.now (ap g.S.Storage.view c.will_write.ensures.storage) (λ bits lies. behind_guard bits _ c.cluster_size.result c.args.host lies.header c.cluster_size.ensures.value c.if-host-cluster_size.false) c.write_data.ensures.written c.write_data.ensures.calls
 
 pub returns-clause-header_cluster : goal.returns-clause-header_cluster
-returns-clause-header_cluster g c = behind_none
+returns-clause-header_cluster g c = behind_wrote c.write_data.result c.args.host c.args.bytes.now (ap g.S.Storage.view c.will_write.ensures.storage) (λ bits lies. behind_guard bits _ c.cluster_size.result c.args.host lies.header c.cluster_size.ensures.value c.if-host-cluster_size.false) c.write_data.ensures.written c.write_data.ensures.calls
+
+pub returns-then-host-cluster_size-clause-header_cluster : goal.returns-then-host-cluster_size-clause-header_cluster
+returns-then-host-cluster_size-clause-header_cluster g c = behind_none
+
+pub returns-then-host-cluster_size-clause-notes : goal.returns-then-host-cluster_size-clause-notes
+returns-then-host-cluster_size-clause-notes g c = notes_none

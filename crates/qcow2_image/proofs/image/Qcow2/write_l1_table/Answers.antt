@@ -1,11 +1,13 @@
-use Rattle.std.proofs.Common.{◌≡◌, inl, ap, subst}
+use Rattle.std.proofs.Common.{◌∙◌, ◌≡◌, inl, ap, subst}
 use Rattle.std.specs.Prelude.{OnOk}
 use Rattle.qcow2_metadata.specs.EntryTable.{entry_count}
 use Rattle.qcow2_alloc.proofs.AllocationSteps.{handed_on}
 use Rattle.qcow2_image.specs.LongerTables.{NamesTable}
 use Rattle.qcow2_image.proofs.Grow.Lengthened.{named_then}
-use Rattle.qcow2_alloc.specs.KeptNotes.{kept_then}
-use Rattle.qcow2_image.proofs.Call.BehindHeader.{behind_then}
+use Rattle.qcow2_alloc.proofs.KeptMarks.{notes_then}
+use Rattle.qcow2_image.proofs.Call.BehindHeader.{behind_then, l1_placed}
+use Rattle.qcow2_image.proofs.Call.FaultCounts.{counted_since, same_of}
+use Rattle.qcow2_image.specs.declared.image.Qcow2.{Qcow2}
 use Rattle.qcow2_image.proofs.image.Qcow2.write_l1_table.Goals as goal
 
 pub returns-in_err-place_l1_table-clause-names : goal.returns-in_err-place_l1_table-clause-names
@@ -25,10 +27,26 @@ pub returns-in_err-place_l1_table-clause-notes : goal.returns-in_err-place_l1_ta
 returns-in_err-place_l1_table-clause-notes g c = c.place_l1_table.ensures.notes
 
 pub returns-clause-notes : goal.returns-clause-notes
-returns-clause-notes g c = kept_then _ _ _ c.place_l1_table.ensures.notes c.name_l1_table.ensures.notes
+returns-clause-notes g c = notes_then c.place_l1_table.ensures.notes c.name_l1_table.ensures.notes
 
 pub returns-in_err-place_l1_table-clause-header_cluster : goal.returns-in_err-place_l1_table-clause-header_cluster
 returns-in_err-place_l1_table-clause-header_cluster g c = c.place_l1_table.ensures.header_cluster
 
 pub returns-clause-header_cluster : goal.returns-clause-header_cluster
-returns-clause-header_cluster g c = behind_then c.place_l1_table.ensures.header_cluster c.name_l1_table.ensures.header_cluster
+returns-clause-header_cluster g c = λ as_wide some.
+    behind_then (c.place_l1_table.ensures.header_cluster as_wide some)
+    (c.name_l1_table.ensures.header_cluster
+    (l1_placed c.args.self.now.l1_table c.place_l1_table.new.self.l1_table c.args.table c.place_l1_table.new.table c.args.cluster (ap (λ (i : Qcow2 _ _). i.l1_table) c.place_l1_table.ensures.rest) c.in_ok-place_l1_table.ensures.table as_wide some))
+
+pub returns-in_err-place_l1_table-clause-allocator : goal.returns-in_err-place_l1_table-clause-allocator
+returns-in_err-place_l1_table-clause-allocator g c = ap (λ (i : Qcow2 _ _). i.allocator) c.place_l1_table.ensures.rest
+
+pub returns-clause-allocator : goal.returns-clause-allocator
+returns-clause-allocator g c = c.name_l1_table.ensures.allocator ∙ ap (λ (i : Qcow2 _ _). i.allocator) c.place_l1_table.ensures.rest
+
+pub returns-clause-faults : goal.returns-clause-faults
+returns-clause-faults g c =
+    let view = g.S.Storage.view in
+    let below = g.F.BackingDisk.backing in
+    counted_since view below c.args.self.now c.place_l1_table.new.self c.name_l1_table.new.self c.name_l1_table.result
+    (same_of view below c.args.self.now c.place_l1_table.new.self c.place_l1_table.result c.in_ok-place_l1_table.field-0 c.place_l1_table.ensures.faults c.in_ok-place_l1_table.was) c.name_l1_table.ensures.faults

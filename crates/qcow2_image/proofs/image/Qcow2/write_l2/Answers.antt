@@ -6,7 +6,7 @@ use Rattle.qcow2_image.specs.declared.image.Qcow2.{Qcow2}
 use Rattle.qcow2_image.specs.NewTables.{WritesNew}
 use Rattle.qcow2_image.proofs.Call.Called.{keeps_then}
 use Rattle.qcow2_image.proofs.Prepare.Entering.{may_still, says_still, written_so}
-use Rattle.qcow2_alloc.specs.KeptNotes.{kept_same, kept_then}
+use Rattle.qcow2_alloc.proofs.KeptMarks.{notes_none, notes_then}
 use Rattle.qcow2_image.proofs.Call.BehindHeader.{behind_none, behind_then}
 use Rattle.qcow2_image.proofs.image.Qcow2.write_l2.Goals as goal
 
@@ -49,16 +49,16 @@ returns-clause-writes g c = λ p out sound may noted says.
     (says_still view below out q q old mid c.args.index c.args.table kept says) c.in_ok-place_l2.ensures.long placed.1)
 
 pub returns-then-not-can_enter-clause-notes : goal.returns-then-not-can_enter-clause-notes
-returns-then-not-can_enter-clause-notes g c = kept_same c.args.self.now.file.storage
+returns-then-not-can_enter-clause-notes g c = notes_none
 
 pub returns-in_err-store_first-clause-notes : goal.returns-in_err-store_first-clause-notes
 returns-in_err-store_first-clause-notes g c = c.store_first.ensures.notes
 
 pub returns-in_err-place_l2-clause-notes : goal.returns-in_err-place_l2-clause-notes
-returns-in_err-place_l2-clause-notes g c = kept_then _ _ _ c.store_first.ensures.notes c.place_l2.ensures.notes
+returns-in_err-place_l2-clause-notes g c = notes_then c.store_first.ensures.notes c.place_l2.ensures.notes
 
 pub returns-clause-notes : goal.returns-clause-notes
-returns-clause-notes g c = kept_then _ _ _ (kept_then _ _ _ c.store_first.ensures.notes c.place_l2.ensures.notes) c.name_l2.ensures.notes
+returns-clause-notes g c = notes_then (notes_then c.store_first.ensures.notes c.place_l2.ensures.notes) c.name_l2.ensures.notes
 
 pub returns-then-not-can_enter-clause-header_cluster : goal.returns-then-not-can_enter-clause-header_cluster
 returns-then-not-can_enter-clause-header_cluster g c = λ some. behind_none
@@ -71,3 +71,12 @@ returns-in_err-place_l2-clause-header_cluster g c = λ some. behind_then c.store
 
 pub returns-clause-header_cluster : goal.returns-clause-header_cluster
 returns-clause-header_cluster g c = λ some. behind_then (behind_then c.store_first.ensures.header_cluster (c.place_l2.ensures.header_cluster some)) c.name_l2.ensures.header_cluster
+
+pub returns-in_err-store_first-clause-allocator : goal.returns-in_err-store_first-clause-allocator
+returns-in_err-store_first-clause-allocator g c = ap (λ (i : Qcow2 _ _). i.allocator) c.store_first.ensures.rest
+
+pub returns-in_err-place_l2-clause-allocator : goal.returns-in_err-place_l2-clause-allocator
+returns-in_err-place_l2-clause-allocator g c = ap (λ (i : Qcow2 _ _). i.allocator) c.place_l2.ensures.rest ∙ ap (λ (i : Qcow2 _ _). i.allocator) c.store_first.ensures.rest
+
+pub returns-clause-allocator : goal.returns-clause-allocator
+returns-clause-allocator g c = c.name_l2.ensures.allocator ∙ ap (λ (i : Qcow2 _ _). i.allocator) c.place_l2.ensures.rest ∙ ap (λ (i : Qcow2 _ _). i.allocator) c.store_first.ensures.rest

@@ -67,7 +67,7 @@ pub returns-clause-faults : goal.returns-clause-faults
 returns-clause-faults g c = counted_marked g.S.Storage.view g.F.BackingDisk.backing c.args.self.now c.begin.new.self c.write_current-done.new.self c.mark_failure.new.self c.write_current-done.result c.mark_failure.result c.begin.ensures.faults c.write_current-done.ensures.faults c.mark_failure.ensures.answer c.mark_failure.ensures.rest
 
 pub returns-clause-once_written : goal.returns-clause-once_written
-returns-clause-once_written g c = λ memory. once_written g.S.Storage.view c.args.self.now c.begin.new.self c.write_current-done.new.self c.mark_failure.new.self c.write_current-done.result c.begin.ensures.storage c.write_current-done.ensures.notes c.mark_failure.ensures.marks c.mark_failure.ensures.rest (sym c.mark_failure.ensures.answer ∙ memory)
+returns-clause-once_written g c = λ memory. once_written g.S.Storage.view c.args.self.now c.begin.new.self c.begin.ensures.begun c.write_current-done.new.self c.mark_failure.new.self c.write_current-done.result c.write_current-done.ensures.notes (c.write_current-done.ensures.stays.failed ∙ c.begin.ensures.stays.failed) c.mark_failure.ensures.marks c.mark_failure.ensures.rest (sym c.mark_failure.ensures.answer ∙ memory)
 
 pub returns-then-is_empty-clause-mapped : goal.returns-then-is_empty-clause-mapped
 returns-then-is_empty-clause-mapped g c = λ none some out sound. absurd (let no : length c.args.bytes.now ≡ 0 = search rules in omega (arith, no, some))
@@ -86,4 +86,4 @@ returns-clause-mapped g c = λ none some out sound.
     (on_ok c.write_current-done.result (λ whole. found_before view below old c.begin.new.self out p p place n kind begun whole) (c.write_current-done.ensures.mapped none p out begun.sound))
 
 pub returns-clause-header_cluster : goal.returns-clause-header_cluster
-returns-clause-header_cluster g c = behind_call c.begin.ensures.begun c.write_current-done.ensures.header_cluster c.mark_failure.ensures.rest
+returns-clause-header_cluster g c = behind_call g.S.Storage.view c.begin.ensures.begun c.write_current-done.ensures.header_cluster c.mark_failure.ensures.rest

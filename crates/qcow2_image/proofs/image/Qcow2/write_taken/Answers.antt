@@ -1,4 +1,4 @@
-use Rattle.std.proofs.Common.{refl, sym, subst}
+use Rattle.std.proofs.Common.{refl, sym, subst, ◌<◌}
 use Rattle.qcow2_image.specs.ImageInvariant.{ImageInvariant}
 use Rattle.qcow2_image.specs.LongerTables.{with_table, NamesTable}
 use Rattle.qcow2_image.proofs.image.Qcow2.write_taken.Goals as goal
@@ -21,4 +21,7 @@ pub returns-clause-notes : goal.returns-clause-notes
 returns-clause-notes g c = c.write_l1_table-done.ensures.notes
 
 pub returns-clause-header_cluster : goal.returns-clause-header_cluster
-returns-clause-header_cluster g c = c.write_l1_table-done.ensures.header_cluster
+returns-clause-header_cluster g c = λ as_wide some. c.write_l1_table-done.ensures.header_cluster as_wide (subst (λ n. 0 < n) (sym c.cluster.ensures) some)
+
+pub returns-clause-allocator : goal.returns-clause-allocator
+returns-clause-allocator g c = c.write_l1_table-done.ensures.allocator

@@ -1,3 +1,4 @@
+use Rattle.qcow2_alloc.proofs.KeptMarks.{notes_then}
 use Rattle.std.proofs.Common.{◌≤◌, subst, sym, arith}
 use Rattle.qcow2_alloc.proofs.AllocationSteps.{handed_on}
 use Rattle.qcow2_image.specs.ImageInvariant.{abstract_of}
@@ -60,3 +61,12 @@ returns-in_err-fill_range-clause-header_cluster g c = behind_then c.zero_first.e
 
 pub returns-clause-header_cluster : goal.returns-clause-header_cluster
 returns-clause-header_cluster g c = behind_then (behind_then c.zero_first.ensures.header_cluster c.fill_range.ensures.header_cluster) c.zero_range.ensures.header_cluster
+
+pub returns-in_err-next-clause-notes : goal.returns-in_err-next-clause-notes
+returns-in_err-next-clause-notes g c = c.zero_first.ensures.notes
+
+pub returns-in_err-fill_range-clause-notes : goal.returns-in_err-fill_range-clause-notes
+returns-in_err-fill_range-clause-notes g c = notes_then c.zero_first.ensures.notes c.fill_range.ensures.notes
+
+pub returns-clause-notes : goal.returns-clause-notes
+returns-clause-notes g c = notes_then (notes_then c.zero_first.ensures.notes c.fill_range.ensures.notes) c.zero_range.ensures.notes

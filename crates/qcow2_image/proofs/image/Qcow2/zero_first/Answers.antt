@@ -1,3 +1,4 @@
+use Rattle.qcow2_alloc.proofs.KeptMarks.{notes_none, notes_then}
 use Rattle.std.proofs.Common.{◌≡◌, ◌∙◌, ◌+◌, ◌-◌, ◌^◌, ◌<◌, min, ap, subst, sym, arith, rules}
 use Rattle.std.specs.Prelude.{IsTrue}
 use Rattle.qcow2_disk.specs.Found.{rest_of_table}
@@ -124,3 +125,15 @@ returns-in_err-free_listed-clause-header_cluster g c = behind_then c.clear_betwe
 
 pub returns-clause-header_cluster : goal.returns-clause-header_cluster
 returns-clause-header_cluster g c = behind_then c.clear_between.ensures.header_cluster c.free_listed.ensures.header_cluster
+
+pub returns-then-to-from-clause-notes : goal.returns-then-to-from-clause-notes
+returns-then-to-from-clause-notes g c = notes_none
+
+pub returns-in_err-clear_between-clause-notes : goal.returns-in_err-clear_between-clause-notes
+returns-in_err-clear_between-clause-notes g c = c.clear_between.ensures.notes
+
+pub returns-in_err-free_listed-clause-notes : goal.returns-in_err-free_listed-clause-notes
+returns-in_err-free_listed-clause-notes g c = notes_then c.clear_between.ensures.notes c.free_listed.ensures.notes
+
+pub returns-clause-notes : goal.returns-clause-notes
+returns-clause-notes g c = notes_then c.clear_between.ensures.notes c.free_listed.ensures.notes

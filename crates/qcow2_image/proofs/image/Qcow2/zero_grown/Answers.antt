@@ -1,3 +1,4 @@
+use Rattle.qcow2_alloc.proofs.KeptMarks.{notes_none}
 use Rattle.std.proofs.Common.{◌≡◌, ◌≤◌, ◌%◌, ◌∙◌, ap, subst, sym, arith}
 use Rattle.std.proofs.lemmas.Nat.{pow_pos}
 use Rattle.qcow2_metadata.specs.Header.{cluster_size, rounded_up}
@@ -48,3 +49,15 @@ returns-in_default-rounded_up-clause-header_cluster g c = behind_none
 
 pub returns-clause-header_cluster : goal.returns-clause-header_cluster
 returns-clause-header_cluster g c = c.zero_between.ensures.header_cluster
+
+pub returns-then-version-lt3-clause-notes : goal.returns-then-version-lt3-clause-notes
+returns-then-version-lt3-clause-notes g c = notes_none
+
+pub returns-in_default-clause-notes : goal.returns-in_default-clause-notes
+returns-in_default-clause-notes g c = notes_none
+
+pub returns-in_default-rounded_up-clause-notes : goal.returns-in_default-rounded_up-clause-notes
+returns-in_default-rounded_up-clause-notes g c = notes_none
+
+pub returns-clause-notes : goal.returns-clause-notes
+returns-clause-notes g c = c.zero_between.ensures.notes

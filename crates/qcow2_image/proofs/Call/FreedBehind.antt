@@ -1,0 +1,46 @@
+-- A part that was refused, and clusters that are freed behind the refusal.
+use Rattle.std.proofs.Common.{◌≡◌, ℕ, inl, inr, List, sym, subst}
+use Rattle.std.specs.Prelude.{Option}
+use Rattle.image_access.specs.Backing.{BackingView}
+use Rattle.image_access.specs.Moments.{StorageView}
+use Rattle.qcow2_metadata.specs.Header.{HeaderView}
+use Rattle.qcow2_alloc.specs.ImageError.{IsFault}
+use Rattle.qcow2_alloc.specs.declared.error.ImageError.{ImageError}
+use Rattle.qcow2_alloc.specs.declared.error.ImageError.TheVariants.{TablePrepared}
+use Rattle.qcow2_image.specs.CallParts.{RefusedCall}
+use Rattle.qcow2_image.specs.declared.image.Qcow2.{Qcow2}
+use Rattle.qcow2_image.specs.declared.prepared.Prepared.{Prepared}
+use Rattle.qcow2_image.specs.Found.{l1_index_of}
+use Rattle.qcow2_image.specs.ImageInvariant.{ImageInvariant, pending_in}
+use Rattle.qcow2_image.specs.NewTables.{IsFaultOrLacksTable, MayName}
+use Rattle.qcow2_image.specs.Refusals.{FreesRefused, IsMet, IsMetPreparing}
+use Rattle.qcow2_image.proofs.Prepare.Entering.{may_still}
+
+-- the refusal that is answered behind that is met by the work, where the other one was, and is no prepared table
+pub met_freed : (e e' : ImageError) → IsMet e → (IsMetPreparing e → IsMetPreparing e') → (IsMetPreparing e → e' ≡ TablePrepared → e ≡ TablePrepared) → IsMet e'
+met_freed e e' met cause taken = elim (cause (inl met)) [
+  | inl is ↦ is
+  | inr prepared ↦ absurd (subst IsMet (taken (inl met) prepared) met)
+]
+
+module _ {S F : Type 0} (view : S → StorageView) (backing : F → BackingView) (out : List (Option Prepared)) (old mid new : Qcow2 S F) (e e' : ImageError)
+    (back : RefusedCall view backing old mid out e) (fault : IsFault e → (e' ≡ e) × (new ≡ mid)) where
+  -- nothing is left to be freed then
+  pub refused_freed : (ImageInvariant view backing (pending_in view backing mid out) mid out → FreesRefused new e') → FreesRefused new e'
+  refused_freed empties = elim back [
+    | inl unseen ↦ empties unseen.sound
+    | inr interruption ↦ inl (subst IsFault (sym (fault interruption.fault).0) interruption.fault)
+  ]
+
+  -- what lacked an L2 table lacks it still
+  pub lacking_freed : (offset : ℕ) → new.l1_table ≡ mid.l1_table → new.file.header ≡ mid.file.header → (ImageInvariant view backing (pending_in view backing mid out) mid out → RefusedCall view backing mid new out e')
+      → IsFaultOrLacksTable view mid offset e → IsFaultOrLacksTable view new offset e'
+  lacking_freed offset table header frees (inl is) = inl (subst IsFault (sym (fault is).0) is)
+  lacking_freed offset table header frees (inr lacks) = elim back [
+    | inl unseen ↦ elim (frees unseen.sound) [
+      | inl still ↦ inr (subst (λ (h : HeaderView). MayName view new (l1_index_of h.fields offset)) (sym header)
+          (may_still view backing out (pending_in view backing mid out) (pending_in view backing new out) mid new unseen.sound still.sound table (l1_index_of mid.file.header.fields offset) lacks))
+      | inr interruption ↦ inl interruption.fault
+    ]
+    | inr interruption ↦ inl (subst IsFault (sym (fault interruption.fault).0) interruption.fault)
+  ]

@@ -1,0 +1,31 @@
+-- Refusals that meet no limit.
+use Rattle.std.proofs.Common.{◌≡◌, inl, inr, refl, sym, subst}
+use Rattle.image_access.specs.declared.error.StorageError.{StorageError}
+use Rattle.image_access.specs.declared.error.StorageError.TheVariants as S
+use Rattle.qcow2_metadata.specs.declared.error.MetadataError.{MetadataError}
+use Rattle.qcow2_metadata.specs.declared.error.MetadataError.TheVariants as M
+use Rattle.qcow2_alloc.specs.CachePins.{IsInUseOrFault}
+use Rattle.qcow2_alloc.specs.ImageError.{IsFault, of_metadata, of_storage}
+use Rattle.qcow2_alloc.specs.declared.cache.MetadataCaches.{MetadataCaches}
+use Rattle.qcow2_alloc.specs.declared.error.ImageError.{ImageError}
+use Rattle.qcow2_alloc.specs.declared.error.ImageError.TheVariants as I
+use Rattle.qcow2_image.specs.Refusals.{IsUnlimited}
+
+pub storage_fault : (e : StorageError) → IsFault (of_storage e)
+storage_fault S.Fault = inl refl
+storage_fault S.Memory = inr refl
+
+pub storage_unlimited : (e : StorageError) → IsUnlimited (of_storage e)
+storage_unlimited S.Fault = tt
+storage_unlimited S.Memory = tt
+
+pub unaligned_unlimited : (e : MetadataError) → e ≡ M.Unaligned → IsUnlimited (of_metadata e)
+unaligned_unlimited e is = subst (λ (x : MetadataError). IsUnlimited (of_metadata x)) (sym is) tt
+
+pub fault_unlimited : (e : ImageError) → IsFault e → IsUnlimited e
+fault_unlimited e (inl is) = subst IsUnlimited (sym is) tt
+fault_unlimited e (inr is) = subst IsUnlimited (sym is) tt
+
+pub in_use_unlimited : {S : Type 0} (caches : MetadataCaches S) (e : ImageError) → IsInUseOrFault caches e → IsUnlimited e
+in_use_unlimited caches e (inl used) = subst IsUnlimited (sym used.0) tt
+in_use_unlimited caches e (inr fault) = fault_unlimited e fault

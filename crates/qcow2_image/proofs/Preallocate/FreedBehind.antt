@@ -1,0 +1,55 @@
+-- A larger disk that was refused, and clusters that are freed behind the refusal.
+use Rattle.std.proofs.Common.{◌≡◌, ◌⊎◌, ◌∙◌, inl, inr, ℕ, true, List, [], sym, subst}
+use Rattle.std.specs.Prelude.{Option, Result, Err}
+use Rattle.image_access.specs.Backing.{BackingView}
+use Rattle.image_access.specs.Moments.{StorageView}
+use Rattle.image_access.specs.declared.storage.PreallocateMode.{PreallocateMode}
+use Rattle.qcow2_disk.specs.Stops.{GivenBytes}
+use Rattle.qcow2_disk.proofs.Compose.{works_less, works_then}
+use Rattle.qcow2_alloc.specs.ImageError.{IsFault}
+use Rattle.qcow2_alloc.specs.declared.error.ImageError.{ImageError}
+use Rattle.qcow2_image.specs.CallParts.{RefusedCall}
+use Rattle.qcow2_image.specs.declared.image.Qcow2.{Qcow2}
+use Rattle.qcow2_image.specs.declared.prepared.Prepared.{Prepared}
+use Rattle.qcow2_image.specs.ImageInvariant.{ImageInvariant, abstract_of, pending_in}
+use Rattle.qcow2_image.specs.Preallocation.{FillsGrownInPart, InterruptedGiving, all_given_by_growing}
+use Rattle.qcow2_image.specs.Refusals.{FreesRefused}
+
+pub same_refusal : {A : Type 0} (r : Result A ImageError) (e e' : ImageError) → r ≡ Err e → r ≡ Err e' → e ≡ e'
+same_refusal r e e' was is = let both : Err e ≡ Err e' = sym was ∙ is in cc
+
+module _ {S F : Type 0} (view : S → StorageView) (backing : F → BackingView) (out : List (Option Prepared)) (old mid new : Qcow2 S F) (size : ℕ) (mode : PreallocateMode) (e e' : ImageError) where
+  abbrev given : List GivenBytes
+  given = all_given_by_growing view backing old size mode
+
+  abbrev Left : Qcow2 S F → ImageError → Type 0
+  Left image refusal = FillsGrownInPart view backing size mode old image out ⊎ InterruptedGiving view backing given old image out refusal
+
+  module _ (left : Left mid e) (fault : IsFault e → (e' ≡ e) × (new ≡ mid)) where
+    -- no more bytes change by that
+    pub grown_freed : (ImageInvariant view backing (pending_in view backing mid out) mid out → RefusedCall view backing mid new out e') → Left new e'
+    grown_freed frees =
+        let a = abstract_of view backing old out in
+        let m = abstract_of view backing mid out in
+        let n = abstract_of view backing new out in
+        let failed = abstract_of view backing (record new { is_failed = true }) out in
+        elim left [
+          | inl part ↦ elim (frees part.sound) [
+            | inl still ↦ inl (record {
+              works = works_then a m n given [] part.sound part.works (works_less m n [] given [] (λ o x never. absurd never) still.works);
+              sound = still.sound;
+              now = part.now;
+              may = part.may;
+              shows = still.same ∙ part.shows;
+            })
+            | inr broken ↦ inr (record { fault = broken.fault; noted = broken.noted; works = works_then a m failed given [] part.sound part.works (works_less m failed [] given [] (λ o x never. absurd never) broken.works) })
+          ]
+          | inr broken ↦ let is = fault broken.fault in inr (subst (λ (x : ImageError). InterruptedGiving view backing given old new out x) (sym is.0) (subst (λ (image : Qcow2 S F). InterruptedGiving view backing given old image out e) (sym is.1) broken))
+        ]
+
+    -- nothing is left to be freed then
+    pub grown_left : (ImageInvariant view backing (pending_in view backing mid out) mid out → FreesRefused new e') → FreesRefused new e'
+    grown_left empties = elim left [
+      | inl part ↦ empties part.sound
+      | inr broken ↦ inl (subst IsFault (sym (fault broken.fault).0) broken.fault)
+    ]

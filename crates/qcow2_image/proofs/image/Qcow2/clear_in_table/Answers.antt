@@ -1,0 +1,150 @@
+use Rattle.std.proofs.Common.{◌≡◌, ◌<◌, inl, ◌-◌, ◌/◌, ◌%◌, ◌^◌, ◌++◌, ap, ◌∙◌, subst, arith, ◌+◌, ◌≤◌, sym}
+use Rattle.qcow2_alloc.proofs.AllocationSteps.{handed_on}
+use Rattle.qcow2_metadata.specs.Header.{cluster_size, entries_per_cluster}
+use Rattle.qcow2_alloc.specs.CachePins.{l2_pins}
+use Rattle.qcow2_image.specs.declared.image.Qcow2.{Qcow2}
+use Rattle.qcow2_image.specs.Clearing.{ClearsOrRefuses, ClearsTable, ReadsAll}
+use Rattle.qcow2_image.specs.Found.{l2_index_of, l1_index_of}
+use Rattle.qcow2_image.proofs.Clear.Between.{clears_between, no_pins, pinned_under, under_pinned, fits_table}
+use Rattle.std.specs.Prelude.{IfErr}
+use Rattle.qcow2_alloc.specs.ImageFile.{known_in}
+use Rattle.qcow2_alloc.specs.MetadataCaches.{IsEntryAt}
+use Rattle.qcow2_image.specs.ImageInvariant.{pending_in}
+use Rattle.qcow2_image.specs.NewTables.{IsFaultOrLacksTable}
+use Rattle.qcow2_image.proofs.Backings.{some_prepared}
+use Rattle.qcow2_image.proofs.Prepare.FarEntries.{far_handed_on, far_unanswered}
+use Rattle.qcow2_alloc.proofs.KeptMarks.{notes_then}
+use Rattle.qcow2_image.proofs.Call.Notes.{table_kept}
+use Rattle.qcow2_image.proofs.Call.BehindHeader.{behind_by, behind_tables, behind_then}
+use Rattle.qcow2_image.proofs.Prepare.Pinned.{found_pins, heeds_refused, met_untaken}
+use Rattle.qcow2_image.proofs.image.Qcow2.clear_in_table.Goals as goal
+
+pub returns-in_err-table-clause-clears : goal.returns-in_err-table-clause-clears
+returns-in_err-table-clause-clears g c = λ out sound whole.
+    handed_on (λ r. ClearsOrRefuses g.S.Storage.view g.F.BackingDisk.backing c.args.how c.args.from c.args.to c.args.self.now c.table_for.new.self out r) c.from_residual.result c.in_err-table.field-0.0 c.from_residual.ensures
+    (c.in_err-table.ensures.finds out sound)
+
+pub returns-then-l2_is_pinned-clause-clears : goal.returns-then-l2_is_pinned-clause-clears
+returns-then-l2_is_pinned-clause-clears g c = λ out sound whole. inl (c.in_ok-table.ensures.finds out sound).0
+
+pub returns-then-l2_is_pinned-clause-taken : goal.returns-then-l2_is_pinned-clause-taken
+returns-then-l2_is_pinned-clause-taken g c = λ out sound is.
+    let found = c.in_ok-table.ensures.finds out sound in
+    pinned_under g.S.Storage.view g.F.BackingDisk.backing out c.args.self.now c.table_for.new.self c.args.from c.in_ok-table.table found.0 found.1 (c.l2_is_pinned.ensures.0 c.if-l2_is_pinned.true)
+
+pub returns-in_err-old_data-clause-clears : goal.returns-in_err-old_data-clause-clears
+returns-in_err-old_data-clause-clears g c = λ out sound whole.
+    handed_on (λ r. ClearsOrRefuses g.S.Storage.view g.F.BackingDisk.backing c.args.how c.args.from c.args.to c.args.self.now c.table_for.new.self out r) c.from_residual-in_err-old_data.result c.in_err-old_data.field-0.0 c.from_residual-in_err-old_data.ensures
+    (inl (c.in_ok-table.ensures.finds out sound).0)
+
+pub returns-clause-clears : goal.returns-clause-clears
+returns-clause-clears g c = λ out sound whole.
+    let view = g.S.Storage.view in
+    let below = g.F.BackingDisk.backing in
+    let old = c.args.self.now in
+    let mid = c.table_for.new.self in
+    let b = c.clear_entries.new.self in
+    let how = c.args.how in
+    let from = c.args.from in
+    let to = c.args.to in
+    let table = c.in_ok-table.table in
+    let list = c.in_ok-old_data.old_data in
+    let h = mid.file.header.fields in
+    let found = c.in_ok-table.ensures.finds out sound in
+    let bits = c.cluster_bits-bits.ensures.value in
+    let first : c.cluster-first.result ≡ c.args.from / cluster_size c.table_for.new.self.file.header.fields = c.cluster-first.ensures ∙ ap (λ o. o / 2 ^ c.cluster_bits-bits.result) c.new.ensures ∙ ap (λ n. from / 2 ^ n) bits in
+    let column : c.l2_index.result ≡ l2_index_of c.table_for.new.self.file.header.fields c.args.from = c.l2_index.ensures.value ∙ ap (λ x. x % (2 ^ c.cluster_bits-bits.result / 8)) first ∙ ap (λ n. from / cluster_size h % (2 ^ n / 8)) bits in
+    let count : (c.args.to - c.args.from) / 2 ^ c.cluster_bits-bits.result ≡ (c.args.to - c.args.from) / cluster_size c.table_for.new.self.file.header.fields = ap (λ n. (to - from) / 2 ^ n) bits in
+    let reads = subst (λ n. ReadsAll view below how table (from / cluster_size h) n mid list) count (subst (λ n. ReadsAll view below how table n ((to - from) / 2 ^ c.cluster_bits-bits.result) mid list) first c.in_ok-old_data.ensures.reads) in
+    let clears = subst (λ n. ClearsTable view below how table (l2_index_of h from) n mid b) count (subst (λ n. ClearsTable view below how table n ((to - from) / 2 ^ c.cluster_bits-bits.result) mid b) column c.clear_entries.ensures.clears) in
+    clears_between view below out old mid b (record b { file = record b.file { free_list = c.hand_back.new.list } }) how from to table found.0 found.1 whole c.requires.some
+    (no_pins c.l2_is_pinned.result (l2_pins mid.file.caches table) c.l2_is_pinned.ensures c.if-l2_is_pinned.false) list reads clears
+    (ap (λ l. record b { file = record b.file { free_list = l } }) (c.hand_back.ensures ∙ ap (λ l. b.file.free_list ++ l) c.take.ensures.taken))
+
+pub returns-clause-free : goal.returns-clause-free
+returns-clause-free g c = λ out sound under.
+    let found = c.in_ok-table.ensures.finds out sound in
+    let pinned = under_pinned g.S.Storage.view g.F.BackingDisk.backing out c.args.self.now c.table_for.new.self c.args.from c.in_ok-table.table found.0 found.1 under in
+    let none = no_pins c.l2_is_pinned.result (l2_pins c.table_for.new.self.file.caches c.in_ok-table.table) c.l2_is_pinned.ensures c.if-l2_is_pinned.false in
+    omega (arith, pinned, none)
+
+pub returns-in_err-table-clause-lacks : goal.returns-in_err-table-clause-lacks
+returns-in_err-table-clause-lacks g c = λ out sound whole none.
+    handed_on (λ r. IfErr r (IsFaultOrLacksTable g.S.Storage.view c.table_for.new.self c.args.from)) c.from_residual.result c.in_err-table.field-0.0 c.from_residual.ensures (c.in_err-table.ensures.lacks out sound none)
+
+pub returns-then-l2_is_pinned-clause-lacks : goal.returns-then-l2_is_pinned-clause-lacks
+returns-then-l2_is_pinned-clause-lacks g c = λ out sound whole none.
+    let found = c.in_ok-table.ensures.finds out sound in
+    absurd (none (some_prepared g.S.Storage.view g.F.BackingDisk.backing c.table_for.new.self out found.0.sound c.in_ok-table.table (c.l2_is_pinned.ensures.0 c.if-l2_is_pinned.true)))
+
+pub returns-in_err-old_data-clause-lacks : goal.returns-in_err-old_data-clause-lacks
+returns-in_err-old_data-clause-lacks g c = λ out sound whole none.
+    let view = g.S.Storage.view in
+    let below = g.F.BackingDisk.backing in
+    let old = c.args.self.now in
+    let mid = c.table_for.new.self in
+    let h = mid.file.header.fields in
+    let from = c.args.from in
+    let to = c.args.to in
+    let found = c.in_ok-table.ensures.finds out sound in
+    let bits = c.cluster_bits-bits.ensures.value in
+    let first : c.cluster-first.result ≡ c.args.from / cluster_size c.table_for.new.self.file.header.fields = c.cluster-first.ensures ∙ ap (λ o. o / 2 ^ c.cluster_bits-bits.result) c.new.ensures ∙ ap (λ n. from / 2 ^ n) bits in
+    let count : (c.args.to - c.args.from) / 2 ^ c.cluster_bits-bits.result ≡ (c.args.to - c.args.from) / cluster_size c.table_for.new.self.file.header.fields = ap (λ n. (to - from) / 2 ^ n) bits in
+    let fits = subst (λ n. n % entries_per_cluster h + (to - from) / 2 ^ c.cluster_bits-bits.result ≤ entries_per_cluster h) (sym first)
+    (subst (λ n. from / cluster_size h % entries_per_cluster h + n ≤ entries_per_cluster h) (sym count) (fits_table view below out old mid c.args.how from to found.0 whole c.requires.some)) in
+    let at = subst (λ n. IsEntryAt h (known_in view mid.file) (l1_index_of h from) c.in_ok-table.table (n % entries_per_cluster h)) (sym first) found.1.entry in
+    handed_on (λ r. IfErr r (IsFaultOrLacksTable view mid from)) c.from_residual-in_err-old_data.result c.in_err-old_data.field-0.0 c.from_residual-in_err-old_data.ensures
+    (inl (c.in_err-old_data.ensures.only_faults (pending_in view below mid out) (l1_index_of h from) found.0.sound.file at (ap (λ n. n / entries_per_cluster h) first) fits found.1.new_data))
+
+pub returns-clause-reaches : goal.returns-clause-reaches
+returns-clause-reaches g c = λ out sound. ap (λ (i : Qcow2 _ _). i.file.header.fields.l1_entries) c.clear_entries.ensures.clears.rest ∙ c.in_ok-table.ensures.reaches out sound
+
+pub returns-in_err-table-clause-far : goal.returns-in_err-table-clause-far
+returns-in_err-table-clause-far g c = λ needs. far_handed_on c.table_for.result c.in_err-table.field-0.0 c.from_residual.result c.in_err-table.was (c.table_for.ensures.far needs) c.from_residual.ensures
+
+pub returns-then-l2_is_pinned-clause-far : goal.returns-then-l2_is_pinned-clause-far
+returns-then-l2_is_pinned-clause-far g c = λ needs. absurd (far_unanswered c.table_for.result c.in_ok-table.table c.in_ok-table.was (c.table_for.ensures.far needs).0)
+
+pub returns-in_err-old_data-clause-far : goal.returns-in_err-old_data-clause-far
+returns-in_err-old_data-clause-far g c = λ needs. absurd (far_unanswered c.table_for.result c.in_ok-table.table c.in_ok-table.was (c.table_for.ensures.far needs).0)
+
+pub returns-clause-far : goal.returns-clause-far
+returns-clause-far g c = λ needs. absurd (far_unanswered c.table_for.result c.in_ok-table.table c.in_ok-table.was (c.table_for.ensures.far needs).0)
+
+pub returns-in_err-table-clause-notes : goal.returns-in_err-table-clause-notes
+returns-in_err-table-clause-notes g c = c.table_for.ensures.notes
+
+pub returns-then-l2_is_pinned-clause-notes : goal.returns-then-l2_is_pinned-clause-notes
+returns-then-l2_is_pinned-clause-notes g c = c.table_for.ensures.notes
+
+pub returns-in_err-old_data-clause-notes : goal.returns-in_err-old_data-clause-notes
+returns-in_err-old_data-clause-notes g c = c.table_for.ensures.notes
+
+pub returns-clause-notes : goal.returns-clause-notes
+returns-clause-notes g c = notes_then c.table_for.ensures.notes (table_kept c.table_for.new.self c.clear_entries.new.self (ap (λ (i : Qcow2 _ _). i.file.storage) c.clear_entries.ensures.clears.rest) c.clear_entries.ensures.clears.marks)
+
+pub returns-in_err-table-clause-header_cluster : goal.returns-in_err-table-clause-header_cluster
+returns-in_err-table-clause-header_cluster g c = c.table_for.ensures.header_cluster
+
+pub returns-then-l2_is_pinned-clause-header_cluster : goal.returns-then-l2_is_pinned-clause-header_cluster
+returns-then-l2_is_pinned-clause-header_cluster g c = c.table_for.ensures.header_cluster
+
+pub returns-in_err-old_data-clause-header_cluster : goal.returns-in_err-old_data-clause-header_cluster
+returns-in_err-old_data-clause-header_cluster g c = c.table_for.ensures.header_cluster
+
+pub returns-clause-header_cluster : goal.returns-clause-header_cluster
+returns-clause-header_cluster g c = behind_then c.table_for.ensures.header_cluster (behind_by g.S.Storage.view c.clear_entries.ensures.clears.rest (behind_tables c.clear_entries.ensures.clears.behind))
+
+pub returns-in_err-table-clause-pinned : goal.returns-in_err-table-clause-pinned
+returns-in_err-table-clause-pinned g c = λ own. heeds_refused c.args.self.now c.args.from c.from_residual.result c.in_err-table.field-0.0 c.from_residual.ensures (λ is. absurd (met_untaken c.in_err-table.field-0.0 c.in_err-table.ensures.cause is))
+
+pub returns-then-l2_is_pinned-clause-pinned : goal.returns-then-l2_is_pinned-clause-pinned
+returns-then-l2_is_pinned-clause-pinned g c = λ own is.
+    subst (λ n. 0 < n) (found_pins c.args.self.now c.table_for.new.self c.args.from c.in_ok-table.table (c.in_ok-table.ensures.own own)) (c.l2_is_pinned.ensures.0 c.if-l2_is_pinned.true)
+
+pub returns-in_err-old_data-clause-pinned : goal.returns-in_err-old_data-clause-pinned
+returns-in_err-old_data-clause-pinned g c = λ own. heeds_refused c.args.self.now c.args.from c.from_residual-in_err-old_data.result c.in_err-old_data.field-0.0 c.from_residual-in_err-old_data.ensures (λ is. absurd (met_untaken c.in_err-old_data.field-0.0 c.in_err-old_data.ensures.cause is))
+
+pub returns-clause-pinned : goal.returns-clause-pinned
+returns-clause-pinned g c = λ own.
+    sym (found_pins c.args.self.now c.table_for.new.self c.args.from c.in_ok-table.table (c.in_ok-table.ensures.own own)) ∙ no_pins c.l2_is_pinned.result (l2_pins c.table_for.new.self.file.caches c.in_ok-table.table) c.l2_is_pinned.ensures c.if-l2_is_pinned.false

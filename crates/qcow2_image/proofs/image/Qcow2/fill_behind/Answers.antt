@@ -1,0 +1,70 @@
+use Rattle.std.proofs.Common.{◌<◌, ap, subst, sym, arith}
+use Rattle.qcow2_disk.specs.Calls.{shows_old}
+use Rattle.qcow2_alloc.proofs.AllocationSteps.{handed_on}
+use Rattle.qcow2_metadata.specs.Header.{cluster_size, rounded_up}
+use Rattle.qcow2_image.specs.Preallocation.{first_zeros, FillsGrownOrRefuses}
+use Rattle.qcow2_image.proofs.Preallocate.Grown.{early_refused, grown_none, grown_or_refused}
+use Rattle.qcow2_image.proofs.Call.BehindHeader.{behind_none}
+use Rattle.qcow2_alloc.proofs.KeptMarks.{notes_none}
+use Rattle.qcow2_image.proofs.image.Qcow2.fill_behind.Goals as goal
+
+pub returns-in-None-clause-fills : goal.returns-in-None-clause-fills
+returns-in-None-clause-fills g c = λ out sound.
+    grown_none g.S.Storage.view g.F.BackingDisk.backing out c.args.self.now sound c.args.size c.args.mode (subst (λ n. n < c.args.size) c.requires.end c.requires.larger) c.in-None.is
+
+pub returns-in-Zero-clause-fills : goal.returns-in-Zero-clause-fills
+returns-in-Zero-clause-fills g c = λ out sound.
+    let larger = c.requires.larger in
+    grown_or_refused g.S.Storage.view g.F.BackingDisk.backing out c.args.self.now sound c.args.size c.args.mode (subst (λ n. n < c.args.size) c.requires.end c.requires.larger) (ap shows_old c.in-Zero.is) c.zero_grown.new.self (rounded_up (cluster_size c.args.self.now.file.header.fields) c.args.old) c.args.old (sym (ap (first_zeros (cluster_size c.args.self.now.file.header.fields) c.args.old c.args.size) c.in-Zero.is)) c.requires.end c.zero_grown.result
+    (c.zero_grown.ensures.fills out sound (omega (arith, larger)))
+
+pub returns-in-FormatAllocate-clause-fills : goal.returns-in-FormatAllocate-clause-fills
+returns-in-FormatAllocate-clause-fills g c = λ out sound.
+    let larger = c.requires.larger in
+    grown_or_refused g.S.Storage.view g.F.BackingDisk.backing out c.args.self.now sound c.args.size c.args.mode (subst (λ n. n < c.args.size) c.requires.end c.requires.larger) (ap shows_old c.in-FormatAllocate.is) c.allocate_grown.new.self (rounded_up (cluster_size c.args.self.now.file.header.fields) c.args.size) c.args.old (sym (ap (first_zeros (cluster_size c.args.self.now.file.header.fields) c.args.old c.args.size) c.in-FormatAllocate.is)) c.requires.end c.allocate_grown.result
+    (c.allocate_grown.ensures.fills out sound (omega (arith, larger)))
+
+pub returns-in-FullAllocate-clause-fills : goal.returns-in-FullAllocate-clause-fills
+returns-in-FullAllocate-clause-fills g c = λ out sound.
+    let larger = c.requires.larger in
+    grown_or_refused g.S.Storage.view g.F.BackingDisk.backing out c.args.self.now sound c.args.size c.args.mode (subst (λ n. n < c.args.size) c.requires.end c.requires.larger) (ap shows_old c.in-FullAllocate.is) c.allocate_grown-in-FullAllocate.new.self (rounded_up (cluster_size c.args.self.now.file.header.fields) c.args.size) c.args.old (sym (ap (first_zeros (cluster_size c.args.self.now.file.header.fields) c.args.old c.args.size) c.in-FullAllocate.is)) c.requires.end c.allocate_grown-in-FullAllocate.result
+    (c.allocate_grown-in-FullAllocate.ensures.fills out sound (omega (arith, larger)))
+
+pub returns-in_ok-writes-in-WriteData-clause-fills : goal.returns-in_ok-writes-in-WriteData-clause-fills
+returns-in_ok-writes-in-WriteData-clause-fills g c = λ out sound.
+    let larger = c.requires.larger in
+    grown_or_refused g.S.Storage.view g.F.BackingDisk.backing out c.args.self.now sound c.args.size c.args.mode (subst (λ n. n < c.args.size) c.requires.end c.requires.larger) (ap shows_old c.in-WriteData.is) c.allocate_grown-in-WriteData.new.self (rounded_up (cluster_size c.args.self.now.file.header.fields) c.args.size) c.args.old (sym (ap (first_zeros (cluster_size c.args.self.now.file.header.fields) c.args.old c.args.size) c.in-WriteData.is)) c.requires.end c.allocate_grown-in-WriteData.result
+    (c.allocate_grown-in-WriteData.ensures.fills out sound (omega (arith, larger)))
+
+pub returns-in_err-writes-in-WriteData-clause-fills : goal.returns-in_err-writes-in-WriteData-clause-fills
+returns-in_err-writes-in-WriteData-clause-fills g c = λ out sound.
+    let view = g.S.Storage.view in
+    let below = g.F.BackingDisk.backing in
+    let old = c.args.self.now in
+    let e = c.in_err-writes-in-WriteData.field-0.0 in
+    handed_on (λ r. FillsGrownOrRefuses view below c.args.size c.args.mode old old out r) c.from_residual.result e c.from_residual.ensures
+    (early_refused view below out old sound c.args.size c.args.mode (subst (λ n. n < c.args.size) c.requires.end c.requires.larger) (ap shows_old c.in-WriteData.is) e c.in_err-writes-in-WriteData.ensures.cause)
+
+pub returns-in-None-clause-header_cluster : goal.returns-in-None-clause-header_cluster
+returns-in-None-clause-header_cluster g c = behind_none
+
+pub returns-in-Zero-clause-header_cluster : goal.returns-in-Zero-clause-header_cluster
+returns-in-Zero-clause-header_cluster g c = c.zero_grown.ensures.header_cluster
+
+pub returns-in-FormatAllocate-clause-header_cluster : goal.returns-in-FormatAllocate-clause-header_cluster
+returns-in-FormatAllocate-clause-header_cluster g c = c.allocate_grown.ensures.header_cluster
+
+pub returns-in_err-writes-in-WriteData-clause-header_cluster : goal.returns-in_err-writes-in-WriteData-clause-header_cluster
+returns-in_err-writes-in-WriteData-clause-header_cluster g c = behind_none
+
+pub returns-in-None-clause-notes : goal.returns-in-None-clause-notes
+returns-in-None-clause-notes g c = notes_none
+
+pub returns-in-Zero-clause-notes : goal.returns-in-Zero-clause-notes
+returns-in-Zero-clause-notes g c = c.zero_grown.ensures.notes
+
+pub returns-in-FormatAllocate-clause-notes : goal.returns-in-FormatAllocate-clause-notes
+returns-in-FormatAllocate-clause-notes g c = c.allocate_grown.ensures.notes
+
+pub returns-in_err-writes-in-WriteData-clause-notes : goal.returns-in_err-writes-in-WriteData-clause-notes
+returns-in_err-writes-in-WriteData-clause-notes g c = notes_none

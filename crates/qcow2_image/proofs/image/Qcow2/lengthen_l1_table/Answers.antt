@@ -1,0 +1,63 @@
+use Rattle.std.proofs.Common.{◌≡◌, ◌+◌, ◌/◌, ◌^◌, max, ap, ◌∙◌, sym, subst}
+use Rattle.std.specs.Prelude.{IsTrue}
+use Rattle.qcow2_metadata.specs.EntryTable.{entry_count}
+use Rattle.qcow2_laws.specs.CrashInvariant.{Pending}
+use Rattle.qcow2_alloc.proofs.AllocationSteps.{handed_on}
+use Rattle.qcow2_alloc.proofs.KeptTables.Turning.{always_ok}
+use Rattle.qcow2_image.specs.Found.{l1_index_of}
+use Rattle.qcow2_image.specs.ImageInvariant.{ImageInvariant, pending_in}
+use Rattle.qcow2_image.specs.LongerTables.{MakesEntry}
+use Rattle.qcow2_image.proofs.Flush.Freeing.{all_listed, beside}
+use Rattle.qcow2_image.proofs.Grow.Lengthened.{freed_then, refused_moved, stays_moved}
+use Rattle.qcow2_alloc.proofs.KeptMarks.{notes_then}
+use Rattle.qcow2_alloc.proofs.Outcomes.{on_no_ok, on_ok}
+use Rattle.qcow2_image.proofs.Call.BehindHeader.{behind_then}
+use Rattle.qcow2_image.proofs.image.Qcow2.lengthen_l1_table.Goals as goal
+
+pub returns-in_err-grow_l1_table-clause-makes : goal.returns-in_err-grow_l1_table-clause-makes
+returns-in_err-grow_l1_table-clause-makes g c = λ out sound.
+    let view = g.S.Storage.view in
+    let below = g.F.BackingDisk.backing in
+    let old = c.args.self.now in
+    let e = c.in_err-grow_l1_table.field-0.0 in
+    handed_on (MakesEntry view below old c.grow_l1_table.new.self out) c.from_residual.result e c.from_residual.ensures
+    (refused_moved view below out old c.grow_l1_table.new.self sound e (c.in_err-grow_l1_table.ensures.lengthens (pending_in view below old out) out sound))
+
+pub returns-clause-makes : goal.returns-clause-makes
+returns-clause-makes g c = λ out sound.
+    let view = g.S.Storage.view in
+    let below = g.F.BackingDisk.backing in
+    let old = c.args.self.now in
+    let mid = c.grow_l1_table.new.self in
+    let first = stays_moved view below out old mid sound (c.in_ok-grow_l1_table.ensures.lengthens (pending_in view below old out) out sound) in
+    let listed = subst (λ (x : Pending). ImageInvariant view below x mid out) (all_listed view below mid out) first.sound in
+    freed_then view below out old mid c.free_listed.new.self first c.free_listed.result (c.free_listed.ensures.frees (beside view below mid out) out listed)
+
+pub returns-clause-length : goal.returns-clause-length
+returns-clause-length g c =
+    let old = c.args.self.now in
+    let idx : c.l1_index-index.result ≡ l1_index_of old.file.header.fields c.args.offset =
+    c.l1_index-index.ensures ∙ ap (λ n. n / 2 ^ c.cluster_bits.result / (2 ^ c.cluster_bits.result / 8)) c.new.ensures ∙ ap (λ b. c.args.offset / 2 ^ b / (2 ^ b / 8)) c.cluster_bits.ensures.value in
+    always_ok c.free_listed.result
+    (ap entry_count c.free_listed.ensures.table ∙ c.in_ok-grow_l1_table.ensures.length ∙ ap (λ i. max (entry_count old.l1_table) (i + 1)) idx)
+
+pub returns-clause-emptied : goal.returns-clause-emptied
+returns-clause-emptied g c = c.free_listed.ensures.emptied (subst IsTrue (sym c.grow_l1_table.ensures.stays.image.writable) c.requires.writable)
+
+pub returns-in_err-grow_l1_table-clause-notes : goal.returns-in_err-grow_l1_table-clause-notes
+returns-in_err-grow_l1_table-clause-notes g c = c.grow_l1_table.ensures.notes
+
+pub returns-clause-notes : goal.returns-clause-notes
+returns-clause-notes g c = notes_then c.grow_l1_table.ensures.notes c.free_listed.ensures.notes
+
+pub returns-in_err-grow_l1_table-clause-header_cluster : goal.returns-in_err-grow_l1_table-clause-header_cluster
+returns-in_err-grow_l1_table-clause-header_cluster g c = c.grow_l1_table.ensures.header_cluster
+
+pub returns-clause-header_cluster : goal.returns-clause-header_cluster
+returns-clause-header_cluster g c = behind_then c.grow_l1_table.ensures.header_cluster c.free_listed.ensures.header_cluster
+
+pub returns-in_err-grow_l1_table-clause-noted : goal.returns-in_err-grow_l1_table-clause-noted
+returns-in_err-grow_l1_table-clause-noted g c = on_no_ok _ c.from_residual.result c.in_err-grow_l1_table.field-0.0 c.from_residual.ensures
+
+pub returns-clause-noted : goal.returns-clause-noted
+returns-clause-noted g c = on_ok _ c.free_listed.result (c.free_listed.ensures.notes.tables.noted c.in_ok-grow_l1_table.ensures.noted)

@@ -1,0 +1,24 @@
+use Rattle.std.proofs.Common.{sym, ap, ◌∙◌, subst}
+use Rattle.std.specs.Prelude.{IsTrue}
+use Rattle.qcow2_alloc.specs.ImageFile.{has_noted}
+use Rattle.qcow2_alloc.specs.ImageStorage.{is_changed_of}
+use Rattle.qcow2_alloc.specs.declared.image_file.ImageFile.{ImageFile}
+use Rattle.qcow2_image.specs.declared.image.Qcow2.{Qcow2}
+use Rattle.qcow2_image.specs.Image.{is_failed, with_marks}
+use Rattle.qcow2_image.proofs.Call.Marked.{noted_fails, same_done}
+use Rattle.qcow2_image.proofs.image.Qcow2.mark_fault.Goals as goal
+
+pub returns-clause-rest : goal.returns-clause-rest
+returns-clause-rest g c =
+    c.mark_failure.ensures.rest ∙ ap (λ b. with_marks c.args.self.now b (is_failed c.mark_failure.new.self)) (sym (ap (λ (i : Qcow2 _ _). is_changed_of i.file.storage) c.mark_failure.ensures.rest))
+
+pub returns-clause-file : goal.returns-clause-file
+returns-clause-file g c = ap (λ (i : Qcow2 _ _). i.file) c.mark_failure.ensures.rest
+
+pub returns-clause-same : goal.returns-clause-same
+returns-clause-same g c = same_done c.args.self.now c.mark_failure.new.self c.args.done c.mark_failure.ensures.rest c.mark_failure.ensures.marks
+
+pub returns-clause-fault : goal.returns-clause-fault
+returns-clause-fault g c =
+    noted_fails c.args.self.now c.mark_failure.new.self c.args.done c.mark_failure.ensures.marks
+    (subst (λ (f : ImageFile _). IsTrue (has_noted f)) (sym (ap (λ (i : Qcow2 _ _). i.file) c.mark_failure.ensures.rest)) c.requires.noted)
