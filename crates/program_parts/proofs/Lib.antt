@@ -3,3 +3,4 @@ pub mod Known
 pub mod Imported
 pub mod Exported
 pub mod Texts
+pub mod Counted

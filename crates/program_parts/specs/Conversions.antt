@@ -1,12 +1,14 @@
 -- What stands after an image was made of a raw disk, or a raw disk of an image.
-use Rattle.std.specs.Prelude.{ℕ, ◌≡◌, length, List}
-use Rattle.image_access.specs.Moments.{StorageView}
+use Rattle.std.specs.Prelude.{ℕ, ◌≡◌, ◌⊎◌, ◌≤◌, length, List, Result, IsErrOf}
+use Rattle.image_access.specs.Moments.{StorageView, Rose, UnlessErr}
 use Rattle.qcow2_metadata.specs.Bytes.{Bytes, byte_at}
 use Rattle.qcow2_metadata.specs.Consistent.{IsConsistent}
 use Rattle.qcow2_metadata.specs.Header.{header, cluster_size}
 use Rattle.qcow2_disk.specs.Disk.{Disk, disk}
 use Rattle.qcow2_disk.specs.Stops.{StopOkEverywhere, checkpoint_at}
 use Rattle.qcow2_laws.specs.Opened.{HasNoLeaks}
+use Rattle.qcow2_alloc.specs.declared.error.ImageError.{ImageError}
+use Rattle.qcow2_alloc.specs.declared.error.ImageError.TheVariants.{Storage}
 use Rattle.qcow2_session.specs.Conversions.{IsRawOf}
 
 -- where there is no disk below, it is zeros
@@ -37,3 +39,10 @@ pub record IsExport (image : List ℕ) (n : ℕ) (raw : List ℕ) : Type 0 where
 -- The image on a storage is consistent still. Its disk is what it was, and so are the extensions and the names of its header.
 abbrev pub KeepsDisk : StorageView → StorageView → Type 0
 KeepsDisk old new = StopOkEverywhere zeros_below (checkpoint_at (disk_alone (byte_at old.contents)) (byte_at old.contents)) (byte_at new.contents)
+
+-- The numbers of faults of the image's storage and of the raw disk. Neither falls. Where the call is refused as a storage's failure, one of the two rose, or stood at the greatest u64. Where it isn't, both stay: each failure is told.
+pub record CountsBoth {T : Type 0} (before now raw_before raw_now : ℕ) (result : Result T ImageError) : Type 0 where
+  pub no_fewer : before ≤ now
+  pub raw : raw_before ≤ raw_now
+  pub rose : IsErrOf result Storage → Rose before now ⊎ Rose raw_before raw_now
+  pub told : UnlessErr result Storage ((now ≡ before) × (raw_now ≡ raw_before))

@@ -1,6 +1,6 @@
 //! New images, images of raw disks, and raw disks of images.
 ghost use Rattle.qcow2_session.specs.CountedFaults.{ConversionCounts};
-ghost use Rattle.std.specs.Prelude.{◌≡◌, length, IfErr, IfOk, IsTrue, Ok};
+ghost use Rattle.std.specs.Prelude.{◌≡◌, ℕ, length, IfErr, IfOk, IsTrue, Ok};
 ghost use Rattle.image_access.specs.Moments.{ContentsStay};
 ghost use Rattle.qcow2_metadata.specs.Bytes.{byte_at};
 ghost use Rattle.qcow2_metadata.specs.Consistent.{IsConsistent};
@@ -8,10 +8,10 @@ ghost use Rattle.qcow2_image.specs.Image.{HasNothingToFree, IsSameImage, is_writ
 ghost use Rattle.qcow2_image.specs.Opened.{NeedsAnother};
 ghost use Rattle.qcow2_image.specs.Unwritten.{HoldsSame};
 ghost use Rattle.qcow2_session.specs.Conversions.{Imports, IsLeft, IsOfImporting};
-ghost use Rattle.program_parts.specs.Conversions.{IsImageOf, IsExport, KeepsDisk};
+ghost use Rattle.program_parts.specs.Conversions.{CountsBoth, IsImageOf, IsExport, KeepsDisk};
 
 use image_access::{Storage, WrappedFormat};
-use qcow2_image::{ImageError, Qcow2, Qcow2CreateBuilder};
+use qcow2_image::{ImageError, NoBacking, Qcow2, Qcow2CreateBuilder};
 use qcow2_session::convert::{to_qcow2, to_raw};
 use std::alloc::Global;
 
@@ -30,6 +30,7 @@ pub fn make_image<R: Storage, S: Storage>(
     ensures image { (R.view raw.old).is_honest → (S.view storage).is_honest → IfOk result.1 (λ n. IsImageOf (S.view result.0) (R.view raw.old).contents cluster) }
     ensures count { (R.view raw.old).is_honest → IfOk result.1 (λ n. n ≡ length (R.view raw.old).contents) }
     ensures raw { IsLeft (R.view raw.old) (R.view raw.new) }
+    ensures faults { CountsBoth (S.view storage).faults (S.view result.0).faults (R.view raw.old).faults (R.view raw.new).faults result.1 }
 {
     let size = match raw.size() {
         Ok(size) => size,
@@ -43,7 +44,7 @@ pub fn make_image<R: Storage, S: Storage>(
     if let Err(e) = created {
         return (storage, Err(e));
     }
-    match Qcow2::<S>::open_alone(alloc, storage, true, 1) {
+    match Qcow2::<S, NoBacking>::open_alone(alloc, storage, true, 1) {
         Ok(mut image) => {
             let imported = fill(alloc, raw, &mut image);
             (image.into_storage(), imported)
@@ -86,8 +87,9 @@ pub fn make_raw_disk<S: Storage, R: Storage>(
     ensures image { (S.view storage).is_honest → IsConsistent (byte_at (S.view storage).contents) → KeepsDisk (S.view storage) (S.view result.0) }
     ensures unwritten { (S.view storage).is_honest → IsConsistent (byte_at (S.view storage).contents) → HoldsSame (S.view storage) (S.view result.0) }
     ensures another { (S.view storage).is_honest → NeedsAnother (S.view storage).contents → ContentsStay (S.view storage) (S.view result.0) × (raw.new ≡ raw.old) }
+    ensures faults { CountsBoth (S.view storage).faults (S.view result.0).faults (R.view raw.old).faults (R.view raw.new).faults result.1 }
 {
-    match Qcow2::<S>::open_alone(alloc, storage, false, 1) {
+    match Qcow2::<S, NoBacking>::open_alone(alloc, storage, false, 1) {
         Ok(mut image) => {
             let copied = to_raw(alloc, &mut image, raw);
             let exported = flushed(raw, copied);
@@ -101,6 +103,7 @@ pub fn make_raw_disk<S: Storage, R: Storage>(
 fn flushed<R: Storage>(raw: &mut R, copied: Result<u64, ImageError>) -> Result<u64, ImageError>
     ensures same { ContentsStay (R.view raw.old) (R.view raw.new) }
     ensures told { IfOk result (λ n. copied ≡ Ok n) }
+    ensures faults { (before now raw_before : ℕ) → CountsBoth before now raw_before (R.view raw.old).faults copied → CountsBoth before now raw_before (R.view raw.new).faults result }
 {
     let count = copied?;
     raw.flush()?;

@@ -8,13 +8,13 @@ use Rattle.std.proofs.lemmas.Grind.{common_steps}
 use Rattle.image_access.specs.Backing.{BackingView}
 use Rattle.image_access.specs.Moments.{StorageView}
 use Rattle.qcow2_disk.specs.Calls.{Clearing}
-use Rattle.qcow2_disk.specs.Runs.{Found}
 use Rattle.qcow2_alloc.specs.declared.error.ImageError.{ImageError}
 use Rattle.qcow2_alloc.specs.declared.error.ImageError.TheVariants as I
 use Rattle.qcow2_image.specs.Clearing.{IsUnderMapping, from_in, to_in}
 use Rattle.qcow2_image.specs.Image.{is_external, is_failed, number_of}
 use Rattle.qcow2_image.specs.ImageInvariant.{abstract_of}
 use Rattle.qcow2_image.specs.declared.image.Qcow2.{Qcow2}
+use Rattle.qcow2_image.specs.declared.mapping.Mapping.{Mapping}
 use Rattle.qcow2_image.specs.declared.prepared.CommitRefused.{CommitRefused}
 use Rattle.qcow2_image.specs.declared.prepared.CommitRefused.TheVariants.{Kept}
 use Rattle.qcow2_image.specs.declared.prepared.Prepared.{Prepared}
@@ -67,9 +67,9 @@ mapping_reading A X image e early late = by (is_failed image) (is_external image
 
 -- ---- what a reply is made of
 
-module _ {S F : Type 0} (view : S → StorageView) (backing : F → BackingView) (old new : Qcow2 S F) (before : List (Option Prepared)) {found : ℕ → Option Found} (command : Command) where
+module _ {S F : Type 0} (view : S → StorageView) (backing : F → BackingView) (old new : Qcow2 S F) (before : List (Option Prepared)) {found : ℕ → Option Mapping} (command : Command) where
   -- nothing was called
-  pub is_misused : TellsMisuse before found command R.Misuse → new ≡ old → HeedsPrepared view backing old new before command R.Misuse → IsRightlyRefused view backing old new before found command R.Misuse
+  pub is_misused : TellsMisuse before found command R.Misuse → new ≡ old → HeedsPrepared view backing old new before found command R.Misuse → IsRightlyRefused view backing old new before found command R.Misuse
   is_misused misuse same heeds = record {
     misuse = misuse;
     still = λ _. same;
@@ -81,7 +81,7 @@ module _ {S F : Type 0} (view : S → StorageView) (backing : F → BackingView)
 
   -- it was answered, so nothing refused it at once
   pub is_done : (reply : Reply) → (reply ≡ R.Misuse → ⊥) → TellsMisuse before found command reply → refusal_in reply ≡ None → IfSome (first_cause old command) (λ e. ⊥)
-      → (first_cause old command ≡ None → (abstract_of view backing old before).is_sound → HeedsPrepared view backing old new before command reply) → IsRightlyRefused view backing old new before found command reply
+      → (first_cause old command ≡ None → (abstract_of view backing old before).is_sound → HeedsPrepared view backing old new before found command reply) → IsRightlyRefused view backing old new before found command reply
   is_done reply never misuse done early heeds = record {
     misuse = misuse;
     still = λ is. absurd (never is);
@@ -92,13 +92,13 @@ module _ {S F : Type 0} (view : S → StorageView) (backing : F → BackingView)
   }
 
   pub is_answered : {A : Type 0} (Same : Type 0) (a : A) (reply : Reply) → (reply ≡ R.Misuse → ⊥) → TellsMisuse before found command reply → refusal_in reply ≡ None → IfSome (first_cause old command) (λ e. (◌≡◌ {A = Result A ImageError} (Ok a) (Err e)) × Same)
-      → (first_cause old command ≡ None → (abstract_of view backing old before).is_sound → HeedsPrepared view backing old new before command reply) → IsRightlyRefused view backing old new before found command reply
+      → (first_cause old command ≡ None → (abstract_of view backing old before).is_sound → HeedsPrepared view backing old new before found command reply) → IsRightlyRefused view backing old new before found command reply
   is_answered Same a reply never misuse done early heeds = is_done reply never misuse done (if_some_to (first_cause old command) (λ e no. let is = no.0 in cc) early) heeds
 
   -- it was refused
   pub is_refused : (e : ImageError) (reply : Reply) → (reply ≡ R.Misuse → ⊥) → TellsMisuse before found command reply → refusal_in reply ≡ Some e → IfSome (first_cause old command) (λ x. (e ≡ x) × (new ≡ old))
       → (first_cause old command ≡ None → MayMeet command e) → (first_cause old command ≡ None → HasNothingToDo view backing old new before command → ⊥)
-      → (first_cause old command ≡ None → (abstract_of view backing old before).is_sound → HeedsPrepared view backing old new before command reply) → IsRightlyRefused view backing old new before found command reply
+      → (first_cause old command ≡ None → (abstract_of view backing old before).is_sound → HeedsPrepared view backing old new before found command reply) → IsRightlyRefused view backing old new before found command reply
   is_refused e reply never misuse is early late idle heeds = record {
     misuse = misuse;
     still = λ is. absurd (never is);
@@ -121,7 +121,7 @@ fits_below size offset n fits some = elim (cases_lt offset size) [
 
 -- ---- reads and writes
 
-module _ {S F : Type 0} (view : S → StorageView) (backing : F → BackingView) (old new : Qcow2 S F) (before : List (Option Prepared)) {found : ℕ → Option Found} where
+module _ {S F : Type 0} (view : S → StorageView) (backing : F → BackingView) (old new : Qcow2 S F) (before : List (Option Prepared)) {found : ℕ → Option Mapping} where
   pub read_answered : (Same : Type 0) (offset n : ℕ) (bytes : Vec ℕ Global) → IfSome (refuses_to_read old offset n) (λ x. (◌≡◌ {A = Result (Vec ℕ Global) ImageError} (Ok bytes) (Err x)) × Same) → IsRightlyRefused view backing old new before found (C.Read offset n) (R.Bytes bytes)
   read_answered Same offset n bytes early = is_answered view backing old new before (C.Read offset n) Same bytes (R.Bytes bytes) (λ is. absurd cc) (λ is. absurd cc, λ is. absurd is) refl early (λ _ _. tt)
 
@@ -240,9 +240,9 @@ grow_meets e old size takes none larger (inr mode) = absurd (elim (cases_lt old 
 
 -- ---- clearing a range
 
-module _ {S F : Type 0} (view : S → StorageView) (backing : F → BackingView) (old new : Qcow2 S F) (before : List (Option Prepared)) {found : ℕ → Option Found} (offset n : ℕ) (how : Clearing) (command : Command)
+module _ {S F : Type 0} (view : S → StorageView) (backing : F → BackingView) (old new : Qcow2 S F) (before : List (Option Prepared)) {found : ℕ → Option Mapping} (offset n : ℕ) (how : Clearing) (command : Command)
     (cause : first_cause old command ≡ refuses_clearing old how offset n) (nothing : HasNothingToDo view backing old new before command → to_in old offset n ≤ from_in old offset n)
-    (may : (e : ImageError) → IsMetPreparing e → MayMeet command e) (heed : (reply : Reply) → IsUntouchedUnder view backing old new before offset n reply → HeedsPrepared view backing old new before command reply)
+    (may : (e : ImageError) → IsMetPreparing e → MayMeet command e) (heed : (reply : Reply) → IsUntouchedUnder view backing old new before offset n reply → HeedsPrepared view backing old new before found command reply)
     (misuse : (reply : Reply) → (reply ≡ R.Misuse → ⊥) → TellsMisuse before found command reply) where
   clears_as : (r : Result (ℕ × ℕ) ImageError) → IfSome (refuses_clearing old how offset n) (λ e. (r ≡ Err e) × (new ≡ old)) → (refuses_clearing old how offset n ≡ None → IfErr r IsMetPreparing)
       → (refuses_clearing old how offset n ≡ None → to_in old offset n ≤ from_in old offset n → (r ≡ Ok (from_in old offset n, 0)) × (new ≡ old))

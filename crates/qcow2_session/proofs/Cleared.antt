@@ -1,6 +1,6 @@
 -- Clearing a range is one step of a run.
 use Rattle.std.proofs.Common.{◌≡◌, ◌∷◌, [], inl, inr, refl, sym, ap, ◌∙◌, subst, ℕ, ◌+◌, ◌<◌, ◌≤◌, Bool, true, false, IsTrue, List, Option, Some, None, arith}
-use Rattle.std.specs.Prelude.{Result, Ok, Err, IfSome, OnOk, ◌&&◌, nat_lt, not}
+use Rattle.std.specs.Prelude.{Result, Ok, Err, IfOk, IfSome, OnOk, ◌&&◌, nat_lt, not}
 use Rattle.std.specs.Option.{option_or}
 use Rattle.std.proofs.lemmas.Bool.{cases_lt, lt-ltb}
 use Rattle.std.proofs.lemmas.Grind.{common_steps}
@@ -27,6 +27,7 @@ use Rattle.qcow2_image.specs.Refusals.{passes, refuse_if, unusable}
 use Rattle.qcow2_image.proofs.HiddenBytes.{header_is}
 use Rattle.qcow2_image.proofs.Sizes.{disk_size}
 use Rattle.qcow2_session.specs.Commands.{reply_of, reply_of_clearing}
+use Rattle.qcow2_session.specs.Told.{TellsRange}
 use Rattle.qcow2_session.specs.declared.session.Reply.{Reply}
 use Rattle.qcow2_session.proofs.Answering.{error_is, first_of_all, not_both}
 use Rattle.qcow2_session.proofs.Turns.{does_if}
@@ -98,10 +99,19 @@ module _ {S F : Type 0} (view : S → StorageView) (backing : F → BackingView)
         failed = λ f. absurd (not_both (first_of_all old _ _ early f));
         may = λ sound some. subst (λ size. offset + n ≤ size) (disk_size view backing old out sound) (inside (size_of old) offset n fits.0 some);
       })
-      (does_if (λ h. (ap (λ (r : ℕ × ℕ). r.0) h.0, ap (λ (r : ℕ × ℕ). r.1) h.0, h.1)) (sees out)) (λ _ _. refl) (λ sound. rightly_cleared out sound ((sees out).answer sound).0 fits (covers out sound))
-  clears_as out x s (Err e) stands early covers sees = refused_as x _ _ s _ _ _ _ refl stands (record { sized = λ _. tt; failed = λ f. error_is (first_of_all old _ _ early f); may = λ _. tt }) (sees out) (λ f. f) (λ _ _. refl) tt
+      (does_if (λ h. (ap (λ (r : ℕ × ℕ). r.0) h.0, ap (λ (r : ℕ × ℕ). r.1) h.0, h.1)) (sees out)) (λ f. f) (λ _ _. refl) (λ sound. rightly_cleared out sound ((sees out).answer sound).0 fits (covers out sound))
+  clears_as out x s (Err e) stands early covers sees = refused_as x _ _ s _ _ _ _ refl stands (record { sized = λ _. tt; failed = λ f. error_is (first_of_all old _ _ early f); may = λ _. tt }) (sees out) (λ f. f) (λ f. f) (λ _ _. refl) tt
 
   pub clears_command_step : (out : List (Option Prepared)) (x : Setting) (s : State) (r : Result (ℕ × ℕ) ImageError) (reply : Reply) → reply ≡ reply_of_clearing r → RefinesState x (abstract_of view backing old out) s → IsEarly r → IsCovered r → IsCleared r
       → RefinesCommand x (abstract_of view backing old out) (abstract_of view backing new out) s (clear how offset n) (reply_of reply)
   clears_command_step out x s r reply is stands early covers sees =
       subst (λ q. RefinesCommand x (abstract_of view backing old out) (abstract_of view backing new out) s (clear how offset n) (reply_of q)) (sym is) (clears_as out x s r stands early covers sees)
+
+-- the range that is told of clearing, whatever the image
+pub range_told : {S F : Type 0} (view : S → StorageView) (backing : F → BackingView) (old new : Qcow2 S F) (offset n : ℕ) (r : Result (ℕ × ℕ) ImageError) (reply : Reply) → reply ≡ reply_of_clearing r
+    → IfOk r (λ range. range ≡ answered (cluster_size old.file.header.fields) (size_of old) offset n) → TellsRange view backing old new offset n reply
+range_told {S = S} {F = F} view backing old new offset n r reply is range = subst (λ q. TellsRange view backing old new offset n q) (sym is) (by r range)
+  where
+    by : (q : Result (ℕ × ℕ) ImageError) → IfOk q (λ range. range ≡ answered (cluster_size old.file.header.fields) (size_of old) offset n) → TellsRange view backing old new offset n (reply_of_clearing q)
+    by (Ok range) is = is
+    by (Err e) is = tt

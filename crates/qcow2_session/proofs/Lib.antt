@@ -1,7 +1,8 @@
-mod Turns
+pub mod Turns
 mod Places
 mod Bytes
 mod Beyond
+mod Marking
 mod Meanings
 mod Answering
 mod Chunks
@@ -21,4 +22,4 @@ mod Untaken
 mod Parts
 mod Told
 mod Unwritten
-mod Counting
+pub mod Counting

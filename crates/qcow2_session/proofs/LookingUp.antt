@@ -20,7 +20,7 @@ none_said b is_backed commands replies none = subst (λ (l : List SessionReply).
 -- a lookup that was answered doesn't fail a run
 still_works : (x : Setting) (s t : State) (place offset max : ℕ) (from : ℕ) (kind : Kind) (n : ℕ) → CommandStep x s (get_mapping place offset max) (mapping_is from kind n) t → s.is_failed ≡ false → t.is_failed ≡ false
 still_works x s t place offset max from kind n (inl (failed, answer, same)) ok = ap (λ (u : State). u.is_failed) same ∙ ok
-still_works x s t place offset max from kind n (inr (inl (works, may, (guest, means, is)))) ok = ap (λ (u : State). u.is_failed) is
+still_works x s t place offset max from kind n (inr (inl (works, may, answered, (guest, means, is)))) ok = ap (λ (u : State). u.is_failed) is
 still_works x s t place offset max from kind n (inr (inr (works, may, fault, is))) ok = absurd fault
 
 module _ {D P : Type 0} (spec : Abstraction D P) (x : Setting) (before : ℕ → ℕ) (b : Bytes) where

@@ -1,9 +1,12 @@
 -- What calls on prepared mappings do, as commands of a run.
-use Rattle.std.proofs.Common.{◌≡◌, inl, inr, ℕ, zero, suc, ◌+◌, ◌<◌, ◌≤◌, ◌≢◌, eqb, get_or, List, [], ◌∷◌, Bool, true, false, refl, sym, ap, ◌∙◌, subst, Option, Some, None, length, Bor, arith}
+use Rattle.std.proofs.Common.{◌≡◌, inl, inr, ℕ, zero, suc, ◌+◌, ◌-◌, ◌<◌, ◌≤◌, ◌≢◌, min, eqb, get_or, List, [], ◌∷◌, Bool, true, false, refl, sym, ap, ◌∙◌, subst, Option, Some, None, length, Bor, arith}
 use Rattle.std.specs.Prelude.{slice_get, slice_set, MatchOption, is_some, ◌==◌, if◌then◌else◌}
-use Rattle.std.proofs.lemmas.Bool.{cond-true, cond-false, cases_Bool, cases_eq, eq-eqb, ne_eqb}
+use Rattle.std.proofs.lemmas.Bool.{cond-true, cond-false, cases_Bool, cases_eq, cases_lt, eq-eqb, ne_eqb}
 use Rattle.std.proofs.lemmas.Option.{slice_get-get_or, slice_get_read}
 use mathlib.Core.Path.{fun_ext}
+use Rattle.qcow2_metadata.specs.Bytes.{Bytes}
+use Rattle.qcow2_metadata.specs.declared.header.HeaderFields.{HeaderFields}
+use Rattle.qcow2_disk.specs.Found.{IsFound, Kind}
 use Rattle.qcow2_disk.specs.Stops.{GivenBytes}
 use Rattle.qcow2_disk.specs.Mappings.{PreparedMapping, IsPrepared, put_mapping, put_disk, committed, given_by_put, given_by_commit}
 use Rattle.qcow2_disk.specs.AbstractImages.{Setting, HostRange, Abstraction, AbstractImage, abstract_image, guest_of, meaning_at}
@@ -11,7 +14,12 @@ use Rattle.qcow2_disk.specs.Calls.{Refusal, CallEffect, AnsweredEffect, RefusedE
 use Rattle.qcow2_disk.specs.Runs.{Found, Command, Reply, State, RefinesState, CommandMeaning, CommandStep, found_after, given_at, given_by, put, commit, discard, prepare, done, prepared_is}
 use Rattle.qcow2_image.specs.declared.mapping.Mapping.{Mapping}
 use Rattle.qcow2_session.proofs.Places.{get_set_same}
-use Rattle.qcow2_session.specs.Sessions.{found_in, range_of}
+use Rattle.qcow2_session.specs.Commands.{command_of, reply_of}
+use Rattle.qcow2_session.specs.Sessions.{looked_up_after, mapping_at, mappings_in, range_of}
+use Rattle.qcow2_session.specs.declared.session.Command.{Command as SessionCommand}
+use Rattle.qcow2_session.specs.declared.session.Command.TheVariants as C
+use Rattle.qcow2_session.specs.declared.session.Reply.{Reply as SessionReply}
+use Rattle.qcow2_session.specs.declared.session.Reply.TheVariants as R
 
 module _ {D P : Type 0} (spec : Abstraction D P) where
   -- what a mapping at a place means
@@ -82,9 +90,12 @@ is_past at n e past = subst (λ (k : Option PreparedMapping). MatchOption k (Uni
 pub is_beyond : {m o : Option Found} (at n : ℕ) → o ≡ m → MatchOption m (Unit {0}) (λ f. f.length < at + n) → MatchOption o (Unit {0}) (λ f. f.length < at + n)
 is_beyond at n e past = subst (λ (k : Option Found). MatchOption k (Unit {0}) (λ f. f.length < at + n)) (sym e) past
 
--- a range within what was found doesn't pass its end
-pub isnt_beyond : {o : Option Found} (f : Found) (at n : ℕ) → o ≡ Some f → at + n ≤ f.length → MatchOption o (Unit {0}) (λ f. f.length < at + n) → ⊥
-isnt_beyond f at n is within beyond = let past = subst (λ (k : Option Found). MatchOption k (Unit {0}) (λ f. f.length < at + n)) is beyond in omega (arith, past, within)
+pub passes_mapped : {m o : Option Mapping} (at n : ℕ) → o ≡ m → MatchOption m (Unit {0}) (λ f. f.length < at + n) → MatchOption o (Unit {0}) (λ f. f.length < at + n)
+passes_mapped at n e past = subst (λ (k : Option Mapping). MatchOption k (Unit {0}) (λ f. f.length < at + n)) (sym e) past
+
+-- a range within what was looked up doesn't pass its end
+pub isnt_beyond : {o : Option Mapping} (f : Mapping) (at n : ℕ) → o ≡ Some f → at + n ≤ f.length → MatchOption o (Unit {0}) (λ f. f.length < at + n) → ⊥
+isnt_beyond f at n is within beyond = let past = subst (λ (k : Option Mapping). MatchOption k (Unit {0}) (λ f. f.length < at + n)) is beyond in omega (arith, past, within)
 
 -- ---- what was found
 
@@ -97,18 +108,36 @@ get_set_other (x ∷ xs) (suc slot) (suc k) a other = get_set_other xs slot k a 
 
 -- a mapping is put at a place
 pub found_set : (xs : List (Option Mapping)) (slot : ℕ) (m : Mapping) (k : ℕ) → slot < length xs
-    → found_in (slice_set xs slot (Some m)) k ≡ (if k == slot then Some (record { from = m.offset; length = m.length }) else found_in xs k)
+    → mappings_in (slice_set xs slot (Some m)) k ≡ (if k == slot then Some m else mappings_in xs k)
 found_set xs slot m k lt = elim (cases_eq k slot) [
   | inl is ↦
-      ap (λ j. found_in (slice_set xs slot (Some m)) j) is ∙ ap range_of (get_set_same xs slot (Some m) _ (slice_get-get_or xs slot None lt))
-      ∙ sym (cond-true (eqb k slot) (Some (record { from = m.offset; length = m.length })) (found_in xs k) (eq-eqb k slot is))
+      ap (λ j. mappings_in (slice_set xs slot (Some m)) j) is ∙ ap mapping_at (get_set_same xs slot (Some m) _ (slice_get-get_or xs slot None lt)) ∙ sym (cond-true (eqb k slot) (Some m) (mappings_in xs k) (eq-eqb k slot is))
   | inr other ↦
-      ap range_of (get_set_other xs slot k (Some m) other) ∙ sym (cond-false (eqb k slot) (Some (record { from = m.offset; length = m.length })) (found_in xs k) (ne_eqb k slot other))
+      ap mapping_at (get_set_other xs slot k (Some m) other) ∙ sym (cond-false (eqb k slot) (Some m) (mappings_in xs k) (ne_eqb k slot other))
 ]
 
 -- what was found for a slot that was looked at
-pub found_here : (xs : List (Option Mapping)) (slot i : ℕ) (m : Option Mapping) → i ≡ slot → slot < length xs → m ≡ get_or xs i m → found_in xs slot ≡ range_of (Some m)
-found_here xs slot i m same lt is = ap range_of (slice_get_read xs (length xs) slot m refl lt (subst (λ k. m ≡ get_or xs k m) same is))
+pub mapped_here : (xs : List (Option Mapping)) (slot i : ℕ) (m : Option Mapping) → i ≡ slot → slot < length xs → m ≡ get_or xs i m → mappings_in xs slot ≡ m
+mapped_here xs slot i m same lt is = ap mapping_at (slice_get_read xs (length xs) slot m refl lt (subst (λ k. m ≡ get_or xs k m) same is))
+
+-- the ranges of the mappings that were looked up are those that a run found
+if_range : (b : Bool) (m : Mapping) (o : Option Mapping) → range_of (if b then Some m else o) ≡ (if b then Some (record { from = m.offset; length = m.length }) else range_of o)
+if_range true m o = refl
+if_range false m o = refl
+
+pub ranges_after : (found : ℕ → Option Mapping) (command : SessionCommand) (reply : SessionReply) (k : ℕ) → range_of (looked_up_after found command reply k) ≡ found_after (λ j. range_of (found j)) (command_of command) (reply_of reply) k
+ranges_after found (C.GetMapping slot offset max) (R.Mapping m) k = if_range (k == slot) m (found k)
+ranges_after found command reply k = refl
+
+-- what is found as a whole lies below the size
+least_of : (n a rest : ℕ) → n ≤ min (min n a) rest → n ≤ a
+least_of n a rest within = omega arith
+
+pub found_fits : {h : HeaderFields} {known : Bytes} {is_backed : Bool} {kind : Kind} (offset n : ℕ) → IsFound h known is_backed offset n kind n → 0 < n → offset + n ≤ h.size
+found_fits {h = h} offset n found some = elim (cases_lt offset h.size) [
+  | inl below ↦ let fits = least_of n (h.size - offset) _ (found.run below).longest.within in omega (arith, below, fits)
+  | inr past ↦ let none = (found.past past).1 in omega (arith, none, some)
+]
 
 -- an image that works isn't in a run that failed
 pub live : {x : Setting} {v : AbstractImage} {s : State} → RefinesState x v s → v.is_failed ≡ false → s.is_failed ≡ false
@@ -123,5 +152,5 @@ found_same f g command reply same k = ap (λ (h : ℕ → Option Found). found_a
 -- after a step that didn't fail
 pub step_found : (x : Setting) (s t : State) (command : Command) (reply : Reply) → CommandStep x s command reply t → t.is_failed ≡ false → (s.is_failed ≡ false) × (t.found ≡ found_after s.found command reply)
 step_found x s t command reply (inl (failed, answer, same)) ok = absurd (let e : t.is_failed ≡ true = ap (λ (u : State). u.is_failed) same ∙ failed in cc)
-step_found x s t command reply (inr (inl (works, may, (guest, means, is)))) ok = (works, ap (λ (u : State). u.found) is)
+step_found x s t command reply (inr (inl (works, may, answered, (guest, means, is)))) ok = (works, ap (λ (u : State). u.found) is)
 step_found x s t command reply (inr (inr (works, may, fault, is))) ok = absurd (let e : t.is_failed ≡ true = ap (λ (u : State). u.is_failed) is in cc)

@@ -128,7 +128,7 @@ module _ {S F : Type 0} (view : S → StorageView) (backing : F → BackingView)
     module _ (x : Setting) (s : State) (stands : RefinesState x before s) (last : IsLast) where
       pub grow_done : (mode : PreallocateMode) → IsEarly {A = Unit {0}} (Ok tt) → (before.is_sound → size_of old < size → IsFilledBehind mode) → GrowsTo view backing old new size mode (Ok tt) → RefinesCommand x before after s (grow size mode) done
       grow_done mode early covers sees =
-          done_as x before after s _ _ _ refl stands (record { sized = written_last last; failed = λ f. absurd (not_both (first_of_all old _ _ early f)); may = λ _. tt }) (sees out) (λ _ _. refl)
+          done_as x before after s _ _ _ refl stands (record { sized = written_last last; failed = λ f. absurd (not_both (first_of_all old _ _ early f)); may = λ _. tt }) (sees out) (λ f. f) (λ _ _. refl)
           (λ sound. rightly_grown mode sound ((sees out).answer sound).0 (covers sound))
 
       pub grow_refused : (mode : PreallocateMode) (e : ImageError) → IsEarly {A = Unit {0}} (Err e) → (refuses_to_resize old ≡ None → size ≤ size_of old → (refusal (Unit {0}) e ≡ Ok tt) × (new ≡ old)) → GrowsTo view backing old new size mode (Err e)
@@ -143,7 +143,7 @@ module _ {S F : Type 0} (view : S → StorageView) (backing : F → BackingView)
               | inr le ↦ absurd (has_work e tt early fault (λ none. nothing none le))
             ];
           })
-          (sees out) (λ f. f) (λ _ _. refl) tt
+          (sees out) (λ f. f) (λ f. f) (λ _ _. refl) tt
 
       pub shrink_done : (answer : ℕ) → IsEarly (Ok answer) → Shrinks view backing old new size (Ok answer) → RefinesCommand x before after s (shrink size) (number_is answer)
       shrink_done answer early sees =
@@ -151,7 +151,7 @@ module _ {S F : Type 0} (view : S → StorageView) (backing : F → BackingView)
           (record { sized = written_last last; failed = λ f. absurd (not_both (first_of_all old _ _ early f)); may = λ _. tt })
           (sees out)
           (λ sound. let is = ((sees out).answer sound).1 in gives_within before.setting (guest_of before).disk is.0 size answer (pow_pos old.file.header.fields.cluster_bits) is.1)
-          (λ _ _. refl) tt
+          (λ f. f) (λ _ _. refl) tt
 
       pub shrink_refused : (e : ImageError) → IsEarly {A = ℕ} (Err e) → (refuses_to_resize old ≡ None → size_of old ≤ size → (refusal ℕ e ≡ Ok (size_of old)) × (new ≡ old)) → Shrinks view backing old new size (Err e)
           → RefinesCommand x before after s (shrink size) (refused (refusal_of e))
@@ -165,4 +165,4 @@ module _ {S F : Type 0} (view : S → StorageView) (backing : F → BackingView)
               | inr le ↦ absurd (has_work e (size_of old) early fault (λ none. nothing none le))
             ];
           })
-          (sees out) (λ f. f) (λ _ _. refl) tt
+          (sees out) (λ f. f) (λ f. f) (λ _ _. refl) tt

@@ -6,7 +6,7 @@ use Rattle.qcow2_disk.specs.AbstractImages.{Setting, Abstraction, HasFreePlaces,
 use Rattle.qcow2_disk.specs.Runs.{Found, Command, Reply, State, RefinesState, CommandStep, RefinesCommand, Run, RefinesRun, begun, found_after}
 use Rattle.qcow2_disk.proofs.RunSteps.{ran_none, ran_more}
 use Rattle.qcow2_image.specs.declared.mapping.Mapping.{Mapping}
-use Rattle.qcow2_session.specs.Sessions.{found_in}
+use Rattle.qcow2_session.specs.Sessions.{found_in, mappings_in}
 use Rattle.qcow2_session.proofs.Meanings.{step_found, found_same}
 use Rattle.qcow2_session.proofs.Places.{guest_none, sound_none}
 
@@ -30,6 +30,11 @@ pub none_found : (n k : ℕ) → None ≡ found_in (replicate n None) k
 none_found zero k = refl
 none_found (suc n) zero = refl
 none_found (suc n) (suc k) = none_found n k
+
+pub none_mapped : (n k : ℕ) → None ≡ mappings_in (replicate n None) k
+none_mapped zero k = refl
+none_mapped (suc n) zero = refl
+none_mapped (suc n) (suc k) = none_mapped n k
 
 module _ {D P : Type 0} (spec : Abstraction D P) where
   -- an image stands where it stood, with free places

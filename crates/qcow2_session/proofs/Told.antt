@@ -5,7 +5,7 @@ use Rattle.std.specs.Prelude.{replicate, IfSome, Ok, Err}
 use Rattle.image_access.specs.Backing.{BackingView}
 use Rattle.image_access.specs.Moments.{StorageView}
 use Rattle.qcow2_disk.specs.AbstractImages.{Setting}
-use Rattle.qcow2_disk.specs.Runs.{Found, State, RefinesState, RefinesCommand, begun, found_after}
+use Rattle.qcow2_disk.specs.Runs.{Found, State, RefinesState, RefinesCommand, begun}
 use Rattle.qcow2_image.specs.declared.image.Qcow2.{Qcow2}
 use Rattle.qcow2_image.specs.declared.mapping.Mapping.{Mapping}
 use Rattle.qcow2_image.specs.declared.prepared.Prepared.{Prepared}
@@ -13,12 +13,12 @@ use Rattle.qcow2_image.specs.Image.{IsSameImage, is_external, is_writable, numbe
 use Rattle.qcow2_image.specs.ImageInvariant.{abstract_of, image_abstraction}
 use Rattle.qcow2_image.proofs.Free.{free_places}
 use Rattle.qcow2_session.specs.Commands.{command_of, reply_of}
-use Rattle.qcow2_session.specs.Sessions.{found_in}
+use Rattle.qcow2_session.specs.Sessions.{mappings_in, range_of}
 use Rattle.qcow2_session.specs.Told.{IsToldAlong, IsToldStep, KeepsItself, RunPoint, StepsAlong, abstract_at, first_point, free_slots}
 use Rattle.qcow2_session.specs.declared.session.Command.{Command}
 use Rattle.qcow2_session.specs.declared.session.Reply.{Reply}
-use Rattle.qcow2_session.proofs.Meanings.{step_found, found_same}
-use Rattle.qcow2_session.proofs.Runs.{free_stands, none_found}
+use Rattle.qcow2_session.proofs.Meanings.{step_found, found_same, ranges_after}
+use Rattle.qcow2_session.proofs.Runs.{free_stands, none_found, none_mapped}
 
 -- the same image after two calls
 pub same_then : {S F : Type 0} {old mid new : Qcow2 S F} → IsSameImage old mid → IsSameImage mid new → IsSameImage old new
@@ -74,7 +74,7 @@ module _ {S F : Type 0} (view : S → StorageView) (backing : F → BackingView)
     pub end : State
     pub steps : StepsAlong view backing x first s commands replies points end
     pub stands : RefinesState x (abstract_at view backing last) end
-    pub found : end.is_failed ≡ false → (k : ℕ) → end.found k ≡ last.found k
+    pub found : end.is_failed ≡ false → (k : ℕ) → end.found k ≡ range_of (last.found k)
 
   -- what was told so far
   pub record IsToldSoFar (old : Qcow2 S F) (last : RunPoint S F) (commands : List Command) (replies : List Reply) : Type 0 where
@@ -83,14 +83,14 @@ module _ {S F : Type 0} (view : S → StorageView) (backing : F → BackingView)
     pub so_far : (x : Setting) (s : State) → RefinesState x (abstract_of view backing old []) s → StepsSoFar x (first_point old) last (begun s) commands replies points
 
   pub first_told : (image : Qcow2 S F) (out : List (Option Prepared)) (mappings : List (Option Mapping)) (replies : List Reply) → out ≡ free_slots → mappings ≡ replicate 256 None → replies ≡ []
-      → IsToldSoFar image (record { image = image; prepared = out; found = found_in mappings }) [] replies
+      → IsToldSoFar image (record { image = image; prepared = out; found = mappings_in mappings }) [] replies
   first_told image out mappings replies none nothing unanswered =
-      subst (λ (o : List (Option Prepared)). IsToldSoFar image (record { image = image; prepared = o; found = found_in mappings }) [] replies) (sym none)
-      (subst (λ (m : List (Option Mapping)). IsToldSoFar image (record { image = image; prepared = free_slots; found = found_in m }) [] replies) (sym nothing)
-      (subst (λ (r : List Reply). IsToldSoFar image (record { image = image; prepared = free_slots; found = found_in (replicate 256 None) }) [] r) (sym unanswered)
+      subst (λ (o : List (Option Prepared)). IsToldSoFar image (record { image = image; prepared = o; found = mappings_in mappings }) [] replies) (sym none)
+      (subst (λ (m : List (Option Mapping)). IsToldSoFar image (record { image = image; prepared = free_slots; found = mappings_in m }) [] replies) (sym nothing)
+      (subst (λ (r : List Reply). IsToldSoFar image (record { image = image; prepared = free_slots; found = mappings_in (replicate 256 None) }) [] r) (sym unanswered)
       (record {
         points = [];
-        along = ap (λ (f : ℕ → Option Found). record { image = image; prepared = free_slots; found = f }) (fun_ext (λ k. sym (none_found 256 k)));
+        along = ap (λ (f : ℕ → Option Mapping). record { image = image; prepared = free_slots; found = f }) (fun_ext (λ k. sym (none_mapped 256 k)));
         so_far = λ x s stands. record {
           end = begun s;
           steps = refl;
@@ -100,7 +100,7 @@ module _ {S F : Type 0} (view : S → StorageView) (backing : F → BackingView)
       })))
 
   pub told_more : (old : Qcow2 S F) (last next : RunPoint S F) (commands : List Command) (replies : List Reply) (command : Command) (reply : Reply) → IsToldSoFar old last commands replies → IsToldStep view backing last next command reply
-      → ((x : Setting) (s : State) → RefinesState x (abstract_at view backing last) s → (s.is_failed ≡ false → (k : ℕ) → s.found k ≡ last.found k) → RefinesCommand x (abstract_at view backing last) (abstract_at view backing next) s (command_of command) (reply_of reply))
+      → ((x : Setting) (s : State) → RefinesState x (abstract_at view backing last) s → (s.is_failed ≡ false → (k : ℕ) → s.found k ≡ range_of (last.found k)) → RefinesCommand x (abstract_at view backing last) (abstract_at view backing next) s (command_of command) (reply_of reply))
       → IsToldSoFar old next (commands ++ command ∷ []) (replies ++ reply ∷ [])
   told_more old last next commands replies command reply told step command_step = record {
     points = told.points ++ next ∷ [];
@@ -113,6 +113,6 @@ module _ {S F : Type 0} (view : S → StorageView) (backing : F → BackingView)
           stands = now.stands;
           found = λ ok k.
               let so = step_found x before.end now.end (command_of command) (reply_of reply) now.step ok in
-              ap (λ (f : ℕ → Option Found). f k) so.1 ∙ found_same before.end.found last.found (command_of command) (reply_of reply) (before.found so.0) k ∙ sym (step.finds k);
+              ap (λ (f : ℕ → Option Found). f k) so.1 ∙ found_same before.end.found (λ j. range_of (last.found j)) (command_of command) (reply_of reply) (before.found so.0) k ∙ sym (ap range_of (step.finds k) ∙ ranges_after last.found command reply k);
         };
   }

@@ -7,14 +7,13 @@ use Rattle.image_access.specs.declared.storage.PreallocateMode.{PreallocateMode}
 use Rattle.qcow2_metadata.specs.Header.{cluster_size}
 use Rattle.qcow2_disk.specs.Calls.{Clearing, to_backing, to_kept_zero, to_zero}
 use Rattle.qcow2_disk.specs.ClearedCovers.{needs_zeros, rounds_past}
-use Rattle.qcow2_disk.specs.Runs.{Found}
 use Rattle.qcow2_alloc.specs.ImageError.{IsFault, IsOfTables}
 use Rattle.qcow2_alloc.specs.ImageFile.{known_in}
 use Rattle.qcow2_alloc.specs.declared.error.ImageError.{ImageError}
 use Rattle.qcow2_alloc.specs.declared.error.ImageError.TheVariants as I
 use Rattle.qcow2_image.specs.Backings.{HasPrepared}
 use Rattle.qcow2_image.specs.Clearing.{IsUnderMapping, from_in, to_in}
-use Rattle.qcow2_image.specs.Found.{IsFoundWhole}
+use Rattle.qcow2_image.specs.Found.{IsFoundWhole, further_by}
 use Rattle.qcow2_image.specs.Image.{is_failed, is_writable, size_of}
 use Rattle.qcow2_image.specs.ImageInvariant.{abstract_of}
 use Rattle.qcow2_image.specs.Preallocation.{IsUnderMappingIn}
@@ -23,6 +22,7 @@ use Rattle.qcow2_image.specs.Preparing.{IsTaken}
 use Rattle.qcow2_image.specs.Refusals.{IsMet, IsMetPreparing, passes, refuse_if, refuses_to_prepare, refuses_to_read, unusable}
 use Rattle.qcow2_image.specs.Resizing.{boundary_in, refuses_to_resize, takes_over}
 use Rattle.qcow2_image.specs.declared.image.Qcow2.{Qcow2}
+use Rattle.qcow2_image.specs.declared.mapping.Mapping.{Mapping}
 use Rattle.qcow2_image.specs.declared.mapping.MappingKind.TheVariants.{Raw}
 use Rattle.qcow2_image.specs.declared.mapping.Place.TheVariants.{Image}
 use Rattle.qcow2_image.specs.declared.prepared.Prepared.{Prepared}
@@ -71,7 +71,7 @@ module _ {S F : Type 0} (image : Qcow2 S F) where
   first_cause C.Size = None
 
 -- its slot is taken or empty, or the range passes the end of the mapping there, or of what was looked up there
-abbrev pub IsMisused : List (Option Prepared) → (found : ℕ → Option Found) → Command → Type 0
+abbrev pub IsMisused : List (Option Prepared) → (found : ℕ → Option Mapping) → Command → Type 0
 IsMisused before found (C.ReadMapped slot at n) = MatchOption (found slot) (Unit {0}) (λ f. f.length < at + n)
 IsMisused before found (C.PrepareDataMapping slot offset n overwrite) = (p : Prepared) × (slice_get before slot ≡ Some (Some p))
 IsMisused before found (C.WriteMapped slot at bytes) = (slice_get before slot ≡ Some None) ⊎ ((p : Prepared) × (slice_get before slot ≡ Some (Some p)) × (length_of p < at + length bytes.items))
@@ -80,7 +80,7 @@ IsMisused before found (C.DiscardDataMapping slot) = slice_get before slot ≡ S
 IsMisused before found command = ⊥
 
 -- it is replied so exactly then
-abbrev pub TellsMisuse : List (Option Prepared) → (found : ℕ → Option Found) → Command → Reply → Type 0
+abbrev pub TellsMisuse : List (Option Prepared) → (found : ℕ → Option Mapping) → Command → Reply → Type 0
 TellsMisuse before found command reply = (reply ≡ R.Misuse) ↔ IsMisused before found command
 
 -- ---- where the work meets it
@@ -142,28 +142,34 @@ module _ {S F : Type 0} (view : S → StorageView) (backing : F → BackingView)
     pub existing : table_of mapping ≡ None
     pub moved : ¬ IsFoundWhole view new (mapping.guest + at) (Raw Image (mapping.offset + at) true) n
 
-  -- What a prepared mapping refuses, and nothing else: a range of its L2 table (9), a smaller disk (17). What is put is refused as outdated (10) only where it is. A commit is refused for a fault alone.
-  abbrev pub HeedsPrepared : Command → Reply → Type 0
-  HeedsPrepared (C.Write offset bytes) reply = refusal_in reply ≡ Some I.TablePrepared → IsUnderMappingIn old.file.header.fields offset (offset + length bytes.items) before
-  HeedsPrepared (C.PrepareDataMapping slot offset n overwrite) reply = IsUntakenIn offset n reply
-  HeedsPrepared (C.WriteMapped slot at bytes) reply = refusal_in reply ≡ Some I.OutdatedMapping → IsOutdatedAt slot at (length bytes.items)
-  HeedsPrepared (C.CommitDataMapping slot) reply = IfSome (refusal_in reply) IsFault
-  HeedsPrepared (C.EnsureZeroMapping offset n) reply = IsUntouchedUnder offset n reply
-  HeedsPrepared (C.DiscardToZero offset n) reply = IsUntouchedUnder offset n reply
-  HeedsPrepared (C.DiscardToAny offset n) reply = IsUntouchedUnder offset n reply
-  HeedsPrepared (C.DiscardToBacking offset n) reply = IsUntouchedUnder offset n reply
-  HeedsPrepared (C.ResizeGrow size mode) reply = size_of old < size → refusal_in reply ≡ Some I.TablePrepared → IsUnderMappingIn old.file.header.fields (size_of old) (boundary_in old size) before
-  HeedsPrepared (C.ResizeShrink size) reply = size < size_of old → (refusal_in reply ≡ Some I.MappingPrepared) ↔ HasPrepared before
-  HeedsPrepared command reply = Unit {0}
+  -- What was looked up is read only where it is mapped so as a whole, and refused as outdated only where it no longer is.
+  abbrev pub ReadsLookedUp : (found : ℕ → Option Mapping) → (slot at n : ℕ) → Reply → Type 0
+  ReadsLookedUp found slot at n (R.Bytes bytes) = 0 < n → (m : Mapping) × (found slot ≡ Some m) × IsFoundWhole view old (m.offset + at) (further_by at m.kind) n
+  ReadsLookedUp found slot at n reply = refusal_in reply ≡ Some I.OutdatedMapping → (m : Mapping) × (found slot ≡ Some m) × (¬ IsFoundWhole view new (m.offset + at) (further_by at m.kind) n)
+
+  -- What a prepared mapping refuses, and nothing else: a range of its L2 table (9), a smaller disk (17). What is put, or read as it was looked up, is refused as outdated (10) only where it is. A commit is refused for a fault alone.
+  abbrev pub HeedsPrepared : (found : ℕ → Option Mapping) → Command → Reply → Type 0
+  HeedsPrepared found (C.Write offset bytes) reply = refusal_in reply ≡ Some I.TablePrepared → IsUnderMappingIn old.file.header.fields offset (offset + length bytes.items) before
+  HeedsPrepared found (C.PrepareDataMapping slot offset n overwrite) reply = IsUntakenIn offset n reply
+  HeedsPrepared found (C.ReadMapped slot at n) reply = ReadsLookedUp found slot at n reply
+  HeedsPrepared found (C.WriteMapped slot at bytes) reply = refusal_in reply ≡ Some I.OutdatedMapping → IsOutdatedAt slot at (length bytes.items)
+  HeedsPrepared found (C.CommitDataMapping slot) reply = IfSome (refusal_in reply) IsFault
+  HeedsPrepared found (C.EnsureZeroMapping offset n) reply = IsUntouchedUnder offset n reply
+  HeedsPrepared found (C.DiscardToZero offset n) reply = IsUntouchedUnder offset n reply
+  HeedsPrepared found (C.DiscardToAny offset n) reply = IsUntouchedUnder offset n reply
+  HeedsPrepared found (C.DiscardToBacking offset n) reply = IsUntouchedUnder offset n reply
+  HeedsPrepared found (C.ResizeGrow size mode) reply = size_of old < size → refusal_in reply ≡ Some I.TablePrepared → IsUnderMappingIn old.file.header.fields (size_of old) (boundary_in old size) before
+  HeedsPrepared found (C.ResizeShrink size) reply = size < size_of old → (refusal_in reply ≡ Some I.MappingPrepared) ↔ HasPrepared before
+  HeedsPrepared found command reply = Unit {0}
 
   -- ---- a command
 
   -- Where its slot or its range is misused, it is replied so, and nothing changes. Else the first cause that holds before any work is the reply, and nothing changes.
   -- Where none holds, it is refused for what the work meets alone. It isn't where there is nothing to do, and heeds what is prepared on a sound image.
-  pub record IsRightlyRefused (found : ℕ → Option Found) (command : Command) (reply : Reply) : Type 0 where
+  pub record IsRightlyRefused (found : ℕ → Option Mapping) (command : Command) (reply : Reply) : Type 0 where
     pub misuse : TellsMisuse before found command reply
     pub still : reply ≡ R.Misuse → new ≡ old
     pub early : IfSome (first_cause old command) (λ e. ((refusal_in reply ≡ Some e) ⊎ (reply ≡ R.Misuse)) × (new ≡ old))
     pub late : first_cause old command ≡ None → IfSome (refusal_in reply) (MayMeet command)
     pub idle : first_cause old command ≡ None → HasNothingToDo command → refusal_in reply ≡ None
-    pub heeds : first_cause old command ≡ None → (abstract_of view backing old before).is_sound → HeedsPrepared command reply
+    pub heeds : first_cause old command ≡ None → (abstract_of view backing old before).is_sound → HeedsPrepared found command reply

@@ -1,11 +1,11 @@
--- What the replies to commands, and the answers of conversions, tell of failures of the storage and of the disk below.
-use Rattle.std.specs.Prelude.{ℕ, ◌≡◌, ◌⊎◌, ◌≤◌, List, [], ◌∷◌, Option, Some, None, IfSome, Result, IfErr}
+-- What the replies to commands, and the answers of conversions, tell of failures of the storage and of the disk below, and when a command fails its image.
+use Rattle.std.specs.Prelude.{ℕ, ◌≡◌, ◌⊎◌, ◌≤◌, Bool, IsTrue, List, [], ◌∷◌, Option, Some, None, IfSome, Result, Ok, Err, IfErr}
 use Rattle.image_access.specs.Backing.{BackingView}
-use Rattle.image_access.specs.Moments.{StorageView, Rose}
+use Rattle.image_access.specs.Moments.{StorageView, Rose, UnlessErr}
 use Rattle.qcow2_alloc.specs.declared.error.ImageError.{ImageError}
-use Rattle.qcow2_alloc.specs.declared.error.ImageError.TheVariants.{Storage}
+use Rattle.qcow2_alloc.specs.declared.error.ImageError.TheVariants.{Memory, Storage}
 use Rattle.qcow2_image.specs.declared.image.Qcow2.{Qcow2}
-use Rattle.qcow2_image.specs.Faults.{NoFewerFaults, OneRose, TellsFault}
+use Rattle.qcow2_image.specs.Faults.{NoFewerFaults, OneRose, SameFaults, TellsEachIn, TellsFault}
 use Rattle.qcow2_session.specs.declared.session.Reply.{Reply}
 use Rattle.qcow2_session.specs.declared.session.Reply.TheVariants as R
 
@@ -15,15 +15,27 @@ refusal_in (R.Refused e) = Some e
 refusal_in (R.WriteRefused e n) = Some e
 refusal_in reply = None
 
+-- A failure of the storage fails an image. Want of memory may, and nothing else does; a mark stays.
+abbrev pub FailsBy : Option ImageError → (before now : Bool) → Type 0
+FailsBy (Some Storage) before now = IsTrue now
+FailsBy (Some Memory) before now = IsTrue before → IsTrue now
+FailsBy reason before now = now ≡ before
+
+-- so does a call that was answered, or refused
+abbrev pub FailsAs : {A : Type 0} → Result A ImageError → (before now : Bool) → Type 0
+FailsAs (Ok answer) before now = FailsBy None before now
+FailsAs (Err e) before now = FailsBy (Some e) before now
+
 module _ {S F : Type 0} (view : S → StorageView) (backing : F → BackingView) where
-  -- A command lowers neither number of faults. Where it is refused as the storage's failure, one of the two rose, or stood at the greatest u64.
+  -- A command lowers neither number of faults. Where it is refused as the storage's failure, one of the two rose, or stood at the greatest u64. Where it isn't, both stay: each failure is told.
   pub record CommandCounts (old new : Qcow2 S F) (reply : Reply) : Type 0 where
     pub no_fewer : NoFewerFaults view backing old new
     pub rose : IfSome (refusal_in reply) (TellsFault view backing old new)
+    pub told : TellsEachIn view backing old new (refusal_in reply)
 
-  -- So does each command of a run, from where the one before it left the image. Behind the last one neither number falls.
+  -- So does each command of a run, from where the one before it left the image. Behind the last one both numbers stay.
   abbrev pub RunCounts : Qcow2 S F → Qcow2 S F → List Reply → Type 0
-  RunCounts old new [] = NoFewerFaults view backing old new
+  RunCounts old new [] = SameFaults view backing old new
   RunCounts old new (reply ∷ replies) = (mid : Qcow2 S F) × CommandCounts old mid reply × RunCounts mid new replies
 
   -- ---- conversions, with the numbers of a raw disk's faults
@@ -32,8 +44,9 @@ module _ {S F : Type 0} (view : S → StorageView) (backing : F → BackingView)
   abbrev pub TellsConversion : (old new : Qcow2 S F) (before now : ℕ) → ImageError → Type 0
   TellsConversion old new before now e = e ≡ Storage → OneRose view backing old new ⊎ Rose before now
 
-  -- A conversion lowers none of the numbers of faults. Where it is refused as a storage's failure, one of the three rose, or stood at the greatest u64.
+  -- A conversion lowers none of the numbers of faults. Where it is refused as a storage's failure, one of the three rose, or stood at the greatest u64. Where it isn't, all three stay.
   pub record ConversionCounts {T : Type 0} (old new : Qcow2 S F) (before now : ℕ) (result : Result T ImageError) : Type 0 where
     pub no_fewer : NoFewerFaults view backing old new
     pub raw : before ≤ now
     pub rose : IfErr result (TellsConversion old new before now)
+    pub told : UnlessErr result Storage (SameFaults view backing old new × (now ≡ before))

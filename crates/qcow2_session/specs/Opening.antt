@@ -2,28 +2,30 @@
 use Rattle.std.specs.Prelude.{ℕ, ◌≡◌, ◌⊎◌, IsTrue, true, false, List, [], map, Vec, Result, Ok, Err}
 use Rattle.std.specs.Global.{Global}
 use Rattle.image_access.specs.Backing.{BackingView}
-use Rattle.image_access.specs.Moments.{StorageView, ContentsStay}
+use Rattle.image_access.specs.Moments.{StorageView}
 use Rattle.qcow2_metadata.specs.Bytes.{byte_at}
 use Rattle.qcow2_metadata.specs.Consistent.{IsConsistent}
 use Rattle.qcow2_disk.specs.Headline.{IsHeadline}
 use Rattle.qcow2_disk.specs.Runs.{RefinesState, started}
 use Rattle.qcow2_alloc.specs.declared.error.ImageError.{ImageError}
 use Rattle.qcow2_image.specs.CountedOpening.{OpeningCounts}
+use Rattle.qcow2_image.specs.declared.image.Missing.TheVariants as M
 use Rattle.qcow2_image.specs.declared.image.Qcow2.{Qcow2}
 use Rattle.qcow2_image.specs.Image.{is_failed, is_writable, number_of, storage_of_image}
 use Rattle.qcow2_image.specs.Opened.{IsKeptSince, IsOpenedFrom, LeavesStorage}
 use Rattle.qcow2_image.specs.ImageInvariant.{abstract_of, image_abstraction}
 use Rattle.qcow2_image.specs.Readable.{OpensRightly}
+use Rattle.qcow2_image.specs.Unwritten.{ContentsStayThroughout}
 use Rattle.qcow2_session.specs.Commands.{command_of, reply_of}
 use Rattle.qcow2_session.specs.CountedFaults.{RunCounts}
 use Rattle.qcow2_session.specs.Told.{TellsThrough}
 use Rattle.qcow2_session.specs.declared.session.Command.{Command}
 use Rattle.qcow2_session.specs.declared.session.Reply.{Reply}
 
--- it was refused, and the storage that is handed back has its contents
+-- it was refused, and the storage that is handed back has its contents, as at each moment since
 abbrev pub IsLeftAlone : {S R : Type 0} → StorageView → (S → StorageView) → Result R (S × ImageError) → Type 0
 IsLeftAlone before view (Ok run) = ⊥
-IsLeftAlone before view (Err refused) = ContentsStay before (view refused.0)
+IsLeftAlone before view (Err refused) = ContentsStayThroughout before (view refused.0)
 
 module _ {S F : Type 0} (view : S → StorageView) (backing : F → BackingView) (before : StorageView) where
   -- there was no room for the replies, and nothing was called
@@ -52,7 +54,7 @@ module _ {S F : Type 0} (view : S → StorageView) (backing : F → BackingView)
   -- So it is where it opens. Where it doesn't, it is refused as opening alone for writing is: for one of the reasons of these contents, which stay unless the storage failed.
   abbrev pub TellsOfOpened : ℕ → List Command → Result (Qcow2 S F × Vec Reply Global) (S × ImageError) → Type 0
   TellsOfOpened number commands (Ok run) = IsToldOfOpened number commands run.0 run.1.items
-  TellsOfOpened number commands (Err refused) = OpensRightly {S = S} {F = F} before true true (Err refused) × LeavesStorage {F = F} view true before (Err refused)
+  TellsOfOpened number commands (Err refused) = OpensRightly {S = S} {F = F} before true M.OtherFiles (Err refused) × LeavesStorage {F = F} view true before (Err refused)
 
   -- Opening counts the faults of the storage, refused or not, and each command those since.
   abbrev pub CountsSinceBefore : Result (Qcow2 S F × Vec Reply Global) (S × ImageError) → Type 0

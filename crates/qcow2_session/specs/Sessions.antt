@@ -1,5 +1,5 @@
 -- What a session does to an image: its reads and writes, and its runs of commands.
-use Rattle.std.specs.Prelude.{ℕ, ◌%◌, ◌≡◌, ◌⊎◌, IsTrue, false, List, [], ◌∷◌, length, map, take, Vec, Bool, Option, Some, None, is_some, Result, Ok, Err, slice_get}
+use Rattle.std.specs.Prelude.{ℕ, ◌%◌, ◌==◌, ◌≡◌, ◌⊎◌, IsTrue, false, List, [], ◌∷◌, length, map, take, Vec, Bool, Option, Some, None, is_some, Result, Ok, Err, slice_get, if◌then◌else◌}
 use Rattle.std.specs.Global.{Global}
 use Rattle.image_access.specs.Backing.{BackingView}
 use Rattle.image_access.specs.Moments.{StorageView}
@@ -10,7 +10,7 @@ use Rattle.qcow2_disk.specs.Mappings.{given_of}
 use Rattle.qcow2_disk.specs.AbstractImages.{Setting, Guest, guest_of, IsOpened}
 use Rattle.qcow2_disk.specs.Calls.{AnsweredEffect, RefusedEffect, Shows, with_disk, MayWrite}
 use Rattle.qcow2_disk.specs.Found.{IsFoundIn}
-use Rattle.qcow2_disk.specs.Runs.{Command as RunCommand, Reply as RunReply, get_mapping, mapping_is, Found, State, RefinesState, RefinesCommand, RefinesWholeRun, RefinesDisk, begun, found_after}
+use Rattle.qcow2_disk.specs.Runs.{Command as RunCommand, Reply as RunReply, get_mapping, mapping_is, Found, State, RefinesState, RefinesCommand, RefinesWholeRun, RefinesDisk, begun}
 use Rattle.qcow2_alloc.specs.declared.error.ImageError.{ImageError}
 use Rattle.qcow2_alloc.specs.declared.error.ImageError.TheVariants.{BeyondSize, Dependency, Failed, ReadOnly, TablePrepared}
 use Rattle.qcow2_alloc.specs.ImageFile.{contents_in}
@@ -23,17 +23,31 @@ use Rattle.qcow2_image.specs.Refusals.{passes, IsMet}
 use Rattle.qcow2_image.specs.ImageInvariant.{abstract_of, image_abstraction}
 use Rattle.qcow2_session.specs.Commands.{command_of, reply_of}
 use Rattle.qcow2_session.specs.declared.session.Command.{Command}
+use Rattle.qcow2_session.specs.declared.session.Command.TheVariants as C
 use Rattle.qcow2_session.specs.declared.session.Reply.{Reply}
+use Rattle.qcow2_session.specs.declared.session.Reply.TheVariants as R
 use Rattle.qcow2_session.specs.declared.slots.Slots.{Slots}
 
+-- what was looked up for a slot, if there is such a slot
+abbrev pub mapping_at : Option (Option Mapping) → Option Mapping
+mapping_at (Some m) = m
+mapping_at None = None
+
+abbrev pub mappings_in : List (Option Mapping) → ℕ → Option Mapping
+mappings_in mappings k = mapping_at (slice_get mappings k)
+
+-- a mapping that was looked up stands in its slot, and the others are as before
+abbrev pub looked_up_after : (ℕ → Option Mapping) → Command → Reply → ℕ → Option Mapping
+looked_up_after found (C.GetMapping slot offset max) (R.Mapping m) k = if k == slot then Some m else found k
+looked_up_after found command reply k = found k
+
 -- the range that a mapping was found for
-abbrev pub range_of : Option (Option Mapping) → Option Found
-range_of (Some (Some m)) = Some (record { from = m.offset; length = m.length })
-range_of (Some None) = None
+abbrev pub range_of : Option Mapping → Option Found
+range_of (Some m) = Some (record { from = m.offset; length = m.length })
 range_of None = None
 
 abbrev pub found_in : List (Option Mapping) → ℕ → Option Found
-found_in mappings k = range_of (slice_get mappings k)
+found_in mappings k = range_of (mappings_in mappings k)
 
 -- a run that didn't fail found what the slots hold
 abbrev pub HasFound : State → Slots → Type 0
@@ -118,6 +132,6 @@ module _ {S F : Type 0} (view : S → StorageView) (backing : F → BackingView)
   abbrev pub RunRefinesDisk : List Command → List Reply → Type 0
   RunRefinesDisk commands replies = IsOpened (abstract_of view backing old []) → IsUntouched replies ⊎ RefinesDisk (image_abstraction view backing) old new (map command_of commands) (map reply_of replies)
 
--- the mappings that were found are those before, and what a command found
+-- the mappings that were looked up are those before, and what a command is told
 abbrev pub Finds : Slots → Slots → Command → Reply → Type 0
-Finds slots slots' command reply = (k : ℕ) → found_in slots'.mappings.items k ≡ found_after (found_in slots.mappings.items) (command_of command) (reply_of reply) k
+Finds slots slots' command reply = (k : ℕ) → mappings_in slots'.mappings.items k ≡ looked_up_after (mappings_in slots.mappings.items) command reply k

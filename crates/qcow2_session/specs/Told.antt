@@ -1,12 +1,16 @@
 -- What the replies of a run tell of the image itself, beside what they mean in words of a guest's disk.
-use Rattle.std.specs.Prelude.{ℕ, ◌<◌, ◌≡◌, ◌⊎◌, false, IsTrue, IsNone, List, [], ◌∷◌, Option, Some, None, is_none, replicate, slice_get, slice_set}
+use Rattle.std.specs.Prelude.{ℕ, ◌<◌, ◌≤◌, ◌≡◌, ◌⊎◌, false, IsTrue, IsNone, List, [], ◌∷◌, MatchOption, Option, Some, None, is_none, replicate, slice_get, slice_set}
 use Rattle.image_access.specs.Backing.{BackingView}
 use Rattle.image_access.specs.Moments.{StorageView}
 use Rattle.qcow2_disk.specs.AbstractImages.{AbstractImage, Setting, IsOpened}
-use Rattle.qcow2_disk.specs.Runs.{Found, State, RefinesState, RefinesCommand, begun, found_after}
+use Rattle.qcow2_disk.specs.Rules.{answered}
+use Rattle.qcow2_disk.specs.Runs.{State, RefinesState, RefinesCommand, begun}
+use Rattle.qcow2_metadata.specs.Header.{cluster_size}
 use Rattle.qcow2_alloc.specs.ImageError.{IsOfTables}
 use Rattle.qcow2_alloc.specs.ImageFile.{known_in}
 use Rattle.qcow2_image.specs.declared.image.Qcow2.{Qcow2}
+use Rattle.qcow2_image.specs.declared.mapping.Mapping.{Mapping}
+use Rattle.qcow2_image.specs.declared.mapping.MappingKind.TheVariants.{Eof}
 use Rattle.qcow2_image.specs.declared.prepared.Prepared.{Prepared}
 use Rattle.qcow2_image.specs.Image.{is_external, is_failed, is_writable, number_of, size_of, storage_of_image}
 use Rattle.qcow2_image.specs.ImageInvariant.{abstract_of, meaning}
@@ -15,8 +19,8 @@ use Rattle.qcow2_image.specs.Preparing.{IsAnswered, IsOfNothing}
 use Rattle.qcow2_image.specs.Unwritten.{HoldsSame, IsOnlyRead, IsUnmodified}
 use Rattle.qcow2_session.specs.Causes.{IsRightlyRefused}
 use Rattle.qcow2_session.specs.Commands.{command_of, reply_of}
-use Rattle.qcow2_session.specs.CountedFaults.{CommandCounts}
-use Rattle.qcow2_session.specs.Sessions.{IsUntouched, ReleasesMappings}
+use Rattle.qcow2_session.specs.CountedFaults.{CommandCounts, FailsBy, refusal_in}
+use Rattle.qcow2_session.specs.Sessions.{IsUntouched, ReleasesMappings, looked_up_after}
 use Rattle.qcow2_session.specs.declared.session.Command.{Command}
 use Rattle.qcow2_session.specs.declared.session.Command.TheVariants as C
 use Rattle.qcow2_session.specs.declared.session.Reply.{Reply}
@@ -53,11 +57,11 @@ pub record KeepsItself {S F : Type 0} (old new : Qcow2 S F) : Type 0 where
   pub writable : is_writable new ≡ is_writable old
   pub external : is_external new ≡ is_external old
 
--- A point of a run, between two commands: the image, its prepared mappings by their slots, and the ranges that were looked up.
+-- A point of a run, between two commands: the image, its prepared mappings by their slots, and the mappings that were looked up.
 pub record RunPoint (S F : Type 0) : Type 0 where
   pub image : Qcow2 S F
   pub prepared : List (Option Prepared)
-  pub found : ℕ → Option Found
+  pub found : ℕ → Option Mapping
 
 -- nothing is prepared, and nothing was looked up
 abbrev pub first_point : {S F : Type 0} → Qcow2 S F → RunPoint S F
@@ -70,9 +74,28 @@ module _ {S F : Type 0} (view : S → StorageView) (backing : F → BackingView)
       pub nothing : n ≡ 0 → IsOfNothing p
       pub answered : 0 < n → IsAnswered old.file.header.fields (known_in view old.file) offset n new.file.header.fields (known_in view new.file) p (meaning view backing new p)
 
-    -- A mapping is the image's own. The size is the one that its header in memory has, also on a failed image. In the slot of a range that was prepared stands such a mapping.
+    -- What is looked up is the image's own, from the offset on, and no longer than was asked for. At the size or past it that is nothing.
+    pub record IsLookup (offset max : ℕ) (m : Mapping) : Type 0 where
+      pub own : m.image ≡ number_of new
+      pub from : m.offset ≡ offset
+      pub within : m.length ≤ max
+      pub past : size_of old ≤ offset → (m.kind ≡ Eof) × (m.length ≡ 0)
+
+    -- what is told of clearing a range are its whole clusters
+    abbrev pub TellsRange : (offset n : ℕ) → Reply → Type 0
+    TellsRange offset n (R.Range from count) = (from, count) ≡ answered (cluster_size old.file.header.fields) (size_of old) offset n
+    TellsRange offset n reply = Unit {0}
+
+    -- A mapping is looked up so, and a range cleared so. A range that isn't compressed begins at its own offset, and is named if it has bytes. A size that isn't smaller leaves the old one.
+    -- The size is the one that the header in memory has, also on a failed image. In the slot of a range that was prepared stands such a mapping.
     abbrev pub TellsOfImage : (before after : List (Option Prepared)) → Command → Reply → Type 0
-    TellsOfImage before after (C.GetMapping slot offset max) (R.Mapping m) = m.image ≡ number_of new
+    TellsOfImage before after (C.GetMapping slot offset max) (R.Mapping m) = IsLookup offset max m
+    TellsOfImage before after (C.EnsureZeroMapping offset n) reply = TellsRange offset n reply
+    TellsOfImage before after (C.DiscardToZero offset n) reply = TellsRange offset n reply
+    TellsOfImage before after (C.DiscardToAny offset n) reply = TellsRange offset n reply
+    TellsOfImage before after (C.DiscardToBacking offset n) reply = TellsRange offset n reply
+    TellsOfImage before after (C.TryReadvSpecial offset n) (R.NotCompressed plain) = MatchOption plain (n ≡ 0) (λ at. at ≡ offset)
+    TellsOfImage before after (C.ResizeShrink size) (R.Shrunk answer) = size_of old ≤ size → answer ≡ size_of old
     TellsOfImage before after C.Size (R.Size n) = n ≡ size_of new
     TellsOfImage before after (C.PrepareDataMapping slot offset n overwrite) (R.Prepared host count existing) =
         (abstract_of view backing old before).is_sound → (p : Prepared) × (slice_get after slot ≡ Some (Some p)) × IsMappingFor offset n p
@@ -91,14 +114,16 @@ module _ {S F : Type 0} (view : S → StorageView) (backing : F → BackingView)
   abbrev pub LeavesUnwritten : (old : Qcow2 S F) (before : List (Option Prepared)) (new : Qcow2 S F) (after : List (Option Prepared)) → Type 0
   LeavesUnwritten old before new after = is_writable old ≡ false → (abstract_of view backing old before).is_sound → IsUnmodified view old → AreExisting before → IsLeftUnwritten old new after
 
-  -- One command, whatever the image, from a point of a run to the next. What it tells of the image is so, and the slots are those that it leaves. It is refused for its causes alone, and as a fault only where one was counted. The size of a failed image stays, and one that was opened for reading is left unwritten.
+  -- One command, whatever the image, from a point of a run to the next. What it tells of the image is so, and the slots are those that it leaves. It is refused for its causes alone, and as a fault only where one was counted.
+  -- Refused as a fault it fails the image, which stays failed. The size of a failed image stays, and one that was opened for reading is left unwritten.
   pub record IsToldStep (from to : RunPoint S F) (command : Command) (reply : Reply) : Type 0 where
     pub keeps : KeepsItself from.image to.image
     pub tells : TellsOfImage from.image to.image from.prepared to.prepared command reply
     pub slots : SlotsAfter from.prepared command reply to.prepared
     pub causes : IsRightlyRefused view backing from.image to.image from.prepared from.found command reply
-    pub finds : (slot : ℕ) → to.found slot ≡ found_after from.found (command_of command) (reply_of reply) slot
+    pub finds : (slot : ℕ) → to.found slot ≡ looked_up_after from.found command reply slot
     pub counts : CommandCounts view backing from.image to.image reply
+    pub failed : FailsBy (refusal_in reply) (is_failed from.image) (is_failed to.image)
     pub size : IsTrue (is_failed from.image) → size_of to.image ≡ size_of from.image
     pub unwritten : LeavesUnwritten from.image from.prepared to.image to.prepared
 
@@ -120,7 +145,7 @@ module _ {S F : Type 0} (view : S → StorageView) (backing : F → BackingView)
   StepsAlong x first s commands replies points end = ⊥
 
   module _ (old new : Qcow2 S F) where
-    -- A whole run, through these points, after which the mappings that are left are let go. Its commands are steps of each run that the image stands at.
+    -- A whole run, through these points, after which the mappings that are left are let go, which fails no image. Its commands are steps of each run that the image stands at.
     pub record IsToldRun (commands : List Command) (replies : List Reply) : Type 0 where
       pub points : List (RunPoint S F)
       pub last : RunPoint S F
@@ -128,6 +153,7 @@ module _ {S F : Type 0} (view : S → StorageView) (backing : F → BackingView)
       pub steps : (x : Setting) (s : State) → RefinesState x (abstract_of view backing old []) s → (end : State) × StepsAlong x (first_point old) (begun s) commands replies points end
       pub leaves : ReleasesMappings view backing last.image new last.prepared []
       pub keeps : KeepsItself last.image new
+      pub failed : is_failed new ≡ is_failed last.image
 
     -- so it is, or nothing was called
     abbrev pub TellsThrough : List Command → List Reply → Type 0

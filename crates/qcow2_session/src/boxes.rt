@@ -1,4 +1,7 @@
 //! Runs over storages and disks below of any types, each in a box.
+ghost use Rattle.std.specs.Prelude.{IsErr};
+ghost use Rattle.qcow2_image.specs.Opened.{NeedsDataFile};
+ghost use Rattle.qcow2_image.specs.Unwritten.{ContentsStayThroughout};
 ghost use Rattle.qcow2_session.specs.Boxes.{RunsOnceClosed};
 
 use crate::session::{Command, Reply, run};
@@ -8,7 +11,8 @@ use std::alloc::Global;
 
 /// Opens an image in a storage of any type for writing, under its number, over a disk of any type where one is given. It answers each
 /// command as `run` does, and hands the storage back; the disk below goes with the image. What isn't flushed is lost, so end the
-/// commands with a flush. Refused as `open_image` is, and 17 (mapping prepared) on contents that no image has.
+/// commands with a flush. Refused as `open_with_own_data` is, 12 (dependency) where the data stand in another file, and
+/// 17 (mapping prepared) on contents that no image has.
 pub fn run_in_boxes(
     alloc: Global,
     storage: Box<dyn DynStorage>,
@@ -17,6 +21,8 @@ pub fn run_in_boxes(
     commands: &[Command],
 ) -> (Box<dyn DynStorage>, Result<Vec<Reply>, ImageError>)
     ensures runs { RunsOnceClosed (λ b. (DynStorage-box b).Storage.view b.value) (λ d. (BackingDisk-box d).backing d.value) ((DynStorage-box storage).Storage.view storage.value) below number commands.now result.0 result.1 }
+    ensures another { ((DynStorage-box storage).Storage.view storage.value).is_honest → NeedsDataFile ((DynStorage-box storage).Storage.view storage.value).contents
+        → IsErr result.1 × ContentsStayThroughout ((DynStorage-box storage).Storage.view storage.value) ((DynStorage-box result.0).Storage.view result.0.value) }
 {
     run_and_close(alloc, storage, below, number, commands)
 }
@@ -30,8 +36,9 @@ fn run_and_close<S: Storage, F: WrappedFormat<S>>(
     commands: &[Command],
 ) -> (S, Result<Vec<Reply>, ImageError>)
     ensures runs { RunsOnceClosed S.view F.backing (S.view storage) below number commands.now result.0 result.1 }
+    ensures another { (S.view storage).is_honest → NeedsDataFile (S.view storage).contents → IsErr result.1 × ContentsStayThroughout (S.view storage) (S.view result.0) }
 {
-    let mut image = match Qcow2::open_image(alloc, storage, true, number) {
+    let mut image = match Qcow2::open_with_own_data(alloc, storage, true, number) {
         Ok(image) => image,
         Err((storage, refusal)) => return (storage, Err(refusal)),
     };

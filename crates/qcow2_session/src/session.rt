@@ -1,18 +1,19 @@
 //! Commands, one after the other, on one image.
-ghost use Rattle.std.specs.Prelude.{◌≡◌, ◌+◌, ◌^◌, ◌≤◌, ◌⊎◌, ◌<◌, ◌++◌, ◌∷◌, ℕ, List, [], length, vec_len, IfSome, IfErr, IfOk, IsTrue, Option, None, Err, false};
-ghost use Rattle.qcow2_alloc.specs.declared.error.ImageError.TheVariants.{Memory, TablePrepared};
+ghost use Rattle.std.specs.Prelude.{◌≡◌, ◌+◌, ◌^◌, ◌≤◌, ◌⊎◌, ◌<◌, ◌++◌, ◌∷◌, ℕ, List, [], length, vec_len, IfSome, IfErr, IfOk, IsTrue, MatchResult, OnOk, Option, None, Some, Err, false};
+ghost use Rattle.qcow2_alloc.specs.declared.error.ImageError.TheVariants.{Memory, OutdatedMapping, TablePrepared};
 ghost use Rattle.qcow2_image.specs.Clearing.{IsUnderMapping};
+ghost use Rattle.qcow2_image.specs.Found.{IsFoundWhole, further_by};
 ghost use Rattle.qcow2_image.specs.Preallocation.{IsUnderMappingIn};
 ghost use Rattle.qcow2_image.specs.Image.{IsSameImage, is_failed, is_writable, number_of, size_of};
 ghost use Rattle.qcow2_image.specs.Prepared.{image_of};
 ghost use Rattle.qcow2_image.specs.ImageInvariant.{abstract_of};
 ghost use Rattle.qcow2_image.specs.Calls.{Discards};
 ghost use Rattle.qcow2_image.specs.Refusals.{IsMet, IsMetPreparing, unusable, refuses_mapping, refuses_to_read, refuses_to_prepare};
-ghost use Rattle.qcow2_image.specs.Faults.{CountsImageFaults, NoFewerFaults, TellsFault};
+ghost use Rattle.qcow2_image.specs.Faults.{CountsImageFaults, NoFewerFaults, SameFaults, TellsEachBy, TellsFault};
 ghost use Rattle.qcow2_session.specs.Causes.{IsRightlyRefused};
-ghost use Rattle.qcow2_session.specs.CountedFaults.{CommandCounts, RunCounts};
-ghost use Rattle.qcow2_session.specs.Sessions.{IsRightlyBeyond, IsOfReading, IsOfWriting, EndsCluster, Reads, ReadsInto, ReadsFirst, Writes, WritesFirst, CommandSteps, Finds, ReleasesMappings, RunsThrough, RunRefinesDisk, LookupsFindContents, found_in};
-ghost use Rattle.qcow2_disk.specs.Runs.{Found};
+ghost use Rattle.qcow2_session.specs.CountedFaults.{CommandCounts, FailsAs, FailsBy, RunCounts, refusal_in};
+ghost use Rattle.qcow2_session.specs.Sessions.{IsRightlyBeyond, IsOfReading, IsOfWriting, EndsCluster, Reads, ReadsInto, ReadsFirst, Writes, WritesFirst, CommandSteps, Finds, ReleasesMappings, RunsThrough, RunRefinesDisk, LookupsFindContents, mappings_in};
+ghost use Rattle.qcow2_image.specs.declared.mapping.Mapping.{Mapping};
 ghost use Rattle.qcow2_image.specs.Ranges.{ReleasesOneMapping};
 ghost use Rattle.qcow2_image.specs.Unwritten.{IsOnlyRead, IsUnmodified};
 ghost use Rattle.qcow2_session.specs.Told.{IsNeverWritten, KeepsItself, LeavesUnwritten, SlotsAfter, StaysUnwritten, TellsOfImage, TellsThrough};
@@ -165,6 +166,7 @@ pub fn read<S: Storage, F: WrappedFormat<S>>(
     ensures image { IsSameImage image.old image.new }
     ensures unwritten { StaysUnwritten S.view F.backing image.old image.new }
     ensures faults { CountsImageFaults S.view F.backing image.old image.new result }
+    ensures marks { FailsAs result (is_failed image.old) (is_failed image.new) }
     ensures early { IfSome (refuses_to_read image.old offset length) (λ e. (result ≡ Err e) × (image.new ≡ image.old)) }
     ensures late { refuses_to_read image.old offset length ≡ None → IfErr result (λ e. IsMet e × (0 < length)) }
     ensures beyond { IfErr result (IsRightlyBeyond image.old offset length) }
@@ -203,6 +205,7 @@ pub fn read_into<S: Storage, F: WrappedFormat<S>>(
     ensures image { IsSameImage image.old image.new }
     ensures unwritten { StaysUnwritten S.view F.backing image.old image.new }
     ensures faults { CountsImageFaults S.view F.backing image.old image.new result }
+    ensures marks { FailsAs result (is_failed image.old) (is_failed image.new) }
     ensures early { IfSome (refuses_to_read image.old offset (length bytes.old)) (λ e. (result ≡ Err e) × (image.new ≡ image.old)) }
     ensures late { refuses_to_read image.old offset (length bytes.old) ≡ None → IfErr result (λ e. IsMet e × (0 < length bytes.old)) }
     ensures beyond { IfErr result (IsRightlyBeyond image.old offset (length bytes.old)) }
@@ -229,10 +232,10 @@ fn read_some<S: Storage, F: WrappedFormat<S>>(
     ensures image { IsSameImage image.old image.new }
     ensures unwritten { StaysUnwritten S.view F.backing image.old image.new }
     ensures faults { CountsImageFaults S.view F.backing image.old image.new result }
+    ensures marks { FailsAs result (is_failed image.old) (is_failed image.new) }
     ensures some { IfOk result (λ n. 0 < n) }
     ensures within { IfOk result (λ n. n ≤ length bytes.old) }
     ensures late { refuses_to_read image.old offset (length bytes.old) ≡ None → 0 < length bytes.old → IfErr result IsMet }
-    ensures works { IfOk result (λ n. is_failed image.new ≡ is_failed image.old) }
     ensures beyond { 0 < length bytes.old → IfErr result (IsRightlyBeyond image.old offset (length bytes.old)) }
     ensures cause { IfErr result IsOfReading }
     ensures sees { ReadsFirst S.view F.backing image.old image.new offset bytes.new result }
@@ -259,7 +262,8 @@ pub fn write<S: Storage, F: WrappedFormat<S>>(
 ) -> Result<(), (ImageError, u64)>
     ensures image { IsSameImage image.old image.new }
     ensures unwritten { StaysUnwritten S.view F.backing image.old image.new }
-    ensures faults { NoFewerFaults S.view F.backing image.old image.new × IfErr result (λ (e, n). TellsFault S.view F.backing image.old image.new e) }
+    ensures faults { NoFewerFaults S.view F.backing image.old image.new × IfErr result (λ (e, n). TellsFault S.view F.backing image.old image.new e) × TellsEachBy S.view F.backing (λ refused. refused.0) image.old image.new result }
+    ensures marks { MatchResult result (λ done. FailsBy None (is_failed image.old) (is_failed image.new)) (λ (e, n). FailsBy (Some e) (is_failed image.old) (is_failed image.new)) }
     ensures early { IfSome (refuses_to_prepare image.old offset (length bytes.now)) (λ e. (result ≡ Err (e, 0)) × (image.new ≡ image.old)) }
     ensures late { refuses_to_prepare image.old offset (length bytes.now) ≡ None → IfErr result (λ (e, n). IsMetPreparing e × (0 < length bytes.now)) }
     ensures taken { refuses_to_prepare image.old offset (length bytes.now) ≡ None → (out : List (Option Prepared)) → (abstract_of S.view F.backing image.old out).is_sound
@@ -295,6 +299,7 @@ fn write_some<S: Storage, F: WrappedFormat<S>>(
     ensures image { IsSameImage image.old image.new }
     ensures unwritten { StaysUnwritten S.view F.backing image.old image.new }
     ensures faults { CountsImageFaults S.view F.backing image.old image.new result }
+    ensures marks { FailsAs result (is_failed image.old) (is_failed image.new) }
     ensures early { IfSome (refuses_to_prepare image.old offset (length bytes.now)) (λ e. (result ≡ Err e) × (image.new ≡ image.old)) }
     ensures late { refuses_to_prepare image.old offset (length bytes.now) ≡ None → IfErr result (λ e. IsMetPreparing e × (0 < length bytes.now)) }
     ensures taken { refuses_to_prepare image.old offset (length bytes.now) ≡ None → (out : List (Option Prepared)) → (abstract_of S.view F.backing image.old out).is_sound
@@ -328,7 +333,8 @@ fn release<S: Storage, F: WrappedFormat<S>>(image: &mut Qcow2<S, F>, prepared: P
     requires { image_of prepared ≡ number_of image.old }
     ensures image { IsSameImage image.old image.new }
     ensures rest { ReleasesOneMapping S.view image.old image.new }
-    ensures faults { NoFewerFaults S.view F.backing image.old image.new }
+    ensures faults { SameFaults S.view F.backing image.old image.new }
+    ensures marks { is_failed image.new ≡ is_failed image.old }
     ensures sees { Discards S.view F.backing image.old image.new prepared }
 {
     match image.discard_data_mapping(prepared) {
@@ -377,13 +383,14 @@ fn step<S: Storage, F: WrappedFormat<S>>(
     requires { slots.old.image ≡ number_of image.old }
     ensures keeps { KeepsItself image.old image.new }
     ensures faults { CommandCounts S.view F.backing image.old image.new result }
+    ensures marks { FailsBy (refusal_in result) (is_failed image.old) (is_failed image.new) }
     ensures slots { slots.new.image ≡ slots.old.image }
     ensures command_step { CommandSteps S.view F.backing image.old image.new slots.old slots.new command.now result }
     ensures finds { Finds slots.old slots.new command.now result }
     ensures tells { TellsOfImage S.view F.backing image.old image.new slots.old.prepared.items slots.new.prepared.items command.now result }
     ensures after { SlotsAfter slots.old.prepared.items command.now result slots.new.prepared.items }
     ensures size { IsTrue (is_failed image.old) → size_of image.new ≡ size_of image.old }
-    ensures causes { IsRightlyRefused S.view F.backing image.old image.new slots.old.prepared.items (found_in slots.old.mappings.items) command.now result }
+    ensures causes { IsRightlyRefused S.view F.backing image.old image.new slots.old.prepared.items (mappings_in slots.old.mappings.items) command.now result }
     ensures unwritten { LeavesUnwritten S.view F.backing image.old slots.old.prepared.items image.new slots.new.prepared.items }
 {
     match command {
@@ -435,7 +442,8 @@ fn get_mapping<S: Storage, F: WrappedFormat<S>>(
     requires { slots.old.image ≡ number_of image.old }
     ensures image { IsSameImage image.old image.new }
     ensures faults { CommandCounts S.view F.backing image.old image.new result }
-    ensures causes { IsRightlyRefused S.view F.backing image.old image.new slots.old.prepared.items (found_in slots.old.mappings.items) (Command.GetMapping slot offset max) result }
+    ensures marks { FailsBy (refusal_in result) (is_failed image.old) (is_failed image.new) }
+    ensures causes { IsRightlyRefused S.view F.backing image.old image.new slots.old.prepared.items (mappings_in slots.old.mappings.items) (Command.GetMapping slot offset max) result }
     ensures slots { slots.new.image ≡ slots.old.image }
     ensures command_step { CommandSteps S.view F.backing image.old image.new slots.old slots.new (Command.GetMapping slot offset max) result }
     ensures finds { Finds slots.old slots.new (Command.GetMapping slot offset max) result }
@@ -464,7 +472,8 @@ fn read_mapped<S: Storage, F: WrappedFormat<S>>(
     ensures image { IsSameImage image.old image.new }
     ensures unwritten { StaysUnwritten S.view F.backing image.old image.new }
     ensures faults { CommandCounts S.view F.backing image.old image.new result }
-    ensures causes { IsRightlyRefused S.view F.backing image.old image.new slots.now.prepared.items (found_in slots.now.mappings.items) (Command.ReadMapped slot at length) result }
+    ensures marks { FailsBy (refusal_in result) (is_failed image.old) (is_failed image.new) }
+    ensures causes { IsRightlyRefused S.view F.backing image.old image.new slots.now.prepared.items (mappings_in slots.now.mappings.items) (Command.ReadMapped slot at length) result }
     ensures command_step { CommandSteps S.view F.backing image.old image.new slots.now slots.now (Command.ReadMapped slot at length) result }
     ensures finds { Finds slots.now slots.now (Command.ReadMapped slot at length) result }
 {
@@ -492,8 +501,12 @@ fn read_range<S: Storage, F: WrappedFormat<S>>(
     ensures image { IsSameImage image.old image.new }
     ensures unwritten { StaysUnwritten S.view F.backing image.old image.new }
     ensures faults { CountsImageFaults S.view F.backing image.old image.new result }
+    ensures marks { FailsAs result (is_failed image.old) (is_failed image.new) }
     ensures early { IfSome (unusable image.old) (λ e. (result ≡ Err e) × (image.new ≡ image.old)) }
     ensures late { refuses_mapping image.old mapping.now.image ≡ None → IfErr result (λ e. IsMet e × (0 < length)) }
+    ensures outdated { (out : List (Option Prepared)) → (abstract_of S.view F.backing image.old out).is_sound → result ≡ Err OutdatedMapping
+        → ¬ IsFoundWhole S.view image.new (mapping.now.offset + at) (further_by at mapping.now.kind) length }
+    ensures mapped { 0 < length → (out : List (Option Prepared)) → (abstract_of S.view F.backing image.old out).is_sound → OnOk result (IsFoundWhole S.view image.old (mapping.now.offset + at) (further_by at mapping.now.kind) length) }
     ensures sees { Reads S.view F.backing image.old image.new (mapping.now.offset + at) length result }
 {
     image.check_read(0, 0)?;
@@ -513,7 +526,8 @@ fn prepare<S: Storage, F: WrappedFormat<S>>(
     requires { slots.old.image ≡ number_of image.old }
     ensures image { IsSameImage image.old image.new }
     ensures faults { CommandCounts S.view F.backing image.old image.new result }
-    ensures causes { IsRightlyRefused S.view F.backing image.old image.new slots.old.prepared.items (found_in slots.old.mappings.items) (Command.PrepareDataMapping slot offset length overwrite) result }
+    ensures marks { FailsBy (refusal_in result) (is_failed image.old) (is_failed image.new) }
+    ensures causes { IsRightlyRefused S.view F.backing image.old image.new slots.old.prepared.items (mappings_in slots.old.mappings.items) (Command.PrepareDataMapping slot offset length overwrite) result }
     ensures slots { slots.new.image ≡ slots.old.image }
     ensures command_step { CommandSteps S.view F.backing image.old image.new slots.old slots.new (Command.PrepareDataMapping slot offset length overwrite) result }
     ensures finds { Finds slots.old slots.new (Command.PrepareDataMapping slot offset length overwrite) result }
@@ -549,7 +563,8 @@ fn write_mapped<S: Storage, F: WrappedFormat<S>>(
     ensures image { IsSameImage image.old image.new }
     ensures reading { is_writable image.old ≡ false → image.new ≡ image.old }
     ensures faults { CommandCounts S.view F.backing image.old image.new result }
-    ensures causes { IsRightlyRefused S.view F.backing image.old image.new slots.now.prepared.items (found_in slots.now.mappings.items) (Command.WriteMapped slot at bytes.now) result }
+    ensures marks { FailsBy (refusal_in result) (is_failed image.old) (is_failed image.new) }
+    ensures causes { IsRightlyRefused S.view F.backing image.old image.new slots.now.prepared.items (mappings_in slots.now.mappings.items) (Command.WriteMapped slot at bytes.now) result }
     ensures command_step { CommandSteps S.view F.backing image.old image.new slots.now slots.now (Command.WriteMapped slot at bytes.now) result }
     ensures finds { Finds slots.now slots.now (Command.WriteMapped slot at bytes.now) result }
 {
@@ -574,7 +589,8 @@ fn commit<S: Storage, F: WrappedFormat<S>>(
     requires { slots.old.image ≡ number_of image.old }
     ensures image { IsSameImage image.old image.new }
     ensures faults { CommandCounts S.view F.backing image.old image.new result }
-    ensures causes { IsRightlyRefused S.view F.backing image.old image.new slots.old.prepared.items (found_in slots.old.mappings.items) (Command.CommitDataMapping slot) result }
+    ensures marks { FailsBy (refusal_in result) (is_failed image.old) (is_failed image.new) }
+    ensures causes { IsRightlyRefused S.view F.backing image.old image.new slots.old.prepared.items (mappings_in slots.old.mappings.items) (Command.CommitDataMapping slot) result }
     ensures slots { slots.new.image ≡ slots.old.image }
     ensures command_step { CommandSteps S.view F.backing image.old image.new slots.old slots.new (Command.CommitDataMapping slot) result }
     ensures finds { Finds slots.old slots.new (Command.CommitDataMapping slot) result }
@@ -602,7 +618,8 @@ fn discard<S: Storage, F: WrappedFormat<S>>(
     requires { slots.old.image ≡ number_of image.old }
     ensures image { IsSameImage image.old image.new }
     ensures faults { CommandCounts S.view F.backing image.old image.new result }
-    ensures causes { IsRightlyRefused S.view F.backing image.old image.new slots.old.prepared.items (found_in slots.old.mappings.items) (Command.DiscardDataMapping slot) result }
+    ensures marks { FailsBy (refusal_in result) (is_failed image.old) (is_failed image.new) }
+    ensures causes { IsRightlyRefused S.view F.backing image.old image.new slots.old.prepared.items (mappings_in slots.old.mappings.items) (Command.DiscardDataMapping slot) result }
     ensures slots { slots.new.image ≡ slots.old.image }
     ensures command_step { CommandSteps S.view F.backing image.old image.new slots.old slots.new (Command.DiscardDataMapping slot) result }
     ensures finds { Finds slots.old slots.new (Command.DiscardDataMapping slot) result }
@@ -622,7 +639,8 @@ fn flush<S: Storage, F: WrappedFormat<S>>(image: &mut Qcow2<S, F>) -> Reply
     ensures image { IsSameImage image.old image.new }
     ensures unwritten { StaysUnwritten S.view F.backing image.old image.new }
     ensures faults { CommandCounts S.view F.backing image.old image.new result }
-    ensures causes { (before : List (Option Prepared)) (found : ℕ → Option Found) → IsRightlyRefused S.view F.backing image.old image.new before found Command.Flush result }
+    ensures marks { FailsBy (refusal_in result) (is_failed image.old) (is_failed image.new) }
+    ensures causes { (before : List (Option Prepared)) (found : ℕ → Option Mapping) → IsRightlyRefused S.view F.backing image.old image.new before found Command.Flush result }
     ensures command_step { (slots : Slots) → CommandSteps S.view F.backing image.old image.new slots slots Command.Flush result }
     ensures finds { (slots : Slots) → Finds slots slots Command.Flush result }
 {
@@ -637,7 +655,8 @@ fn release_slot<S: Storage, F: WrappedFormat<S>>(image: &mut Qcow2<S, F>, slot: 
     requires { IfSome slot (λ p. image_of p ≡ number_of image.old) }
     ensures image { IsSameImage image.old image.new }
     ensures unwritten { IsUnmodified S.view image.old → IsOnlyRead S.view image.old image.new }
-    ensures faults { NoFewerFaults S.view F.backing image.old image.new }
+    ensures faults { SameFaults S.view F.backing image.old image.new }
+    ensures marks { is_failed image.new ≡ is_failed image.old }
     ensures sees { (out : List (Option Prepared)) → ReleasesMappings S.view F.backing image.old image.new (out ++ slot ∷ []) out }
 {
     if let Some(prepared) = slot {
@@ -651,7 +670,8 @@ fn discard_all<S: Storage, F: WrappedFormat<S>>(image: &mut Qcow2<S, F>, slots: 
     ensures image { IsSameImage image.old image.new }
     ensures sees { ReleasesMappings S.view F.backing image.old image.new slots.prepared.items [] }
     ensures unwritten { IsUnmodified S.view image.old → IsOnlyRead S.view image.old image.new }
-    ensures faults { NoFewerFaults S.view F.backing image.old image.new }
+    ensures faults { SameFaults S.view F.backing image.old image.new }
+    ensures marks { is_failed image.new ≡ is_failed image.old }
 {
     let Slots {
         image: _,

@@ -1,12 +1,12 @@
 //! The commands that change the size of the disk.
 ghost use Rattle.std.specs.Prelude.{ℕ, ◌≡◌, IsTrue, false, List, Option};
-ghost use Rattle.qcow2_disk.specs.Runs.{Found};
+ghost use Rattle.qcow2_image.specs.declared.mapping.Mapping.{Mapping};
 ghost use Rattle.qcow2_image.specs.Image.{is_failed, is_writable, size_of};
 ghost use Rattle.qcow2_image.specs.declared.prepared.Prepared.{Prepared};
 ghost use Rattle.qcow2_session.specs.Causes.{IsRightlyRefused};
-ghost use Rattle.qcow2_session.specs.CountedFaults.{CommandCounts};
+ghost use Rattle.qcow2_session.specs.CountedFaults.{CommandCounts, FailsBy, refusal_in};
 ghost use Rattle.qcow2_session.specs.Sessions.{CommandSteps, Finds};
-ghost use Rattle.qcow2_session.specs.Told.{KeepsItself};
+ghost use Rattle.qcow2_session.specs.Told.{KeepsItself, TellsOfImage};
 ghost use Rattle.qcow2_session.specs.declared.session.Command.TheVariants.{ResizeGrow, ResizeShrink};
 ghost use Rattle.qcow2_session.specs.declared.slots.Slots.{Slots};
 
@@ -24,7 +24,8 @@ pub(crate) fn grow<S: Storage, F: WrappedFormat<S>>(
     ensures reading { is_writable image.old ≡ false → image.new ≡ image.old }
     ensures size { IsTrue (is_failed image.old) → size_of image.new ≡ size_of image.old }
     ensures faults { CommandCounts S.view F.backing image.old image.new result }
-    ensures causes { (before : List (Option Prepared)) (found : ℕ → Option Found) → IsRightlyRefused S.view F.backing image.old image.new before found (ResizeGrow size mode) result }
+    ensures marks { FailsBy (refusal_in result) (is_failed image.old) (is_failed image.new) }
+    ensures causes { (before : List (Option Prepared)) (found : ℕ → Option Mapping) → IsRightlyRefused S.view F.backing image.old image.new before found (ResizeGrow size mode) result }
     ensures command_step { (slots : Slots) → CommandSteps S.view F.backing image.old image.new slots slots (ResizeGrow size mode) result }
     ensures finds { (slots : Slots) → Finds slots slots (ResizeGrow size mode) result }
 {
@@ -40,7 +41,9 @@ pub(crate) fn shrink<S: Storage, F: WrappedFormat<S>>(image: &mut Qcow2<S, F>, s
     ensures reading { is_writable image.old ≡ false → image.new ≡ image.old }
     ensures size { IsTrue (is_failed image.old) → size_of image.new ≡ size_of image.old }
     ensures faults { CommandCounts S.view F.backing image.old image.new result }
-    ensures causes { (before : List (Option Prepared)) (found : ℕ → Option Found) → IsRightlyRefused S.view F.backing image.old image.new before found (ResizeShrink size) result }
+    ensures marks { FailsBy (refusal_in result) (is_failed image.old) (is_failed image.new) }
+    ensures tells { (before : List (Option Prepared)) → TellsOfImage S.view F.backing image.old image.new before before (ResizeShrink size) result }
+    ensures causes { (before : List (Option Prepared)) (found : ℕ → Option Mapping) → IsRightlyRefused S.view F.backing image.old image.new before found (ResizeShrink size) result }
     ensures command_step { (slots : Slots) → CommandSteps S.view F.backing image.old image.new slots slots (ResizeShrink size) result }
     ensures finds { (slots : Slots) → Finds slots slots (ResizeShrink size) result }
 {

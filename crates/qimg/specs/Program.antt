@@ -12,7 +12,7 @@ use Rattle.qcow2_alloc.specs.declared.error.ImageError.TheVariants.{Memory}
 use Rattle.qcow2_image.specs.declared.image.Qcow2.{Qcow2}
 use Rattle.qcow2_image.specs.Calls.{FlushesImage}
 use Rattle.qcow2_image.specs.Image.{storage_of_image}
-use Rattle.qcow2_session.specs.Opening.{Headline, TellsOfOpened}
+use Rattle.qcow2_session.specs.Opening.{CountsSinceBefore, Headline, TellsOfOpened}
 use Rattle.qcow2_session.specs.declared.session.Command.{Command}
 use Rattle.qcow2_session.specs.declared.session.Reply.{Reply}
 use Rattle.qimg.specs.Lines.{order_of_command}
@@ -48,11 +48,12 @@ module _ {S F : Type 0} (view : S → StorageView) (backing : F → BackingView)
   IsClosed (Ok run) flush = (flushed : Qcow2 S F) × FlushesImage view backing run.0 flushed flush × (end ≡ storage_of_image flushed)
   IsClosed (Err refused) flush = end ≡ refused.0
 
-  -- However it ended, these commands were run: on an image that was opened from a storage, or on none, where opening it was refused.
+  -- However it ended, these commands were run: on an image that was opened from a storage, or on none, where opening it was refused. It was refused as a fault only where one was counted.
   pub record EndsRun (commands : List Command) : Type 0 where
     pub run : Result (Qcow2 S F × Vec Reply Global) (S × ImageError)
     pub headline : Headline view backing (view start) commands run
     pub told : TellsOfOpened view backing (view start) 1 commands run
+    pub counts : CountsSinceBefore view backing (view start) run
     pub flush : Result (Unit {0}) ImageError
     pub closed : IsClosed run flush
 

@@ -1,10 +1,14 @@
-use Rattle.std.proofs.Common.{◌≡◌, ℕ, sym, ap, ◌∙◌, subst}
+use Rattle.std.proofs.Common.{◌≡◌, ℕ, Result, Err, refl, sym, ap, ◌∙◌, subst}
+use Rattle.qcow2_alloc.specs.Faults.{FaultsTold}
+use Rattle.qcow2_alloc.specs.declared.error.ImageError.{ImageError}
+use Rattle.qcow2_image.proofs.Create.Causes.{told_opening}
+use Rattle.program_parts.proofs.Counted.{both_of, both_retold, both_since, image_refused, raw_refused}
 use Rattle.qcow2_metadata.specs.Bytes.{byte_at}
 use Rattle.qcow2_metadata.specs.Header.{header}
 use Rattle.qcow2_image.specs.declared.builder.Qcow2CreateBuilder.{Qcow2CreateBuilder}
 use Rattle.qcow2_image.specs.Image.{storage_of_image}
 use Rattle.qcow2_image.proofs.Create.NewDisks.{new_disk_consistent}
-use Rattle.program_parts.specs.Conversions.{IsImageOf}
+use Rattle.program_parts.specs.Conversions.{CountsBoth, IsImageOf}
 use Rattle.program_parts.proofs.Imported.{of_ok, ok_both, has_image}
 use Rattle.program_parts.proofs.conversions.make_image.Goals as goal
 
@@ -31,3 +35,43 @@ returns-in-Ok-open_alone-clause-image g c = λ raw_honest honest.
     (has_image view _ c.in-Ok-open_alone.image c.fill-imported.new.image bytes n h from.opened c.in-Ok-open_alone.ensures.below (c.in-Ok-open_alone.ensures.format made.honest) writable
     (λ k. ap (λ (f : ℕ → ℕ). f k) from.surplus ∙ made.no_leaks k) c.fill-imported.ensures.image empty imports))))
     (c.fill-imported.ensures.sees (c.size.ensures.calls.honest raw_honest)) (c.fill-imported.ensures.emptied writable)
+
+pub returns-in-Err-clause-faults : goal.returns-in-Err-clause-faults
+returns-in-Err-clause-faults g c =
+    let n = (g.S.Storage.view c.args.storage).faults in
+    let before = (g.R.Storage.view c.args.raw.now).faults in
+    let now = (g.R.Storage.view c.size.new.self).faults in
+    subst (λ (x : ImageError). CountsBoth {T = ℕ} n n before now (Err x)) (sym c.from.ensures) (raw_refused n before now c.size.result c.in-Err.e c.size.ensures.calls.cause c.in-Err.is)
+
+pub returns-in-Err-created-clause-faults : goal.returns-in-Err-created-clause-faults
+returns-in-Err-created-clause-faults g c =
+    let view = g.S.Storage.view in
+    let image_is : c.refcount_width.result.image ≡ c.args.storage =
+    ap (λ (b : Qcow2CreateBuilder g.row.S.Denot). b.image) c.refcount_width.ensures ∙ ap (λ (b : Qcow2CreateBuilder g.row.S.Denot). b.image) c.cluster_size.ensures
+    ∙ ap (λ (b : Qcow2CreateBuilder g.row.S.Denot). b.image) c.size-2.ensures ∙ ap (λ (b : Qcow2CreateBuilder g.row.S.Denot). b.image) c.new.ensures
+    in
+    let first = ap (λ s. (view s).faults) image_is in
+    both_retold _ _ _ _ c.in-Err-created.e (image_refused _ _ _ _ _ c.in-Err-created.e first c.in-Ok.ensures.calls.cause.told (subst (λ (r : Result _ _). FaultsTold (view c.refcount_width.result.image).faults (view c.create-storage.result.0).faults r) c.in-Err-created.is c.create-storage.ensures.faults))
+
+pub returns-in-Err-open_alone-clause-faults : goal.returns-in-Err-open_alone-clause-faults
+returns-in-Err-open_alone-clause-faults g c =
+    let view = g.S.Storage.view in
+    let image_is : c.refcount_width.result.image ≡ c.args.storage =
+    ap (λ (b : Qcow2CreateBuilder g.row.S.Denot). b.image) c.refcount_width.ensures ∙ ap (λ (b : Qcow2CreateBuilder g.row.S.Denot). b.image) c.cluster_size.ensures
+    ∙ ap (λ (b : Qcow2CreateBuilder g.row.S.Denot). b.image) c.size-2.ensures ∙ ap (λ (b : Qcow2CreateBuilder g.row.S.Denot). b.image) c.new.ensures
+    in
+    let first = ap (λ s. (view s).faults) image_is in
+    let made = (subst (λ (r : Result _ _). FaultsTold (view c.refcount_width.result.image).faults (view c.create-storage.result.0).faults r) c.in_default.is c.create-storage.ensures.faults).told in
+    image_refused _ _ _ _ _ c.in-Err-open_alone.e (made ∙ first) c.in-Ok.ensures.calls.cause.told (told_opening view (view c.create-storage.result.0).faults c.in-Err-open_alone.storage c.in-Err-open_alone.e c.in-Err-open_alone.ensures.faults)
+
+pub returns-in-Ok-open_alone-clause-faults : goal.returns-in-Ok-open_alone-clause-faults
+returns-in-Ok-open_alone-clause-faults g c =
+    let view = g.S.Storage.view in
+    let image_is : c.refcount_width.result.image ≡ c.args.storage =
+    ap (λ (b : Qcow2CreateBuilder g.row.S.Denot). b.image) c.refcount_width.ensures ∙ ap (λ (b : Qcow2CreateBuilder g.row.S.Denot). b.image) c.cluster_size.ensures
+    ∙ ap (λ (b : Qcow2CreateBuilder g.row.S.Denot). b.image) c.size-2.ensures ∙ ap (λ (b : Qcow2CreateBuilder g.row.S.Denot). b.image) c.new.ensures
+    in
+    let first = ap (λ s. (view s).faults) image_is in
+    let made = (subst (λ (r : Result _ _). FaultsTold (view c.refcount_width.result.image).faults (view c.create-storage.result.0).faults r) c.in_default.is c.create-storage.ensures.faults).told in
+    let opened = c.in-Ok-open_alone.ensures.faults.told in
+    both_since _ _ _ _ _ _ _ (opened ∙ made ∙ first) c.in-Ok.ensures.calls.cause.told (both_of view _ (λ b. refl) c.in-Ok-open_alone.image c.fill-imported.new.image c.into_storage.result _ _ c.fill-imported.result c.fill-imported.ensures.faults c.into_storage.ensures)

@@ -1,4 +1,6 @@
-use Rattle.std.proofs.Common.{[], inl, inr, sym, subst}
+use Rattle.std.proofs.Common.{[], inl, inr, refl, sym, subst}
+use Rattle.qcow2_image.proofs.Create.Causes.{told_opening}
+use Rattle.program_parts.proofs.Counted.{both_of, both_since, image_refused}
 use Rattle.program_parts.specs.Conversions.{IsExport, KeepsDisk}
 use Rattle.program_parts.proofs.Imported.{ok_then}
 use Rattle.qcow2_image.specs.Image.{storage_of_image}
@@ -39,3 +41,13 @@ returns-in-Ok-clause-unwritten g c = λ honest consistent.
 
 pub returns-in-Err-clause-unwritten : goal.returns-in-Err-clause-unwritten
 returns-in-Err-clause-unwritten g c = λ honest consistent. opened_still (g.S.Storage.view c.args.storage) (g.S.Storage.view c.in-Err.storage) (c.in-Err.ensures.storage.at_once honest) (elim (c.in-Err.ensures.storage.contents honest) [ inl stay ↦ stay | inr made ↦ made.2 ])
+
+pub returns-in-Err-clause-faults : goal.returns-in-Err-clause-faults
+returns-in-Err-clause-faults g c = image_refused _ _ _ _ _ c.in-Err.e refl refl (told_opening g.S.Storage.view (g.S.Storage.view c.args.storage).faults c.in-Err.storage c.in-Err.e c.in-Err.ensures.faults)
+
+pub returns-in-Ok-clause-faults : goal.returns-in-Ok-clause-faults
+returns-in-Ok-clause-faults g c =
+    let view = g.S.Storage.view in
+    let opened = c.in-Ok.ensures.faults.told in
+    c.flushed-exported.ensures.faults (view c.args.storage).faults (view c.into_storage.result).faults (g.R.Storage.view c.args.raw.now).faults
+    (both_since _ _ _ _ _ _ _ opened refl (both_of view _ (λ b. refl) c.in-Ok.image c.to_raw-copied.new.image c.into_storage.result _ _ c.to_raw-copied.result c.to_raw-copied.ensures.faults c.into_storage.ensures))

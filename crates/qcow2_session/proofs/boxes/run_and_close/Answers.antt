@@ -19,7 +19,11 @@ returns-in-Err-set_backing g c =
             let has = (c.set_backing.ensures.prepared works [] sound).0 (subst (λ (r : Result _ _). IsErr r) (sym c.in-Err-set_backing.is) refl) in
             absurd (let bad : None ≡ Some (Some has.mapping) = has.there in cc),
       );
+      another = λ honest needs. absurd ((c.in-Ok.ensures.another honest needs).0);
     }
+
+pub returns-in-Err-clause-another : goal.returns-in-Err-clause-another
+returns-in-Err-clause-another g c = λ honest needs. (refl, (c.in-Err.ensures.another honest needs).1)
 
 pub returns : goal.returns
 returns g c =
@@ -46,4 +50,5 @@ returns g c =
         tells = subst (λ (i : Qcow2 _ _). TellsThrough view below i c.run-replies.new.image c.args.commands.now c.run-replies.result.items) done c.run-replies.ensures.tells;
         is_left = c.into_storage-2.ensures;
       };
+      another = λ honest needs. absurd ((c.in-Ok.ensures.another honest needs).0);
     }

@@ -3,13 +3,13 @@ use Rattle.std.proofs.Math.Nat.{le_refl, le_trans}
 use Rattle.std.proofs.lemmas.Grind.{common_steps}
 use Rattle.qcow2_image.specs.ImageInvariant.{abstract_of}
 use Rattle.qcow2_session.specs.Conversions.{Fills}
-use Rattle.qcow2_session.proofs.Counting.{converting_part, none_counted}
+use Rattle.qcow2_session.proofs.Counting.{converted, converting_part, none_counted}
 use Rattle.qcow2_session.proofs.Converting.{does_nothing, interrupted_if, interrupted_then}
 use Rattle.std.specs.Prelude.{IfErr}
 use Rattle.qcow2_image.specs.Image.{size_of}
 use Rattle.qcow2_image.specs.Refusals.{IsMet}
 use Rattle.qcow2_session.proofs.Exporting.{part_of_disk, unchanged_refused, fills_more}
-use Rattle.qcow2_image.proofs.Call.FaultCounts.{fewer_then}
+use Rattle.qcow2_image.proofs.Call.FaultCounts.{faults_then}
 use Rattle.qcow2_image.proofs.Map.Unmodified.{read_none, read_then}
 use Rattle.qcow2_session.proofs.Told.{same_then}
 use Rattle.qcow2_session.proofs.Turns.{refused_is, none_within, does_if, does_then}
@@ -30,7 +30,7 @@ returns-in_err-export_at-clause-unwritten g c = λ reading out sound clean.
 pub loop-at-init : goal.loop-at-init
 loop-at-init g c = record {
   faults = none_counted g.S.Storage.view g.F.BackingDisk.backing c.args.image.now;
-  counted = le_refl (g.R.Storage.view c.args.raw.now).faults;
+  counted = refl;
   within = omega arith;
   image = record { number = refl; size = refl; writable = refl; external = refl };
   unwritten = λ reading out sound clean. read_none g.S.Storage.view c.args.image.now clean;
@@ -44,8 +44,8 @@ loop-at-preserved g c =
     let view = g.S.Storage.view in
     let below = g.F.BackingDisk.backing in
     record {
-      faults = fewer_then g.S.Storage.view g.F.BackingDisk.backing c.args.image.now c.loop-at.image c.export_at.new.image c.loop-at.invariant.faults c.export_at.ensures.faults.no_fewer;
-      counted = le_trans c.loop-at.invariant.counted c.export_at.ensures.faults.raw;
+      faults = faults_then g.S.Storage.view g.F.BackingDisk.backing c.args.image.now c.loop-at.image c.export_at.new.image c.loop-at.invariant.faults c.in_ok-export_at.ensures.faults.told.0;
+      counted = c.in_ok-export_at.ensures.faults.told.1 ∙ c.loop-at.invariant.counted;
       within = grind (arith, common_steps);
       image = same_then c.loop-at.invariant.image c.export_at.ensures.image;
       unwritten = λ reading out sound clean.
@@ -77,4 +77,4 @@ returns-in_err-export_at-clause-faults g c =
     c.export_at.result c.in_err-export_at.field-0.0 _ c.export_at.ensures.faults c.in_err-export_at.was (refused_is _ c.in_err-export_at.field-0.0 c.from_residual.ensures)
 
 pub returns-clause-faults : goal.returns-clause-faults
-returns-clause-faults g c = record { no_fewer = c.loop-at.invariant.faults; raw = c.loop-at.invariant.counted; rose = tt }
+returns-clause-faults g c = converted _ _ _ _ _ _ _ (c.loop-at.invariant.faults) (c.loop-at.invariant.counted)

@@ -1,4 +1,4 @@
-use Rattle.std.proofs.Common.{◌≡◌, ◌+◌, ◌∙◌, length, sym, subst, arith}
+use Rattle.std.proofs.Common.{◌≡◌, ◌+◌, ◌∙◌, length, sym, subst, arith, refl}
 use Rattle.std.proofs.Math.Nat.{le_refl}
 use Rattle.std.proofs.lemmas.Grind.{common_steps}
 use Rattle.image_access.specs.Contents.{overwritten}
@@ -11,7 +11,7 @@ use Rattle.qcow2_image.specs.Refusals.{IsMet}
 use Rattle.qcow2_image.proofs.Call.MetErrors.{storage_met}
 use Rattle.qcow2_session.specs.Conversions.{IsFilledUpTo}
 use Rattle.qcow2_session.proofs.Converting.{interrupted, interrupted_here}
-use Rattle.qcow2_session.proofs.Counting.{converting_image, converting_raw, none_counted}
+use Rattle.qcow2_session.proofs.Counting.{converted, converting_image, converting_raw, none_counted}
 use Rattle.qcow2_session.proofs.Exporting.{filled_same, filled_more, unchanged_refused}
 use Rattle.qcow2_session.proofs.Turns.{refused_is, does_if}
 use Rattle.qcow2_session.proofs.convert.export_at.Goals as goal
@@ -54,16 +54,16 @@ returns-in_err-write-clause-late g c = λ none. subst (λ r. IfErr r IsMet) (sym
 
 pub returns-in_err-read_into-clause-faults : goal.returns-in_err-read_into-clause-faults
 returns-in_err-read_into-clause-faults g c =
-    converting_image g.S.Storage.view g.F.BackingDisk.backing c.args.image.now c.args.image.now c.read_into.new.image (g.R.Storage.view c.args.raw.now).faults (g.R.Storage.view c.args.raw.now).faults (none_counted g.S.Storage.view g.F.BackingDisk.backing c.args.image.now) (le_refl (g.R.Storage.view c.args.raw.now).faults)
+    converting_image g.S.Storage.view g.F.BackingDisk.backing c.args.image.now c.args.image.now c.read_into.new.image (g.R.Storage.view c.args.raw.now).faults (g.R.Storage.view c.args.raw.now).faults (none_counted g.S.Storage.view g.F.BackingDisk.backing c.args.image.now) refl
     c.read_into.result c.in_err-read_into.field-0.0 _ c.read_into.ensures.faults c.in_err-read_into.was (refused_is _ c.in_err-read_into.field-0.0 c.from_residual.ensures)
 
 pub returns-then-is_same-clause-faults : goal.returns-then-is_same-clause-faults
-returns-then-is_same-clause-faults g c = record { no_fewer = c.read_into.ensures.faults.no_fewer; raw = le_refl (g.R.Storage.view c.args.raw.now).faults; rose = tt }
+returns-then-is_same-clause-faults g c = converted _ _ _ _ _ _ _ (c.in_ok-read_into.ensures.faults.told) (refl)
 
 pub returns-in_err-write-clause-faults : goal.returns-in_err-write-clause-faults
 returns-in_err-write-clause-faults g c =
-    converting_raw g.S.Storage.view g.F.BackingDisk.backing c.args.image.now c.read_into.new.image (g.R.Storage.view c.args.raw.now).faults (g.R.Storage.view c.args.raw.now).faults (g.R.Storage.view c.write.new.self).faults c.read_into.ensures.faults.no_fewer (le_refl (g.R.Storage.view c.args.raw.now).faults)
+    converting_raw g.S.Storage.view g.F.BackingDisk.backing c.args.image.now c.read_into.new.image (g.R.Storage.view c.args.raw.now).faults (g.R.Storage.view c.args.raw.now).faults (g.R.Storage.view c.write.new.self).faults c.in_ok-read_into.ensures.faults.told refl
     c.write.result c.in_err-write.field-0.0 _ c.write.ensures.calls.cause c.in_err-write.was (refused_is _ (of_storage c.in_err-write.field-0.0) c.from_residual-in_err-write.ensures)
 
 pub returns-clause-faults : goal.returns-clause-faults
-returns-clause-faults g c = record { no_fewer = c.read_into.ensures.faults.no_fewer; raw = c.write.ensures.calls.cause.no_fewer; rose = tt }
+returns-clause-faults g c = converted _ _ _ _ _ _ _ (c.in_ok-read_into.ensures.faults.told) (c.in_ok-write.ensures.calls.cause.told)

@@ -9,8 +9,8 @@ use Rattle.qcow2_image.specs.ImageInvariant.{abstract_of}
 use Rattle.std.specs.Prelude.{IfErr, Ok}
 use Rattle.qcow2_disk.specs.AbstractImages.{Setting}
 use Rattle.qcow2_session.specs.Conversions.{ImportsAnyOf, IsReasonNotToWrite}
-use Rattle.qcow2_image.proofs.Call.FaultCounts.{fewer_then}
-use Rattle.qcow2_session.proofs.Counting.{converting_part, none_counted}
+use Rattle.qcow2_image.proofs.Call.FaultCounts.{faults_then}
+use Rattle.qcow2_session.proofs.Counting.{converted, converting_part, none_counted}
 use Rattle.qcow2_session.proofs.Differing.{part_kept}
 use Rattle.qcow2_session.proofs.Exporting.{part_of_disk}
 use Rattle.qcow2_session.proofs.Reasons.{reason_within}
@@ -22,7 +22,7 @@ use Rattle.qcow2_session.proofs.convert.import_all.Goals as goal
 pub loop-at-init : goal.loop-at-init
 loop-at-init g c = record {
   faults = none_counted g.S.Storage.view g.F.BackingDisk.backing c.args.image.now;
-  counted = le_refl (g.R.Storage.view c.args.raw.now).faults;
+  counted = refl;
   within = omega arith;
   aligned = λ lt. zero-mod (length c.args.wanted.now);
   image = record { number = refl; size = refl; writable = refl; external = refl };
@@ -42,8 +42,8 @@ loop-at-preserved g c =
     let kept : length c.import_at.new.wanted ≡ c.min-count.result = grind (arith, common_steps) in
     let whole : length c.loop-at.wanted ≡ length (c.import_at.new.wanted ++ drop c.min-count.result c.loop-at.wanted) = grind (arith, common_steps) in
     record {
-      faults = fewer_then g.S.Storage.view g.F.BackingDisk.backing c.args.image.now c.loop-at.image c.import_at.new.image c.loop-at.invariant.faults c.import_at.ensures.faults.no_fewer;
-      counted = le_trans c.loop-at.invariant.counted c.import_at.ensures.faults.raw;
+      faults = faults_then g.S.Storage.view g.F.BackingDisk.backing c.args.image.now c.loop-at.image c.import_at.new.image c.loop-at.invariant.faults c.in_ok-import_at.ensures.faults.told.0;
+      counted = c.in_ok-import_at.ensures.faults.told.1 ∙ c.loop-at.invariant.counted;
       within = grind (arith, common_steps);
       aligned = λ more. subst (λ k. (c.loop-at.at + c.min-count.result) % k ≡ 0) whole
           (next_aligned c.loop-at.at c.min-count.result (length c.loop-at.wanted) c.args.size c.min-count.ensures (c.loop-at.invariant.aligned c.loop-at-test.true) more);
@@ -110,7 +110,7 @@ returns-in_err-import_at-clause-faults g c =
     c.import_at.result c.in_err-import_at.field-0.0 _ c.import_at.ensures.faults c.in_err-import_at.was (refused_is _ c.in_err-import_at.field-0.0 c.from_residual.ensures)
 
 pub returns-clause-faults : goal.returns-clause-faults
-returns-clause-faults g c = record { no_fewer = c.loop-at.invariant.faults; raw = c.loop-at.invariant.counted; rose = tt }
+returns-clause-faults g c = converted _ _ _ _ _ _ _ (c.loop-at.invariant.faults) (c.loop-at.invariant.counted)
 
 pub returns-in_err-import_at-clause-differs : goal.returns-in_err-import_at-clause-differs
 returns-in_err-import_at-clause-differs g c = λ honest size.

@@ -4,7 +4,7 @@ use Rattle.qcow2_disk.specs.Calls.{AnsweredEffect, with_disk}
 use Rattle.qcow2_disk.specs.Disk.{with_bytes}
 use Rattle.qcow2_disk.specs.Mappings.{given_of}
 use Rattle.qcow2_disk.specs.AbstractImages.{guest_of}
-use Rattle.qcow2_image.specs.Faults.{NoFewerFaults}
+use Rattle.qcow2_image.specs.Faults.{SameFaults}
 use Rattle.qcow2_image.specs.Image.{IsSameImage}
 use Rattle.qcow2_image.specs.ImageInvariant.{abstract_of}
 use Rattle.qcow2_image.specs.declared.prepared.Prepared.{Prepared}
@@ -13,8 +13,8 @@ use Rattle.qcow2_session.proofs.convert.import_all.Given as goal
 
 abbrev pub invariant-loop-at : goal.invariant-loop-at
 invariant-loop-at g l = record {
-  faults : NoFewerFaults g.S.Storage.view g.F.BackingDisk.backing l.fn.image l.image;
-  counted : (g.R.Storage.view l.fn.raw).faults ≤ (g.R.Storage.view l.raw).faults;
+  faults : SameFaults g.S.Storage.view g.F.BackingDisk.backing l.fn.image l.image;
+  counted : (g.R.Storage.view l.raw).faults ≡ (g.R.Storage.view l.fn.raw).faults;
   within : l.at ≤ l.size;
   aligned : l.at < l.size → l.at % length l.wanted ≡ 0;
   image : IsSameImage l.fn.image l.image;

@@ -4,14 +4,14 @@ use Rattle.std.specs.Prelude.{IfErr}
 use Rattle.image_access.specs.Contents.{bytes_at}
 use Rattle.qcow2_disk.specs.AbstractImages.{Setting}
 use Rattle.qcow2_image.specs.Refusals.{refuses_to_read}
-use Rattle.qcow2_image.proofs.Call.FaultCounts.{fewer_then}
+use Rattle.qcow2_image.proofs.Call.FaultCounts.{faults_then}
 use Rattle.qcow2_image.proofs.Call.MetErrors.{storage_met}
 use Rattle.qcow2_session.specs.Conversions.{IsReasonNotToWrite}
 use Rattle.qcow2_session.proofs.Reasons.{write_reason}
 use Rattle.std.proofs.lemmas.Grind.{common_steps}
 use Rattle.qcow2_alloc.specs.ImageError.{of_storage}
 use Rattle.qcow2_image.specs.ImageInvariant.{abstract_of}
-use Rattle.qcow2_session.proofs.Counting.{converting_image, converting_raw, image_tells, none_counted}
+use Rattle.qcow2_session.proofs.Counting.{converted, converting_image, converting_raw, fewer_since, image_tells, none_counted}
 use Rattle.qcow2_session.proofs.Differing.{other_bytes, reading_differs}
 use Rattle.qcow2_session.proofs.Converting.{does_nothing, interrupted, interrupted_here, at_refused, at_shown, at_written, at_unwritten}
 use Rattle.qcow2_session.proofs.Turns.{refused_is}
@@ -98,27 +98,30 @@ returns-in-Err-clause-late g c = λ none out sound.
 
 pub returns-in_err-read-clause-faults : goal.returns-in_err-read-clause-faults
 returns-in_err-read-clause-faults g c =
-    converting_raw g.S.Storage.view g.F.BackingDisk.backing c.args.image.now c.args.image.now (g.R.Storage.view c.args.raw.now).faults (g.R.Storage.view c.args.raw.now).faults (g.R.Storage.view c.read.new.self).faults (none_counted g.S.Storage.view g.F.BackingDisk.backing c.args.image.now) (le_refl (g.R.Storage.view c.args.raw.now).faults)
+    converting_raw g.S.Storage.view g.F.BackingDisk.backing c.args.image.now c.args.image.now (g.R.Storage.view c.args.raw.now).faults (g.R.Storage.view c.args.raw.now).faults (g.R.Storage.view c.read.new.self).faults (none_counted g.S.Storage.view g.F.BackingDisk.backing c.args.image.now) refl
     c.read.result c.in_err-read.field-0.0 _ c.read.ensures.calls.cause c.in_err-read.was (refused_is _ (of_storage c.in_err-read.field-0.0) c.from_residual.ensures)
 
 pub returns-in_err-read_into-clause-faults : goal.returns-in_err-read_into-clause-faults
 returns-in_err-read_into-clause-faults g c =
-    converting_image g.S.Storage.view g.F.BackingDisk.backing c.args.image.now c.args.image.now c.read_into.new.image (g.R.Storage.view c.args.raw.now).faults (g.R.Storage.view c.read.new.self).faults (none_counted g.S.Storage.view g.F.BackingDisk.backing c.args.image.now) c.read.ensures.calls.cause.no_fewer
+    converting_image g.S.Storage.view g.F.BackingDisk.backing c.args.image.now c.args.image.now c.read_into.new.image (g.R.Storage.view c.args.raw.now).faults (g.R.Storage.view c.read.new.self).faults (none_counted g.S.Storage.view g.F.BackingDisk.backing c.args.image.now) c.in_ok-read.ensures.calls.cause.told
     c.read_into.result c.in_err-read_into.field-0.0 _ c.read_into.ensures.faults c.in_err-read_into.was (refused_is _ c.in_err-read_into.field-0.0 c.from_residual-in_err-read_into.ensures)
 
 pub returns-then-is_same-clause-faults : goal.returns-then-is_same-clause-faults
-returns-then-is_same-clause-faults g c = record { no_fewer = c.read_into.ensures.faults.no_fewer; raw = c.read.ensures.calls.cause.no_fewer; rose = tt }
+returns-then-is_same-clause-faults g c = converted _ _ _ _ _ _ _ (c.in_ok-read_into.ensures.faults.told) (c.in_ok-read.ensures.calls.cause.told)
 
 pub returns-in-Ok-clause-faults : goal.returns-in-Ok-clause-faults
 returns-in-Ok-clause-faults g c =
-    record { no_fewer = fewer_then g.S.Storage.view g.F.BackingDisk.backing c.args.image.now c.read_into.new.image c.write.new.image c.read_into.ensures.faults.no_fewer c.write.ensures.faults.0; raw = c.read.ensures.calls.cause.no_fewer; rose = tt }
+    converted _ _ _ _ _ _ _ (faults_then g.S.Storage.view g.F.BackingDisk.backing c.args.image.now c.read_into.new.image c.write.new.image c.in_ok-read_into.ensures.faults.told c.in-Ok.ensures.faults.2) (c.in_ok-read.ensures.calls.cause.told)
 
 pub returns-in-Err-clause-faults : goal.returns-in-Err-clause-faults
 returns-in-Err-clause-faults g c =
+    let first = c.in_ok-read_into.ensures.faults.told in
+    let same = c.in_ok-read.ensures.calls.cause.told in
     record {
-      no_fewer = fewer_then g.S.Storage.view g.F.BackingDisk.backing c.args.image.now c.read_into.new.image c.write.new.image c.read_into.ensures.faults.no_fewer c.write.ensures.faults.0;
+      no_fewer = fewer_since g.S.Storage.view g.F.BackingDisk.backing c.args.image.now c.read_into.new.image c.write.new.image first c.write.ensures.faults.0;
       raw = c.read.ensures.calls.cause.no_fewer;
-      rose = image_tells g.S.Storage.view g.F.BackingDisk.backing c.args.image.now c.read_into.new.image c.write.new.image (g.R.Storage.view c.args.raw.now).faults (g.R.Storage.view c.read.new.self).faults c.in-Err.refusal c.read_into.ensures.faults.no_fewer c.in-Err.ensures.faults.1;
+      rose = image_tells g.S.Storage.view g.F.BackingDisk.backing c.args.image.now c.read_into.new.image c.write.new.image (g.R.Storage.view c.args.raw.now).faults (g.R.Storage.view c.read.new.self).faults c.in-Err.refusal first c.in-Err.ensures.faults.1;
+      told = λ other. (faults_then g.S.Storage.view g.F.BackingDisk.backing c.args.image.now c.read_into.new.image c.write.new.image first (c.in-Err.ensures.faults.2 other), same);
     }
 
 pub returns-in_err-read-clause-differs : goal.returns-in_err-read-clause-differs

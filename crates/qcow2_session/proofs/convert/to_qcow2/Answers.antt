@@ -3,14 +3,14 @@ use Rattle.std.proofs.Math.Nat.{le_refl, le_trans}
 use Rattle.image_access.specs.Moments.{HasCause}
 use Rattle.qcow2_image.specs.Image.{size_of}
 use Rattle.qcow2_image.specs.Refusals.{refuses_to_read}
-use Rattle.qcow2_image.proofs.Call.FaultCounts.{fewer_then}
+use Rattle.qcow2_image.proofs.Call.FaultCounts.{faults_then}
 use Rattle.qcow2_image.proofs.Call.MetErrors.{storage_met, tables_met}
 use Rattle.std.proofs.Common.{◌≡◌, ◌⊎◌, inl, inr, refl, sym, ap, ◌∙◌, subst, length, Ok, Err}
 use Rattle.qcow2_alloc.specs.ImageError.{of_storage}
 use Rattle.qcow2_alloc.specs.declared.error.ImageError.TheVariants.{InvalidOption, Memory}
 use Rattle.qcow2_session.specs.Conversions.{DiffersWhereKept, Imports, ImportsAll, IsReasonNotToWrite, IsRefusedUnequal}
 use Rattle.qcow2_session.specs.Sessions.{IsOfReading}
-use Rattle.qcow2_session.proofs.Counting.{converting_else, converting_image, converting_part, converting_raw, none_counted}
+use Rattle.qcow2_session.proofs.Counting.{converted, converting_else, converting_image, converting_part, converting_raw, none_counted}
 use Rattle.qcow2_session.proofs.Differing.{early_reading, option_other, reading_differs, reading_other, size_untold}
 use Rattle.qcow2_session.proofs.Converting.{any_nothing, imports_nothing, imports_unflushed, imports_flushed}
 use Rattle.qcow2_session.proofs.Turns.{refused_is}
@@ -137,41 +137,39 @@ returns-in_err-size-clause-unequal g c = λ honest differ.
 
 pub returns-in_err-check_read-clause-faults : goal.returns-in_err-check_read-clause-faults
 returns-in_err-check_read-clause-faults g c =
-    converting_else g.S.Storage.view g.F.BackingDisk.backing c.args.image.now c.args.image.now (g.R.Storage.view c.args.raw.now).faults (g.R.Storage.view c.args.raw.now).faults (none_counted g.S.Storage.view g.F.BackingDisk.backing c.args.image.now) (le_refl (g.R.Storage.view c.args.raw.now).faults) c.in_err-check_read.field-0.0 _ c.in_err-check_read.ensures.faults (refused_is _ c.in_err-check_read.field-0.0 c.from_residual.ensures)
+    converting_else g.S.Storage.view g.F.BackingDisk.backing c.args.image.now c.args.image.now (g.R.Storage.view c.args.raw.now).faults (g.R.Storage.view c.args.raw.now).faults (none_counted g.S.Storage.view g.F.BackingDisk.backing c.args.image.now) refl c.in_err-check_read.field-0.0 _ c.in_err-check_read.ensures.faults (refused_is _ c.in_err-check_read.field-0.0 c.from_residual.ensures)
 
 pub returns-in_err-size-clause-faults : goal.returns-in_err-size-clause-faults
 returns-in_err-size-clause-faults g c =
-    converting_raw g.S.Storage.view g.F.BackingDisk.backing c.args.image.now c.args.image.now (g.R.Storage.view c.args.raw.now).faults (g.R.Storage.view c.args.raw.now).faults (g.R.Storage.view c.size.new.self).faults (none_counted g.S.Storage.view g.F.BackingDisk.backing c.args.image.now) (le_refl (g.R.Storage.view c.args.raw.now).faults)
+    converting_raw g.S.Storage.view g.F.BackingDisk.backing c.args.image.now c.args.image.now (g.R.Storage.view c.args.raw.now).faults (g.R.Storage.view c.args.raw.now).faults (g.R.Storage.view c.size.new.self).faults (none_counted g.S.Storage.view g.F.BackingDisk.backing c.args.image.now) refl
     c.size.result c.in_err-size.field-0.0 _ c.size.ensures.calls.cause c.in_err-size.was (refused_is _ (of_storage c.in_err-size.field-0.0) c.from_residual-in_err-size.ensures)
 
 pub returns-then-size-clause-faults : goal.returns-then-size-clause-faults
-returns-then-size-clause-faults g c = record { no_fewer = none_counted g.S.Storage.view g.F.BackingDisk.backing c.args.image.now; raw = c.size.ensures.calls.cause.no_fewer; rose = λ is. absurd cc }
+returns-then-size-clause-faults g c =
+    converting_else g.S.Storage.view g.F.BackingDisk.backing c.args.image.now c.args.image.now (g.R.Storage.view c.args.raw.now).faults (g.R.Storage.view c.size.new.self).faults (none_counted g.S.Storage.view g.F.BackingDisk.backing c.args.image.now) c.in_ok-size.ensures.calls.cause.told InvalidOption _ (λ is. absurd cc) refl
 
 pub returns-in_err-wanted-clause-faults : goal.returns-in_err-wanted-clause-faults
 returns-in_err-wanted-clause-faults g c =
-    converting_else g.S.Storage.view g.F.BackingDisk.backing c.args.image.now c.args.image.now (g.R.Storage.view c.args.raw.now).faults (g.R.Storage.view c.size.new.self).faults (none_counted g.S.Storage.view g.F.BackingDisk.backing c.args.image.now) c.size.ensures.calls.cause.no_fewer Memory _ (λ is. absurd cc) (refused_is _ Memory c.from_residual-in_err-wanted.ensures)
+    converting_else g.S.Storage.view g.F.BackingDisk.backing c.args.image.now c.args.image.now (g.R.Storage.view c.args.raw.now).faults (g.R.Storage.view c.size.new.self).faults (none_counted g.S.Storage.view g.F.BackingDisk.backing c.args.image.now) c.in_ok-size.ensures.calls.cause.told Memory _ (λ is. absurd cc) (refused_is _ Memory c.from_residual-in_err-wanted.ensures)
 
 pub returns-in_err-present-clause-faults : goal.returns-in_err-present-clause-faults
 returns-in_err-present-clause-faults g c =
-    converting_else g.S.Storage.view g.F.BackingDisk.backing c.args.image.now c.args.image.now (g.R.Storage.view c.args.raw.now).faults (g.R.Storage.view c.size.new.self).faults (none_counted g.S.Storage.view g.F.BackingDisk.backing c.args.image.now) c.size.ensures.calls.cause.no_fewer Memory _ (λ is. absurd cc) (refused_is _ Memory c.from_residual-in_err-present.ensures)
+    converting_else g.S.Storage.view g.F.BackingDisk.backing c.args.image.now c.args.image.now (g.R.Storage.view c.args.raw.now).faults (g.R.Storage.view c.size.new.self).faults (none_counted g.S.Storage.view g.F.BackingDisk.backing c.args.image.now) c.in_ok-size.ensures.calls.cause.told Memory _ (λ is. absurd cc) (refused_is _ Memory c.from_residual-in_err-present.ensures)
 
 pub returns-in_err-import_all-clause-faults : goal.returns-in_err-import_all-clause-faults
 returns-in_err-import_all-clause-faults g c =
-    converting_part g.S.Storage.view g.F.BackingDisk.backing c.args.image.now c.args.image.now c.import_all.new.image (g.R.Storage.view c.args.raw.now).faults (g.R.Storage.view c.size.new.self).faults (g.R.Storage.view c.import_all.new.raw).faults (none_counted g.S.Storage.view g.F.BackingDisk.backing c.args.image.now) c.size.ensures.calls.cause.no_fewer
+    converting_part g.S.Storage.view g.F.BackingDisk.backing c.args.image.now c.args.image.now c.import_all.new.image (g.R.Storage.view c.args.raw.now).faults (g.R.Storage.view c.size.new.self).faults (g.R.Storage.view c.import_all.new.raw).faults (none_counted g.S.Storage.view g.F.BackingDisk.backing c.args.image.now) c.in_ok-size.ensures.calls.cause.told
     c.import_all.result c.in_err-import_all.field-0.0 _ c.import_all.ensures.faults c.in_err-import_all.was (refused_is _ c.in_err-import_all.field-0.0 c.from_residual-in_err-import_all.ensures)
 
 pub returns-in_err-flush-clause-faults : goal.returns-in_err-flush-clause-faults
 returns-in_err-flush-clause-faults g c =
-    converting_image g.S.Storage.view g.F.BackingDisk.backing c.args.image.now c.import_all.new.image c.flush.new.self (g.R.Storage.view c.args.raw.now).faults (g.R.Storage.view c.import_all.new.raw).faults c.import_all.ensures.faults.no_fewer (le_trans c.size.ensures.calls.cause.no_fewer c.import_all.ensures.faults.raw)
+    converting_image g.S.Storage.view g.F.BackingDisk.backing c.args.image.now c.import_all.new.image c.flush.new.self (g.R.Storage.view c.args.raw.now).faults (g.R.Storage.view c.import_all.new.raw).faults c.in_ok-import_all.ensures.faults.told.0 (c.in_ok-import_all.ensures.faults.told.1 ∙ c.in_ok-size.ensures.calls.cause.told)
     c.flush.result c.in_err-flush.field-0.0 _ c.flush.ensures.faults c.in_err-flush.was (refused_is _ c.in_err-flush.field-0.0 c.from_residual-in_err-flush.ensures)
 
 pub returns-clause-faults : goal.returns-clause-faults
 returns-clause-faults g c =
-    record {
-      no_fewer = fewer_then g.S.Storage.view g.F.BackingDisk.backing c.args.image.now c.import_all.new.image c.flush.new.self c.import_all.ensures.faults.no_fewer c.flush.ensures.faults.no_fewer;
-      raw = le_trans c.size.ensures.calls.cause.no_fewer c.import_all.ensures.faults.raw;
-      rose = tt;
-    }
+    converted _ _ _ _ _ _ _ (faults_then g.S.Storage.view g.F.BackingDisk.backing c.args.image.now c.import_all.new.image c.flush.new.self c.in_ok-import_all.ensures.faults.told.0 c.in_ok-flush.ensures.faults.told)
+    (c.in_ok-import_all.ensures.faults.told.1 ∙ c.in_ok-size.ensures.calls.cause.told)
 
 pub returns-in_err-check_read-clause-differs : goal.returns-in_err-check_read-clause-differs
 returns-in_err-check_read-clause-differs g c = λ honest.

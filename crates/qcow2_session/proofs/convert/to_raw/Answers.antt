@@ -1,4 +1,4 @@
-use Rattle.std.proofs.Common.{arith, sym, subst}
+use Rattle.std.proofs.Common.{arith, sym, subst, refl, ◌∙◌}
 use Rattle.std.proofs.Math.Nat.{le_refl, le_trans}
 use Rattle.qcow2_alloc.specs.ImageError.{of_storage}
 use Rattle.qcow2_alloc.specs.declared.error.ImageError.TheVariants.{Memory}
@@ -7,7 +7,7 @@ use Rattle.qcow2_image.specs.ImageInvariant.{abstract_of}
 use Rattle.qcow2_image.proofs.Map.Unmodified.{read_none}
 use Rattle.std.specs.Prelude.{IfErr}
 use Rattle.qcow2_image.specs.Refusals.{IsMet}
-use Rattle.qcow2_session.proofs.Counting.{converting_else, converting_part, converting_raw, none_counted}
+use Rattle.qcow2_session.proofs.Counting.{converted, converting_else, converting_part, converting_raw, none_counted}
 use Rattle.qcow2_session.proofs.Exporting.{unchanged_refused, filled_first, filled_all}
 use Rattle.qcow2_session.proofs.Turns.{refused_is}
 use Rattle.qcow2_session.proofs.convert.to_raw.Goals as goal
@@ -36,30 +36,30 @@ returns-in_err-export_all-clause-late g c = λ none out sound. subst (λ r. IfEr
 
 pub returns-in_err-check_read-clause-faults : goal.returns-in_err-check_read-clause-faults
 returns-in_err-check_read-clause-faults g c =
-    converting_else g.S.Storage.view g.F.BackingDisk.backing c.args.image.now c.args.image.now (g.R.Storage.view c.args.raw.now).faults (g.R.Storage.view c.args.raw.now).faults (none_counted g.S.Storage.view g.F.BackingDisk.backing c.args.image.now) (le_refl (g.R.Storage.view c.args.raw.now).faults) c.in_err-check_read.field-0.0 _ c.in_err-check_read.ensures.faults (refused_is _ c.in_err-check_read.field-0.0 c.from_residual.ensures)
+    converting_else g.S.Storage.view g.F.BackingDisk.backing c.args.image.now c.args.image.now (g.R.Storage.view c.args.raw.now).faults (g.R.Storage.view c.args.raw.now).faults (none_counted g.S.Storage.view g.F.BackingDisk.backing c.args.image.now) refl c.in_err-check_read.field-0.0 _ c.in_err-check_read.ensures.faults (refused_is _ c.in_err-check_read.field-0.0 c.from_residual.ensures)
 
 pub returns-in_err-zeros-clause-faults : goal.returns-in_err-zeros-clause-faults
 returns-in_err-zeros-clause-faults g c =
-    converting_else g.S.Storage.view g.F.BackingDisk.backing c.args.image.now c.args.image.now (g.R.Storage.view c.args.raw.now).faults (g.R.Storage.view c.args.raw.now).faults (none_counted g.S.Storage.view g.F.BackingDisk.backing c.args.image.now) (le_refl (g.R.Storage.view c.args.raw.now).faults) Memory _ (λ is. absurd cc) (refused_is _ Memory c.from_residual-in_err-zeros.ensures)
+    converting_else g.S.Storage.view g.F.BackingDisk.backing c.args.image.now c.args.image.now (g.R.Storage.view c.args.raw.now).faults (g.R.Storage.view c.args.raw.now).faults (none_counted g.S.Storage.view g.F.BackingDisk.backing c.args.image.now) refl Memory _ (λ is. absurd cc) (refused_is _ Memory c.from_residual-in_err-zeros.ensures)
 
 pub returns-in_err-bytes-clause-faults : goal.returns-in_err-bytes-clause-faults
 returns-in_err-bytes-clause-faults g c =
-    converting_else g.S.Storage.view g.F.BackingDisk.backing c.args.image.now c.args.image.now (g.R.Storage.view c.args.raw.now).faults (g.R.Storage.view c.args.raw.now).faults (none_counted g.S.Storage.view g.F.BackingDisk.backing c.args.image.now) (le_refl (g.R.Storage.view c.args.raw.now).faults) Memory _ (λ is. absurd cc) (refused_is _ Memory c.from_residual-in_err-bytes.ensures)
+    converting_else g.S.Storage.view g.F.BackingDisk.backing c.args.image.now c.args.image.now (g.R.Storage.view c.args.raw.now).faults (g.R.Storage.view c.args.raw.now).faults (none_counted g.S.Storage.view g.F.BackingDisk.backing c.args.image.now) refl Memory _ (λ is. absurd cc) (refused_is _ Memory c.from_residual-in_err-bytes.ensures)
 
 pub returns-in_err-resize-clause-faults : goal.returns-in_err-resize-clause-faults
 returns-in_err-resize-clause-faults g c =
-    converting_raw g.S.Storage.view g.F.BackingDisk.backing c.args.image.now c.args.image.now (g.R.Storage.view c.args.raw.now).faults (g.R.Storage.view c.args.raw.now).faults (g.R.Storage.view c.resize.new.self).faults (none_counted g.S.Storage.view g.F.BackingDisk.backing c.args.image.now) (le_refl (g.R.Storage.view c.args.raw.now).faults)
+    converting_raw g.S.Storage.view g.F.BackingDisk.backing c.args.image.now c.args.image.now (g.R.Storage.view c.args.raw.now).faults (g.R.Storage.view c.args.raw.now).faults (g.R.Storage.view c.resize.new.self).faults (none_counted g.S.Storage.view g.F.BackingDisk.backing c.args.image.now) refl
     c.resize.result c.in_err-resize.field-0.0 _ c.resize.ensures.calls.cause c.in_err-resize.was (refused_is _ (of_storage c.in_err-resize.field-0.0) c.from_residual-in_err-resize.ensures)
 
 pub returns-in_err-resize-2-clause-faults : goal.returns-in_err-resize-2-clause-faults
 returns-in_err-resize-2-clause-faults g c =
-    converting_raw g.S.Storage.view g.F.BackingDisk.backing c.args.image.now c.args.image.now (g.R.Storage.view c.args.raw.now).faults (g.R.Storage.view c.resize.new.self).faults (g.R.Storage.view c.resize-2.new.self).faults (none_counted g.S.Storage.view g.F.BackingDisk.backing c.args.image.now) c.resize.ensures.calls.cause.no_fewer
+    converting_raw g.S.Storage.view g.F.BackingDisk.backing c.args.image.now c.args.image.now (g.R.Storage.view c.args.raw.now).faults (g.R.Storage.view c.resize.new.self).faults (g.R.Storage.view c.resize-2.new.self).faults (none_counted g.S.Storage.view g.F.BackingDisk.backing c.args.image.now) c.in_ok-resize.ensures.calls.cause.told
     c.resize-2.result c.in_err-resize-2.field-0.0 _ c.resize-2.ensures.calls.cause c.in_err-resize-2.was (refused_is _ (of_storage c.in_err-resize-2.field-0.0) c.from_residual-in_err-resize-2.ensures)
 
 pub returns-in_err-export_all-clause-faults : goal.returns-in_err-export_all-clause-faults
 returns-in_err-export_all-clause-faults g c =
-    converting_part g.S.Storage.view g.F.BackingDisk.backing c.args.image.now c.args.image.now c.export_all.new.image (g.R.Storage.view c.args.raw.now).faults (g.R.Storage.view c.resize-2.new.self).faults (g.R.Storage.view c.export_all.new.raw).faults (none_counted g.S.Storage.view g.F.BackingDisk.backing c.args.image.now) (le_trans c.resize.ensures.calls.cause.no_fewer c.resize-2.ensures.calls.cause.no_fewer)
+    converting_part g.S.Storage.view g.F.BackingDisk.backing c.args.image.now c.args.image.now c.export_all.new.image (g.R.Storage.view c.args.raw.now).faults (g.R.Storage.view c.resize-2.new.self).faults (g.R.Storage.view c.export_all.new.raw).faults (none_counted g.S.Storage.view g.F.BackingDisk.backing c.args.image.now) (c.in_ok-resize-2.ensures.calls.cause.told ∙ c.in_ok-resize.ensures.calls.cause.told)
     c.export_all.result c.in_err-export_all.field-0.0 _ c.export_all.ensures.faults c.in_err-export_all.was (refused_is _ c.in_err-export_all.field-0.0 c.from_residual-in_err-export_all.ensures)
 
 pub returns-clause-faults : goal.returns-clause-faults
-returns-clause-faults g c = record { no_fewer = c.export_all.ensures.faults.no_fewer; raw = le_trans (le_trans c.resize.ensures.calls.cause.no_fewer c.resize-2.ensures.calls.cause.no_fewer) c.export_all.ensures.faults.raw; rose = tt }
+returns-clause-faults g c = converted _ _ _ _ _ _ _ (c.in_ok-export_all.ensures.faults.told.0) (c.in_ok-export_all.ensures.faults.told.1 ∙ (c.in_ok-resize-2.ensures.calls.cause.told ∙ c.in_ok-resize.ensures.calls.cause.told))

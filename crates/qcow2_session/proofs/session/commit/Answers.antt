@@ -21,6 +21,8 @@ use Rattle.qcow2_image.specs.Prepared.{table_of}
 use Rattle.qcow2_alloc.specs.ImageError.{IsOfTables}
 use Rattle.std.specs.Prelude.{IsNone}
 use Rattle.qcow2_session.proofs.Causing.{is_done, is_misused, is_refused, kept_error, kept_same, not_failed, not_free, same_mapping, where_failed, where_works}
+use Rattle.qcow2_image.specs.Refusals.{MarksRefused}
+use Rattle.qcow2_session.proofs.Marking.{refused_marks}
 use Rattle.qcow2_session.proofs.session.commit.Goals as goal
 
 pub returns-in_default-clause-command_step : goal.returns-in_default-clause-command_step
@@ -28,7 +30,7 @@ returns-in_default-clause-command_step g c = λ x s stands founds.
     let spec = image_abstraction g.S.Storage.view g.F.BackingDisk.backing in
     let out = c.args.slots.now.prepared.items in
     subst (λ (o : List (Option _)). RefinesCommand x (abstract_image spec c.args.image.now out) (abstract_image spec c.args.image.now o) s (commit c.args.slot) misuse) (sym (c.put.ensures.is ∙ set_found out c.args.slot None c.in_default.ensures.was))
-    (none_as x (abstract_image spec c.args.image.now out) s _ _ misuse refl stands (record { sized = λ _. tt; failed = λ _. tt; may = λ _. tt }) (λ _. (none_at spec c.args.image.now out c.args.slot c.in_default.ensures.was, refl)) (λ _ _. refl) tt)
+    (none_as x (abstract_image spec c.args.image.now out) s _ _ misuse refl stands (record { sized = λ _. tt; failed = λ _. tt; may = λ _. tt }) (λ _. (none_at spec c.args.image.now out c.args.slot c.in_default.ensures.was, refl)) (λ f. f) (λ _ _. refl) tt)
 
 pub fill-requires-clause-free : goal.fill-requires-clause-free
 fill-requires-clause-free g c =
@@ -40,7 +42,7 @@ returns-in-Ok-clause-command_step g c = λ x s stands founds.
     let out = c.args.slots.now.prepared.items in
     subst (λ (o : List (Option _)). RefinesCommand x (abstract_image spec c.args.image.now out) (abstract_image spec c.commit_data_mapping.new.self o) s (commit c.args.slot) done) (sym c.put.ensures.is)
     (done_as x _ _ s _ _ _ refl stands (record { sized = λ _. tt; failed = λ f. absurd (not_both (c.in-Ok.ensures.failed (c.in-Some.ensures.own ∙ c.put.ensures.image ∙ c.requires) f)); may = λ _. tt }) (does_commit s.found c.args.slot _ (found_at spec c.args.image.now out c.args.slot c.in-Some.prepared c.in-Some.ensures.was)
-    (c.in-Ok.ensures.sees out c.args.slot c.in-Some.ensures.was)) (λ _ _. refl) (λ _. tt))
+    (c.in-Ok.ensures.sees out c.args.slot c.in-Some.ensures.was)) (λ f. f) (λ _ _. refl) (λ _. tt))
 
 pub returns-in-Err-Spent-clause-command_step : goal.returns-in-Err-Spent-clause-command_step
 returns-in-Err-Spent-clause-command_step g c = λ x s stands founds.
@@ -49,7 +51,7 @@ returns-in-Err-Spent-clause-command_step g c = λ x s stands founds.
     subst (λ (o : List (Option _)). RefinesCommand x (abstract_image spec c.args.image.now out) (abstract_image spec c.commit_data_mapping.new.self o) s (commit c.args.slot) (refused (refusal_of c.in-Err-Spent.refusal))) (sym c.put.ensures.is)
     (refused_as x _ _ s _ _ _ _ refl stands (record { sized = λ _. tt; failed = λ f. absurd (not_old_tables c.in-Err-Spent.field-0-is (c.in-Err-Spent.ensures.failed (c.in-Some.ensures.own ∙ c.put.ensures.image ∙ c.requires) f)); may = λ _. tt })
     (refuses_commit s.found c.args.slot _ (found_at spec c.args.image.now out c.args.slot c.in-Some.prepared c.in-Some.ensures.was)
-    (subst (λ r. Commits g.S.Storage.view g.F.BackingDisk.backing c.args.image.now c.commit_data_mapping.new.self c.in-Some.prepared (Err r)) c.in-Err-Spent.field-0-is c.in-Err-Spent.ensures.sees out c.args.slot c.in-Some.ensures.was).1) (λ f. f) (λ _ _. refl) tt)
+    (subst (λ r. Commits g.S.Storage.view g.F.BackingDisk.backing c.args.image.now c.commit_data_mapping.new.self c.in-Some.prepared (Err r)) c.in-Err-Spent.field-0-is c.in-Err-Spent.ensures.sees out c.args.slot c.in-Some.ensures.was).1) (λ f. f) (λ f. f) (λ _ _. refl) tt)
 
 pub returns-in-Err-Kept-clause-command_step : goal.returns-in-Err-Kept-clause-command_step
 returns-in-Err-Kept-clause-command_step g c = λ x s stands founds.
@@ -59,7 +61,7 @@ returns-in-Err-Kept-clause-command_step g c = λ x s stands founds.
     (sym (c.fill.ensures.is ∙ ap (λ (o : List (Option _)). slice_set o c.args.slot (Some c.in-Err-Kept.prepared)) c.put.ensures.is ∙ set_twice out c.args.slot None (Some c.in-Err-Kept.prepared)))
     (refused_as x _ _ s _ _ _ _ refl stands (record { sized = λ _. tt; failed = λ f. kept_is c.in-Err-Kept.field-0-is (c.in-Err-Kept.ensures.failed (c.in-Some.ensures.own ∙ c.put.ensures.image ∙ c.requires) f); may = λ _. tt })
     (refuses_commit s.found c.args.slot _ (found_at spec c.args.image.now out c.args.slot c.in-Some.prepared c.in-Some.ensures.was)
-    (subst (λ r. Commits g.S.Storage.view g.F.BackingDisk.backing c.args.image.now c.commit_data_mapping.new.self c.in-Some.prepared (Err r)) c.in-Err-Kept.field-0-is c.in-Err-Kept.ensures.sees out c.args.slot c.in-Some.ensures.was).1) (λ f. f) (λ _ _. refl) tt)
+    (subst (λ r. Commits g.S.Storage.view g.F.BackingDisk.backing c.args.image.now c.commit_data_mapping.new.self c.in-Some.prepared (Err r)) c.in-Err-Kept.field-0-is c.in-Err-Kept.ensures.sees out c.args.slot c.in-Some.ensures.was).1) (λ f. f) (λ f. f) (λ _ _. refl) tt)
 
 pub returns-in-Ok-clause-unwritten : goal.returns-in-Ok-clause-unwritten
 returns-in-Ok-clause-unwritten g c = λ reading sound clean existing.
@@ -124,3 +126,9 @@ returns-in-Err-Kept-clause-after g c =
     let q = c.in-Err-Kept.prepared in
     inl (c.fill.ensures.is ∙ ap (λ (o : List (Option _)). slice_set o c.args.slot (Some q)) c.put.ensures.is
     ∙ set_again out c.args.slot None (Some q) (Some c.in-Some.prepared) c.in-Some.ensures.was (ap Some (kept_same c.in-Some.prepared c.in-Err-Kept.field-0-is c.in-Err-Kept.ensures.kept)))
+
+pub returns-in-Err-Spent-clause-marks : goal.returns-in-Err-Spent-clause-marks
+returns-in-Err-Spent-clause-marks g c = refused_marks c.in-Err-Spent.refusal _ _ _ (subst (λ r. MarksRefused c.args.image.now c.commit_data_mapping.new.self (reason_of r)) c.in-Err-Spent.field-0-is c.in-Err-Spent.ensures.marks)
+
+pub returns-in-Err-Kept-clause-marks : goal.returns-in-Err-Kept-clause-marks
+returns-in-Err-Kept-clause-marks g c = refused_marks c.in-Err-Kept.refusal _ _ _ (subst (λ r. MarksRefused c.args.image.now c.commit_data_mapping.new.self (reason_of r)) c.in-Err-Kept.field-0-is c.in-Err-Kept.ensures.marks)

@@ -19,14 +19,14 @@ returns-in-None-clause-command_step g c = λ x s stands founds.
     let view = abstract_of g.S.Storage.view g.F.BackingDisk.backing c.args.image.now in
     let out = c.args.slots.now.prepared.items in
     subst (λ (o : List (Option _)). RefinesCommand x (view out) (view o) s (discard c.args.slot) misuse) (sym (c.put.ensures.is ∙ set_found out c.args.slot None c.in-None.ensures.was))
-    (none_as x (view out) s _ _ misuse refl stands (record { sized = λ _. tt; failed = λ _. tt; may = λ _. tt }) (λ _. (none_at (image_abstraction g.S.Storage.view g.F.BackingDisk.backing) c.args.image.now out c.args.slot c.in-None.ensures.was, refl)) (λ _ _. refl) tt)
+    (none_as x (view out) s _ _ misuse refl stands (record { sized = λ _. tt; failed = λ _. tt; may = λ _. tt }) (λ _. (none_at (image_abstraction g.S.Storage.view g.F.BackingDisk.backing) c.args.image.now out c.args.slot c.in-None.ensures.was, refl)) (λ f. f) (λ _ _. refl) tt)
 
 pub returns-in-Some-clause-command_step : goal.returns-in-Some-clause-command_step
 returns-in-Some-clause-command_step g c = λ x s stands founds.
     let spec = image_abstraction g.S.Storage.view g.F.BackingDisk.backing in
     let out = c.args.slots.now.prepared.items in
     subst (λ (o : List (Option _)). RefinesCommand x (abstract_image spec c.args.image.now out) (abstract_image spec c.release.new.image o) s (discard c.args.slot) done) (sym c.put.ensures.is)
-    (done_as x _ _ s _ _ _ refl stands (record { sized = λ _. tt; failed = λ _. tt; may = λ _. tt }) (does_discard s.found c.args.slot _ (found_at spec c.args.image.now out c.args.slot c.in-Some.prepared c.in-Some.ensures.was) (c.release.ensures.sees out c.args.slot c.in-Some.ensures.was)) (λ _ _. refl) (λ _. tt))
+    (done_as x _ _ s _ _ _ refl stands (record { sized = λ _. tt; failed = λ _. tt; may = λ _. tt }) (does_discard s.found c.args.slot _ (found_at spec c.args.image.now out c.args.slot c.in-Some.prepared c.in-Some.ensures.was) (c.release.ensures.sees out c.args.slot c.in-Some.ensures.was)) (λ f. f) (λ _ _. refl) (λ _. tt))
 
 pub returns-in-Some-clause-unwritten : goal.returns-in-Some-clause-unwritten
 returns-in-Some-clause-unwritten g c = λ reading sound clean existing.

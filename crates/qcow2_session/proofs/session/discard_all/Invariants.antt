@@ -1,7 +1,7 @@
 use Rattle.std.proofs.Common.{◌≡◌, ℕ, vec_len}
 use Rattle.std.specs.Prelude.{Some, slice_get}
-use Rattle.qcow2_image.specs.Faults.{NoFewerFaults}
-use Rattle.qcow2_image.specs.Image.{IsSameImage, number_of}
+use Rattle.qcow2_image.specs.Faults.{SameFaults}
+use Rattle.qcow2_image.specs.Image.{IsSameImage, is_failed, number_of}
 use Rattle.qcow2_image.specs.Prepared.{image_of}
 use Rattle.qcow2_image.specs.declared.prepared.Prepared.{Prepared}
 use Rattle.qcow2_session.specs.Sessions.{ReleasesMappings}
@@ -10,9 +10,10 @@ use Rattle.qcow2_session.proofs.session.discard_all.Given as goal
 
 abbrev pub invariant-loop-slot : goal.invariant-loop-slot
 invariant-loop-slot g l = record {
-  faults : NoFewerFaults g.S.Storage.view g.F.BackingDisk.backing l.fn.image l.image;
+  faults : SameFaults g.S.Storage.view g.F.BackingDisk.backing l.fn.image l.image;
   own : (k : ℕ) (p : Prepared) → slice_get l.prepared.items k ≡ Some (Some p) → image_of p ≡ number_of l.image;
   image : IsSameImage l.fn.image l.image;
+  works : is_failed l.image ≡ is_failed l.fn.image;
   unwritten : IsUnmodified g.S.Storage.view l.fn.image → IsOnlyRead g.S.Storage.view l.fn.image l.image;
   gone : ReleasesMappings g.S.Storage.view g.F.BackingDisk.backing l.fn.image l.image l.fn.slots.prepared.items l.prepared.items;
 }

@@ -6,13 +6,14 @@ use Rattle.qcow2_image.specs.Image.{is_failed}
 use Rattle.qcow2_session.specs.declared.session.Command.TheVariants as C
 use Rattle.qcow2_session.specs.declared.session.Reply.TheVariants as R
 use Rattle.qcow2_session.proofs.Causing.{is_answered, is_refused, not_failed, same_error, where_failed}
+use Rattle.qcow2_session.proofs.Marking.{refused_marks}
 use Rattle.qcow2_session.proofs.session.flush.Goals as goal
 
 pub returns-in-Err-clause-command_step : goal.returns-in-Err-clause-command_step
-returns-in-Err-clause-command_step g c = λ slots x s stands founds. refused_as x _ _ s _ _ _ _ refl stands (record { sized = λ _. tt; failed = λ f. error_is (c.in-Err.ensures.early f); may = λ _. tt }) (c.in-Err.ensures.sees slots.prepared.items) (λ f. f) (λ _ _. refl) tt
+returns-in-Err-clause-command_step g c = λ slots x s stands founds. refused_as x _ _ s _ _ _ _ refl stands (record { sized = λ _. tt; failed = λ f. error_is (c.in-Err.ensures.early f); may = λ _. tt }) (c.in-Err.ensures.sees slots.prepared.items) (λ f. f) (λ f. f) (λ _ _. refl) tt
 
 pub returns-clause-command_step : goal.returns-clause-command_step
-returns-clause-command_step g c = λ slots x s stands founds. flushed_as x _ _ s _ _ _ refl stands (record { sized = λ _. tt; failed = λ f. absurd (not_both (c.in_default.ensures.early f)); may = λ _. tt }) (c.in_default.ensures.sees slots.prepared.items) (whole g.S.Storage.view g.F.BackingDisk.backing _ slots.prepared.items) (λ _ _. refl)
+returns-clause-command_step g c = λ slots x s stands founds. flushed_as x _ _ s _ _ _ refl stands (record { sized = λ _. tt; failed = λ f. absurd (not_both (c.in_default.ensures.early f)); may = λ _. tt }) (c.in_default.ensures.sees slots.prepared.items) (whole g.S.Storage.view g.F.BackingDisk.backing _ slots.prepared.items) (λ f. f) (λ _ _. refl)
     (none_to_free g.S.Storage.view g.F.BackingDisk.backing c.flush.new.self slots.prepared.items (λ writes. c.in_default.ensures.emptied (sym c.flush.ensures.image.writable ∙ writes)))
 
 pub returns-in-Err-clause-unwritten : goal.returns-in-Err-clause-unwritten
@@ -29,3 +30,6 @@ returns-in-Err-clause-causes g c = λ before found.
 pub returns-clause-causes : goal.returns-clause-causes
 returns-clause-causes g c = λ before found.
     is_answered g.S.Storage.view g.F.BackingDisk.backing c.args.image.now c.flush.new.self before C.Flush _ tt R.Done (λ is. absurd cc) (λ is. absurd cc, λ is. absurd is) refl (where_failed _ (is_failed c.args.image.now) (λ f. c.in_default.ensures.early f)) (λ _ _. tt)
+
+pub returns-in-Err-clause-marks : goal.returns-in-Err-clause-marks
+returns-in-Err-clause-marks g c = refused_marks c.in-Err.refusal _ _ _ c.in-Err.ensures.marks

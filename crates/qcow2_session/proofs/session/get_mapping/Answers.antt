@@ -4,8 +4,7 @@ use Rattle.qcow2_disk.specs.Found.{IsFoundIn}
 use Rattle.qcow2_disk.proofs.RunSteps.{done_as, refused_as}
 use Rattle.qcow2_alloc.specs.ImageFile.{known_in}
 use Rattle.qcow2_image.specs.Found.{found_kind}
-use Rattle.std.specs.Prelude.{◌==◌, if◌then◌else◌}
-use Rattle.qcow2_session.specs.Sessions.{found_in}
+use Rattle.qcow2_session.specs.Sessions.{mappings_in}
 use Rattle.qcow2_session.proofs.Turns.{does_if}
 use Rattle.qcow2_session.proofs.Meanings.{found_set}
 use Rattle.qcow2_session.proofs.Answering.{unusable_first, error_is, not_both, lookup_answer}
@@ -16,13 +15,15 @@ use Rattle.qcow2_session.proofs.Causing.{begun_with, is_answered, is_refused, so
 use Rattle.std.proofs.Common.{⊎_elim}
 use Rattle.qcow2_image.specs.declared.mapping.Mapping.{Mapping}
 use Rattle.qcow2_image.proofs.Call.Slots.{length_set}
+use Rattle.qcow2_session.proofs.Told.{none_refused}
 use Rattle.qcow2_session.proofs.Unwritten.{set_or_was}
+use Rattle.qcow2_session.proofs.Marking.{refused_marks}
 use Rattle.qcow2_session.proofs.session.get_mapping.Goals as goal
 
 pub returns-in-Ok-clause-command_step : goal.returns-in-Ok-clause-command_step
 returns-in-Ok-clause-command_step g c = λ x s stands founds.
     done_as x _ _ s _ _ _ refl stands (record { sized = λ _. tt; failed = λ f. absurd (not_both (unusable_first c.args.image.now _ c.in-Ok.ensures.early f)); may = λ _. tt })
-    (does_if (λ same. (c.in-Ok.ensures.own.1, omega (arith, c.in-Ok.ensures.own, c.in-Ok.ensures.within), same)) (c.in-Ok.ensures.sees c.args.slots.now.prepared.items)) (λ _ _. refl)
+    (does_if (λ same. (c.in-Ok.ensures.own.1, omega (arith, c.in-Ok.ensures.own, c.in-Ok.ensures.within), same)) (c.in-Ok.ensures.sees c.args.slots.now.prepared.items)) (λ f. f) (λ _ _. refl)
     (λ sound. (
       subst (λ n. IsFoundIn (known_in g.S.Storage.view c.get_mapping.new.self.file) (is_some c.get_mapping.new.self.backing) c.args.offset c.args.max (found_kind c.in-Ok.mapping.kind) n) (sym c.in-Ok.ensures.own.2) (c.in-Ok.ensures.run c.args.slots.now.prepared.items sound),
       c.get_mapping.ensures.known c.args.slots.now.prepared.items sound,
@@ -32,16 +33,20 @@ pub returns-in-Ok-clause-finds : goal.returns-in-Ok-clause-finds
 returns-in-Ok-clause-finds g c = λ k.
     let mappings = c.args.slots.now.mappings.items in
     let found = found_set mappings c.args.slot c.in-Ok.mapping k (omega (arith, c.args.slots.now.all_mappings, c.ranges.slot)) in
-    ap (λ n. found_in (slice_set mappings n (Some c.in-Ok.mapping)) k) c.from.ensures
-    ∙ subst (λ n. found_in (slice_set mappings c.args.slot (Some c.in-Ok.mapping)) k ≡ (if k == c.args.slot then Some (record { from = n; length = c.in-Ok.mapping.length }) else found_in mappings k)) c.in-Ok.ensures.own.1 found
+    ap (λ n. mappings_in (slice_set mappings n (Some c.in-Ok.mapping)) k) c.from.ensures ∙ found
 
 pub returns-in-Err-clause-command_step : goal.returns-in-Err-clause-command_step
 returns-in-Err-clause-command_step g c = λ x s stands founds. refused_as x _ _ s _ _ _ _ refl stands
     (lookup_answer g.S.Storage.view g.F.BackingDisk.backing c.args.image.now c.args.slots.now.prepared.items c.args.slot c.args.offset c.args.max _ (λ f. error_is (unusable_first c.args.image.now _ c.in-Err.ensures.early f))
-    (λ usable past. let no = (c.in-Err.ensures.past usable past).0 in absurd cc)) (c.in-Err.ensures.sees c.args.slots.now.prepared.items) (λ f. f) (λ _ _. refl) tt
+    (λ usable past. let no = (c.in-Err.ensures.past usable past).0 in absurd cc)) (c.in-Err.ensures.sees c.args.slots.now.prepared.items) (λ f. f) (λ f. f) (λ _ _. refl) tt
 
 pub returns-in-Ok-clause-tells : goal.returns-in-Ok-clause-tells
-returns-in-Ok-clause-tells g c = c.in-Ok.ensures.own.0 ∙ sym c.get_mapping.ensures.image.number
+returns-in-Ok-clause-tells g c = record {
+  own = c.in-Ok.ensures.own.0 ∙ sym c.get_mapping.ensures.image.number;
+  from = c.in-Ok.ensures.own.1;
+  within = omega (arith, c.in-Ok.ensures.own.2, c.in-Ok.ensures.within);
+  past = λ past. let none = (c.in-Ok.ensures.past (none_refused _ (unusable c.args.image.now) _ c.in-Ok.ensures.early) past).1 in (none.0, c.in-Ok.ensures.own.2 ∙ none.1);
+}
 
 pub returns-in-Ok-clause-unwritten : goal.returns-in-Ok-clause-unwritten
 returns-in-Ok-clause-unwritten g c = λ reading sound clean existing. record { reading = c.get_mapping.ensures.image.writable ∙ reading; read = c.get_mapping.ensures.unwritten _ c.args.slots.now.prepared.items sound clean; existing = existing }
@@ -71,3 +76,9 @@ returns-in-Ok-clause-after g c = refl
 
 pub returns-in-Err-clause-after : goal.returns-in-Err-clause-after
 returns-in-Err-clause-after g c = refl
+
+pub returns-in-Err-clause-marks : goal.returns-in-Err-clause-marks
+returns-in-Err-clause-marks g c = refused_marks c.in-Err.refusal _ _ _ c.in-Err.ensures.marks
+
+pub returns-in-Ok-clause-marks : goal.returns-in-Ok-clause-marks
+returns-in-Ok-clause-marks g c = c.in-Ok.ensures.marks

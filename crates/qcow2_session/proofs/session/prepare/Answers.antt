@@ -26,13 +26,14 @@ use Rattle.qcow2_disk.specs.AbstractImages.{Setting}
 use Rattle.qcow2_image.specs.ImageInvariant.{meaning}
 use Rattle.qcow2_session.proofs.Untaken.{prepared_untaken}
 use Rattle.qcow2_session.proofs.Causing.{begun_with, holds, is_answered, is_misused, is_refused, not_free, some_error}
+use Rattle.qcow2_session.proofs.Marking.{refused_marks}
 use Rattle.qcow2_session.proofs.session.prepare.Goals as goal
 
 pub returns-then-is_some-clause-command_step : goal.returns-then-is_some-clause-command_step
-returns-then-is_some-clause-command_step g c = λ x s stands founds. none_as x _ s _ _ misuse refl stands (record { sized = λ _. tt; failed = λ _. tt; may = λ _. tt }) (λ _. (taken (image_abstraction g.S.Storage.view g.F.BackingDisk.backing) c.args.image.now c.args.slots.now.prepared.items c.args.slot c.get.result c.get.ensures (sym c.is_some.ensures ∙ c.if-is_some.true), refl)) (λ _ _. refl) tt
+returns-then-is_some-clause-command_step g c = λ x s stands founds. none_as x _ s _ _ misuse refl stands (record { sized = λ _. tt; failed = λ _. tt; may = λ _. tt }) (λ _. (taken (image_abstraction g.S.Storage.view g.F.BackingDisk.backing) c.args.image.now c.args.slots.now.prepared.items c.args.slot c.get.result c.get.ensures (sym c.is_some.ensures ∙ c.if-is_some.true), refl)) (λ f. f) (λ _ _. refl) tt
 
 pub returns-in-Err-clause-command_step : goal.returns-in-Err-clause-command_step
-returns-in-Err-clause-command_step g c = λ x s stands founds. refused_as x _ _ s _ _ _ _ refl stands (record { sized = λ _. tt; failed = λ f. error_is (preparing_first c.args.image.now _ c.args.offset c.args.length c.in-Err.ensures.early f); may = λ _. tt }) (c.in-Err.ensures.sees c.args.slots.now.prepared.items) (λ f. f) (λ _ _. refl) tt
+returns-in-Err-clause-command_step g c = λ x s stands founds. refused_as x _ _ s _ _ _ _ refl stands (record { sized = λ _. tt; failed = λ f. error_is (preparing_first c.args.image.now _ c.args.offset c.args.length c.in-Err.ensures.early f); may = λ _. tt }) (c.in-Err.ensures.sees c.args.slots.now.prepared.items) (λ f. f) (λ f. f) (λ _ _. refl) tt
 
 pub returns-in-Ok-clause-command_step : goal.returns-in-Ok-clause-command_step
 returns-in-Ok-clause-command_step g c = λ x s stands founds.
@@ -42,7 +43,7 @@ returns-in-Ok-clause-command_step g c = λ x s stands founds.
     subst (λ (o : List (Option _)). RefinesCommand x (abstract_image spec c.args.image.now out) (abstract_image spec c.prepare_data_mapping.new.self o) s (prepare c.args.slot c.args.offset c.args.length c.args.overwrite) (prepared_is c.offset.result c.length.result c.is_nonblocking.result)) (sym c.fill.ensures.is)
     (done_as x _ _ s _ _ _ refl stands (prepares_answer g.S.Storage.view g.F.BackingDisk.backing c.args.image.now out _ (λ e h. not_both h) c.args.slot c.args.offset c.args.length c.args.overwrite c.offset.result c.length.result c.is_nonblocking.result c.in-Ok.ensures.early)
     (does_prepare s.found c.args.slot c.args.offset c.args.length c.args.overwrite (spec.means c.prepare_data_mapping.new.self c.in-Ok.prepared) c.offset.result c.length.result c.is_nonblocking.result (none_at spec c.args.image.now out c.args.slot free) (sym c.length.ensures)
-    (c.in-Ok.ensures.sees out c.args.slot free)) (λ _ _. refl)
+    (c.in-Ok.ensures.sees out c.args.slot free)) (λ f. f) (λ _ _. refl)
     (λ sound.
     let new = c.prepare_data_mapping.new.self in
     let out' = slice_set out c.args.slot (Some c.in-Ok.prepared) in
@@ -131,3 +132,6 @@ pub returns-in-Ok-clause-after : goal.returns-in-Ok-clause-after
 returns-in-Ok-clause-after g c =
     let free = untaken (image_abstraction g.S.Storage.view g.F.BackingDisk.backing) c.args.image.now c.args.slots.now.prepared.items c.args.slot c.get.result c.get.ensures (sym c.is_some.ensures ∙ c.if-is_some.false) in
     (c.in-Ok.prepared, (free, c.fill.ensures.is), c.offset.ensures, c.length.ensures, c.is_nonblocking.ensures)
+
+pub returns-in-Err-clause-marks : goal.returns-in-Err-clause-marks
+returns-in-Err-clause-marks g c = refused_marks c.in-Err.refusal _ _ _ c.in-Err.ensures.marks

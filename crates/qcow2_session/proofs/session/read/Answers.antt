@@ -1,4 +1,4 @@
-use Rattle.std.proofs.Common.{◌≡◌, ◌<◌, length, sym, subst, take, drop, ◌++◌, arith}
+use Rattle.std.proofs.Common.{refl, ◌≡◌, ◌<◌, length, sym, subst, take, drop, ◌++◌, arith}
 use Rattle.std.proofs.lemmas.Grind.{common_steps}
 use Rattle.qcow2_disk.specs.Calls.{Shows}
 use Rattle.qcow2_disk.specs.AbstractImages.{guest_of}
@@ -7,6 +7,7 @@ use Rattle.qcow2_session.specs.Sessions.{Reads}
 use Rattle.qcow2_session.proofs.Turns.{refused_is, does_if}
 use Rattle.std.specs.Prelude.{IfErr}
 use Rattle.qcow2_image.specs.Refusals.{IsMet}
+use Rattle.qcow2_session.proofs.Marking.{hands_on, memory_marks, unmarked}
 use Rattle.qcow2_session.proofs.session.read.Goals as goal
 
 pub returns-in_err-read_into-clause-sees : goal.returns-in_err-read_into-clause-sees
@@ -23,3 +24,15 @@ pub returns-in_err-read_into-clause-late : goal.returns-in_err-read_into-clause-
 returns-in_err-read_into-clause-late g c = λ none.
     subst (λ r. IfErr r (λ e. IsMet e × (0 < c.args.length))) (sym (refused_is _ c.in_err-read_into.field-0.0 c.from_residual-in_err-read_into.ensures))
     (let met = c.in_err-read_into.ensures.late (grind (arith, common_steps)) in (met.0, grind (arith, common_steps)))
+
+pub returns-in_err-read_into-clause-marks : goal.returns-in_err-read_into-clause-marks
+returns-in_err-read_into-clause-marks g c = hands_on _ c.in_err-read_into.field-0.0 _ _ (refused_is _ c.in_err-read_into.field-0.0 c.from_residual-in_err-read_into.ensures) c.in_err-read_into.ensures.marks
+
+pub returns-clause-marks : goal.returns-clause-marks
+returns-clause-marks g c = c.in_ok-read_into.ensures.marks
+
+pub returns-in_err-check_read-clause-marks : goal.returns-in_err-check_read-clause-marks
+returns-in_err-check_read-clause-marks g c = hands_on _ c.in_err-check_read.field-0.0 _ _ (refused_is _ c.in_err-check_read.field-0.0 c.from_residual.ensures) (unmarked c.in_err-check_read.field-0.0 _ _ c.in_err-check_read.ensures.faults refl)
+
+pub returns-in_err-bytes-clause-marks : goal.returns-in_err-bytes-clause-marks
+returns-in_err-bytes-clause-marks g c = hands_on _ c.in_err-bytes.field-0.0 _ _ (refused_is _ c.in_err-bytes.field-0.0 c.from_residual-in_err-bytes.ensures) (memory_marks c.in_err-bytes.field-0.0 _ c.in_err-bytes.ensures.cause.0)

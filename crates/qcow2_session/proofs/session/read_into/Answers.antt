@@ -10,9 +10,11 @@ use Rattle.qcow2_session.proofs.Reading.{reads_refused}
 use Rattle.qcow2_session.proofs.Turns.{refused_is, refuses_here, none_within, does_if, refuses_if, does_then, refuses_then}
 use Rattle.qcow2_session.proofs.Told.{same_then}
 use Rattle.qcow2_image.proofs.Map.Unmodified.{read_then}
-use Rattle.qcow2_image.proofs.Call.FaultCounts.{fewer_then}
+use Rattle.qcow2_image.proofs.Call.FaultCounts.{counted_on, faults_then}
 use Rattle.qcow2_image.specs.Refusals.{IsMet}
 use Rattle.qcow2_session.proofs.Parts.{part_reads}
+use Rattle.std.proofs.Common.{Some}
+use Rattle.qcow2_session.proofs.Marking.{fails_behind, hands_on, unmarked}
 use Rattle.qcow2_session.proofs.session.read_into.Goals as goal
 
 pub returns-in_default-clause-sees : goal.returns-in_default-clause-sees
@@ -27,11 +29,11 @@ returns-in_err-done-clause-sees g c =
 
 pub loop-done-preserved : goal.loop-done-preserved
 loop-done-preserved g c = record {
-  faults = fewer_then g.S.Storage.view g.F.BackingDisk.backing c.args.image.now c.loop-done.image c.read_some.new.image c.loop-done.invariant.faults c.read_some.ensures.faults.no_fewer;
+  faults = faults_then g.S.Storage.view g.F.BackingDisk.backing c.args.image.now c.loop-done.image c.read_some.new.image c.loop-done.invariant.faults c.in_ok-done.ensures.faults.told;
   within = grind (arith, common_steps);
   end = grind (arith, common_steps);
   image = same_then c.loop-done.invariant.image c.read_some.ensures.image;
-  works = c.in_ok-done.ensures.works ∙ c.loop-done.invariant.works;
+  works = c.in_ok-done.ensures.marks ∙ c.loop-done.invariant.works;
   unwritten = λ reading out sound clean.
       let so_far = c.loop-done.invariant.unwritten reading out sound clean in
       read_then g.S.Storage.view so_far (c.read_some.ensures.unwritten (c.loop-done.invariant.image.writable ∙ reading) out ((c.loop-done.invariant.shown out).answer sound).0 so_far.unmodified);
@@ -84,3 +86,20 @@ returns-in_err-done-clause-late g c = λ none.
           (omega (arith, rest, c.loop-done-test.true)),
       omega (arith, c.loop-done.auto.bytes, c.loop-done-test.true),
     ))
+
+pub returns-in_err-done-clause-marks : goal.returns-in_err-done-clause-marks
+returns-in_err-done-clause-marks g c = hands_on _ c.in_err-done.field-0.0 _ _ (refused_is _ c.in_err-done.field-0.0 c.from_residual-in_err-done.ensures) (fails_behind (Some c.in_err-done.field-0.0) _ _ _ c.loop-done.invariant.works c.in_err-done.ensures.marks)
+
+pub returns-in_default-clause-marks : goal.returns-in_default-clause-marks
+returns-in_default-clause-marks g c = c.loop-done.invariant.works
+
+pub returns-clause-marks : goal.returns-clause-marks
+returns-clause-marks g c = c.loop-done.invariant.works
+
+pub returns-in_err-check_read-clause-marks : goal.returns-in_err-check_read-clause-marks
+returns-in_err-check_read-clause-marks g c = hands_on _ c.in_err-check_read.field-0.0 _ _ (refused_is _ c.in_err-check_read.field-0.0 c.from_residual.ensures) (unmarked c.in_err-check_read.field-0.0 _ _ c.in_err-check_read.ensures.faults refl)
+
+pub returns-in_err-done-clause-faults : goal.returns-in_err-done-clause-faults
+returns-in_err-done-clause-faults g c =
+    counted_on g.S.Storage.view g.F.BackingDisk.backing c.args.image.now c.loop-done.image c.read_some.new.image c.read_some.result c.in_err-done.field-0.0 c.from_residual-in_err-done.result c.loop-done.invariant.faults c.read_some.ensures.faults c.in_err-done.was
+    c.from_residual-in_err-done.ensures

@@ -1,4 +1,4 @@
-use Rattle.std.proofs.Common.{◌≡◌, ◌∙◌, ◌<◌, Err, ◌+◌, ◌++◌, take, drop, length, sym, subst, arith}
+use Rattle.std.proofs.Common.{refl, ap, ◌≡◌, ◌∙◌, ◌<◌, Err, ◌+◌, ◌++◌, take, drop, length, sym, subst, arith}
 use Rattle.std.proofs.lemmas.Grind.{common_steps}
 use Rattle.qcow2_disk.specs.Calls.{Shows}
 use Rattle.qcow2_disk.specs.AbstractImages.{guest_of}
@@ -7,6 +7,12 @@ use Rattle.qcow2_session.specs.Sessions.{Reads}
 use Rattle.qcow2_session.proofs.Turns.{refused_is, refused_some, does_if}
 use Rattle.std.specs.Prelude.{IfErr}
 use Rattle.qcow2_image.specs.Refusals.{IsMet}
+use Rattle.qcow2_image.specs.Found.{IsFoundWhole, further_by}
+use Rattle.qcow2_session.proofs.Marking.{hands_on, memory_marks, none_answered, refused_marks, unchecked, unmarked}
+use Rattle.qcow2_alloc.specs.declared.error.ImageError.TheVariants.{Memory, OutdatedMapping}
+use Rattle.qcow2_image.proofs.Sizes.{sound_is_usable}
+use Rattle.qcow2_image.specs.Refusals.{unusable}
+use Rattle.qcow2_session.proofs.Causing.{same_error}
 use Rattle.qcow2_session.proofs.session.read_range.Goals as goal
 
 pub returns-in_err-read_mapped-clause-sees : goal.returns-in_err-read_mapped-clause-sees
@@ -30,3 +36,45 @@ returns-in_err-read_mapped-clause-late g c = λ none.
     let long : length c.deref_mut.result.now ≡ c.args.length = grind (arith, common_steps) in
     subst (λ r. IfErr r (λ e. IsMet e × (0 < c.args.length))) (sym (refused_is _ c.in_err-read_mapped.field-0.0 c.from_residual-in_err-read_mapped.ensures))
     (refused_some IsMet c.args.length (Err c.in_err-read_mapped.field-0.0) tt (c.in_err-read_mapped.ensures.late none) (λ empty. (c.in_err-read_mapped.ensures.nothing none (long ∙ empty)).0))
+
+pub returns-in_err-read_mapped-clause-marks : goal.returns-in_err-read_mapped-clause-marks
+returns-in_err-read_mapped-clause-marks g c = hands_on _ c.in_err-read_mapped.field-0.0 _ _ (refused_is _ c.in_err-read_mapped.field-0.0 c.from_residual-in_err-read_mapped.ensures) (refused_marks c.in_err-read_mapped.field-0.0 _ _ _ c.in_err-read_mapped.ensures.marks)
+
+pub returns-clause-marks : goal.returns-clause-marks
+returns-clause-marks g c = c.in_ok-read_mapped.ensures.marks
+
+pub returns-in_err-read_mapped-clause-outdated : goal.returns-in_err-read_mapped-clause-outdated
+returns-in_err-read_mapped-clause-outdated g c = λ out sound is.
+    let long : length c.deref_mut.result.now ≡ c.args.length = grind (arith, common_steps) in
+    subst (λ n. ¬ IsFoundWhole g.S.Storage.view c.read_mapped.new.self (c.args.mapping.now.offset + c.args.at) (further_by c.args.at c.args.mapping.now.kind) n) long
+    (c.in_err-read_mapped.ensures.outdated out sound (ap Err (same_error (sym (refused_is _ c.in_err-read_mapped.field-0.0 c.from_residual-in_err-read_mapped.ensures) ∙ is))))
+
+pub returns-clause-mapped : goal.returns-clause-mapped
+returns-clause-mapped g c = λ some out sound.
+    let long : length c.deref_mut.result.now ≡ c.args.length = grind (arith, common_steps) in
+    subst (λ n. IsFoundWhole g.S.Storage.view c.args.image.now (c.args.mapping.now.offset + c.args.at) (further_by c.args.at c.args.mapping.now.kind) n) long
+    (c.in_ok-read_mapped.ensures.mapped (subst (λ n. 0 < n) (sym long) some) out sound)
+
+pub returns-in_err-check_read-clause-marks : goal.returns-in_err-check_read-clause-marks
+returns-in_err-check_read-clause-marks g c = hands_on _ c.in_err-check_read.field-0.0 _ _ (refused_is _ c.in_err-check_read.field-0.0 c.from_residual.ensures) (unmarked c.in_err-check_read.field-0.0 _ _ c.in_err-check_read.ensures.faults refl)
+
+pub returns-in_err-bytes-clause-marks : goal.returns-in_err-bytes-clause-marks
+returns-in_err-bytes-clause-marks g c = hands_on _ c.in_err-bytes.field-0.0 _ _ (refused_is _ c.in_err-bytes.field-0.0 c.from_residual-in_err-bytes.ensures) (memory_marks c.in_err-bytes.field-0.0 _ c.in_err-bytes.ensures.cause.0)
+
+pub returns-in_err-check_read-clause-outdated : goal.returns-in_err-check_read-clause-outdated
+returns-in_err-check_read-clause-outdated g c = λ out sound is. absurd (unchecked (unusable c.args.image.now) c.in_err-check_read.field-0.0 c.in_err-check_read.ensures.refusal (sound_is_usable g.S.Storage.view g.F.BackingDisk.backing c.args.image.now out sound))
+
+pub returns-in_err-bytes-clause-outdated : goal.returns-in_err-bytes-clause-outdated
+returns-in_err-bytes-clause-outdated g c = λ out sound is. absurd (let no : Memory ≡ OutdatedMapping = sym c.in_err-bytes.ensures.cause.0 ∙ same_error (sym (refused_is _ c.in_err-bytes.field-0.0 c.from_residual-in_err-bytes.ensures) ∙ is) in cc)
+
+pub returns-clause-outdated : goal.returns-clause-outdated
+returns-clause-outdated g c = λ out sound is. absurd cc
+
+pub returns-in_err-check_read-clause-mapped : goal.returns-in_err-check_read-clause-mapped
+returns-in_err-check_read-clause-mapped g c = λ some out sound. none_answered _ c.in_err-check_read.field-0.0 (IsFoundWhole g.S.Storage.view c.args.image.now (c.args.mapping.now.offset + c.args.at) (further_by c.args.at c.args.mapping.now.kind) c.args.length) (refused_is _ c.in_err-check_read.field-0.0 c.from_residual.ensures)
+
+pub returns-in_err-bytes-clause-mapped : goal.returns-in_err-bytes-clause-mapped
+returns-in_err-bytes-clause-mapped g c = λ some out sound. none_answered _ c.in_err-bytes.field-0.0 (IsFoundWhole g.S.Storage.view c.args.image.now (c.args.mapping.now.offset + c.args.at) (further_by c.args.at c.args.mapping.now.kind) c.args.length) (refused_is _ c.in_err-bytes.field-0.0 c.from_residual-in_err-bytes.ensures)
+
+pub returns-in_err-read_mapped-clause-mapped : goal.returns-in_err-read_mapped-clause-mapped
+returns-in_err-read_mapped-clause-mapped g c = λ some out sound. none_answered _ c.in_err-read_mapped.field-0.0 (IsFoundWhole g.S.Storage.view c.args.image.now (c.args.mapping.now.offset + c.args.at) (further_by c.args.at c.args.mapping.now.kind) c.args.length) (refused_is _ c.in_err-read_mapped.field-0.0 c.from_residual-in_err-read_mapped.ensures)

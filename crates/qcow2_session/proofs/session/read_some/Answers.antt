@@ -1,4 +1,4 @@
-use Rattle.std.proofs.Common.{◌≡◌, ◌∙◌, ◌+◌, ◌++◌, sym, subst, ap, [], take, drop, arith}
+use Rattle.std.proofs.Common.{◌≡◌, ◌∙◌, ◌+◌, ◌++◌, Some, sym, subst, ap, [], take, drop, arith}
 use Rattle.std.proofs.lemmas.Grind.{common_steps}
 use Rattle.qcow2_disk.specs.Calls.{another}
 use Rattle.qcow2_disk.specs.AbstractImages.{Guest}
@@ -14,6 +14,7 @@ use Rattle.qcow2_alloc.specs.declared.error.ImageError.TheVariants.{BeyondSize}
 use Rattle.qcow2_session.proofs.Causing.{mapping_reading, fits_below, then_none}
 use Rattle.qcow2_session.proofs.Parts.{mapping_usable}
 use Rattle.qcow2_image.proofs.Call.MetErrors.{tables_met}
+use Rattle.qcow2_session.proofs.Marking.{fails_behind, hands_on, refused_marks}
 use Rattle.qcow2_session.proofs.session.read_some.Goals as goal
 
 pub returns-in_err-mapping-clause-sees : goal.returns-in_err-mapping-clause-sees
@@ -78,5 +79,15 @@ returns-in_err-read_mapped-clause-late g c = λ none some.
     subst (λ r. IfErr r IsMet) (sym (refused_is _ c.in_err-read_mapped.field-0.0 c.from_residual-in_err-read_mapped.ensures))
     (c.in_err-read_mapped.ensures.late (mapping_usable c.args.image.now c.get_mapping.new.self c.get_mapping.ensures.image c.in_ok-mapping.mapping.image c.in_ok-mapping.ensures.own.0 c.in_ok-mapping.ensures.marks first.0))
 
-pub returns-clause-works : goal.returns-clause-works
-returns-clause-works g c = c.in_ok-read_mapped.ensures.marks ∙ c.in_ok-mapping.ensures.marks
+pub returns-clause-marks : goal.returns-clause-marks
+returns-clause-marks g c = c.in_ok-read_mapped.ensures.marks ∙ c.in_ok-mapping.ensures.marks
+
+pub returns-in_err-mapping-clause-marks : goal.returns-in_err-mapping-clause-marks
+returns-in_err-mapping-clause-marks g c = hands_on _ c.in_err-mapping.field-0.0 _ _ (refused_is _ c.in_err-mapping.field-0.0 c.from_residual.ensures) (refused_marks c.in_err-mapping.field-0.0 _ _ _ c.in_err-mapping.ensures.marks)
+
+pub returns-then-count-eq0-clause-marks : goal.returns-then-count-eq0-clause-marks
+returns-then-count-eq0-clause-marks g c = c.in_ok-mapping.ensures.marks
+
+pub returns-in_err-read_mapped-clause-marks : goal.returns-in_err-read_mapped-clause-marks
+returns-in_err-read_mapped-clause-marks g c = hands_on _ c.in_err-read_mapped.field-0.0 _ _ (refused_is _ c.in_err-read_mapped.field-0.0 c.from_residual-in_err-read_mapped.ensures)
+    (fails_behind (Some c.in_err-read_mapped.field-0.0) _ _ _ c.in_ok-mapping.ensures.marks (refused_marks c.in_err-read_mapped.field-0.0 _ _ _ c.in_err-read_mapped.ensures.marks))

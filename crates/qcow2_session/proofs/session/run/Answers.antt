@@ -9,11 +9,12 @@ use Rattle.qcow2_session.specs.Commands.{command_of, reply_of}
 use Rattle.qcow2_image.proofs.Free.{free_places, nothing_since, whole}
 use Rattle.qcow2_alloc.specs.ImageFile.{contents_in, view_in}
 use Rattle.qcow2_session.proofs.LookingUp.{looked_up, none_said}
+use Rattle.qcow2_session.proofs.Meanings.{ranges_after}
 use Rattle.qcow2_session.proofs.Places.{surplus_none}
 use Rattle.qcow2_session.proofs.Runs.{GoesOn, first_of_all, free_stands, command_step_on, map_more}
 use Rattle.qcow2_session.specs.Told.{IsToldRun, RunPoint, first_point}
 use Rattle.qcow2_session.proofs.Told.{IsToldSoFar, first_told, image_itself, itself_then, same_itself, told_more}
-use Rattle.qcow2_session.specs.Sessions.{found_in}
+use Rattle.qcow2_session.specs.Sessions.{mappings_in, range_of}
 use Rattle.qcow2_image.proofs.Map.Unmodified.{holds_none}
 use Rattle.qcow2_session.proofs.Unwritten.{existing_none, never_written}
 use Rattle.qcow2_session.specs.CountedFaults.{RunCounts}
@@ -54,19 +55,19 @@ loop-command-preserved g c = record {
       subst (λ l. GoesOn spec x first free next out (begun s) (map command_of (take (done + 1) commands)) l found) (sym (ap (λ l. map reply_of l) c.push_reserved.ensures.items ∙ map-append reply_of replies (c.step-reply.result ∷ [])))
       (subst (λ k. GoesOn spec x first free next out (begun s) k (map reply_of replies ++ reply_of c.step-reply.result ∷ []) found) (sym (map_more command_of commands done c.command-item.result split))
       (command_step_on spec x first c.loop-command.image next free c.loop-command.slots.prepared.items out (begun s) (map command_of (take done commands)) (map reply_of replies)
-      c.loop-command.slots.mappings.items found (command_of c.command-item.result) (reply_of c.step-reply.result) (c.loop-command.invariant.ran x s stands) (c.step-reply.ensures.command_step x) c.step-reply.ensures.finds));
+      c.loop-command.slots.mappings.items found (command_of c.command-item.result) (reply_of c.step-reply.result) (c.loop-command.invariant.ran x s stands) (c.step-reply.ensures.command_step x) (λ k. ap range_of (c.step-reply.ensures.finds k) ∙ ranges_after (mappings_in c.loop-command.slots.mappings.items) c.command-item.result c.step-reply.result k)));
   told =
       let view = g.S.Storage.view in
       let below = g.F.BackingDisk.backing in
       let done = c.loop-command.command-index in
       let commands = c.args.commands.now in
-      let before : RunPoint _ _ = record { image = c.loop-command.image; prepared = c.loop-command.slots.prepared.items; found = found_in c.loop-command.slots.mappings.items } in
-      let now : RunPoint _ _ = record { image = c.step-reply.new.image; prepared = c.step-reply.new.slots.prepared.items; found = found_in c.step-reply.new.slots.mappings.items } in
+      let before : RunPoint _ _ = record { image = c.loop-command.image; prepared = c.loop-command.slots.prepared.items; found = mappings_in c.loop-command.slots.mappings.items } in
+      let now : RunPoint _ _ = record { image = c.step-reply.new.image; prepared = c.step-reply.new.slots.prepared.items; found = mappings_in c.step-reply.new.slots.mappings.items } in
       let split = take_more commands done c.command-item.result c.loop-command-test.true ∙ ap (λ q. take done commands ++ q ∷ []) (sym c.command-item.is) in
       subst (λ l. IsToldSoFar view below c.args.image.now now (take (done + 1) commands) l) (sym c.push_reserved.ensures.items)
       (subst (λ l. IsToldSoFar view below c.args.image.now now l (c.loop-command.replies.items ++ c.step-reply.result ∷ [])) (sym split)
       (told_more view below c.args.image.now before now (take done commands) c.loop-command.replies.items c.command-item.result c.step-reply.result c.loop-command.invariant.told
-      (record { keeps = c.step-reply.ensures.keeps; tells = c.step-reply.ensures.tells; slots = c.step-reply.ensures.after; causes = c.step-reply.ensures.causes; finds = c.step-reply.ensures.finds; counts = c.step-reply.ensures.faults; size = c.step-reply.ensures.size; unwritten = c.step-reply.ensures.unwritten })
+      (record { keeps = c.step-reply.ensures.keeps; tells = c.step-reply.ensures.tells; slots = c.step-reply.ensures.after; causes = c.step-reply.ensures.causes; finds = c.step-reply.ensures.finds; counts = c.step-reply.ensures.faults; failed = c.step-reply.ensures.marks; size = c.step-reply.ensures.size; unwritten = c.step-reply.ensures.unwritten })
       c.step-reply.ensures.command_step));
 }
 
@@ -135,11 +136,12 @@ returns-clause-tells g c =
     let told = c.loop-command.invariant.told in
     inr (subst (λ k. IsToldRun view below c.args.image.now c.discard_all.new.image k c.loop-command.replies.items) all (record {
       points = told.points;
-      last = record { image = c.loop-command.image; prepared = c.loop-command.slots.prepared.items; found = found_in c.loop-command.slots.mappings.items };
+      last = record { image = c.loop-command.image; prepared = c.loop-command.slots.prepared.items; found = mappings_in c.loop-command.slots.mappings.items };
       along = told.along;
       steps = λ x s stands. let so_far = told.so_far x s stands in (so_far.end, so_far.steps);
       leaves = c.discard_all.ensures.sees;
       keeps = image_itself c.discard_all.ensures.image;
+      failed = c.discard_all.ensures.marks;
     }))
 
 pub returns-clause-unwritten : goal.returns-clause-unwritten

@@ -8,7 +8,7 @@ use Rattle.qcow2_session.specs.CountedFaults.{RunCounts}
 use Rattle.qcow2_session.specs.Commands.{command_of, reply_of}
 use Rattle.qcow2_session.proofs.Runs.{GoesOn}
 use Rattle.qcow2_session.proofs.Told.{IsToldSoFar}
-use Rattle.qcow2_session.specs.Sessions.{found_in}
+use Rattle.qcow2_session.specs.Sessions.{mappings_in}
 use Rattle.qcow2_session.specs.Told.{KeepsItself}
 use Rattle.qcow2_session.proofs.session.run.Given as goal
 
@@ -21,5 +21,5 @@ invariant-loop-command g l = record {
   ran : (x : Setting) (s : State) → RefinesState x (abstract_of g.S.Storage.view g.F.BackingDisk.backing l.fn.image []) s
       → GoesOn (image_abstraction g.S.Storage.view g.F.BackingDisk.backing) x l.fn.image (replicate 256 None) l.image l.slots.prepared.items (begun s)
       (map command_of (take l.command-index l.commands)) (map reply_of l.replies.items) l.slots.mappings.items;
-  told : IsToldSoFar g.S.Storage.view g.F.BackingDisk.backing l.fn.image (record { image = l.image; prepared = l.slots.prepared.items; found = found_in l.slots.mappings.items }) (take l.command-index l.commands) l.replies.items;
+  told : IsToldSoFar g.S.Storage.view g.F.BackingDisk.backing l.fn.image (record { image = l.image; prepared = l.slots.prepared.items; found = mappings_in l.slots.mappings.items }) (take l.command-index l.commands) l.replies.items;
 }

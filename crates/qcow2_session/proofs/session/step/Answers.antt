@@ -1,7 +1,7 @@
 use Rattle.std.proofs.Common.{refl, ap, sym, subst, ◌∙◌}
 use Rattle.qcow2_disk.proofs.RunSteps.{done_as, refused_as, none_as}
 use Rattle.qcow2_session.specs.Commands.{command_of}
-use Rattle.qcow2_session.specs.Sessions.{CommandSteps, found_in}
+use Rattle.qcow2_session.specs.Sessions.{CommandSteps, mappings_in}
 use Rattle.qcow2_session.proofs.Answering.{reading_first, error_is, write_error_is, not_both, reads_answer, writes_answer, write_refused_answer}
 use Rattle.qcow2_session.specs.Told.{SlotsAfter, TellsOfImage}
 use Rattle.qcow2_session.specs.declared.session.Reply.TheVariants.{Bytes, Done, Refused, Size, WriteRefused}
@@ -12,22 +12,22 @@ use Rattle.qcow2_session.proofs.Causing.{read_answered, read_refused, size_answe
 use Rattle.qcow2_session.proofs.session.step.Goals as goal
 
 pub returns-in-Ok-clause-command_step : goal.returns-in-Ok-clause-command_step
-returns-in-Ok-clause-command_step g c = λ x s stands founds. done_as x _ _ s _ _ _ (ap command_of c.in-Read.is) stands (reads_answer g.S.Storage.view g.F.BackingDisk.backing c.args.image.now c.args.slots.now.prepared.items _ (λ e h. not_both h) _ _ _ c.in-Ok.ensures.early) (c.in-Ok.ensures.sees c.args.slots.now.prepared.items) (λ _ _. refl) (λ _. tt)
+returns-in-Ok-clause-command_step g c = λ x s stands founds. done_as x _ _ s _ _ _ (ap command_of c.in-Read.is) stands (reads_answer g.S.Storage.view g.F.BackingDisk.backing c.args.image.now c.args.slots.now.prepared.items _ (λ e h. not_both h) _ _ _ c.in-Ok.ensures.early) (c.in-Ok.ensures.sees c.args.slots.now.prepared.items) (λ f. f) (λ _ _. refl) (λ _. tt)
 
 pub returns-in-Err-clause-command_step : goal.returns-in-Err-clause-command_step
-returns-in-Err-clause-command_step g c = λ x s stands founds. refused_as x _ _ s _ _ _ _ (ap command_of c.in-Read.is) stands (record { sized = λ _. tt; failed = λ f. error_is (reading_first c.args.image.now _ _ _ c.in-Err.ensures.early f); may = λ _. tt }) (c.in-Err.ensures.sees c.args.slots.now.prepared.items) (λ f. f) (λ _ _. refl) tt
+returns-in-Err-clause-command_step g c = λ x s stands founds. refused_as x _ _ s _ _ _ _ (ap command_of c.in-Read.is) stands (record { sized = λ _. tt; failed = λ f. error_is (reading_first c.args.image.now _ _ _ c.in-Err.ensures.early f); may = λ _. tt }) (c.in-Err.ensures.sees c.args.slots.now.prepared.items) (λ f. f) (λ f. f) (λ _ _. refl) tt
 
 pub returns-in-Ok-write-clause-command_step : goal.returns-in-Ok-write-clause-command_step
-returns-in-Ok-write-clause-command_step g c = λ x s stands founds. done_as x _ _ s _ _ _ (ap command_of c.in-Write.is) stands (writes_answer g.S.Storage.view g.F.BackingDisk.backing c.args.image.now c.args.slots.now.prepared.items _ (λ e h. not_both h) _ _ (rw c.deref.ensures.value at c.in-Ok-write.ensures.early)) (rw c.deref.ensures.value at (c.in-Ok-write.ensures.sees c.args.slots.now.prepared.items)) (λ _ _. refl) (λ _. tt)
+returns-in-Ok-write-clause-command_step g c = λ x s stands founds. done_as x _ _ s _ _ _ (ap command_of c.in-Write.is) stands (writes_answer g.S.Storage.view g.F.BackingDisk.backing c.args.image.now c.args.slots.now.prepared.items _ (λ e h. not_both h) _ _ (rw c.deref.ensures.value at c.in-Ok-write.ensures.early)) (rw c.deref.ensures.value at (c.in-Ok-write.ensures.sees c.args.slots.now.prepared.items)) (λ f. f) (λ _ _. refl) (λ _. tt)
 
 pub returns-in-Err-write-clause-command_step : goal.returns-in-Err-write-clause-command_step
-returns-in-Err-write-clause-command_step g c = λ x s stands founds. refused_as x _ _ s _ _ _ _ (ap command_of c.in-Write.is) stands (write_refused_answer g.S.Storage.view g.F.BackingDisk.backing c.args.image.now c.args.slots.now.prepared.items _ _ _ _ _ (λ h. write_error_is h) (rw c.deref.ensures.value at c.in-Err-write.ensures.early) (rw c.deref.ensures.value at c.in-Err-write.ensures.within)) (rw c.deref.ensures.value at (c.in-Err-write.ensures.sees c.args.slots.now.prepared.items)) (λ f. f) (λ _ _. refl) tt
+returns-in-Err-write-clause-command_step g c = λ x s stands founds. refused_as x _ _ s _ _ _ _ (ap command_of c.in-Write.is) stands (write_refused_answer g.S.Storage.view g.F.BackingDisk.backing c.args.image.now c.args.slots.now.prepared.items _ _ _ _ _ (λ h. write_error_is h) (rw c.deref.ensures.value at c.in-Err-write.ensures.early) (rw c.deref.ensures.value at c.in-Err-write.ensures.within)) (rw c.deref.ensures.value at (c.in-Err-write.ensures.sees c.args.slots.now.prepared.items)) (λ f. f) (λ f. f) (λ _ _. refl) tt
 
 pub returns-in-Flush-clause-command_step : goal.returns-in-Flush-clause-command_step
 returns-in-Flush-clause-command_step g c = subst (λ q. CommandSteps g.S.Storage.view g.F.BackingDisk.backing c.args.image.now c.flush.new.image c.args.slots.now c.args.slots.now q c.flush.result) (sym c.in-Flush.is) (c.flush.ensures.command_step c.args.slots.now)
 
 pub returns-in-Size-clause-command_step : goal.returns-in-Size-clause-command_step
-returns-in-Size-clause-command_step g c = λ x s stands founds. none_as x _ s _ _ _ (ap command_of c.in-Size.is) stands (record { sized = λ _. tt; failed = λ _. tt; may = λ _. tt }) (λ sound. (c.size.ensures.sees c.args.slots.now.prepared.items sound, refl)) (λ _ _. refl) tt
+returns-in-Size-clause-command_step g c = λ x s stands founds. none_as x _ s _ _ _ (ap command_of c.in-Size.is) stands (record { sized = λ _. tt; failed = λ _. tt; may = λ _. tt }) (λ sound. (c.size.ensures.sees c.args.slots.now.prepared.items sound, refl)) (λ f. f) (λ _ _. refl) tt
 
 pub returns-in-GetMapping-clause-command_step : goal.returns-in-GetMapping-clause-command_step
 returns-in-GetMapping-clause-command_step g c = subst (λ q. CommandSteps g.S.Storage.view g.F.BackingDisk.backing c.args.image.now c.get_mapping.new.image c.args.slots.now c.get_mapping.new.slots q c.get_mapping.result) (sym c.in-GetMapping.is) c.get_mapping.ensures.command_step
@@ -108,28 +108,28 @@ pub returns-in-DiscardDataMapping-clause-tells : goal.returns-in-DiscardDataMapp
 returns-in-DiscardDataMapping-clause-tells g c = subst (λ q. TellsOfImage g.S.Storage.view g.F.BackingDisk.backing c.args.image.now c.discard.new.image c.args.slots.now.prepared.items c.discard.new.slots.prepared.items q c.discard.result) (sym c.in-DiscardDataMapping.is) tt
 
 pub returns-in-EnsureZeroMapping-clause-tells : goal.returns-in-EnsureZeroMapping-clause-tells
-returns-in-EnsureZeroMapping-clause-tells g c = subst (λ q. TellsOfImage g.S.Storage.view g.F.BackingDisk.backing c.args.image.now c.ensure_zero.new.image c.args.slots.now.prepared.items c.args.slots.now.prepared.items q c.ensure_zero.result) (sym c.in-EnsureZeroMapping.is) tt
+returns-in-EnsureZeroMapping-clause-tells g c = subst (λ q. TellsOfImage g.S.Storage.view g.F.BackingDisk.backing c.args.image.now c.ensure_zero.new.image c.args.slots.now.prepared.items c.args.slots.now.prepared.items q c.ensure_zero.result) (sym c.in-EnsureZeroMapping.is) (c.ensure_zero.ensures.tells c.args.slots.now.prepared.items)
 
 pub returns-in-DiscardToZero-clause-tells : goal.returns-in-DiscardToZero-clause-tells
-returns-in-DiscardToZero-clause-tells g c = subst (λ q. TellsOfImage g.S.Storage.view g.F.BackingDisk.backing c.args.image.now c.discard_to_zero.new.image c.args.slots.now.prepared.items c.args.slots.now.prepared.items q c.discard_to_zero.result) (sym c.in-DiscardToZero.is) tt
+returns-in-DiscardToZero-clause-tells g c = subst (λ q. TellsOfImage g.S.Storage.view g.F.BackingDisk.backing c.args.image.now c.discard_to_zero.new.image c.args.slots.now.prepared.items c.args.slots.now.prepared.items q c.discard_to_zero.result) (sym c.in-DiscardToZero.is) (c.discard_to_zero.ensures.tells c.args.slots.now.prepared.items)
 
 pub returns-in-DiscardToAny-clause-tells : goal.returns-in-DiscardToAny-clause-tells
-returns-in-DiscardToAny-clause-tells g c = subst (λ q. TellsOfImage g.S.Storage.view g.F.BackingDisk.backing c.args.image.now c.discard_to_any.new.image c.args.slots.now.prepared.items c.args.slots.now.prepared.items q c.discard_to_any.result) (sym c.in-DiscardToAny.is) tt
+returns-in-DiscardToAny-clause-tells g c = subst (λ q. TellsOfImage g.S.Storage.view g.F.BackingDisk.backing c.args.image.now c.discard_to_any.new.image c.args.slots.now.prepared.items c.args.slots.now.prepared.items q c.discard_to_any.result) (sym c.in-DiscardToAny.is) (c.discard_to_any.ensures.tells c.args.slots.now.prepared.items)
 
 pub returns-in-DiscardToBacking-clause-tells : goal.returns-in-DiscardToBacking-clause-tells
-returns-in-DiscardToBacking-clause-tells g c = subst (λ q. TellsOfImage g.S.Storage.view g.F.BackingDisk.backing c.args.image.now c.discard_to_backing.new.image c.args.slots.now.prepared.items c.args.slots.now.prepared.items q c.discard_to_backing.result) (sym c.in-DiscardToBacking.is) tt
+returns-in-DiscardToBacking-clause-tells g c = subst (λ q. TellsOfImage g.S.Storage.view g.F.BackingDisk.backing c.args.image.now c.discard_to_backing.new.image c.args.slots.now.prepared.items c.args.slots.now.prepared.items q c.discard_to_backing.result) (sym c.in-DiscardToBacking.is) (c.discard_to_backing.ensures.tells c.args.slots.now.prepared.items)
 
 pub returns-in-ReadvSpecial-clause-tells : goal.returns-in-ReadvSpecial-clause-tells
 returns-in-ReadvSpecial-clause-tells g c = subst (λ q. TellsOfImage g.S.Storage.view g.F.BackingDisk.backing c.args.image.now c.readv_special.new.image c.args.slots.now.prepared.items c.args.slots.now.prepared.items q c.readv_special.result) (sym c.in-ReadvSpecial.is) tt
 
 pub returns-in-TryReadvSpecial-clause-tells : goal.returns-in-TryReadvSpecial-clause-tells
-returns-in-TryReadvSpecial-clause-tells g c = subst (λ q. TellsOfImage g.S.Storage.view g.F.BackingDisk.backing c.args.image.now c.try_readv_special.new.image c.args.slots.now.prepared.items c.args.slots.now.prepared.items q c.try_readv_special.result) (sym c.in-TryReadvSpecial.is) tt
+returns-in-TryReadvSpecial-clause-tells g c = subst (λ q. TellsOfImage g.S.Storage.view g.F.BackingDisk.backing c.args.image.now c.try_readv_special.new.image c.args.slots.now.prepared.items c.args.slots.now.prepared.items q c.try_readv_special.result) (sym c.in-TryReadvSpecial.is) (c.try_readv_special.ensures.tells c.args.slots.now.prepared.items)
 
 pub returns-in-ResizeGrow-clause-tells : goal.returns-in-ResizeGrow-clause-tells
 returns-in-ResizeGrow-clause-tells g c = subst (λ q. TellsOfImage g.S.Storage.view g.F.BackingDisk.backing c.args.image.now c.grow.new.image c.args.slots.now.prepared.items c.args.slots.now.prepared.items q c.grow.result) (sym c.in-ResizeGrow.is) tt
 
 pub returns-in-ResizeShrink-clause-tells : goal.returns-in-ResizeShrink-clause-tells
-returns-in-ResizeShrink-clause-tells g c = subst (λ q. TellsOfImage g.S.Storage.view g.F.BackingDisk.backing c.args.image.now c.shrink.new.image c.args.slots.now.prepared.items c.args.slots.now.prepared.items q c.shrink.result) (sym c.in-ResizeShrink.is) tt
+returns-in-ResizeShrink-clause-tells g c = subst (λ q. TellsOfImage g.S.Storage.view g.F.BackingDisk.backing c.args.image.now c.shrink.new.image c.args.slots.now.prepared.items c.args.slots.now.prepared.items q c.shrink.result) (sym c.in-ResizeShrink.is) (c.shrink.ensures.tells c.args.slots.now.prepared.items)
 
 pub returns-in-Ok-clause-unwritten : goal.returns-in-Ok-clause-unwritten
 returns-in-Ok-clause-unwritten g c = λ reading sound clean existing. record { reading = c.read.ensures.image.writable ∙ reading; read = c.read.ensures.unwritten reading c.args.slots.now.prepared.items sound clean; existing = existing }
@@ -192,65 +192,65 @@ pub returns-in-ResizeShrink-clause-unwritten : goal.returns-in-ResizeShrink-clau
 returns-in-ResizeShrink-clause-unwritten g c = λ reading sound clean existing. left_same g.S.Storage.view g.F.BackingDisk.backing c.args.image.now c.shrink.new.image c.args.slots.now.prepared.items (c.shrink.ensures.reading reading) reading clean existing
 
 pub returns-in-Ok-clause-causes : goal.returns-in-Ok-clause-causes
-returns-in-Ok-clause-causes g c = subst (λ q. IsRightlyRefused g.S.Storage.view g.F.BackingDisk.backing c.args.image.now c.read.new.image c.args.slots.now.prepared.items (found_in c.args.slots.now.mappings.items) q (Bytes c.in-Ok.bytes)) (sym c.in-Read.is) (read_answered g.S.Storage.view g.F.BackingDisk.backing c.args.image.now c.read.new.image c.args.slots.now.prepared.items _ _ _ _ c.in-Ok.ensures.early)
+returns-in-Ok-clause-causes g c = subst (λ q. IsRightlyRefused g.S.Storage.view g.F.BackingDisk.backing c.args.image.now c.read.new.image c.args.slots.now.prepared.items (mappings_in c.args.slots.now.mappings.items) q (Bytes c.in-Ok.bytes)) (sym c.in-Read.is) (read_answered g.S.Storage.view g.F.BackingDisk.backing c.args.image.now c.read.new.image c.args.slots.now.prepared.items _ _ _ _ c.in-Ok.ensures.early)
 
 pub returns-in-Err-clause-causes : goal.returns-in-Err-clause-causes
-returns-in-Err-clause-causes g c = subst (λ q. IsRightlyRefused g.S.Storage.view g.F.BackingDisk.backing c.args.image.now c.read.new.image c.args.slots.now.prepared.items (found_in c.args.slots.now.mappings.items) q (Refused c.in-Err.refusal)) (sym c.in-Read.is) (read_refused g.S.Storage.view g.F.BackingDisk.backing c.args.image.now c.read.new.image c.args.slots.now.prepared.items _ _ _ c.in-Err.ensures.early c.in-Err.ensures.late)
+returns-in-Err-clause-causes g c = subst (λ q. IsRightlyRefused g.S.Storage.view g.F.BackingDisk.backing c.args.image.now c.read.new.image c.args.slots.now.prepared.items (mappings_in c.args.slots.now.mappings.items) q (Refused c.in-Err.refusal)) (sym c.in-Read.is) (read_refused g.S.Storage.view g.F.BackingDisk.backing c.args.image.now c.read.new.image c.args.slots.now.prepared.items _ _ _ c.in-Err.ensures.early c.in-Err.ensures.late)
 
 pub returns-in-Ok-write-clause-causes : goal.returns-in-Ok-write-clause-causes
-returns-in-Ok-write-clause-causes g c = subst (λ q. IsRightlyRefused g.S.Storage.view g.F.BackingDisk.backing c.args.image.now c.write.new.image c.args.slots.now.prepared.items (found_in c.args.slots.now.mappings.items) q Done) (sym c.in-Write.is) (write_answered g.S.Storage.view g.F.BackingDisk.backing c.args.image.now c.write.new.image c.args.slots.now.prepared.items _ _ _ (rw c.deref.ensures.value at c.in-Ok-write.ensures.early))
+returns-in-Ok-write-clause-causes g c = subst (λ q. IsRightlyRefused g.S.Storage.view g.F.BackingDisk.backing c.args.image.now c.write.new.image c.args.slots.now.prepared.items (mappings_in c.args.slots.now.mappings.items) q Done) (sym c.in-Write.is) (write_answered g.S.Storage.view g.F.BackingDisk.backing c.args.image.now c.write.new.image c.args.slots.now.prepared.items _ _ _ (rw c.deref.ensures.value at c.in-Ok-write.ensures.early))
 
 pub returns-in-Err-write-clause-causes : goal.returns-in-Err-write-clause-causes
-returns-in-Err-write-clause-causes g c = subst (λ q. IsRightlyRefused g.S.Storage.view g.F.BackingDisk.backing c.args.image.now c.write.new.image c.args.slots.now.prepared.items (found_in c.args.slots.now.mappings.items) q (WriteRefused c.in-Err-write.refusal c.in-Err-write.done)) (sym c.in-Write.is)
+returns-in-Err-write-clause-causes g c = subst (λ q. IsRightlyRefused g.S.Storage.view g.F.BackingDisk.backing c.args.image.now c.write.new.image c.args.slots.now.prepared.items (mappings_in c.args.slots.now.mappings.items) q (WriteRefused c.in-Err-write.refusal c.in-Err-write.done)) (sym c.in-Write.is)
     (write_refused_for g.S.Storage.view g.F.BackingDisk.backing c.args.image.now c.write.new.image c.args.slots.now.prepared.items _ _ _ _ (rw c.deref.ensures.value at c.in-Err-write.ensures.early) (rw c.deref.ensures.value at c.in-Err-write.ensures.late) (λ none sound. (rw c.deref.ensures.value at c.in-Err-write.ensures.taken) none c.args.slots.now.prepared.items sound))
 
 pub returns-in-Size-clause-causes : goal.returns-in-Size-clause-causes
-returns-in-Size-clause-causes g c = subst (λ q. IsRightlyRefused g.S.Storage.view g.F.BackingDisk.backing c.args.image.now c.args.image.now c.args.slots.now.prepared.items (found_in c.args.slots.now.mappings.items) q (Size c.size.result)) (sym c.in-Size.is) (size_answered g.S.Storage.view g.F.BackingDisk.backing c.args.image.now c.args.image.now c.args.slots.now.prepared.items c.size.result)
+returns-in-Size-clause-causes g c = subst (λ q. IsRightlyRefused g.S.Storage.view g.F.BackingDisk.backing c.args.image.now c.args.image.now c.args.slots.now.prepared.items (mappings_in c.args.slots.now.mappings.items) q (Size c.size.result)) (sym c.in-Size.is) (size_answered g.S.Storage.view g.F.BackingDisk.backing c.args.image.now c.args.image.now c.args.slots.now.prepared.items c.size.result)
 
 pub returns-in-GetMapping-clause-causes : goal.returns-in-GetMapping-clause-causes
-returns-in-GetMapping-clause-causes g c = subst (λ q. IsRightlyRefused g.S.Storage.view g.F.BackingDisk.backing c.args.image.now c.get_mapping.new.image c.args.slots.now.prepared.items (found_in c.args.slots.now.mappings.items) q c.get_mapping.result) (sym c.in-GetMapping.is) c.get_mapping.ensures.causes
+returns-in-GetMapping-clause-causes g c = subst (λ q. IsRightlyRefused g.S.Storage.view g.F.BackingDisk.backing c.args.image.now c.get_mapping.new.image c.args.slots.now.prepared.items (mappings_in c.args.slots.now.mappings.items) q c.get_mapping.result) (sym c.in-GetMapping.is) c.get_mapping.ensures.causes
 
 pub returns-in-ReadMapped-clause-causes : goal.returns-in-ReadMapped-clause-causes
-returns-in-ReadMapped-clause-causes g c = subst (λ q. IsRightlyRefused g.S.Storage.view g.F.BackingDisk.backing c.args.image.now c.read_mapped.new.image c.args.slots.now.prepared.items (found_in c.args.slots.now.mappings.items) q c.read_mapped.result) (sym c.in-ReadMapped.is) c.read_mapped.ensures.causes
+returns-in-ReadMapped-clause-causes g c = subst (λ q. IsRightlyRefused g.S.Storage.view g.F.BackingDisk.backing c.args.image.now c.read_mapped.new.image c.args.slots.now.prepared.items (mappings_in c.args.slots.now.mappings.items) q c.read_mapped.result) (sym c.in-ReadMapped.is) c.read_mapped.ensures.causes
 
 pub returns-in-PrepareDataMapping-clause-causes : goal.returns-in-PrepareDataMapping-clause-causes
-returns-in-PrepareDataMapping-clause-causes g c = subst (λ q. IsRightlyRefused g.S.Storage.view g.F.BackingDisk.backing c.args.image.now c.prepare.new.image c.args.slots.now.prepared.items (found_in c.args.slots.now.mappings.items) q c.prepare.result) (sym c.in-PrepareDataMapping.is) c.prepare.ensures.causes
+returns-in-PrepareDataMapping-clause-causes g c = subst (λ q. IsRightlyRefused g.S.Storage.view g.F.BackingDisk.backing c.args.image.now c.prepare.new.image c.args.slots.now.prepared.items (mappings_in c.args.slots.now.mappings.items) q c.prepare.result) (sym c.in-PrepareDataMapping.is) c.prepare.ensures.causes
 
 pub returns-in-WriteMapped-clause-causes : goal.returns-in-WriteMapped-clause-causes
-returns-in-WriteMapped-clause-causes g c = subst (λ q. IsRightlyRefused g.S.Storage.view g.F.BackingDisk.backing c.args.image.now c.write_mapped.new.image c.args.slots.now.prepared.items (found_in c.args.slots.now.mappings.items) q c.write_mapped.result) (sym c.in-WriteMapped.is) c.write_mapped.ensures.causes
+returns-in-WriteMapped-clause-causes g c = subst (λ q. IsRightlyRefused g.S.Storage.view g.F.BackingDisk.backing c.args.image.now c.write_mapped.new.image c.args.slots.now.prepared.items (mappings_in c.args.slots.now.mappings.items) q c.write_mapped.result) (sym c.in-WriteMapped.is) c.write_mapped.ensures.causes
 
 pub returns-in-CommitDataMapping-clause-causes : goal.returns-in-CommitDataMapping-clause-causes
-returns-in-CommitDataMapping-clause-causes g c = subst (λ q. IsRightlyRefused g.S.Storage.view g.F.BackingDisk.backing c.args.image.now c.commit.new.image c.args.slots.now.prepared.items (found_in c.args.slots.now.mappings.items) q c.commit.result) (sym c.in-CommitDataMapping.is) c.commit.ensures.causes
+returns-in-CommitDataMapping-clause-causes g c = subst (λ q. IsRightlyRefused g.S.Storage.view g.F.BackingDisk.backing c.args.image.now c.commit.new.image c.args.slots.now.prepared.items (mappings_in c.args.slots.now.mappings.items) q c.commit.result) (sym c.in-CommitDataMapping.is) c.commit.ensures.causes
 
 pub returns-in-DiscardDataMapping-clause-causes : goal.returns-in-DiscardDataMapping-clause-causes
-returns-in-DiscardDataMapping-clause-causes g c = subst (λ q. IsRightlyRefused g.S.Storage.view g.F.BackingDisk.backing c.args.image.now c.discard.new.image c.args.slots.now.prepared.items (found_in c.args.slots.now.mappings.items) q c.discard.result) (sym c.in-DiscardDataMapping.is) c.discard.ensures.causes
+returns-in-DiscardDataMapping-clause-causes g c = subst (λ q. IsRightlyRefused g.S.Storage.view g.F.BackingDisk.backing c.args.image.now c.discard.new.image c.args.slots.now.prepared.items (mappings_in c.args.slots.now.mappings.items) q c.discard.result) (sym c.in-DiscardDataMapping.is) c.discard.ensures.causes
 
 pub returns-in-EnsureZeroMapping-clause-causes : goal.returns-in-EnsureZeroMapping-clause-causes
-returns-in-EnsureZeroMapping-clause-causes g c = subst (λ q. IsRightlyRefused g.S.Storage.view g.F.BackingDisk.backing c.args.image.now c.ensure_zero.new.image c.args.slots.now.prepared.items (found_in c.args.slots.now.mappings.items) q c.ensure_zero.result) (sym c.in-EnsureZeroMapping.is) (c.ensure_zero.ensures.causes c.args.slots.now.prepared.items (found_in c.args.slots.now.mappings.items))
+returns-in-EnsureZeroMapping-clause-causes g c = subst (λ q. IsRightlyRefused g.S.Storage.view g.F.BackingDisk.backing c.args.image.now c.ensure_zero.new.image c.args.slots.now.prepared.items (mappings_in c.args.slots.now.mappings.items) q c.ensure_zero.result) (sym c.in-EnsureZeroMapping.is) (c.ensure_zero.ensures.causes c.args.slots.now.prepared.items (mappings_in c.args.slots.now.mappings.items))
 
 pub returns-in-DiscardToZero-clause-causes : goal.returns-in-DiscardToZero-clause-causes
-returns-in-DiscardToZero-clause-causes g c = subst (λ q. IsRightlyRefused g.S.Storage.view g.F.BackingDisk.backing c.args.image.now c.discard_to_zero.new.image c.args.slots.now.prepared.items (found_in c.args.slots.now.mappings.items) q c.discard_to_zero.result) (sym c.in-DiscardToZero.is) (c.discard_to_zero.ensures.causes c.args.slots.now.prepared.items (found_in c.args.slots.now.mappings.items))
+returns-in-DiscardToZero-clause-causes g c = subst (λ q. IsRightlyRefused g.S.Storage.view g.F.BackingDisk.backing c.args.image.now c.discard_to_zero.new.image c.args.slots.now.prepared.items (mappings_in c.args.slots.now.mappings.items) q c.discard_to_zero.result) (sym c.in-DiscardToZero.is) (c.discard_to_zero.ensures.causes c.args.slots.now.prepared.items (mappings_in c.args.slots.now.mappings.items))
 
 pub returns-in-DiscardToAny-clause-causes : goal.returns-in-DiscardToAny-clause-causes
-returns-in-DiscardToAny-clause-causes g c = subst (λ q. IsRightlyRefused g.S.Storage.view g.F.BackingDisk.backing c.args.image.now c.discard_to_any.new.image c.args.slots.now.prepared.items (found_in c.args.slots.now.mappings.items) q c.discard_to_any.result) (sym c.in-DiscardToAny.is) (c.discard_to_any.ensures.causes c.args.slots.now.prepared.items (found_in c.args.slots.now.mappings.items))
+returns-in-DiscardToAny-clause-causes g c = subst (λ q. IsRightlyRefused g.S.Storage.view g.F.BackingDisk.backing c.args.image.now c.discard_to_any.new.image c.args.slots.now.prepared.items (mappings_in c.args.slots.now.mappings.items) q c.discard_to_any.result) (sym c.in-DiscardToAny.is) (c.discard_to_any.ensures.causes c.args.slots.now.prepared.items (mappings_in c.args.slots.now.mappings.items))
 
 pub returns-in-DiscardToBacking-clause-causes : goal.returns-in-DiscardToBacking-clause-causes
-returns-in-DiscardToBacking-clause-causes g c = subst (λ q. IsRightlyRefused g.S.Storage.view g.F.BackingDisk.backing c.args.image.now c.discard_to_backing.new.image c.args.slots.now.prepared.items (found_in c.args.slots.now.mappings.items) q c.discard_to_backing.result) (sym c.in-DiscardToBacking.is) (c.discard_to_backing.ensures.causes c.args.slots.now.prepared.items (found_in c.args.slots.now.mappings.items))
+returns-in-DiscardToBacking-clause-causes g c = subst (λ q. IsRightlyRefused g.S.Storage.view g.F.BackingDisk.backing c.args.image.now c.discard_to_backing.new.image c.args.slots.now.prepared.items (mappings_in c.args.slots.now.mappings.items) q c.discard_to_backing.result) (sym c.in-DiscardToBacking.is) (c.discard_to_backing.ensures.causes c.args.slots.now.prepared.items (mappings_in c.args.slots.now.mappings.items))
 
 pub returns-in-ReadvSpecial-clause-causes : goal.returns-in-ReadvSpecial-clause-causes
-returns-in-ReadvSpecial-clause-causes g c = subst (λ q. IsRightlyRefused g.S.Storage.view g.F.BackingDisk.backing c.args.image.now c.readv_special.new.image c.args.slots.now.prepared.items (found_in c.args.slots.now.mappings.items) q c.readv_special.result) (sym c.in-ReadvSpecial.is) (c.readv_special.ensures.causes c.args.slots.now.prepared.items (found_in c.args.slots.now.mappings.items))
+returns-in-ReadvSpecial-clause-causes g c = subst (λ q. IsRightlyRefused g.S.Storage.view g.F.BackingDisk.backing c.args.image.now c.readv_special.new.image c.args.slots.now.prepared.items (mappings_in c.args.slots.now.mappings.items) q c.readv_special.result) (sym c.in-ReadvSpecial.is) (c.readv_special.ensures.causes c.args.slots.now.prepared.items (mappings_in c.args.slots.now.mappings.items))
 
 pub returns-in-TryReadvSpecial-clause-causes : goal.returns-in-TryReadvSpecial-clause-causes
-returns-in-TryReadvSpecial-clause-causes g c = subst (λ q. IsRightlyRefused g.S.Storage.view g.F.BackingDisk.backing c.args.image.now c.try_readv_special.new.image c.args.slots.now.prepared.items (found_in c.args.slots.now.mappings.items) q c.try_readv_special.result) (sym c.in-TryReadvSpecial.is) (c.try_readv_special.ensures.causes c.args.slots.now.prepared.items (found_in c.args.slots.now.mappings.items))
+returns-in-TryReadvSpecial-clause-causes g c = subst (λ q. IsRightlyRefused g.S.Storage.view g.F.BackingDisk.backing c.args.image.now c.try_readv_special.new.image c.args.slots.now.prepared.items (mappings_in c.args.slots.now.mappings.items) q c.try_readv_special.result) (sym c.in-TryReadvSpecial.is) (c.try_readv_special.ensures.causes c.args.slots.now.prepared.items (mappings_in c.args.slots.now.mappings.items))
 
 pub returns-in-Flush-clause-causes : goal.returns-in-Flush-clause-causes
-returns-in-Flush-clause-causes g c = subst (λ q. IsRightlyRefused g.S.Storage.view g.F.BackingDisk.backing c.args.image.now c.flush.new.image c.args.slots.now.prepared.items (found_in c.args.slots.now.mappings.items) q c.flush.result) (sym c.in-Flush.is) (c.flush.ensures.causes c.args.slots.now.prepared.items (found_in c.args.slots.now.mappings.items))
+returns-in-Flush-clause-causes g c = subst (λ q. IsRightlyRefused g.S.Storage.view g.F.BackingDisk.backing c.args.image.now c.flush.new.image c.args.slots.now.prepared.items (mappings_in c.args.slots.now.mappings.items) q c.flush.result) (sym c.in-Flush.is) (c.flush.ensures.causes c.args.slots.now.prepared.items (mappings_in c.args.slots.now.mappings.items))
 
 pub returns-in-ResizeGrow-clause-causes : goal.returns-in-ResizeGrow-clause-causes
-returns-in-ResizeGrow-clause-causes g c = subst (λ q. IsRightlyRefused g.S.Storage.view g.F.BackingDisk.backing c.args.image.now c.grow.new.image c.args.slots.now.prepared.items (found_in c.args.slots.now.mappings.items) q c.grow.result) (sym c.in-ResizeGrow.is) (c.grow.ensures.causes c.args.slots.now.prepared.items (found_in c.args.slots.now.mappings.items))
+returns-in-ResizeGrow-clause-causes g c = subst (λ q. IsRightlyRefused g.S.Storage.view g.F.BackingDisk.backing c.args.image.now c.grow.new.image c.args.slots.now.prepared.items (mappings_in c.args.slots.now.mappings.items) q c.grow.result) (sym c.in-ResizeGrow.is) (c.grow.ensures.causes c.args.slots.now.prepared.items (mappings_in c.args.slots.now.mappings.items))
 
 pub returns-in-ResizeShrink-clause-causes : goal.returns-in-ResizeShrink-clause-causes
-returns-in-ResizeShrink-clause-causes g c = subst (λ q. IsRightlyRefused g.S.Storage.view g.F.BackingDisk.backing c.args.image.now c.shrink.new.image c.args.slots.now.prepared.items (found_in c.args.slots.now.mappings.items) q c.shrink.result) (sym c.in-ResizeShrink.is) (c.shrink.ensures.causes c.args.slots.now.prepared.items (found_in c.args.slots.now.mappings.items))
+returns-in-ResizeShrink-clause-causes g c = subst (λ q. IsRightlyRefused g.S.Storage.view g.F.BackingDisk.backing c.args.image.now c.shrink.new.image c.args.slots.now.prepared.items (mappings_in c.args.slots.now.mappings.items) q c.shrink.result) (sym c.in-ResizeShrink.is) (c.shrink.ensures.causes c.args.slots.now.prepared.items (mappings_in c.args.slots.now.mappings.items))
 
 pub returns-in-Ok-clause-after : goal.returns-in-Ok-clause-after
 returns-in-Ok-clause-after g c = subst (λ q. SlotsAfter c.args.slots.now.prepared.items q (Bytes c.in-Ok.bytes) c.args.slots.now.prepared.items) (sym c.in-Read.is) refl

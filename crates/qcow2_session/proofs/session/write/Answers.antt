@@ -13,9 +13,10 @@ use Rattle.qcow2_session.proofs.Turns.{does_if, refuses_here, refuses_if, nothin
 use Rattle.qcow2_image.specs.Refusals.{refuses_to_prepare}
 use Rattle.qcow2_session.proofs.Told.{same_then}
 use Rattle.qcow2_image.proofs.Map.Unmodified.{read_then}
-use Rattle.qcow2_image.proofs.Call.FaultCounts.{fewer_then}
+use Rattle.qcow2_image.proofs.Call.FaultCounts.{faults_then}
 use Rattle.std.proofs.Common.{◌+◌, refl}
 use Rattle.qcow2_session.proofs.Parts.{not_failed_yet, part_prepares, part_under, prepares_usable}
+use Rattle.qcow2_session.proofs.Marking.{fails_behind}
 use Rattle.qcow2_session.proofs.session.write.Goals as goal
 
 pub returns-in_default-clause-sees : goal.returns-in_default-clause-sees
@@ -23,7 +24,7 @@ returns-in_default-clause-sees g c = λ out. refuses_if (λ same. (c.loop-done.i
 
 pub loop-done-preserved : goal.loop-done-preserved
 loop-done-preserved g c = record {
-  faults = fewer_then g.S.Storage.view g.F.BackingDisk.backing c.args.image.now c.loop-done.image c.write_some-in-loop-done.new.image c.loop-done.invariant.faults c.write_some-in-loop-done.ensures.faults.no_fewer;
+  faults = faults_then g.S.Storage.view g.F.BackingDisk.backing c.args.image.now c.loop-done.image c.write_some-in-loop-done.new.image c.loop-done.invariant.faults c.in-Ok-write_some.ensures.faults.told;
   works = c.in-Ok-write_some.ensures.end.0 ∙ c.loop-done.invariant.works;
   within = grind (arith, common_steps);
   image = same_then c.loop-done.invariant.image c.write_some-in-loop-done.ensures.image;
@@ -119,3 +120,15 @@ returns-in-Err-write_some-clause-taken g c = λ none out sound is.
     let under = (rw (take_rest c.args.bytes.now c.loop-done.done) at c.in-Err-write_some.ensures.taken)
     (part_prepares old mid c.loop-done.invariant.image c.args.offset n c.in-Some.at rest (grind (arith, common_steps)) (grind (arith, common_steps)) still.works (omega (arith, c.loop-done-test.true)) none) out still is in
     part_under old.file.header.fields mid.file.header.fields (ap (λ (x : Setting). x.cluster_size) (so_far.acts.works sound).setting) c.args.offset (c.args.offset + n) c.in-Some.at out (grind (arith, common_steps)) (omega (arith, under.0, long)) under.1
+
+pub returns-in_default-clause-marks : goal.returns-in_default-clause-marks
+returns-in_default-clause-marks g c = c.loop-done.invariant.works
+
+pub returns-in-Err-write_some-clause-marks : goal.returns-in-Err-write_some-clause-marks
+returns-in-Err-write_some-clause-marks g c = fails_behind (Some c.in-Err-write_some.refusal) _ _ _ c.loop-done.invariant.works c.in-Err-write_some.ensures.marks
+
+pub returns-clause-marks : goal.returns-clause-marks
+returns-clause-marks g c = c.loop-done.invariant.works
+
+pub returns-in-Err-clause-marks : goal.returns-in-Err-clause-marks
+returns-in-Err-clause-marks g c = c.in-Err.ensures.marks

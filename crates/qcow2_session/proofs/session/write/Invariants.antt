@@ -9,12 +9,12 @@ use Rattle.qcow2_image.specs.ImageInvariant.{abstract_of}
 use Rattle.qcow2_image.specs.declared.prepared.Prepared.{Prepared}
 use Rattle.qcow2_session.specs.Sessions.{EndsCluster}
 use Rattle.qcow2_session.specs.Told.{StaysUnwritten}
-use Rattle.qcow2_image.specs.Faults.{NoFewerFaults}
+use Rattle.qcow2_image.specs.Faults.{SameFaults}
 use Rattle.qcow2_session.proofs.session.write.Given as goal
 
 abbrev pub invariant-loop-done : goal.invariant-loop-done
 invariant-loop-done g l = record {
-  faults : NoFewerFaults g.S.Storage.view g.F.BackingDisk.backing l.fn.image l.image;
+  faults : SameFaults g.S.Storage.view g.F.BackingDisk.backing l.fn.image l.image;
   works : is_failed l.image ≡ is_failed l.fn.image;
   within : l.done ≤ length l.bytes;
   image : IsSameImage l.fn.image l.image;

@@ -19,6 +19,7 @@ use Rattle.qcow2_image.specs.Prepared.{length_of, table_of}
 use Rattle.qcow2_image.specs.declared.prepared.Prepared.{Prepared}
 use Rattle.qcow2_image.specs.Refusals.{unusable}
 use Rattle.qcow2_session.proofs.Causing.{begun_with, is_answered, is_misused, is_refused, none_of, not_free, own_mapping, put_reads, put_writes, same_error, same_mapping, some_error, then_early, then_none}
+use Rattle.qcow2_session.proofs.Marking.{refused_marks}
 use Rattle.qcow2_session.proofs.session.write_mapped.Goals as goal
 use Rattle.qcow2_session.proofs.session.write_mapped.Goals.{then-at-length-via-then-at-length, then-at-length-via-else-at-length+then-len-length}
 
@@ -26,7 +27,7 @@ pub returns-in_default-clause-command_step : goal.returns-in_default-clause-comm
 returns-in_default-clause-command_step g c = λ x s stands founds.
     let spec = image_abstraction g.S.Storage.view g.F.BackingDisk.backing in
     let out = c.args.slots.now.prepared.items in
-    none_as x _ s _ _ misuse refl stands (record { sized = λ _. tt; failed = λ _. tt; may = λ _. tt }) (λ _. (is_past (c.args.at) (length c.args.bytes.now.items) (none_at spec c.args.image.now out c.args.slot c.in_default.ensures) tt, refl)) (λ _ _. refl) tt
+    none_as x _ s _ _ misuse refl stands (record { sized = λ _. tt; failed = λ _. tt; may = λ _. tt }) (λ _. (is_past (c.args.at) (length c.args.bytes.now.items) (none_at spec c.args.image.now out c.args.slot c.in_default.ensures) tt, refl)) (λ f. f) (λ _ _. refl) tt
 
 pub returns-then-at-length-clause-command_step : goal.returns-then-at-length-clause-command_step
 returns-then-at-length-clause-command_step g c = λ x s stands founds.
@@ -39,21 +40,21 @@ returns-then-at-length-clause-command_step g c = λ x s stands founds.
             | then-at-length-via-else-at-length+then-len-length w ↦ omega (arith, w.if-at-length.false, w.if-len-length.true, w.len.ensures, c.length-length.ensures)
           ]),
       refl,
-    )) (λ _ _. refl) tt
+    )) (λ f. f) (λ _ _. refl) tt
 
 pub returns-in-Ok-clause-command_step : goal.returns-in-Ok-clause-command_step
 returns-in-Ok-clause-command_step g c = λ x s stands founds.
     let spec = image_abstraction g.S.Storage.view g.F.BackingDisk.backing in
     let out = c.args.slots.now.prepared.items in
     done_as x _ _ s _ _ _ refl stands (record { sized = λ _. tt; failed = λ f. absurd (not_both (mapping_first c.args.image.now _ _ c.in-Ok.ensures.early f)); may = λ _. tt }) (does_put s.found c.args.slot _ (found_at spec c.args.image.now out c.args.slot c.in-Some.prepared.now c.in-Some.ensures) c.args.at c.args.bytes.now.items (omega (arith, c.if-at-length.false, c.if-len-length.false, c.len.ensures, c.length-length.ensures))
-    (rw c.deref.ensures.value at (c.in-Ok.ensures.sees out c.args.slot c.in-Some.ensures))) (λ _ _. refl) (λ _. tt)
+    (rw c.deref.ensures.value at (c.in-Ok.ensures.sees out c.args.slot c.in-Some.ensures))) (λ f. f) (λ _ _. refl) (λ _. tt)
 
 pub returns-in-Err-clause-command_step : goal.returns-in-Err-clause-command_step
 returns-in-Err-clause-command_step g c = λ x s stands founds.
     let spec = image_abstraction g.S.Storage.view g.F.BackingDisk.backing in
     let out = c.args.slots.now.prepared.items in
     refused_as x _ _ s _ _ _ _ refl stands (record { sized = λ _. tt; failed = λ f. error_is (mapping_first c.args.image.now _ _ c.in-Err.ensures.early f); may = λ _. tt }) (refuses_put s.found c.args.slot _ (found_at spec c.args.image.now out c.args.slot c.in-Some.prepared.now c.in-Some.ensures) c.args.at c.args.bytes.now.items
-    (rw c.deref.ensures.value at (c.in-Err.ensures.sees out c.args.slot c.in-Some.ensures))) (λ f. f) (λ _ _. refl) tt
+    (rw c.deref.ensures.value at (c.in-Err.ensures.sees out c.args.slot c.in-Some.ensures))) (λ f. f) (λ f. f) (λ _ _. refl) tt
 
 pub returns-in-Ok-clause-reading : goal.returns-in-Ok-clause-reading
 returns-in-Ok-clause-reading g c = λ reading. put_same c.args.image.now reading _ (refuses_mapping c.args.image.now (image_of c.in-Some.prepared.now)) _ c.write_mapped.ensures.early c.write_mapped.ensures.read_only c.write_mapped.ensures.nothing
@@ -106,3 +107,6 @@ returns-in-Err-clause-causes g c =
     (λ none sound is.
     let existing = none_of (table_of p) (λ some. c.in-Err.ensures.private some (ap Err (some_error is))) in
     record { mapping = p; there = c.in-Some.ensures; existing = existing; moved = (rw c.deref.ensures.value at c.in-Err.ensures.outdated) existing c.args.slots.now.prepared.items sound (ap Err (some_error is)) })
+
+pub returns-in-Err-clause-marks : goal.returns-in-Err-clause-marks
+returns-in-Err-clause-marks g c = refused_marks c.in-Err.refusal _ _ _ c.in-Err.ensures.marks

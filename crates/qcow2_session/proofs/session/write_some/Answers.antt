@@ -29,6 +29,8 @@ use Rattle.qcow2_image.specs.Refusals.{IsMet, IsMetPreparing}
 use Rattle.qcow2_session.proofs.Parts.{mapping_usable, not_failed_yet, prepares_usable, put_met, under_taken}
 use Rattle.qcow2_alloc.specs.ImageError.{IsOfTables}
 use Rattle.qcow2_image.proofs.Call.MetErrors.{tables_met}
+use Rattle.qcow2_image.specs.Refusals.{MarksRefused}
+use Rattle.qcow2_session.proofs.Marking.{fails_before, fails_behind, hands_on, refused_marks}
 use Rattle.qcow2_session.proofs.session.write_some.Goals as goal
 
 -- what refused a call that begins another one before any work refused that one
@@ -273,3 +275,22 @@ pub returns-in_err-prepared-clause-early : goal.returns-in_err-prepared-clause-e
 returns-in_err-prepared-clause-early g c =
     early_handed _ (refuses_to_prepare c.args.image.now c.args.offset (length c.args.bytes.now)) c.prepare_data_mapping.result c.in_err-prepared.field-0.0 c.from_residual.result
     c.prepare_data_mapping.ensures.early c.in_err-prepared.was (refused_is _ c.in_err-prepared.field-0.0 c.from_residual.ensures)
+
+pub returns-in_err-prepared-clause-marks : goal.returns-in_err-prepared-clause-marks
+returns-in_err-prepared-clause-marks g c = hands_on _ c.in_err-prepared.field-0.0 _ _ (refused_is _ c.in_err-prepared.field-0.0 c.from_residual.ensures) (refused_marks c.in_err-prepared.field-0.0 _ _ _ c.in_err-prepared.ensures.marks)
+
+pub returns-in-Err-clause-marks : goal.returns-in-Err-clause-marks
+returns-in-Err-clause-marks g c = fails_before (Some c.in-Err.refusal) _ _ _ c.release.ensures.marks (fails_behind (Some c.in-Err.refusal) _ _ _ c.in_ok-prepared.ensures.marks (refused_marks c.in-Err.refusal _ _ _ c.in-Err.ensures.marks))
+
+pub returns-in-Ok-clause-marks : goal.returns-in-Ok-clause-marks
+returns-in-Ok-clause-marks g c = c.in-Ok.ensures.marks ∙ c.in_default.ensures.marks ∙ c.in_ok-prepared.ensures.marks
+
+pub returns-in-Err-Spent-clause-marks : goal.returns-in-Err-Spent-clause-marks
+returns-in-Err-Spent-clause-marks g c =
+    let marks = subst (λ r. MarksRefused c.write_mapped.new.self c.commit_data_mapping.new.self (reason_of r)) c.in-Err-Spent.field-0-is c.in-Err-Spent.ensures.marks in
+    fails_behind (Some c.in-Err-Spent.refusal) _ _ _ (c.in_default.ensures.marks ∙ c.in_ok-prepared.ensures.marks) (refused_marks c.in-Err-Spent.refusal _ _ _ marks)
+
+pub returns-in-Err-Kept-clause-marks : goal.returns-in-Err-Kept-clause-marks
+returns-in-Err-Kept-clause-marks g c =
+    let marks = subst (λ r. MarksRefused c.write_mapped.new.self c.commit_data_mapping.new.self (reason_of r)) c.in-Err-Kept.field-0-is c.in-Err-Kept.ensures.marks in
+    fails_before (Some c.in-Err-Kept.refusal) _ _ _ c.release-in-Err-Kept.ensures.marks (fails_behind (Some c.in-Err-Kept.refusal) _ _ _ (c.in_default.ensures.marks ∙ c.in_ok-prepared.ensures.marks) (refused_marks c.in-Err-Kept.refusal _ _ _ marks))

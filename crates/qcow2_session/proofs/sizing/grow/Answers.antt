@@ -10,6 +10,7 @@ use Rattle.std.specs.Prelude.{◌&&◌, nat_lt}
 use Rattle.qcow2_alloc.specs.declared.error.ImageError.TheVariants.{Preallocation}
 use Rattle.qcow2_image.specs.Resizing.{takes_over}
 use Rattle.qcow2_session.proofs.Causing.{begun_with, grow_meets, is_answered, is_refused, same_error, some_error, takes_larger, then_early, then_none}
+use Rattle.qcow2_session.proofs.Marking.{refused_marks}
 use Rattle.qcow2_session.proofs.sizing.grow.Goals as goal
 
 pub returns-in-Ok-clause-command_step : goal.returns-in-Ok-clause-command_step
@@ -56,3 +57,6 @@ returns-in-Err-clause-causes g c = λ before found.
     (λ none. grow_meets e (size_of old) c.args.size (takes_over old c.args.mode) (first none).1 (λ le. let no = (c.in-Err.ensures.no_larger (first none).0 le).0 in absurd cc) (c.in-Err.ensures.late (first none).0))
     (λ none le. let no = (c.in-Err.ensures.no_larger (first none).0 le).0 in absurd cc)
     (λ none sound larger is. (c.in-Err.ensures.tables (first none).0 larger before sound).taken (some_error is))
+
+pub returns-in-Err-clause-marks : goal.returns-in-Err-clause-marks
+returns-in-Err-clause-marks g c = refused_marks c.in-Err.refusal _ _ _ c.in-Err.ensures.marks

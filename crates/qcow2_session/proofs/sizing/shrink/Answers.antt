@@ -7,6 +7,8 @@ use Rattle.qcow2_session.specs.declared.session.Command.TheVariants as C
 use Rattle.qcow2_session.specs.declared.session.Reply.TheVariants as R
 use Rattle.std.proofs.Common.{refl}
 use Rattle.qcow2_session.proofs.Causing.{begun_with, is_answered, is_refused, some_error}
+use Rattle.qcow2_session.proofs.Told.{none_refused}
+use Rattle.qcow2_session.proofs.Marking.{refused_marks}
 use Rattle.qcow2_session.proofs.sizing.shrink.Goals as goal
 
 pub returns-in-Ok-clause-command_step : goal.returns-in-Ok-clause-command_step
@@ -47,3 +49,12 @@ returns-in-Err-clause-causes g c = λ before found.
     is_refused g.S.Storage.view g.F.BackingDisk.backing old c.resize_shrink.new.self before (C.ResizeShrink c.args.size) e (R.Refused e) (λ is. absurd cc) (λ is. absurd cc, λ is. absurd is) refl (begun_with _ _ _ (refuses_to_resize old) c.in-Err.ensures.early)
     (λ none. (c.in-Err.ensures.late none).cause) (λ none le. let no = (c.in-Err.ensures.no_smaller none le).0 in absurd cc)
     (λ none sound smaller. (λ is. (c.in-Err.ensures.late none).prepared (some_error is) before sound, λ prepared. let same = (c.in-Err.ensures.prepared none smaller before sound prepared).0 in cc))
+
+pub returns-in-Err-clause-marks : goal.returns-in-Err-clause-marks
+returns-in-Err-clause-marks g c = refused_marks c.in-Err.refusal _ _ _ c.in-Err.ensures.marks
+
+pub returns-in-Ok-clause-tells : goal.returns-in-Ok-clause-tells
+returns-in-Ok-clause-tells g c = λ before le. let is = (c.in-Ok.ensures.no_smaller (none_refused _ (refuses_to_resize c.args.image.now) _ c.in-Ok.ensures.early) le).0 in (cc)
+
+pub returns-in-Err-clause-tells : goal.returns-in-Err-clause-tells
+returns-in-Err-clause-tells g c = λ before. tt

@@ -1,11 +1,12 @@
-use Rattle.std.proofs.Common.{◌≡◌, ◌⊎◌, ◌<◌, length, sym, ◌∙◌, subst, arith}
+use Rattle.std.proofs.Common.{refl, ◌≡◌, ◌⊎◌, ◌<◌, length, sym, ◌∙◌, subst, arith}
 use Rattle.std.proofs.lemmas.Grind.{common_steps}
 use Rattle.qcow2_alloc.specs.ImageFile.{known_in}
 use Rattle.qcow2_image.proofs.Sizes.{sound_is_usable}
 use Rattle.qcow2_alloc.specs.declared.error.ImageError.TheVariants.{NotCompressed}
 use Rattle.qcow2_image.specs.Refusals.{IsMet}
-use Rattle.qcow2_session.proofs.Turns.{refused_some}
+use Rattle.qcow2_session.proofs.Turns.{refused_is, refused_some}
 use Rattle.qcow2_session.proofs.SpecialReads.{told_specially}
+use Rattle.qcow2_session.proofs.Marking.{call_marks, hands_on, memory_marks, unmarked}
 use Rattle.qcow2_session.proofs.special.read_range.Goals as goal
 
 pub returns-clause-tells : goal.returns-clause-tells
@@ -23,3 +24,12 @@ pub returns-clause-late : goal.returns-clause-late
 returns-clause-late g c = λ usable.
     let long : length c.deref_mut.result.now ≡ c.args.length = grind (arith, common_steps) in
     refused_some (λ e. IsMet e ⊎ (e ≡ NotCompressed c.args.offset)) c.args.length c.readv_special.result tt (c.readv_special.ensures.late usable) (λ none. (c.readv_special.ensures.nothing usable (long ∙ none)).0)
+
+pub returns-clause-marks : goal.returns-clause-marks
+returns-clause-marks g c = call_marks c.readv_special.result _ _ _ c.readv_special.ensures.marks
+
+pub returns-in_err-check_read-clause-marks : goal.returns-in_err-check_read-clause-marks
+returns-in_err-check_read-clause-marks g c = hands_on _ c.in_err-check_read.field-0.0 _ _ (refused_is _ c.in_err-check_read.field-0.0 c.from_residual.ensures) (unmarked c.in_err-check_read.field-0.0 _ _ c.in_err-check_read.ensures.faults refl)
+
+pub returns-in_err-bytes-clause-marks : goal.returns-in_err-bytes-clause-marks
+returns-in_err-bytes-clause-marks g c = hands_on _ c.in_err-bytes.field-0.0 _ _ (refused_is _ c.in_err-bytes.field-0.0 c.from_residual-in_err-bytes.ensures) (memory_marks c.in_err-bytes.field-0.0 _ c.in_err-bytes.ensures.cause.0)

@@ -10,10 +10,10 @@ use Rattle.qcow2_session.proofs.special.readv_special.Goals as goal
 
 pub returns-in-Ok-clause-command_step : goal.returns-in-Ok-clause-command_step
 returns-in-Ok-clause-command_step g c = λ slots x s stands founds. done_as x _ _ s _ _ _ refl stands (record { sized = λ _. tt; failed = λ f. absurd (not_both (unusable_first c.args.image.now _ c.in-Ok.ensures.early f)); may = λ _. tt })
-    (does_if (λ h. (c.in-Ok.ensures.empty, h)) (c.in-Ok.ensures.sees slots.prepared.items)) (λ _ _. refl) (λ _. tt)
+    (does_if (λ h. (c.in-Ok.ensures.empty, h)) (c.in-Ok.ensures.sees slots.prepared.items)) (λ f. f) (λ _ _. refl) (λ _. tt)
 
 pub returns-in-Err-clause-command_step : goal.returns-in-Err-clause-command_step
-returns-in-Err-clause-command_step g c = λ slots x s stands founds. refused_told x _ _ s _ _ _ _ refl stands (record { sized = λ _. tt; failed = λ f. error_is (unusable_first c.args.image.now _ c.in-Err.ensures.early f); may = λ _. tt }) (c.in-Err.ensures.sees slots.prepared.items) (λ f. f) (λ _ _. refl) (c.in-Err.ensures.tells slots.prepared.items)
+returns-in-Err-clause-command_step g c = λ slots x s stands founds. refused_told x _ _ s _ _ _ _ refl stands (record { sized = λ _. tt; failed = λ f. error_is (unusable_first c.args.image.now _ c.in-Err.ensures.early f); may = λ _. tt }) (c.in-Err.ensures.sees slots.prepared.items) (λ f. f) (λ f. f) (λ _ _. refl) (c.in-Err.ensures.tells slots.prepared.items)
 
 pub returns-in-Ok-clause-causes : goal.returns-in-Ok-clause-causes
 returns-in-Ok-clause-causes g c = λ before found. is_answered g.S.Storage.view g.F.BackingDisk.backing c.args.image.now c.read_range.new.image before (C.ReadvSpecial c.args.offset c.args.length) _ _ R.Done (λ is. absurd cc) (λ is. absurd cc, λ is. absurd is) refl c.in-Ok.ensures.early (λ _ _. tt)

@@ -1,10 +1,11 @@
-use Rattle.std.proofs.Common.{◌≡◌, ◌<◌, length, sym, ◌∙◌, subst, arith, None}
+use Rattle.std.proofs.Common.{refl, ◌≡◌, ◌<◌, length, sym, ◌∙◌, subst, arith, None}
 use Rattle.std.proofs.lemmas.Grind.{common_steps}
 use Rattle.qcow2_alloc.specs.ImageFile.{known_in}
 use Rattle.qcow2_image.proofs.Sizes.{sound_is_usable}
 use Rattle.qcow2_image.specs.Refusals.{IsMet}
-use Rattle.qcow2_session.proofs.Turns.{refused_some}
+use Rattle.qcow2_session.proofs.Turns.{refused_is, refused_some}
 use Rattle.qcow2_session.proofs.SpecialReads.{told_plainly}
+use Rattle.qcow2_session.proofs.Marking.{call_marks, hands_on, memory_marks, unmarked}
 use Rattle.qcow2_session.proofs.special.try_range.Goals as goal
 
 pub returns-clause-tells : goal.returns-clause-tells
@@ -22,3 +23,12 @@ pub returns-clause-late : goal.returns-clause-late
 returns-clause-late g c = λ usable.
     let long : length c.deref_mut.result.now ≡ c.args.length = grind (arith, common_steps) in
     refused_some IsMet c.args.length c.try_readv_special.result None (c.try_readv_special.ensures.late usable) (λ none. (c.try_readv_special.ensures.nothing usable (long ∙ none)).0)
+
+pub returns-clause-marks : goal.returns-clause-marks
+returns-clause-marks g c = call_marks c.try_readv_special.result _ _ _ c.try_readv_special.ensures.marks
+
+pub returns-in_err-check_read-clause-marks : goal.returns-in_err-check_read-clause-marks
+returns-in_err-check_read-clause-marks g c = hands_on _ c.in_err-check_read.field-0.0 _ _ (refused_is _ c.in_err-check_read.field-0.0 c.from_residual.ensures) (unmarked c.in_err-check_read.field-0.0 _ _ c.in_err-check_read.ensures.faults refl)
+
+pub returns-in_err-bytes-clause-marks : goal.returns-in_err-bytes-clause-marks
+returns-in_err-bytes-clause-marks g c = hands_on _ c.in_err-bytes.field-0.0 _ _ (refused_is _ c.in_err-bytes.field-0.0 c.from_residual-in_err-bytes.ensures) (memory_marks c.in_err-bytes.field-0.0 _ c.in_err-bytes.ensures.cause.0)

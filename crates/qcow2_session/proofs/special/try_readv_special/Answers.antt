@@ -8,13 +8,16 @@ use Rattle.qcow2_session.proofs.Causing.{begun_with, is_answered, is_refused}
 use Rattle.qcow2_session.proofs.special.try_readv_special.Goals as goal
 
 pub returns-in-Ok-clause-command_step : goal.returns-in-Ok-clause-command_step
-returns-in-Ok-clause-command_step g c = λ slots x s stands founds. done_as x _ _ s _ _ _ refl stands (record { sized = λ _. tt; failed = λ f. absurd (not_both (unusable_first c.args.image.now _ c.in-Ok.ensures.early f)); may = λ _. tt }) (c.in-Ok.ensures.sees slots.prepared.items) (λ _ _. refl) (c.in-Ok.ensures.tells slots.prepared.items)
+returns-in-Ok-clause-command_step g c = λ slots x s stands founds. done_as x _ _ s _ _ _ refl stands (record { sized = λ _. tt; failed = λ f. absurd (not_both (unusable_first c.args.image.now _ c.in-Ok.ensures.early f)); may = λ _. tt }) (c.in-Ok.ensures.sees slots.prepared.items) (λ f. f) (λ _ _. refl) (c.in-Ok.ensures.tells slots.prepared.items)
 
 pub returns-in-Err-clause-command_step : goal.returns-in-Err-clause-command_step
-returns-in-Err-clause-command_step g c = λ slots x s stands founds. refused_told x _ _ s _ _ _ _ refl stands (record { sized = λ _. tt; failed = λ f. error_is (unusable_first c.args.image.now _ c.in-Err.ensures.early f); may = λ _. tt }) (c.in-Err.ensures.sees slots.prepared.items) (λ f. f) (λ _ _. refl) (c.in-Err.ensures.tells slots.prepared.items)
+returns-in-Err-clause-command_step g c = λ slots x s stands founds. refused_told x _ _ s _ _ _ _ refl stands (record { sized = λ _. tt; failed = λ f. error_is (unusable_first c.args.image.now _ c.in-Err.ensures.early f); may = λ _. tt }) (c.in-Err.ensures.sees slots.prepared.items) (λ f. f) (λ f. f) (λ _ _. refl) (c.in-Err.ensures.tells slots.prepared.items)
 
 pub returns-in-Ok-clause-causes : goal.returns-in-Ok-clause-causes
 returns-in-Ok-clause-causes g c = λ before found. is_answered g.S.Storage.view g.F.BackingDisk.backing c.args.image.now c.try_range.new.image before (C.TryReadvSpecial c.args.offset c.args.length) _ _ (R.NotCompressed c.in-Ok.plain) (λ is. absurd cc) (λ is. absurd cc, λ is. absurd is) refl c.in-Ok.ensures.early (λ _ _. tt)
 
 pub returns-in-Err-clause-causes : goal.returns-in-Err-clause-causes
 returns-in-Err-clause-causes g c = λ before found. is_refused g.S.Storage.view g.F.BackingDisk.backing c.args.image.now c.try_range.new.image before (C.TryReadvSpecial c.args.offset c.args.length) c.in-Err.refusal (R.Refused c.in-Err.refusal) (λ is. absurd cc) (λ is. absurd cc, λ is. absurd is) refl (begun_with _ _ _ (unusable c.args.image.now) c.in-Err.ensures.early) (λ none. (c.in-Err.ensures.late none).0) (λ none empty. let some = (c.in-Err.ensures.late none).1 in omega (arith, some, empty)) (λ _ _. tt)
+
+pub returns-in-Ok-clause-tells : goal.returns-in-Ok-clause-tells
+returns-in-Ok-clause-tells g c = λ before. c.in-Ok.ensures.answer

@@ -17,6 +17,7 @@ returns-in-Ok-clause-ends g c =
         run = Ok (c.in-Ok.image, c.in-Ok.replies);
         headline = c.in-Ok.ensures.headline;
         told = c.in-Ok.ensures.tells;
+        counts = c.in-Ok.ensures.faults;
         flush = flushed;
         closed = (c.flush-flushed.new.self, c.flush-flushed.ensures.sees, c.into_storage.ensures);
       };
@@ -30,6 +31,7 @@ returns-in-Err-clause-ends g c = record {
     run = Err (c.in-Err.storage, c.in-Err.e);
     headline = c.in-Err.ensures.headline;
     told = c.in-Err.ensures.tells;
+    counts = c.in-Err.ensures.faults;
     flush = Ok tt;
     closed = refl;
   };

@@ -1,0 +1,12 @@
+use Rattle.program_parts.proofs.Counted.{both_as, both_then_ok, both_then_raw}
+use Rattle.program_parts.proofs.conversions.flushed.Goals as goal
+
+pub returns-in_err-count-clause-faults : goal.returns-in_err-count-clause-faults
+returns-in_err-count-clause-faults g c = λ before now raw_before told. both_as before now raw_before _ c.args.copied c.in_err-count.field-0.0 _ told c.in_err-count.was c.from_residual.ensures
+
+pub returns-in_err-flush-clause-faults : goal.returns-in_err-flush-clause-faults
+returns-in_err-flush-clause-faults g c = λ before now raw_before told.
+    both_then_raw before now raw_before _ _ c.args.copied c.in_ok-count.count c.flush.result c.in_err-flush.field-0.0 _ told c.in_ok-count.was c.flush.ensures.calls.cause c.in_err-flush.was c.from_residual-in_err-flush.ensures
+
+pub returns-clause-faults : goal.returns-clause-faults
+returns-clause-faults g c = λ before now raw_before told. both_then_ok before now raw_before _ _ c.args.copied c.in_ok-count.count _ told c.in_ok-count.was c.in_ok-flush.ensures.calls.cause.told
