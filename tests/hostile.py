@@ -40,6 +40,15 @@ def a_reftable_without_clusters():
     equal(without_pointers(contents("disk")[:512]), without_pointers(before[:512]), "the first cluster")
 
 
+def a_reftable_at_offset_0():
+    """The header's own cluster is where it would lie, and it has no entry: a longer one lies elsewhere."""
+    create("disk", 65536, 512)
+    put("disk", POINTERS.start, bytes(12))
+    before = contents("disk")
+    answers("disk", [("fill 0 512 11", "ok"), ("flush", "ok")])
+    equal(without_pointers(contents("disk")[:512]), without_pointers(before[:512]), "the first cluster")
+
+
 def a_first_range_without_a_refblock(cluster, width):
     create("disk", 4 * cluster, cluster, width)
     put("disk", cluster, bytes(8))
@@ -48,13 +57,16 @@ def a_first_range_without_a_refblock(cluster, width):
     equal(contents("disk"), before, "the contents")
 
 
-def one_full_refblock_many_times(count):
-    """What is free lies past the greatest place of a file, so the write is a fault, which ends the run. The checker would tell of each cluster that is counted, so only the run is tried."""
-    cluster = 65536
-    create("disk", 1 << 20, cluster, 1)
-    put("disk", cluster, (2 * cluster).to_bytes(8, "big") * count)
-    put("disk", 2 * cluster, b"\xff" * cluster)
-    status, text = ran("run", "disk", input=b"fill 0 512 11\n", stdout=subprocess.PIPE, stderr=subprocess.DEVNULL, timeout=10)
+def one_full_refblock_many_times(cluster, width, count):
+    """The reftable names it from its first entry on. Where it names all places of a file, none is free; else what is free lies far behind, and the write may be a fault, which ends the run. The checker would tell of each cluster that is counted, so only the run is tried."""
+    create("disk", 1 << 20, cluster, width)
+    clusters = -(-8 * count // cluster)
+    put("disk", 48, cluster.to_bytes(8, "big") + clusters.to_bytes(4, "big"))
+    put("disk", 40, ((clusters + 2) * cluster).to_bytes(8, "big"))
+    put("disk", cluster, ((clusters + 1) * cluster).to_bytes(8, "big") * count)
+    put("disk", (clusters + 1) * cluster, b"\xff" * cluster)
+    put("disk", (clusters + 3) * cluster - 1, bytes(1))
+    status, text = ran("run", "disk", input=b"fill 0 512 11\n", stdout=subprocess.PIPE, stderr=subprocess.DEVNULL, timeout=60)
     if status not in (0, 1) or not re.fullmatch(r"ok\n|refused \d+ .*\n(refused 16 failed\n)?", text):
         raise AssertionError(f"status {status} and {shown(text)}")
 
@@ -126,7 +138,9 @@ def main():
         checks.run(check.__name__, check)
     for cluster, width in ((512, 16), (512, 64), (65536, 16), (2 << 20, 1)):
         checks.run(f"a first range without a refblock, {cluster} {width}", a_first_range_without_a_refblock, cluster, width)
-    checks.run("one full refblock four thousand times", one_full_refblock_many_times, 4000)
+    for cluster, width, count in ((65536, 1, 4000), (65536, 16, 1 << 20), (65536, 2, 1 << 18), (2 << 20, 2, 4096)):
+        checks.run(f"one full refblock {count} times, {cluster} {width}", one_full_refblock_many_times, cluster, width, count)
+    checks.run("a reftable at offset 0 without clusters", a_reftable_at_offset_0)
     for needs in (needs_a_data_file, names_a_data_file, names_a_backing_file):
         checks.run(f"an image that {needs.__name__}", an_image_with_a_bitmap, needs, "refused 12 dependency", b"\xff" * 8, 1)
     checks.run("an image that needs nothing", an_image_with_a_bitmap, needs_nothing, "size 65536", bytes(8), 0)
