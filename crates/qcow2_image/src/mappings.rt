@@ -1,5 +1,5 @@
 //! What a guest range is mapped to, and making it writable.
-ghost use Rattle.qcow2_disk.specs.Alike.{AreDataAt};
+ghost use Rattle.qcow2_disk.specs.Alike.{AreDataAt, IsAlike};
 ghost use Rattle.qcow2_image.specs.BehindHeader.{StaysBehindHeader};
 ghost use Rattle.std.specs.Prelude.{◌↔◌, ℕ, List, Option, is_some, ◌≡◌, ◌⊎◌, ◌≢◌, ◌+◌, ◌*◌, ◌-◌, ◌/◌, ◌%◌, true, Some, ◌^◌, ◌<◌, ◌≤◌, [], ◌∷◌, ◌++◌, length, slice_get, IfOk, IfErr, IfSome, IsErrAnd, OnOk, IsOk, IsNone, IsSome, IsTrue, IsFalse, MatchOption, MatchResult, Ok, Err, None, false};
 ghost use Rattle.qcow2_metadata.specs.L2Mapping.{IsInReach, greatest_offset, named_run};
@@ -24,7 +24,6 @@ ghost use Rattle.qcow2_image.specs.Calls.{AnswersCall, Commits, Discards, Prepar
 ghost use Rattle.qcow2_image.specs.CallParts.{EntersAll, IsEntered, IsExisting, RefusedCall, PreparesRange};
 ghost use Rattle.qcow2_alloc.specs.CachePins.{l2_pins};
 ghost use Rattle.qcow2_alloc.specs.ImageError.{IsFault, IsOfTables};
-ghost use Rattle.qcow2_disk.specs.Alike.{IsAlike};
 ghost use Rattle.qcow2_disk.specs.Found.{IsFoundIn, kind_at, rest_of_table};
 ghost use Rattle.qcow2_image.specs.Faults.{CountsImageFaults, IsNotOfStorage, NoFewerFaults, SameFaults, TellsEachBy, TellsFault};
 ghost use Rattle.qcow2_image.specs.declared.image.Qcow2.{Qcow2};
@@ -374,15 +373,13 @@ impl<S: Storage, F: WrappedFormat<S>> Qcow2<S, F> {
         ensures nothing { refuses_to_prepare self.old offset 0 ≡ None → length ≡ 0 → IsOk result × IfOk result IsOfNothing × (self.new ≡ self.old) }
         ensures marks { MarksFailed self.old self.new result }
         ensures image { IsSameImage self.old self.new }
-        ensures taken { refuses_to_prepare self.old offset length ≡ None → (out : List (Option Prepared)) → (abstract_of S.view F.backing self.old out).is_sound
-            → IfErr result (λ e. e ≡ TablePrepared → IsTaken self.old.file.header.fields (known_in S.view self.old.file) offset length out) }
+        ensures taken { refuses_to_prepare self.old offset length ≡ None → (out : List (Option Prepared)) → (abstract_of S.view F.backing self.old out).is_sound → IfErr result (λ e. e ≡ TablePrepared → IsTaken self.old.file.header.fields (known_in S.view self.old.file) offset length out) }
         ensures own { IfOk result (λ p. image_of p ≡ number_of self.old) }
         ensures some { IfOk result (λ p. 0 < length → 0 < length_of p) }
         ensures end { IfOk result (λ p. offset + length < 2 ^ 64) }
         ensures sees { Prepares S.view F.backing self.old self.new offset length overwrite result }
         ensures listed { refuses_to_prepare self.old offset length ≡ None → 0 < length → (out : List (Option Prepared)) → (abstract_of S.view F.backing self.old out).is_sound → PreparesList offset self.old self.new result }
-        ensures maps { 0 < length → (out : List (Option Prepared)) → (abstract_of S.view F.backing self.old out).is_sound
-            → IfOk result (λ p. IsAnswered self.old.file.header.fields (known_in S.view self.old.file) offset length self.new.file.header.fields (known_in S.view self.new.file) p (meaning S.view F.backing self.new p)) }
+        ensures maps { 0 < length → (out : List (Option Prepared)) → (abstract_of S.view F.backing self.old out).is_sound → IfOk result (λ p. IsAnswered self.old.file.header.fields (known_in S.view self.old.file) offset length self.new.file.header.fields (known_in S.view self.new.file) p (meaning S.view F.backing self.new p)) }
         ensures lowest { 0 < length → (out : List (Option Prepared)) → (abstract_of S.view F.backing self.old out).is_sound → IfOk result (BeginsLowest S.view self.new) }
         ensures far { 0 < length → RefusesFarEntryFreeing S.view F.backing (refuses_to_prepare self.old offset length) offset self.old self.new result }
         ensures far_refused { 0 < length → refuses_to_prepare self.old offset length ≡ None → NeedsFarEntry self.old offset → IsErrAnd result (λ e. (e ≡ ImageError.Overflow) ⊎ IsOfTables e) }
@@ -446,14 +443,11 @@ impl<S: Storage, F: WrappedFormat<S>> Qcow2<S, F> {
         ensures notes { KeepsFileNotes S.view self.old.file self.new.file }
         ensures header_cluster { StaysBehindHeader S.view self.old self.new }
         ensures cause { IfErr result IsMetPreparing }
-        ensures taken { 0 < length → (out : List (Option Prepared)) → ImageInvariant S.view F.backing (pending_in S.view F.backing self.old out) self.old out
-            → IfErr result (λ e. e ≡ TablePrepared → IsTaken self.old.file.header.fields (known_in S.view self.old.file) offset length out) }
+        ensures taken { 0 < length → (out : List (Option Prepared)) → ImageInvariant S.view F.backing (pending_in S.view F.backing self.old out) self.old out → IfErr result (λ e. e ≡ TablePrepared → IsTaken self.old.file.header.fields (known_in S.view self.old.file) offset length out) }
         ensures own { IfOk result (λ p. image_of p ≡ number_of self.old) }
         ensures some { IfOk result (λ p. 0 < length → 0 < length_of p) }
-        ensures readies { 0 < length → (out : List (Option Prepared)) → ImageInvariant S.view F.backing (pending_in S.view F.backing self.old out) self.old out
-            → PreparesRange S.view F.backing self.old self.new out offset length overwrite result }
-        ensures answers { 0 < length → (out : List (Option Prepared)) → ImageInvariant S.view F.backing (pending_in S.view F.backing self.old out) self.old out
-            → IfOk result (λ q. IsAnswered self.old.file.header.fields (known_in S.view self.old.file) offset length self.new.file.header.fields (known_in S.view self.new.file) q (meaning S.view F.backing self.new q)) }
+        ensures readies { 0 < length → (out : List (Option Prepared)) → ImageInvariant S.view F.backing (pending_in S.view F.backing self.old out) self.old out → PreparesRange S.view F.backing self.old self.new out offset length overwrite result }
+        ensures answers { 0 < length → (out : List (Option Prepared)) → ImageInvariant S.view F.backing (pending_in S.view F.backing self.old out) self.old out → IfOk result (λ q. IsAnswered self.old.file.header.fields (known_in S.view self.old.file) offset length self.new.file.header.fields (known_in S.view self.new.file) q (meaning S.view F.backing self.new q)) }
         ensures lowest { (out : List (Option Prepared)) → ImageInvariant S.view F.backing (pending_in S.view F.backing self.old out) self.old out → IfOk result (BeginsLowest S.view self.new) }
         ensures listed { 0 < length → (out : List (Option Prepared)) → ImageInvariant S.view F.backing (pending_in S.view F.backing self.old out) self.old out → PreparesList offset self.old self.new result }
         ensures far { NeedsFarEntry self.old offset → IsRefusedAsFar S.view F.backing self.old self.new result }
@@ -479,14 +473,11 @@ impl<S: Storage, F: WrappedFormat<S>> Qcow2<S, F> {
         ensures notes { KeepsFileNotes S.view self.old.file self.new.file }
         ensures header_cluster { StaysBehindHeader S.view self.old self.new }
         ensures cause { IfErr result IsMetPreparing }
-        ensures taken { 0 < length → (out : List (Option Prepared)) → ImageInvariant S.view F.backing (pending_in S.view F.backing self.old out) self.old out
-            → IfErr result (λ e. e ≡ TablePrepared → IsTaken self.old.file.header.fields (known_in S.view self.old.file) offset length out) }
+        ensures taken { 0 < length → (out : List (Option Prepared)) → ImageInvariant S.view F.backing (pending_in S.view F.backing self.old out) self.old out → IfErr result (λ e. e ≡ TablePrepared → IsTaken self.old.file.header.fields (known_in S.view self.old.file) offset length out) }
         ensures own { IfOk result (λ p. image_of p ≡ number_of self.old) }
         ensures some { IfOk result (λ p. 0 < length → 0 < length_of p) }
-        ensures readies { 0 < length → (out : List (Option Prepared)) → ImageInvariant S.view F.backing (pending_in S.view F.backing self.old out) self.old out
-            → PreparesRange S.view F.backing self.old self.new out offset length overwrite result }
-        ensures answers { 0 < length → (out : List (Option Prepared)) → ImageInvariant S.view F.backing (pending_in S.view F.backing self.old out) self.old out
-            → IfOk result (λ q. IsAnswered self.old.file.header.fields (known_in S.view self.old.file) offset length self.new.file.header.fields (known_in S.view self.new.file) q (meaning S.view F.backing self.new q)) }
+        ensures readies { 0 < length → (out : List (Option Prepared)) → ImageInvariant S.view F.backing (pending_in S.view F.backing self.old out) self.old out → PreparesRange S.view F.backing self.old self.new out offset length overwrite result }
+        ensures answers { 0 < length → (out : List (Option Prepared)) → ImageInvariant S.view F.backing (pending_in S.view F.backing self.old out) self.old out → IfOk result (λ q. IsAnswered self.old.file.header.fields (known_in S.view self.old.file) offset length self.new.file.header.fields (known_in S.view self.new.file) q (meaning S.view F.backing self.new q)) }
         ensures lowest { (out : List (Option Prepared)) → ImageInvariant S.view F.backing (pending_in S.view F.backing self.old out) self.old out → IfOk result (BeginsLowest S.view self.new) }
         ensures tables { (out : List (Option Prepared)) → ImageInvariant S.view F.backing (pending_in S.view F.backing self.old out) self.old out → OnOk result (PreparesTable offset self.old self.new) }
         ensures far { NeedsFarEntry self.old offset → (result ≡ Err ImageError.Overflow) × (self.new ≡ self.old) }
@@ -565,8 +556,7 @@ impl<S: Storage, F: WrappedFormat<S>> Qcow2<S, F> {
         ensures unpinned { OnOk result (l2_pins self.old.file.caches table ≡ 0) }
         ensures own { IfOk result (λ p. image_of p ≡ number_of self.old) }
         ensures some { IfOk result (λ p. 0 < length_of p) }
-        ensures readies { (out : List (Option Prepared)) → ImageInvariant S.view F.backing (pending_in S.view F.backing self.old out) self.old out
-            → HoldsTable S.view F.backing self.old offset table → PreparesRange S.view F.backing self.old self.new out offset length overwrite result }
+        ensures readies { (out : List (Option Prepared)) → ImageInvariant S.view F.backing (pending_in S.view F.backing self.old out) self.old out → HoldsTable S.view F.backing self.old offset table → PreparesRange S.view F.backing self.old self.new out offset length overwrite result }
         ensures reaches { (out : List (Option Prepared)) (k : ℕ) → slice_get out k ≡ Some None → ImageInvariant S.view F.backing (pending_in S.view F.backing self.old out) self.old out
             → HoldsTable S.view F.backing self.old offset table → IfOk result (Reaches S.view self.new offset length) }
         ensures header { KeepsHeader self.old.file.header self.new.file.header }
