@@ -11,6 +11,7 @@ mod image;
 mod io_func;
 mod l1_tables;
 mod l2_tables;
+mod lookups;
 mod mapping;
 mod mappings;
 mod preallocation;

@@ -1,14 +1,13 @@
-//! What a guest range is mapped to, and making it writable.
-ghost use Rattle.qcow2_disk.specs.Alike.{AreDataAt, IsAlike};
+//! Making a guest range writable, and entering what was prepared.
+ghost use Rattle.qcow2_disk.specs.Alike.{AreDataAt};
 ghost use Rattle.qcow2_image.specs.BehindHeader.{StaysBehindHeader};
-ghost use Rattle.std.specs.Prelude.{◌↔◌, ℕ, List, Option, is_some, ◌≡◌, ◌⊎◌, ◌≢◌, ◌+◌, ◌*◌, ◌-◌, ◌/◌, ◌%◌, true, Some, ◌^◌, ◌<◌, ◌≤◌, [], ◌∷◌, ◌++◌, length, slice_get, IfOk, IfErr, IfSome, IsErrAnd, OnOk, IsOk, IsNone, IsSome, IsTrue, IsFalse, MatchOption, MatchResult, Ok, Err, None, false};
+ghost use Rattle.std.specs.Prelude.{◌↔◌, ℕ, List, Option, ◌≡◌, ◌⊎◌, ◌≢◌, ◌+◌, ◌*◌, ◌-◌, ◌/◌, ◌%◌, true, Some, ◌^◌, ◌<◌, ◌≤◌, [], ◌∷◌, ◌++◌, length, slice_get, IfOk, IfErr, IfSome, IsErrAnd, OnOk, IsOk, IsNone, IsSome, IsTrue, IsFalse, MatchOption, MatchResult, Ok, Err, None, false};
 ghost use Rattle.qcow2_metadata.specs.L2Mapping.{IsInReach, greatest_offset, named_run};
 ghost use Rattle.qcow2_disk.specs.Mappings.{is_copied_data};
-ghost use Rattle.qcow2_image.specs.Image.{HasNothingToFree, ImageStays, IsSameImage, KeepsRest, is_failed, is_writable, number_of, size_of};
+ghost use Rattle.qcow2_image.specs.Image.{HasNothingToFree, ImageStays, IsSameImage, KeepsRest, is_failed, is_writable, number_of};
 ghost use Rattle.qcow2_image.specs.Prepared.{guest_offset_of, image_of, length_of, offset_of, table_of, IsHandedBackBy};
 ghost use Rattle.qcow2_image.specs.Preparing.{IsAnswered, IsOfNothing, IsPlaceOf, IsTaken};
 ghost use Rattle.qcow2_image.specs.Ranges.{ReleasesOneMapping, Reaches};
-ghost use Rattle.qcow2_image.specs.Unwritten.{OnlyReadsImage};
 ghost use Rattle.qcow2_laws.specs.CrashInvariant.{Pending};
 ghost use Rattle.qcow2_alloc.specs.MetadataCaches.{IsEntryAt, l2_at};
 ghost use Rattle.qcow2_alloc.specs.KeptMarks.{KeepsFileNotes};
@@ -20,61 +19,28 @@ ghost use Rattle.qcow2_image.specs.ListedClusters.{ListsFormer, PreparesList, Pr
 ghost use Rattle.qcow2_image.specs.PinnedTables.{PreparesUnpinned};
 ghost use Rattle.qcow2_alloc.specs.ImageStorage.{storage_of};
 ghost use Rattle.qcow2_image.specs.declared.prepared.Prepared.{Prepared};
-ghost use Rattle.qcow2_image.specs.Calls.{AnswersCall, Commits, Discards, Prepares, reason_of};
+ghost use Rattle.qcow2_image.specs.Calls.{Commits, Discards, Prepares, reason_of};
 ghost use Rattle.qcow2_image.specs.CallParts.{EntersAll, IsEntered, IsExisting, RefusedCall, PreparesRange};
 ghost use Rattle.qcow2_alloc.specs.CachePins.{l2_pins};
 ghost use Rattle.qcow2_alloc.specs.ImageError.{IsFault, IsOfTables};
-ghost use Rattle.qcow2_disk.specs.Found.{IsFoundIn, kind_at, rest_of_table};
 ghost use Rattle.qcow2_image.specs.Faults.{CountsImageFaults, IsNotOfStorage, NoFewerFaults, SameFaults, TellsEachBy, TellsFault};
 ghost use Rattle.qcow2_image.specs.declared.image.Qcow2.{Qcow2};
-ghost use Rattle.qcow2_image.specs.Found.{found_kind, mapping_of, IsRunBehind, NamesL2Table, IsRunFrom, IsFoundInImage, l1_index_of, l2_index_of};
-ghost use Rattle.qcow2_image.specs.UnseenSteps.{DropsNothing, HoldsTable, UnseenStep, EntersCluster, EntersShare, FreesLater, Unpins, old_data_by, freed_by};
-ghost use Rattle.qcow2_image.specs.ImageInvariant.{HasL1Table, ImageInvariant, listed_run, meaning, pending_in, abstract_of};
-ghost use Rattle.qcow2_metadata.specs.Header.{cluster_size, entries_per_cluster};
+ghost use Rattle.qcow2_image.specs.Found.{l1_index_of, l2_index_of};
+ghost use Rattle.qcow2_image.specs.UnseenSteps.{DropsNothing, HoldsTable, EntersCluster, EntersShare, FreesLater, Unpins, old_data_by, freed_by};
+ghost use Rattle.qcow2_image.specs.ImageInvariant.{ImageInvariant, listed_run, meaning, pending_in, abstract_of};
+ghost use Rattle.qcow2_metadata.specs.Header.{entries_per_cluster};
 ghost use Rattle.qcow2_metadata.specs.Cover.{cover};
 ghost use Rattle.qcow2_image.specs.declared.mapping.Place.TheVariants.{Image};
-ghost use Rattle.qcow2_image.specs.declared.mapping.MappingKind.TheVariants.{Eof};
-ghost use Rattle.qcow2_image.specs.Refusals.{FreesRefused, unusable, refuses_to_prepare, passes as passes_size, IsMet, IsMetPreparing, IsUnlimited, MarksFailed, MarksRefused};
+ghost use Rattle.qcow2_image.specs.Refusals.{FreesRefused, refuses_to_prepare, passes as passes_size, IsMet, IsMetPreparing, MarksFailed, MarksRefused};
 ghost use Rattle.qcow2_image.specs.declared.prepared.CommitRefused.TheVariants.{Kept, Spent};
 ghost use Rattle.qcow2_image.specs.declared.prepared.Share.TheVariants.{InPlace};
 ghost use Rattle.qcow2_alloc.specs.declared.error.ImageError.TheVariants.{Failed, ForeignState, TablePrepared};
 
 use crate::prepared::Share;
-use crate::{CommitRefused, Mapping, MappingKind, Place, Prepared, Qcow2};
+use crate::{CommitRefused, Place, Prepared, Qcow2};
 use image_access::{Storage, WrappedFormat};
 use qcow2_alloc::{ClustersToFreeEntry, ClustersToFreeList, ImageError, PendingClusters};
-use qcow2_metadata::{
-    ClusterCount, GuestCluster, GuestOffset, HostCluster, HostOffset, L2Mapping, L2Table,
-};
-
-// Whether a guest cluster is mapped like an earlier one that lies so many bytes before it.
-fn is_alike(first: &L2Mapping, mapping: &L2Mapping, distance: u64) -> bool
-    requires reach { IsInReach first.now }
-    requires near { distance ≤ 2 ^ 42 }
-    ensures { IsTrue result ↔ IsAlike distance first.now mapping.now }
-{
-    match mapping {
-        L2Mapping::Data { host, copied } => match first {
-            L2Mapping::Data {
-                host: first_host,
-                copied: first_copied,
-            } => host.value() == first_host.value() + distance && *copied == *first_copied,
-            _ => false,
-        },
-        L2Mapping::Zero { .. } => matches!(first, L2Mapping::Zero { .. }),
-        L2Mapping::Compressed { .. } => matches!(first, L2Mapping::Compressed { .. }),
-        L2Mapping::Uncovered => matches!(first, L2Mapping::Uncovered),
-    }
-}
-
-// How many bytes a cluster has.
-fn cluster_size(table: &L2Table) -> u64
-    ensures value { result ≡ 2 ^ table.now.cluster_bits }
-    ensures some { 0 < result }
-    ensures few { result ≤ 2 ^ 21 }
-{
-    1 << table.cluster_bits()
-}
+use qcow2_metadata::{GuestCluster, GuestOffset, HostCluster, HostOffset, L2Mapping};
 
 // Whether a range isn't empty and passes a size.
 pub(crate) fn passes(size: u64, offset: u64, length: u64) -> bool
@@ -153,209 +119,6 @@ pub(crate) fn keeps(mapping: &L2Mapping, place: u64) -> bool
 
 #[tactic(auto, using(crate::proofs::Call::MetErrors::tables_met, crate::proofs::Call::MetErrors::storage_met, crate::proofs::Call::MetErrors::metadata_met, crate::proofs::Call::MetErrors::metadata_of_tables))]
 impl<S: Storage, F: WrappedFormat<S>> Qcow2<S, F> {
-    /// What stands at a guest offset, and for how many bytes, up to `max`, all is mapped alike: within one L2 table, and below the disk's
-    /// size. At the size or past it that is `Eof`, for 0 bytes.
-    /// Refused 16 (failed), 12 (dependency), in this order. Where the work meets them: 4 (unaligned table), 8 (everything is in use),
-    /// 14 (memory), 15 (storage).
-    pub fn get_mapping(&mut self, offset: u64, max: u64) -> Result<(Mapping, u64), ImageError>
-        ensures early { IfSome (unusable self.old) (λ e. (result ≡ Err e) × (self.new ≡ self.old)) }
-        ensures late { unusable self.old ≡ None → IfErr result IsOfTables }
-        ensures limited { (out : List (Option Prepared)) → (abstract_of S.view F.backing self.old out).is_sound → IfErr result IsUnlimited }
-        ensures marks { MarksFailed self.old self.new result }
-        ensures image { IsSameImage self.old self.new }
-        ensures own { IfOk result (λ (mapping, n). (mapping.image ≡ number_of self.old) × (mapping.offset ≡ offset) × (mapping.length ≡ n)) }
-        ensures within { IfOk result (λ (mapping, n). n ≤ max) }
-        ensures some { IfOk result (λ (mapping, n). offset < size_of self.old → 0 < max → 0 < n) }
-        ensures past { unusable self.old ≡ None → size_of self.old ≤ offset → IsOk result × IfOk result (λ (mapping, n). (mapping.kind ≡ Eof) × (n ≡ 0)) }
-        ensures sees { AnswersCall S.view F.backing self.old self.new [] (λ found old new. new ≡ old) result }
-        ensures known { (out : List (Option Prepared)) → (abstract_of S.view F.backing self.old out).is_sound → known_in S.view self.new.file ≡ known_in S.view self.old.file }
-        ensures run { (out : List (Option Prepared)) → (abstract_of S.view F.backing self.old out).is_sound → IfOk result (λ (mapping, n). IsFoundIn (known_in S.view self.new.file) (is_some self.new.backing) offset max (found_kind mapping.kind) n) }
-        ensures faults { CountsImageFaults S.view F.backing self.old self.new result }
-        ensures once_written { FailsOnceWritten S.view self.old self.new result }
-        ensures header_cluster { StaysBehindHeader S.view self.old self.new }
-        ensures unwritten { OnlyReadsImage S.view F.backing self.old self.new }
-    {
-        self.check_usable()?;
-        self.begin();
-        let found = self.look_up(offset, max);
-        let (kind, length) = self.mark_failure(found)?;
-        let mapping = Mapping {
-            image: self.number,
-            offset,
-            length,
-            kind,
-        };
-        Ok((mapping, length))
-    }
-
-    pub(crate) fn look_up(
-        &mut self,
-        offset: u64,
-        max: u64,
-    ) -> Result<(MappingKind, u64), ImageError>
-        ensures stays { ImageStays self.old self.new }
-        ensures cause { IfErr result IsOfTables }
-        ensures limited { (p : Pending) (out : List (Option Prepared)) → ImageInvariant S.view F.backing p self.old out → IfErr result IsUnlimited }
-        ensures keeps { (p : Pending) (out : List (Option Prepared)) → ImageInvariant S.view F.backing p self.old out → UnseenStep S.view F.backing p p self.old self.new out }
-        ensures known { (p : Pending) (out : List (Option Prepared)) → ImageInvariant S.view F.backing p self.old out → known_in S.view self.new.file ≡ known_in S.view self.old.file }
-        ensures list { self.new.file.free_list ≡ self.old.file.free_list }
-        ensures within { IfOk result (λ (kind, n). n ≤ max) }
-        ensures some { IfOk result (λ (kind, n). offset < size_of self.old → 0 < max → 0 < n) }
-        ensures past { size_of self.old ≤ offset → result ≡ Ok (Eof, 0) }
-        ensures found { (p : Pending) (out : List (Option Prepared)) → ImageInvariant S.view F.backing p self.old out → IfOk result (λ (kind, n). IsFoundInImage S.view self.new offset max kind n) }
-        ensures faults { CountsImageFaults S.view F.backing self.old self.new result }
-        ensures notes { KeepsFileNotes S.view self.old.file self.new.file }
-        ensures header_cluster { StaysBehindHeader S.view self.old self.new }
-        ensures unwritten { OnlyReadsImage S.view F.backing self.old self.new }
-    {
-        let size = self.file.header.size();
-        if offset >= size {
-            return Ok((MappingKind::Eof, 0));
-        }
-        let max = max.min(size - offset).min(self.rest_of_table(offset));
-        match self.l2_cluster(offset)? {
-            None => Ok((self.uncovered(offset), max)),
-            Some(table) => {
-                self.file
-                    .caches
-                    .l2_get_or_insert(&mut self.file.storage, table)?;
-                self.run_in_table(table, offset, max)
-            }
-        }
-    }
-
-    // How many bytes there are from an offset on to the end of what its L2 table covers.
-    pub(crate) fn rest_of_table(&self, offset: u64) -> u64
-        ensures value { result ≡ rest_of_table self.now.file.header.fields offset }
-        ensures some { 0 < result }
-        ensures bounded { result ≤ 2 ^ 40 }
-    {
-        let covered = self.file.header.cluster_size() * self.file.header.l2_entries() as u64;
-        covered - offset % covered
-    }
-
-    // Where the L2 table of an offset lies, or None where there is none.
-    fn l2_cluster(&self, offset: u64) -> Result<Option<HostCluster>, ImageError>
-        ensures cause { IfErr result IsOfTables }
-        ensures limited { IfErr result IsUnlimited }
-        ensures names { HasL1Table S.view F.backing self.now.file self.now.l1_table → IfOk result (NamesL2Table S.view self.now offset) }
-        ensures elsewhere { IfOk result (λ table. IfSome table (λ cluster. 0 < cluster)) }
-        ensures faults { IfErr result IsNotOfStorage }
-    {
-        let bits = self.file.header.cluster_bits();
-        let Some(entry) = self.l1_table.get(GuestOffset::new(offset).l1_index(bits)) else {
-            return Ok(None);
-        };
-        match entry.offset.checked_cluster(bits) {
-            Some(cluster) => Ok(Some(cluster)),
-            None => Err(ImageError::UnalignedTable),
-        }
-    }
-
-    fn uncovered(&self, offset: u64) -> MappingKind
-        ensures value { found_kind result ≡ kind_at self.now.file.header.fields (is_some self.now.backing) offset L2Mapping.Uncovered }
-    {
-        match &self.backing {
-            Some(_) => MappingKind::Indirect { offset },
-            None => MappingKind::Zero { explicit: false },
-        }
-    }
-
-    // The run of alike clusters from an offset on, in the held table that covers it.
-    #[tactic(auto, using(crate::proofs::Call::MetErrors::tables_met, crate::proofs::Call::MetErrors::storage_met, crate::proofs::Call::MetErrors::metadata_met, crate::proofs::Call::MetErrors::metadata_of_tables, crate::proofs::Call::Unlimited::unaligned_unlimited))]
-    fn run_in_table(
-        &self,
-        table: HostCluster,
-        offset: u64,
-        max: u64,
-    ) -> Result<(MappingKind, u64), ImageError>
-        requires near { max ≤ 2 ^ 40 }
-        requires cached { IsSome (l2_at self.now.file.caches table) }
-        ensures cause { IfErr result IsOfTables }
-        ensures limited { IfErr result IsUnlimited }
-        ensures within { IfOk result (λ (kind, n). n ≤ max) }
-        ensures some { IfOk result (λ (kind, n). 0 < max → 0 < n) }
-        ensures run { (p : Pending) → FileInvariant S.view p self.now.file
-            → IsEntryAt self.now.file.header.fields (known_in S.view self.now.file) (l1_index_of self.now.file.header.fields offset) table (l2_index_of self.now.file.header.fields offset)
-            → max ≤ rest_of_table self.now.file.header.fields offset → IfOk result (λ (kind, n). IsRunFrom S.view self.now offset max kind n) }
-        ensures faults { IfErr result IsNotOfStorage }
-    {
-        let bits = self.file.header.cluster_bits();
-        let Some(table) = self.file.caches.l2_peek(table) else {
-            unreachable!();
-        };
-        let guest = GuestOffset::new(offset);
-        let first = table.get_mapping(guest.cluster(bits))?;
-        let rest = guest.remaining_in_cluster(bits);
-        let behind = self.alike_behind(table, guest.cluster(bits), max.saturating_sub(rest))?;
-        Ok((self.kind_of(first, offset), (rest + behind).min(max)))
-    }
-
-    // Whether two guest clusters that a table covers, so many bytes apart, are mapped alike.
-    #[tactic(auto, using(crate::proofs::Call::MetErrors::tables_met, crate::proofs::Call::MetErrors::storage_met, crate::proofs::Call::MetErrors::metadata_met, crate::proofs::Call::MetErrors::metadata_of_tables, crate::proofs::Call::Unlimited::unaligned_unlimited))]
-    fn are_alike(
-        &self,
-        table: &L2Table,
-        first: GuestCluster,
-        next: GuestCluster,
-        distance: u64,
-    ) -> Result<bool, ImageError>
-        requires near { distance ≤ 2 ^ 42 }
-        ensures alike { IfOk result (λ alike. IsTrue alike ↔ IsAlike distance (mapping_of table.now first) (mapping_of table.now next)) }
-        ensures cause { IfErr result IsOfTables }
-        ensures limited { IfErr result IsUnlimited }
-        ensures faults { IfErr result IsNotOfStorage }
-    {
-        let first = table.get_mapping(first)?;
-        let next = table.get_mapping(next)?;
-        Ok(is_alike(&first, &next, distance))
-    }
-
-    // How many bytes, at least up to `max`, lie in clusters behind one that are mapped like it.
-    #[tactic(auto, using(crate::proofs::Call::MetErrors::tables_met, crate::proofs::Call::MetErrors::storage_met, crate::proofs::Call::MetErrors::metadata_met, crate::proofs::Call::MetErrors::metadata_of_tables, crate::proofs::Call::Unlimited::unaligned_unlimited))]
-    fn alike_behind(
-        &self,
-        table: &L2Table,
-        cluster: GuestCluster,
-        max: u64,
-    ) -> Result<u64, ImageError>
-        requires few { max ≤ 2 ^ 40 }
-        requires near { cluster < 2 ^ 62 }
-        ensures bounded { IfOk result (λ n. n ≤ 2 ^ 41) }
-        ensures run { IfOk result (IsRunBehind table.now cluster max) }
-        ensures cause { IfErr result IsOfTables }
-        ensures limited { IfErr result IsUnlimited }
-        ensures faults { IfErr result IsNotOfStorage }
-    {
-        let size = cluster_size(table);
-        let mut count = 0;
-        while count * size < max {
-            let next = GuestCluster::new(cluster.value() + count + 1);
-            if !self.are_alike(table, cluster, next, (count + 1) * size)? {
-                break;
-            }
-            count += 1;
-        }
-        Ok(count * size)
-    }
-
-    pub(crate) fn kind_of(&self, mapping: L2Mapping, offset: u64) -> MappingKind
-        requires { IsInReach mapping }
-        ensures value { found_kind result ≡ kind_at self.now.file.header.fields (is_some self.now.backing) offset mapping }
-    {
-        let within = GuestOffset::new(offset).in_cluster_offset(self.file.header.cluster_bits());
-        match mapping {
-            L2Mapping::Data { host, copied } => MappingKind::Raw {
-                place: Place::Image,
-                offset: host.value() + within,
-                writable: copied,
-            },
-            L2Mapping::Zero { .. } => MappingKind::Zero { explicit: true },
-            L2Mapping::Compressed { .. } => MappingKind::Special { offset },
-            L2Mapping::Uncovered => self.uncovered(offset),
-        }
-    }
-
     /// Makes a range ready to be written at one place. Of what is announced as overwritten nothing is copied. The mapping may be shorter
     /// than the range, and has to be committed or discarded. One that isn't existing has the rest of its first cluster at least.
     /// Refused in this order: 16 (failed), 12 (dependency), 2 (beyond size), 1 (read-only). A length of 0 is answered before 1. Then
