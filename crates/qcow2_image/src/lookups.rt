@@ -168,7 +168,7 @@ impl<S: Storage, F: WrappedFormat<S>> Qcow2<S, F> {
 
     // The run of alike clusters from an offset on, in the held table that covers it.
     #[tactic(auto, using(crate::proofs::Call::MetErrors::tables_met, crate::proofs::Call::MetErrors::storage_met, crate::proofs::Call::MetErrors::metadata_met, crate::proofs::Call::MetErrors::metadata_of_tables, crate::proofs::Call::Unlimited::unaligned_unlimited))]
-    fn run_in_table(
+    pub(crate) fn run_in_table(
         &self,
         table: HostCluster,
         offset: u64,
