@@ -6,7 +6,7 @@ use Rattle.image_access.specs.Backing.{BackingView}
 use Rattle.image_access.specs.Moments.{StorageView}
 use Rattle.qcow2_metadata.specs.Bytes.{byte_at}
 use Rattle.qcow2_metadata.specs.Consistent.{IsConsistent}
-use Rattle.qcow2_metadata.specs.Header.{header, cluster_size}
+use Rattle.qcow2_metadata.specs.Header.{header, cluster_size, count_width}
 use Rattle.qcow2_metadata.specs.declared.header.HeaderFields.{HeaderFields}
 use Rattle.qcow2_disk.specs.AbstractImages.{Setting, IsOpened}
 use Rattle.qcow2_disk.specs.Disk.{disk}
@@ -63,9 +63,9 @@ module _ {S F : Type 0} (view : S → StorageView) (backing : F → BackingView)
       → ((k : ℕ) → (abstract_of view backing old []).surplus k ≡ 0) → HasNoLeaks (contents_in view new.file)
   leaks_none kept writable clean empty none = no_leaks_flushed view backing old new new kept writable none (Ok tt) (flushed_still clean) (λ _. empty)
 
-  pub has_image : (bytes : List ℕ) (n : ℕ) (h : HeaderFields) → IsOpened (abstract_of view backing old []) → is_some old.backing ≡ false → SameFormat h old.file.header.fields
-      → IsTrue (is_writable old) → ((k : ℕ) → (abstract_of view backing old []).surplus k ≡ 0) → IsSameImage old new → HasNothingToFree new → Imports view backing old new bytes (Ok n) → IsImageOf (view (storage_of_image new)) bytes (cluster_size h)
-  has_image bytes n h opened alone format writable none same empty imports =
+  pub has_image : (bytes : List ℕ) (n width : ℕ) (h : HeaderFields) → count_width (header (contents_in view new.file)) ≡ width → IsOpened (abstract_of view backing old []) → is_some old.backing ≡ false → SameFormat h old.file.header.fields
+      → IsTrue (is_writable old) → ((k : ℕ) → (abstract_of view backing old []).surplus k ≡ 0) → IsSameImage old new → HasNothingToFree new → Imports view backing old new bytes (Ok n) → IsImageOf (view (storage_of_image new)) bytes (cluster_size h) width
+  has_image bytes n width h counts opened alone format writable none same empty imports =
       let v = abstract_of view backing old [] in
       let w = abstract_of view backing new [] in
       let does = imports [] in
@@ -84,5 +84,6 @@ module _ {S F : Type 0} (view : S → StorageView) (backing : F → BackingView)
           is_disk = subst (λ below. IsRawOf (disk (byte_at (view (storage_of_image new)).contents) below) bytes) below (subst (λ known. IsRawOf (disk known w.setting.backing) bytes) clean done.1.1);
         };
         clusters = ap (λ b. cluster_size (header b)) (sym clean) ∙ clusters;
+        counts = counts;
         no_leaks = leaks_none (record { sound = done.0; writable = same.writable; surplus = (does.acts.works opened.sound).surplus done.0 }) writable clean empty none;
       }

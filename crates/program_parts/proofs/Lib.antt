@@ -4,3 +4,4 @@ pub mod Imported
 pub mod Exported
 pub mod Texts
 pub mod Counted
+pub mod Making

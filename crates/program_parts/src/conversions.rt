@@ -1,14 +1,16 @@
 //! New images, images of raw disks, and raw disks of images.
 ghost use Rattle.qcow2_session.specs.CountedFaults.{ConversionCounts};
-ghost use Rattle.std.specs.Prelude.{◌≡◌, ℕ, length, IfErr, IfOk, IsTrue, Ok};
-ghost use Rattle.image_access.specs.Moments.{ContentsStay};
+ghost use Rattle.std.specs.Prelude.{◌≡◌, ℕ, [], length, IfErr, IfOk, IsTrue, Ok};
+ghost use Rattle.image_access.specs.Moments.{ContentsStay, EachMomentSince};
+ghost use Rattle.qcow2_disk.specs.AbstractImages.{IsOpened};
+ghost use Rattle.qcow2_image.specs.ImageInvariant.{abstract_of};
 ghost use Rattle.qcow2_metadata.specs.Bytes.{byte_at};
 ghost use Rattle.qcow2_metadata.specs.Consistent.{IsConsistent};
-ghost use Rattle.qcow2_image.specs.Image.{HasNothingToFree, IsSameImage, is_writable};
+ghost use Rattle.qcow2_image.specs.Image.{HasNothingToFree, IsSameImage, is_writable, storage_of_image};
 ghost use Rattle.qcow2_image.specs.Opened.{NeedsAnother};
 ghost use Rattle.qcow2_image.specs.Unwritten.{HoldsSame};
 ghost use Rattle.qcow2_session.specs.Conversions.{Imports, IsLeft, IsOfImporting};
-ghost use Rattle.program_parts.specs.Conversions.{CountsBoth, IsImageOf, IsExport, KeepsDisk};
+ghost use Rattle.program_parts.specs.Conversions.{CountsBoth, IsImageOf, IsImageOfSize, IsStopOfMaking, IsExport, KeepsDisk};
 
 use image_access::{Storage, WrappedFormat};
 use qcow2_image::{ImageError, NoBacking, Qcow2, Qcow2CreateBuilder};
@@ -27,9 +29,10 @@ pub fn make_image<R: Storage, S: Storage>(
     cluster: u64,
     width: u64,
 ) -> (S, Result<u64, ImageError>)
-    ensures image { (R.view raw.old).is_honest → (S.view storage).is_honest → IfOk result.1 (λ n. IsImageOf (S.view result.0) (R.view raw.old).contents cluster) }
+    ensures image { (R.view raw.old).is_honest → (S.view storage).is_honest → IfOk result.1 (λ n. IsImageOf (S.view result.0) (R.view raw.old).contents cluster width) }
     ensures count { (R.view raw.old).is_honest → IfOk result.1 (λ n. n ≡ length (R.view raw.old).contents) }
     ensures raw { IsLeft (R.view raw.old) (R.view raw.new) }
+    ensures stops { (R.view raw.old).is_honest → (S.view storage).is_honest → EachMomentSince (S.view storage) (S.view result.0) (λ c. IsStopOfMaking (length (R.view raw.old).contents) (byte_at c)) }
     ensures faults { CountsBoth (S.view storage).faults (S.view result.0).faults (R.view raw.old).faults (R.view raw.new).faults result.1 }
 {
     let size = match raw.size() {
@@ -65,6 +68,8 @@ fn fill<R: Storage, S: Storage, F: WrappedFormat<S>>(
     ensures emptied { IsTrue (is_writable image.old) → IfOk result (λ n. HasNothingToFree image.new) }
     ensures raw { IsLeft (R.view raw.old) (R.view raw.new) }
     ensures cause { IfErr result IsOfImporting }
+    ensures stops { (n : ℕ) → IsOpened (abstract_of S.view F.backing image.old []) → IsImageOfSize n (byte_at (S.view (storage_of_image image.old)).contents)
+        → EachMomentSince (S.view (storage_of_image image.old)) (S.view (storage_of_image image.new)) (λ c. IsImageOfSize n (byte_at c)) }
     ensures faults { ConversionCounts S.view F.backing image.old image.new (R.view raw.old).faults (R.view raw.new).faults result }
 {
     let count = to_qcow2(alloc, raw, image)?;

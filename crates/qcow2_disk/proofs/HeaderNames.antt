@@ -1,4 +1,4 @@
--- Where the rest of a header stays, so do its names and its extensions.
+-- Where the rest of a header stays, so do its names and its extensions, and the bits of its counts.
 use Rattle.std.proofs.Common.{◌≡◌, ℕ, ◌+◌, ◌^◌, ◌<◌, ◌≤◌, ◌==◌, inl, inr, List, Some, None, Option, sym, ap, ◌∙◌, subst, arith, if◌then◌else◌}
 use Rattle.std.proofs.lemmas.Bool.{eq-eqb}
 use Rattle.std.proofs.Math.Pow.{pow_mono}
@@ -33,6 +33,14 @@ module _ (old new : Bytes) (reads : HeaderReads (header old) old) (keeps : Keeps
       let version = front_stays 4 4 (omega arith) in
       let length = number_stays 100 4 (omega arith) (λ i lt. inr (inr (omega arith, inr (inl (omega arith))))) in
       λ i. if version i == 2 then 72 else length i
+
+  -- so do the bits of counts
+  pub order_stays : (header new).refcount_order ≡ (header old).refcount_order
+  unfolding header
+  order_stays =
+      let version = front_stays 4 4 (omega arith) in
+      let order = number_stays 96 4 (omega arith) (λ i lt. inr (inr (omega arith, inr (inl (omega arith))))) in
+      λ i. if version i == 2 then 4 else order i
 
   old_length : (header old).version ≡ 2 → (header old).header_length ≡ 72
   unfolding header

@@ -1,4 +1,4 @@
--- What an import of a raw disk and an export to one print, and the clusters that an import asks for.
+-- What an import of a raw disk and an export to one print, and the clusters and counts that an import asks for.
 use Rattle.std.specs.Prelude.{ℕ, ◌∷◌, ◌++◌, [], codes, List, Option}
 use Rattle.std.specs.Fmt.{decimal}
 use Rattle.std.specs.Io.KnownBytes.{Appends}
@@ -21,3 +21,8 @@ IsTold line old new P = (n : ℕ) × Appends old new (line n ++ 10 ∷ []) × P 
 abbrev pub clusters_asked : Invocation → ℕ
 clusters_asked (I.Import raw file cluster width) = cluster
 clusters_asked _ = 0
+
+-- the bits of a count that it asks for
+abbrev pub width_asked : Invocation → ℕ
+width_asked (I.Import raw file cluster width) = width
+width_asked _ = 0

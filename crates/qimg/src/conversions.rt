@@ -1,12 +1,12 @@
 //! Images of raw disks, and raw disks of images.
 ghost use Rattle.std.specs.Prelude.{◌≡◌, ◌≤◌, length};
-ghost use Rattle.image_access.specs.Moments.{ContentsStay};
+ghost use Rattle.image_access.specs.Moments.{ContentsStay, EachMomentSince};
 ghost use Rattle.qcow2_metadata.specs.Bytes.{byte_at};
 ghost use Rattle.qcow2_metadata.specs.Consistent.{IsConsistent};
 ghost use Rattle.qcow2_image.specs.Opened.{NeedsAnother};
 ghost use Rattle.qcow2_session.specs.Conversions.{IsLeft};
-ghost use Rattle.program_parts.specs.Conversions.{IsImageOf, IsExport, KeepsDisk};
-ghost use Rattle.qimg.specs.Conversions.{IsTold, imported_line, exported_line, clusters_asked};
+ghost use Rattle.program_parts.specs.Conversions.{IsImageOf, IsStopOfMaking, IsExport, KeepsDisk};
+ghost use Rattle.qimg.specs.Conversions.{IsTold, imported_line, exported_line, clusters_asked, width_asked};
 
 use crate::program::{end, print_usage, refuse};
 use crate::words::Invocation;
@@ -26,7 +26,8 @@ pub fn import_raw<R: Storage, S: Storage, W: Write>(
 ) -> (u8, S)
     ensures bound { result.0 ≤ 2 }
     ensures imported { result.0 ≡ 0 → IsTold imported_line (W.contents output.old) (W.contents output.new) (λ n. (R.view raw.old).is_honest → n ≡ length (R.view raw.old).contents) }
-    ensures image { (R.view raw.old).is_honest → (S.view storage).is_honest → result.0 ≡ 0 → IsImageOf (S.view result.1) (R.view raw.old).contents (clusters_asked invocation.now) }
+    ensures image { (R.view raw.old).is_honest → (S.view storage).is_honest → result.0 ≡ 0 → IsImageOf (S.view result.1) (R.view raw.old).contents (clusters_asked invocation.now) (width_asked invocation.now) }
+    ensures stops { (R.view raw.old).is_honest → (S.view storage).is_honest → EachMomentSince (S.view storage) (S.view result.1) (λ c. IsStopOfMaking (length (R.view raw.old).contents) (byte_at c)) }
     ensures raw { IsLeft (R.view raw.old) (R.view raw.new) }
 {
     let Invocation::Import {

@@ -3,6 +3,7 @@ use Rattle.qcow2_alloc.specs.ImageError.{of_storage}
 use Rattle.qcow2_alloc.specs.declared.error.ImageError.TheVariants.{InvalidOption}
 use Rattle.qcow2_session.proofs.Counting.{converted, converting_else, converting_part, converting_raw, none_counted}
 use Rattle.qcow2_session.proofs.Turns.{refused_is}
+use Rattle.program_parts.proofs.Making.{while_imported}
 use Rattle.program_parts.proofs.conversions.fill.Goals as goal
 
 pub returns-in_err-count-clause-faults : goal.returns-in_err-count-clause-faults
@@ -17,3 +18,15 @@ returns-in_err-size-clause-faults g c =
 
 pub returns-clause-faults : goal.returns-clause-faults
 returns-clause-faults g c = converted _ _ _ _ _ _ _ c.in_ok-count.ensures.faults.told.0 (c.in_ok-size.ensures.calls.cause.told ∙ c.in_ok-count.ensures.faults.told.1)
+
+pub returns-in_err-count-clause-stops : goal.returns-in_err-count-clause-stops
+returns-in_err-count-clause-stops g c = λ n opened image. while_imported g.S.Storage.view g.F.BackingDisk.backing c.args.image.now c.to_qcow2.new.image n _ c.to_qcow2.ensures.any opened image
+
+pub returns-in_err-size-clause-stops : goal.returns-in_err-size-clause-stops
+returns-in_err-size-clause-stops g c = λ n opened image. while_imported g.S.Storage.view g.F.BackingDisk.backing c.args.image.now c.to_qcow2.new.image n _ c.to_qcow2.ensures.any opened image
+
+pub returns-clause-stops : goal.returns-clause-stops
+returns-clause-stops g c = λ n opened image. while_imported g.S.Storage.view g.F.BackingDisk.backing c.args.image.now c.to_qcow2.new.image n _ c.to_qcow2.ensures.any opened image
+
+pub returns-then-branch-count-clause-stops : goal.returns-then-branch-count-clause-stops
+returns-then-branch-count-clause-stops g c = λ n opened image. while_imported g.S.Storage.view g.F.BackingDisk.backing c.args.image.now c.to_qcow2.new.image n _ c.to_qcow2.ensures.any opened image

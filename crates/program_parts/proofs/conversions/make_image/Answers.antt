@@ -1,4 +1,4 @@
-use Rattle.std.proofs.Common.{◌≡◌, ℕ, Result, Err, refl, sym, ap, ◌∙◌, subst}
+use Rattle.std.proofs.Common.{◌≡◌, ℕ, Result, Ok, Err, refl, sym, ap, ◌∙◌, subst}
 use Rattle.qcow2_alloc.specs.Faults.{FaultsTold}
 use Rattle.qcow2_alloc.specs.declared.error.ImageError.{ImageError}
 use Rattle.qcow2_image.proofs.Create.Causes.{told_opening}
@@ -8,8 +8,11 @@ use Rattle.qcow2_metadata.specs.Header.{header}
 use Rattle.qcow2_image.specs.declared.builder.Qcow2CreateBuilder.{Qcow2CreateBuilder}
 use Rattle.qcow2_image.specs.Image.{storage_of_image}
 use Rattle.qcow2_image.proofs.Create.NewDisks.{new_disk_consistent}
-use Rattle.program_parts.specs.Conversions.{CountsBoth, IsImageOf}
+use Rattle.program_parts.specs.Conversions.{CountsBoth, IsImageOf, IsImageOfSize, IsStopOfMaking}
+use Rattle.std.proofs.Common.{length}
+use Rattle.image_access.specs.Moments.{EachMomentSince}
 use Rattle.program_parts.proofs.Imported.{of_ok, ok_both, has_image}
+use Rattle.program_parts.proofs.Making.{counts_imported, counts_opened, new_image, once_opened, then_opened, while_created, while_opened}
 use Rattle.program_parts.proofs.conversions.make_image.Goals as goal
 
 pub returns-in-Ok-open_alone-clause-image : goal.returns-in-Ok-open_alone-clause-image
@@ -24,15 +27,20 @@ returns-in-Ok-open_alone-clause-image g c = λ raw_honest honest.
     let clusters_are : c.refcount_width.result.cluster_size ≡ c.args.cluster =
     ap (λ (b : Qcow2CreateBuilder g.row.S.Denot). b.cluster_size) built ∙ ap (λ (b : Qcow2CreateBuilder g.row.S.Denot). b.cluster_size) c.cluster_size.ensures
     in
+    let width_is : c.refcount_width.result.refcount_width ≡ c.args.width = ap (λ (b : Qcow2CreateBuilder g.row.S.Denot). b.refcount_width) built in
     let made = of_ok _ c.create-storage.result.1 c.in_default.field-0 c.in_default.is (c.create-storage.ensures.created (subst (λ s. (view s).is_honest) (sym image_is) honest)) in
+    let first : IsImageOfSize c.refcount_width.result.size (byte_at (view c.create-storage.result.0).contents) = new_image c.refcount_width.result.preallocate _ _ made.new_disk in
+    let since = c.in-Ok-open_alone.ensures.since made.honest first.consistent in
+    let then : IsImageOfSize c.refcount_width.result.size (byte_at (view (storage_of_image c.in-Ok-open_alone.image)).contents) = once_opened c.refcount_width.result.size (view c.create-storage.result.0) (view (storage_of_image c.in-Ok-open_alone.image)) first since in
     let h = header (byte_at (view c.create-storage.result.0).contents) in
     let from = c.in-Ok-open_alone.ensures.opens made.honest (new_disk_consistent c.refcount_width.result.preallocate c.refcount_width.result.size (byte_at (view c.create-storage.result.0).contents) made.new_disk) in
     let writable = c.in-Ok-open_alone.ensures.ok.2 in
     ok_both c.fill-imported.result (λ n imports empty.
-    subst (λ b. IsImageOf (view c.into_storage.result) b c.args.cluster) (c.size.ensures.same raw_honest)
-    (subst (λ s. IsImageOf (view s) bytes c.args.cluster) (sym c.into_storage.ensures)
-    (subst (λ k. IsImageOf (view (storage_of_image c.fill-imported.new.image)) bytes k) (made.clusters ∙ clusters_are)
-    (has_image view _ c.in-Ok-open_alone.image c.fill-imported.new.image bytes n h from.opened c.in-Ok-open_alone.ensures.below (c.in-Ok-open_alone.ensures.format made.honest) writable
+    subst (λ b. IsImageOf (view c.into_storage.result) b c.args.cluster c.args.width) (c.size.ensures.same raw_honest)
+    (subst (λ s. IsImageOf (view s) bytes c.args.cluster c.args.width) (sym c.into_storage.ensures)
+    (subst (λ k. IsImageOf (view (storage_of_image c.fill-imported.new.image)) bytes k c.args.width) (made.clusters ∙ clusters_are)
+    (has_image view _ c.in-Ok-open_alone.image c.fill-imported.new.image bytes n c.args.width h
+    (counts_imported view _ c.in-Ok-open_alone.image c.fill-imported.new.image c.refcount_width.result.size bytes (Ok n) imports from.opened then ∙ counts_opened c.refcount_width.result.size _ _ first since ∙ made.counts ∙ width_is) from.opened c.in-Ok-open_alone.ensures.below (c.in-Ok-open_alone.ensures.format made.honest) writable
     (λ k. ap (λ (f : ℕ → ℕ). f k) from.surplus ∙ made.no_leaks k) c.fill-imported.ensures.image empty imports))))
     (c.fill-imported.ensures.sees (c.size.ensures.calls.honest raw_honest)) (c.fill-imported.ensures.emptied writable)
 
@@ -75,3 +83,73 @@ returns-in-Ok-open_alone-clause-faults g c =
     let made = (subst (λ (r : Result _ _). FaultsTold (view c.refcount_width.result.image).faults (view c.create-storage.result.0).faults r) c.in_default.is c.create-storage.ensures.faults).told in
     let opened = c.in-Ok-open_alone.ensures.faults.told in
     both_since _ _ _ _ _ _ _ (opened ∙ made ∙ first) c.in-Ok.ensures.calls.cause.told (both_of view _ (λ b. refl) c.in-Ok-open_alone.image c.fill-imported.new.image c.into_storage.result _ _ c.fill-imported.result c.fill-imported.ensures.faults c.into_storage.ensures)
+
+pub returns-in-Err-created-clause-stops : goal.returns-in-Err-created-clause-stops
+returns-in-Err-created-clause-stops g c = λ raw_honest honest.
+    let view = g.S.Storage.view in
+    let raw = (g.R.Storage.view c.args.raw.now).contents in
+    let made = view c.create-storage.result.0 in
+    let image_is : c.refcount_width.result.image ≡ c.args.storage =
+    ap (λ (b : Qcow2CreateBuilder g.row.S.Denot). b.image) c.refcount_width.ensures ∙ ap (λ (b : Qcow2CreateBuilder g.row.S.Denot). b.image) c.cluster_size.ensures
+    ∙ ap (λ (b : Qcow2CreateBuilder g.row.S.Denot). b.image) c.size-2.ensures ∙ ap (λ (b : Qcow2CreateBuilder g.row.S.Denot). b.image) c.new.ensures
+    in
+    let size_is : c.refcount_width.result.size ≡ length raw =
+    ap (λ (b : Qcow2CreateBuilder g.row.S.Denot). b.size) c.refcount_width.ensures ∙ ap (λ (b : Qcow2CreateBuilder g.row.S.Denot). b.size) c.cluster_size.ensures
+    ∙ ap (λ (b : Qcow2CreateBuilder g.row.S.Denot). b.size) c.size-2.ensures ∙ c.in-Ok.ensures.size raw_honest
+    in
+    subst (λ s. EachMomentSince (view s) made (λ b. IsStopOfMaking (length raw) (byte_at b))) image_is
+    (subst (λ n. EachMomentSince (view c.refcount_width.result.image) made (λ b. IsStopOfMaking n (byte_at b))) size_is
+    (while_created c.refcount_width.result.preallocate c.refcount_width.result.size _ made (c.create-storage.ensures.stops (subst (λ s. (view s).is_honest) (sym image_is) honest))))
+
+pub returns-in-Err-open_alone-clause-stops : goal.returns-in-Err-open_alone-clause-stops
+returns-in-Err-open_alone-clause-stops g c = λ raw_honest honest.
+    let view = g.S.Storage.view in
+    let raw = (g.R.Storage.view c.args.raw.now).contents in
+    let n = c.refcount_width.result.size in
+    let start = view c.refcount_width.result.image in
+    let made = view c.create-storage.result.0 in
+    let opened = view c.in-Err-open_alone.storage in
+    let image_is : c.refcount_width.result.image ≡ c.args.storage =
+    ap (λ (b : Qcow2CreateBuilder g.row.S.Denot). b.image) c.refcount_width.ensures ∙ ap (λ (b : Qcow2CreateBuilder g.row.S.Denot). b.image) c.cluster_size.ensures
+    ∙ ap (λ (b : Qcow2CreateBuilder g.row.S.Denot). b.image) c.size-2.ensures ∙ ap (λ (b : Qcow2CreateBuilder g.row.S.Denot). b.image) c.new.ensures
+    in
+    let size_is : n ≡ length raw =
+    ap (λ (b : Qcow2CreateBuilder g.row.S.Denot). b.size) c.refcount_width.ensures ∙ ap (λ (b : Qcow2CreateBuilder g.row.S.Denot). b.size) c.cluster_size.ensures
+    ∙ ap (λ (b : Qcow2CreateBuilder g.row.S.Denot). b.size) c.size-2.ensures ∙ c.in-Ok.ensures.size raw_honest
+    in
+    let from = subst (λ s. (view s).is_honest) (sym image_is) honest in
+    let created = of_ok _ c.create-storage.result.1 c.in_default.field-0 c.in_default.is (c.create-storage.ensures.created from) in
+    let first : IsImageOfSize n (byte_at made.contents) = new_image c.refcount_width.result.preallocate n _ created.new_disk in
+    let since = c.in-Err-open_alone.ensures.since created.honest first.consistent in
+    subst (λ s. EachMomentSince (view s) opened (λ b. IsStopOfMaking (length raw) (byte_at b))) image_is
+    (subst (λ n. EachMomentSince start opened (λ b. IsStopOfMaking n (byte_at b))) size_is
+    (then_opened n start made opened (while_created c.refcount_width.result.preallocate n start made (c.create-storage.ensures.stops from)) (while_opened n made opened first since)))
+
+pub returns-in-Ok-open_alone-clause-stops : goal.returns-in-Ok-open_alone-clause-stops
+returns-in-Ok-open_alone-clause-stops g c = λ raw_honest honest.
+    let view = g.S.Storage.view in
+    let raw = (g.R.Storage.view c.args.raw.now).contents in
+    let n = c.refcount_width.result.size in
+    let start = view c.refcount_width.result.image in
+    let made = view c.create-storage.result.0 in
+    let opened = view (storage_of_image c.in-Ok-open_alone.image) in
+    let filled = view (storage_of_image c.fill-imported.new.image) in
+    let image_is : c.refcount_width.result.image ≡ c.args.storage =
+    ap (λ (b : Qcow2CreateBuilder g.row.S.Denot). b.image) c.refcount_width.ensures ∙ ap (λ (b : Qcow2CreateBuilder g.row.S.Denot). b.image) c.cluster_size.ensures
+    ∙ ap (λ (b : Qcow2CreateBuilder g.row.S.Denot). b.image) c.size-2.ensures ∙ ap (λ (b : Qcow2CreateBuilder g.row.S.Denot). b.image) c.new.ensures
+    in
+    let size_is : n ≡ length raw =
+    ap (λ (b : Qcow2CreateBuilder g.row.S.Denot). b.size) c.refcount_width.ensures ∙ ap (λ (b : Qcow2CreateBuilder g.row.S.Denot). b.size) c.cluster_size.ensures
+    ∙ ap (λ (b : Qcow2CreateBuilder g.row.S.Denot). b.size) c.size-2.ensures ∙ c.in-Ok.ensures.size raw_honest
+    in
+    let from = subst (λ s. (view s).is_honest) (sym image_is) honest in
+    let created = of_ok _ c.create-storage.result.1 c.in_default.field-0 c.in_default.is (c.create-storage.ensures.created from) in
+    let first : IsImageOfSize n (byte_at made.contents) = new_image c.refcount_width.result.preallocate n _ created.new_disk in
+    let since = c.in-Ok-open_alone.ensures.since created.honest first.consistent in
+    let is = c.in-Ok-open_alone.ensures.opens created.honest first.consistent in
+    let filling = c.fill-imported.ensures.stops n is.opened (once_opened n made opened first since) in
+    subst (λ s. EachMomentSince (view c.args.storage) (view s) (λ b. IsStopOfMaking (length raw) (byte_at b))) (sym c.into_storage.ensures)
+    (subst (λ s. EachMomentSince (view s) filled (λ b. IsStopOfMaking (length raw) (byte_at b))) image_is
+    (subst (λ n. EachMomentSince start filled (λ b. IsStopOfMaking n (byte_at b))) size_is
+    (then_opened n start opened filled
+    (then_opened n start made opened (while_created c.refcount_width.result.preallocate n start made (c.create-storage.ensures.stops from)) (while_opened n made opened first since)) filling)))
