@@ -27,6 +27,7 @@ pub mod UsedCounts
 pub mod KeptAllocators
 pub mod SoundAllocators
 pub mod FreeList
+pub mod MadeClusters
 pub mod Growing
 pub mod Leaks
 pub mod GrownTables

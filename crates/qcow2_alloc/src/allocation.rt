@@ -4,7 +4,8 @@ ghost use Rattle.image_access.specs.Moments.{ContentsStay, EachMomentSince};
 ghost use Rattle.qcow2_laws.specs.Clusters.{L2DependsOnRb};
 ghost use Rattle.qcow2_laws.specs.CrashInvariant.{Pending};
 ghost use Rattle.qcow2_alloc.specs.Allocation.{MayTake, IsUnaligned, LacksFirst, LacksBlock, TakesCluster, TakesRun, TakesSomeRun, is_data, Allocates, AllocatesAt, SameLeaks};
-ghost use Rattle.qcow2_alloc.specs.FreeList.{pending_then, ListsTables, ListsReftables};
+ghost use Rattle.qcow2_alloc.specs.FreeList.{pending_then, run_of, ListsTables, ListsReftables};
+ghost use Rattle.qcow2_alloc.specs.MadeClusters.{run_in, IsMadeInTurn, IsMadeOnTheWay, ListsUsed, TakesAlone};
 ghost use Rattle.qcow2_alloc.specs.KeptMarks.{KeepsMarks};
 ghost use Rattle.qcow2_alloc.specs.KeptNotes.{KeepsNotes};
 ghost use Rattle.qcow2_alloc.specs.CachePins.{KeepsPinsAndNotes};
@@ -102,6 +103,7 @@ impl Allocator {
         ensures elsewhere { IfOk result (λ p. 0 < p.first_cluster) }
         ensures cause { IfErr result IsOfTables }
         ensures former { ListsReftables self.old.reftable self.new.reftable file.old.free_list file.new.free_list }
+        ensures made { (p : Pending) → AllocatorInvariant S.view self.old p file.old → TakesAlone S.view run_of (IsMadeInTurn file.old.header.fields self.old.reftable self.new.reftable file.old.free_list file.new.free_list) file.old file.new result }
         ensures unaligned { IsUnaligned file.old.header.fields self.old.reftable (max self.old.first_free_cluster 1 / counts_per_block file.old.header.fields) → 0 < count → OnOk result ⊥ }
         ensures first_range { LacksFirst file.old.header.fields self.old.reftable (max self.old.first_free_cluster 1) → 0 < count → RefusesByLimit result }
         ensures storage_faults { CountsFaults S.view file.old.storage file.new.storage result }
@@ -132,6 +134,7 @@ impl Allocator {
         ensures elsewhere { IfOk result (λ p. 0 < p.first_cluster) }
         ensures cause { IfErr result IsOfTables }
         ensures former { ListsReftables self.old.reftable self.new.reftable file.old.free_list file.new.free_list }
+        ensures made { (p : Pending) → AllocatorInvariant S.view self.old p file.old → TakesAlone S.view run_of (IsMadeInTurn file.old.header.fields self.old.reftable self.new.reftable file.old.free_list file.new.free_list) file.old file.new result }
         ensures unaligned { IsUnaligned file.old.header.fields self.old.reftable (max self.old.first_free_cluster 1 / counts_per_block file.old.header.fields) → 0 < count → OnOk result ⊥ }
         ensures first_range { LacksFirst file.old.header.fields self.old.reftable (max self.old.first_free_cluster 1) → 0 < count → OnOk result ⊥ }
         ensures storage_faults { CountsFaults S.view file.old.storage file.new.storage result }
@@ -166,10 +169,13 @@ impl Allocator {
         ensures unaligned { IsUnaligned file.old.header.fields self.old.reftable (cluster / counts_per_block file.old.header.fields) → 0 < cluster → IsHostCluster file.old.header.fields.cluster_bits cluster → OnOk result ⊥ }
         ensures first_range { LacksFirst file.old.header.fields self.old.reftable cluster → 0 < cluster → IsHostCluster file.old.header.fields.cluster_bits cluster → OnOk result ⊥ }
         ensures former { ListsReftables self.old.reftable self.new.reftable file.old.free_list file.new.free_list }
+        ensures listed { (p : Pending) → AllocatorInvariant S.view self.old p file.old → ListsUsed S.view file.old file.new }
+        ensures made { (p : Pending) → AllocatorInvariant S.view self.old p file.old → TakesAlone S.view run_in (IsMadeOnTheWay file.old.header.fields self.old.reftable self.new.reftable) file.old file.new result }
         ensures storage_faults { CountsFaults S.view file.old.storage file.new.storage result }
         ensures leaks { (p : Pending) → AllocatorInvariant S.view self.old p file.old → SameLeaks self.old self.new }
         ensures limit { (p : Pending) → SoundAllocator S.view self.old p file.old → IfErr result (IsFaultOr (CantCount S.view file.new (λ k. 0) self.new cluster)) }
-        ensures none { (p : Pending) → AllocatorInvariant S.view self.old p file.old → IfOk result (λ run. IsNone run → (IsHostCluster file.old.header.fields.cluster_bits cluster → ⊥) ⊎ IsUsed S.view file.new cluster) }
+        ensures none { (p : Pending) → AllocatorInvariant S.view self.old p file.old → IfOk result (λ run. IsNone run → (IsHostCluster file.old.header.fields.cluster_bits cluster → ⊥)
+            ⊎ (IsUsed S.view file.new cluster × (IsUsed S.view file.old cluster ⊎ IsMadeOnTheWay file.old.header.fields self.old.reftable self.new.reftable cluster))) }
         ensures uses { (p : Pending) → AllocatorInvariant S.view self.old p file.old → OnOk result (StaysUsed S.view file.old file.new) }
         ensures hint { (p : Pending) → SoundAllocator S.view self.old p file.old → KeepsNoFreeBelowHint S.view self.new file.new result }
         ensures header_cluster { SparesHeaderButPointer S.view self.old.reftable file.old self.new.reftable file.new }
@@ -333,6 +339,7 @@ impl Allocator {
         ensures unaligned { IsUnaligned file.old.header.fields self.old.reftable (cluster / counts_per_block file.old.header.fields) → IsErrOf result ImageError.UnalignedTable }
         ensures first_range { LacksFirst file.old.header.fields self.old.reftable cluster → IsErrOf result ImageError.Limit × (file.new ≡ file.old) }
         ensures former { ListsReftables self.old.reftable self.new.reftable file.old.free_list file.new.free_list }
+        ensures listed { (p : Pending) → AllocatorInvariant S.view self.old p file.old → ListsUsed S.view file.old file.new }
         ensures storage_faults { CountsFaults S.view file.old.storage file.new.storage result }
         ensures leaks { (p : Pending) → AllocatorInvariant S.view self.old p file.old → SameLeaks self.old self.new }
         ensures limit { (p : Pending) (is_data : Bool) → AllocatorInvariant S.view self.old p file.old → MayTake is_data file.old → NoFreeBelowHint S.view self.old file.old → IsHostCluster file.old.header.fields.cluster_bits cluster → IfErr result (IsFaultOr (CantCount S.view file.new (λ k. 0) self.new cluster)) }

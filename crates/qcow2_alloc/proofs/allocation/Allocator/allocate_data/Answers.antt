@@ -18,6 +18,7 @@ use Rattle.qcow2_alloc.proofs.Faults.{told_on, told_since}
 use Rattle.qcow2_alloc.proofs.Outcomes.{on_no_ok, if_no_ok, handed_cause, on_ok}
 use Rattle.qcow2_alloc.proofs.SparedHeaders.{spares_then, spares_less, spares_cached}
 use Rattle.qcow2_alloc.specs.KeptNotes.{kept_then}
+use Rattle.qcow2_alloc.proofs.MadeClusters.{made_run}
 use Rattle.qcow2_alloc.proofs.allocation.Allocator.allocate_data.Goals as goal
 
 by_limit : {A : Type 0} (r : Result A ImageError) → RefusesByLimit r → OnOk r ⊥
@@ -160,3 +161,11 @@ returns-clause-unaligned g c = c.allocate.ensures.unaligned
 
 pub returns-clause-first_range : goal.returns-clause-first_range
 returns-clause-first_range g c = λ l some. by_limit _ (c.allocate.ensures.first_range l some)
+
+pub returns-in_err-l2_depends_on_rb-clause-made : goal.returns-in_err-l2_depends_on_rb-clause-made
+returns-in_err-l2_depends_on_rb-clause-made g c = λ p sound.
+    let file : ImageFile g.row.S.Denot = record c.args.file.now { storage = c.l2_depends_on_rb.new.storage; caches = c.l2_depends_on_rb.new.self } in
+    made_run g.S.Storage.view p c.args.file.now file c.args.self.now c.args.self.now sound (lists_none c.args.file.now.free_list) Data c.args.count c.from_residual.result (returns-in_err-l2_depends_on_rb-clause-sound g c p sound)
+
+pub returns-clause-made : goal.returns-clause-made
+returns-clause-made g c = λ p sound. made_run g.S.Storage.view p c.args.file.now c.allocate.new.file c.args.self.now c.allocate.new.self sound c.allocate.ensures.list Data c.args.count c.allocate.result (returns-clause-sound g c p sound)
