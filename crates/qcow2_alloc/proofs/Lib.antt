@@ -18,6 +18,7 @@ pub mod KeptAllocators
 pub mod Freeing
 pub mod ListedAfter
 pub mod MadeClusters
+pub mod TurnedCaches
 pub mod Leaks
 pub mod Lengths
 pub mod Rooms

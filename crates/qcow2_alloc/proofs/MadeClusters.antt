@@ -12,6 +12,7 @@ use Rattle.qcow2_metadata.specs.Entries.{l1_entry, reftable_entry, block_offset,
 use Rattle.qcow2_metadata.specs.EntryTable.{EntryTableView, entry_count}
 use Rattle.qcow2_metadata.specs.L2Mapping.{IsHostCluster}
 use Rattle.qcow2_metadata.specs.Named.{in_cluster, table_in, named_by_cover, named_by_reftable, named_by_l1_table, named_for_tables}
+use Rattle.qcow2_laws.specs.Changes.{one_at}
 use Rattle.qcow2_laws.specs.Clusters.{Direction}
 use Rattle.qcow2_laws.specs.CrashInvariant.{Pending, CrashInvariant, SameCovers}
 use Rattle.qcow2_laws.specs.Guests.{over_guests, names}
@@ -21,7 +22,7 @@ use Rattle.qcow2_laws.proofs.Guests.{over_guests-same}
 use Rattle.qcow2_laws.proofs.Shares.{shares, in_l1, in_reftable, block_has}
 use Rattle.qcow2_laws.proofs.Sums.{some_term}
 use Rattle.qcow2_laws.proofs.Tops.{l1_names-same}
-use Rattle.qcow2_alloc.specs.Allocation.{run_at, taken_as, is_data, Allocates, AllocatesAt, UnseenAllocatorGrowth}
+use Rattle.qcow2_alloc.specs.Allocation.{run_at, taken_as, is_data, Allocates, RefusedGrowth, UnseenAllocatorGrowth}
 use Rattle.qcow2_alloc.specs.FreeList.{of_data, of_tables, to_free, pending_then, run_of, ListsTables, IsRunOfTable}
 use Rattle.qcow2_alloc.specs.GrownTables.{reftable_at}
 use Rattle.qcow2_alloc.specs.ImageFile.{pending_at, contents_in, known_in, FileInvariant, HasReftable, AllocatorInvariant, UnseenFileGrowth}
@@ -37,6 +38,7 @@ use Rattle.qcow2_alloc.specs.declared.image_file.ImageFile.{ImageFile}
 use Rattle.qcow2_alloc.proofs.Freeing.{free_more}
 use Rattle.qcow2_alloc.proofs.Hints.{taken_pending, header_used}
 use Rattle.qcow2_alloc.proofs.PlacedBlocks.{file_sizes}
+use Rattle.qcow2_alloc.proofs.Runs.{taken_alone}
 
 -- ---- the clusters of the reftable, as the header has them and as the reftable in memory does
 module _ {S : Type 0} (view : S → StorageView) (p : Pending) (file : ImageFile S) (t : EntryTableView) (sound : FileInvariant view p file) (has : HasReftable view file t) where
@@ -286,23 +288,39 @@ module _ {S : Type 0} (view : S → StorageView) (p : Pending) (old new : ImageF
       | inr (inr since) ↦ inl (listed k since)
     ]
 
-    pub made_at : (cluster : ℕ) (result : Result (Option ClustersToFreeEntry) ImageError) → AllocatesAt view p old allocator' new q cluster result → TakesAlone view run_in Made old new result
-    made_at cluster (Ok (Some run)) takes = λ k used.
-        elim (made_taken true (run_at cluster 1) takes.3 k used) [
+    -- just this cluster was taken
+    pub made_one : (d : Bool) (n cluster : ℕ) (run : ClustersToFreeEntry) → n ≡ cluster → run.first_cluster ≡ cluster → run.count ≡ 1 → UnseenAllocatorGrowth view p old allocator' new (taken_as d q (one_at n)) → TakesAlone view run_in Made old new (Ok (Some run))
+    made_one d n cluster run same first count growth k used =
+        let here : run_of run k ≡ run_at n 1 k = ap (λ m. run_at run.first_cluster m k) count ∙ ap (λ m. run_at m 1 k) (first ∙ sym same) in
+        elim (made_taken d (run_at n 1) (subst (λ (r : Pending). UnseenAllocatorGrowth view p old allocator' new r) (taken_alone d q n) growth) k used) [
           | inl was ↦ inl was
-          | inr (inl taken) ↦ inr (inl (subst (λ n. 0 < run_at run.first_cluster n k) (sym takes.1) (subst (λ n. 0 < run_at n 1 k) (sym takes.0) taken)))
+          | inr (inl taken) ↦ inr (inl (subst (λ m. 0 < m) (sym here) taken))
           | inr (inr (inl anew)) ↦ inr (inr anew)
           | inr (inr (inr since)) ↦ inl (listed k since)
         ]
-    made_at cluster (Ok None) growth = λ k used. elim (made_alone growth k used) [ inl was ↦ inl was | inr anew ↦ inr (inr anew) ]
-    made_at cluster (Err e) takes = elim takes [
+
+    -- it was not
+    pub made_untaken : UnseenAllocatorGrowth view p old allocator' new q → TakesAlone view run_in Made old new (Ok None)
+    made_untaken growth k used = elim (made_alone growth k used) [ inl was ↦ inl was | inr anew ↦ inr (inr anew) ]
+
+    -- that was refused
+    pub made_refused : (e : ImageError) → RefusedGrowth view p old allocator' new q e → TakesAlone view run_in Made old new (Err e)
+    made_refused e leaves = elim leaves [
       | inl growth ↦ inl (made_alone growth)
       | inr interrupted ↦ inr (interrupted.fault, interrupted.noted)
     ]
 
     -- a cluster that can't be taken was in use, or was made on the way
-    pub made_before : (cluster : ℕ) → UnseenAllocatorGrowth view p old allocator' new q → IsUsed view new cluster → IsUsed view new cluster × (IsUsed view old cluster ⊎ Made cluster)
-    made_before cluster growth used = (used, made_alone growth cluster used)
+    pub made_before : (start : ImageFile S) → ((k : ℕ) → IsUsed view old k → IsUsed view start k) → (cluster : ℕ) → UnseenAllocatorGrowth view p old allocator' new q → IsUsed view new cluster → IsUsed view new cluster × (IsUsed view start cluster ⊎ Made cluster)
+    made_before start uses cluster growth used = (used, elim (made_alone growth cluster used) [ inl was ↦ inl (uses cluster was) | inr anew ↦ inr anew ])
+
+-- it began before, where as much was in use
+pub alone_since : {S A : Type 0} (view : S → StorageView) (taken : A → ℕ → ℕ) (Made : ℕ → Type 0) (start old new : ImageFile S) (result : Result A ImageError) → ((k : ℕ) → IsUsed view old k → IsUsed view start k) → TakesAlone view taken Made old new result → TakesAlone view taken Made start new result
+alone_since view taken Made start old new (Ok answer) uses alone = λ k used. elim (alone k used) [ inl was ↦ inl (uses k was) | inr anew ↦ inr anew ]
+alone_since view taken Made start old new (Err e) uses alone = elim alone [
+  | inl stays ↦ inl (λ k used. elim (stays k used) [ inl was ↦ inl (uses k was) | inr anew ↦ inr anew ])
+  | inr broke ↦ inr broke
+]
 
 -- ---- nothing is listed, or a reftable that gave way
 none_listed : (l l' : List ClustersToFreeEntry) → l' ≡ l → (k : ℕ) → IsListedSince l l' k → ⊥

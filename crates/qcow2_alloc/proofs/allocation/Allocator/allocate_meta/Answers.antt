@@ -24,4 +24,4 @@ pub returns-clause-first_range : goal.returns-clause-first_range
 returns-clause-first_range g c = c.allocate.ensures.first_range
 
 pub returns-clause-made : goal.returns-clause-made
-returns-clause-made g c = λ p sound. made_run g.S.Storage.view p c.args.file.now c.allocate.new.file c.args.self.now c.allocate.new.self sound c.allocate.ensures.list Metadata c.args.count c.allocate.result (returns-clause-sound g c p sound)
+returns-clause-made g c = λ p sound. made_run g.S.Storage.view p c.args.file.now c.allocate.new.file c.args.self.now c.allocate.new.self sound c.allocate.ensures.list Metadata c.args.count c.allocate.result (c.allocate.ensures.sound p sound tt)
