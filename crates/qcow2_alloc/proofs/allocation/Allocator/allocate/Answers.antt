@@ -9,7 +9,6 @@ use Rattle.qcow2_alloc.proofs.FormerReftables.{former_none}
 use Rattle.qcow2_alloc.proofs.ListedAfter.{header_same, lists_none}
 use Rattle.qcow2_alloc.proofs.Faults.{told_ok}
 use Rattle.qcow2_alloc.proofs.Outcomes.{ok_no_err, told_memory, told_err}
-use Rattle.std.proofs.Math.Nat.{le_refl}
 use Rattle.qcow2_alloc.proofs.SparedHeaders.{spares_none}
 use Rattle.qcow2_alloc.proofs.KeptMarks.{kept_marks_none}
 use Rattle.std.specs.Prelude.{IsErrOf}

@@ -1,6 +1,6 @@
 use Rattle.std.proofs.Common.{◌≡◌, max, inl, false, refl, sym, ap, ◌+◌, ◌/◌, ◌^◌, ◌∙◌, subst, arith, inr, Result, ℕ, ◌≤◌, ◌<◌}
 use Rattle.qcow2_metadata.specs.L2Mapping.{greatest_offset}
-use Rattle.std.proofs.Math.Nat.{div-le_self, le_trans}
+use Rattle.std.proofs.Math.Nat.{div-le_self}
 use Rattle.qcow2_laws.specs.CrashInvariant.{Pending}
 use Rattle.qcow2_alloc.specs.LowestRuns.{KeepsNoFreeBelowHint}
 use Rattle.qcow2_alloc.specs.declared.allocation.Allocator.{Allocator}

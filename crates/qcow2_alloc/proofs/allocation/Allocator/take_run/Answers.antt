@@ -23,7 +23,6 @@ use Rattle.qcow2_alloc.proofs.Limits.{cause_as, count_back, host_of_few}
 use Rattle.qcow2_alloc.proofs.FormerReftables.{former_none, former_then, former_still}
 use Rattle.qcow2_alloc.proofs.Faults.{stays_else, told_ok, told_since}
 use Rattle.qcow2_alloc.proofs.Outcomes.{ok_no_err, err_as, told_after, if_no_ok, handed_cause, told_err, told_still, not_both}
-use Rattle.std.proofs.Math.Nat.{le_trans}
 use Rattle.qcow2_alloc.specs.Faults.{FaultsTold, faults_of}
 use Rattle.qcow2_alloc.proofs.SparedHeaders.{spares_none, spares_then, spares_less}
 use Rattle.qcow2_alloc.specs.SparedHeaders.{SparesHeaderButPointer}
