@@ -24,7 +24,7 @@ use Rattle.qcow2_laws.proofs.Sums.{some_term}
 use Rattle.qcow2_laws.proofs.Tops.{l1_names-same}
 use Rattle.qcow2_alloc.specs.Allocation.{run_at, taken_as, is_data, Allocates, RefusedGrowth, UnseenAllocatorGrowth}
 use Rattle.qcow2_alloc.specs.FreeList.{of_data, of_tables, to_free, pending_then, run_of, ListsTables, IsRunOfTable}
-use Rattle.qcow2_alloc.specs.GrownTables.{reftable_at}
+use Rattle.qcow2_alloc.specs.GrownTables.{reftable_at, without_reftable, EntersReftable}
 use Rattle.qcow2_alloc.specs.ImageFile.{pending_at, contents_in, known_in, FileInvariant, HasReftable, AllocatorInvariant, UnseenFileGrowth}
 use Rattle.qcow2_alloc.specs.LowestRuns.{IsUsed}
 use Rattle.qcow2_alloc.specs.MetadataCaches.{order_of}
@@ -313,6 +313,26 @@ module _ {S : Type 0} (view : S → StorageView) (p : Pending) (old new : ImageF
     -- a cluster that can't be taken was in use, or was made on the way
     pub made_before : (start : ImageFile S) → ((k : ℕ) → IsUsed view old k → IsUsed view start k) → (cluster : ℕ) → UnseenAllocatorGrowth view p old allocator' new q → IsUsed view new cluster → IsUsed view new cluster × (IsUsed view start cluster ⊎ Made cluster)
     made_before start uses cluster growth used = (used, elim (made_alone growth cluster used) [ inl was ↦ inl (uses cluster was) | inr anew ↦ inr anew ])
+
+-- a longer reftable is entered: where the former one stands was in use
+module _ {S : Type 0} (view : S → StorageView) (p : Pending) (old new : ImageFile S) (allocator allocator' : Allocator) (sound : AllocatorInvariant view allocator p old) where
+  pub made_entered : (result : Result (Unit {0}) ImageError) → EntersReftable view p old allocator' new result
+      → TakesAlone view (λ done k. 0) (IsMadeOnTheWay old.header.fields allocator.reftable allocator'.reftable) old new result
+  made_entered (Ok done) growth = λ k used.
+      elim (made view p (without_reftable p old.header.fields) old new allocator.reftable allocator'.reftable sound.sound sound.reftable growth.file_step growth.reftable k refl used) [
+        | inl was ↦ inl was
+        | inr (inl anew) ↦ inr (inr anew)
+        | inr (inr more) ↦ inl (reftable_used view p old allocator.reftable sound.sound sound.reftable k (omega (arith, more)))
+      ]
+  made_entered (Err e) leaves = elim leaves [
+    | inl growth ↦ inl (λ k used.
+        elim (made view p p old new allocator.reftable allocator'.reftable sound.sound sound.reftable growth.file_step growth.reftable k refl used) [
+          | inl was ↦ inl was
+          | inr (inl anew) ↦ inr anew
+          | inr (inr more) ↦ absurd (omega (arith, more))
+        ])
+    | inr interrupted ↦ inr (interrupted.fault, interrupted.noted)
+  ]
 
 -- it began before, where as much was in use
 pub alone_since : {S A : Type 0} (view : S → StorageView) (taken : A → ℕ → ℕ) (Made : ℕ → Type 0) (start old new : ImageFile S) (result : Result A ImageError) → ((k : ℕ) → IsUsed view old k → IsUsed view start k) → TakesAlone view taken Made old new result → TakesAlone view taken Made start new result
