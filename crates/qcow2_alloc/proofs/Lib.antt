@@ -17,6 +17,8 @@ pub mod Hints
 pub mod KeptAllocators
 pub mod Freeing
 pub mod ListedAfter
+pub mod MadeClusters
+pub mod TurnedCaches
 pub mod Leaks
 pub mod Lengths
 pub mod Rooms

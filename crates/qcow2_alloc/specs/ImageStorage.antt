@@ -42,3 +42,7 @@ abbrev pub NotesFault : {S T : Type 0} → ImageStorage S → ImageStorage S →
 NotesFault old new (Ok _) = met_fault_of new ≡ met_fault_of old
 NotesFault old new (Err Fault) = IsTrue (met_fault_of new)
 NotesFault old new (Err Memory) = met_fault_of new ≡ met_fault_of old
+
+-- a write that isn't told its kind: it is refused 14, and nothing changes
+abbrev pub IsRefusedUntold : {S T : Type 0} → ImageStorage S → ImageStorage S → Result T StorageError → Type 0
+IsRefusedUntold old new result = (result ≡ Err Memory) × (new ≡ old)

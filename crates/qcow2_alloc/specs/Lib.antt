@@ -27,6 +27,8 @@ pub mod UsedCounts
 pub mod KeptAllocators
 pub mod SoundAllocators
 pub mod FreeList
+pub mod MadeClusters
+pub mod TurnedCaches
 pub mod Growing
 pub mod Leaks
 pub mod GrownTables

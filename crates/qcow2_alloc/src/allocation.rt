@@ -4,7 +4,9 @@ ghost use Rattle.image_access.specs.Moments.{ContentsStay, EachMomentSince};
 ghost use Rattle.qcow2_laws.specs.Clusters.{L2DependsOnRb};
 ghost use Rattle.qcow2_laws.specs.CrashInvariant.{Pending};
 ghost use Rattle.qcow2_alloc.specs.Allocation.{MayTake, IsUnaligned, LacksFirst, LacksBlock, TakesCluster, TakesRun, TakesSomeRun, is_data, Allocates, AllocatesAt, SameLeaks};
-ghost use Rattle.qcow2_alloc.specs.FreeList.{pending_then, ListsTables, ListsReftables};
+ghost use Rattle.qcow2_alloc.specs.FreeList.{pending_then, run_of, ListsTables, ListsReftables};
+ghost use Rattle.qcow2_alloc.specs.MadeClusters.{run_in, IsMadeInTurn, IsMadeOnTheWay, ListsUsed, TakesAlone};
+ghost use Rattle.qcow2_alloc.specs.TurnedCaches.{TurnsAlone};
 ghost use Rattle.qcow2_alloc.specs.KeptMarks.{KeepsMarks};
 ghost use Rattle.qcow2_alloc.specs.KeptNotes.{KeepsNotes};
 ghost use Rattle.qcow2_alloc.specs.CachePins.{KeepsPinsAndNotes};
@@ -102,8 +104,9 @@ impl Allocator {
         ensures elsewhere { IfOk result (λ p. 0 < p.first_cluster) }
         ensures cause { IfErr result IsOfTables }
         ensures former { ListsReftables self.old.reftable self.new.reftable file.old.free_list file.new.free_list }
+        ensures made { (p : Pending) → AllocatorInvariant S.view self.old p file.old → TakesAlone S.view run_of (IsMadeInTurn file.old.header.fields self.old.reftable self.new.reftable file.old.free_list file.new.free_list) file.old file.new result }
         ensures unaligned { IsUnaligned file.old.header.fields self.old.reftable (max self.old.first_free_cluster 1 / counts_per_block file.old.header.fields) → 0 < count → OnOk result ⊥ }
-        ensures first_range { LacksFirst file.old.header.fields self.old.reftable (max self.old.first_free_cluster 1) → 0 < count → RefusesByLimit result }
+        ensures first_range { LacksFirst file.old.header.fields self.old.reftable (max self.old.first_free_cluster 1) → 0 < count → RefusesByLimit result × (file.new ≡ file.old) }
         ensures storage_faults { CountsFaults S.view file.old.storage file.new.storage result }
         ensures leaks { (p : Pending) → AllocatorInvariant S.view self.old p file.old → SameLeaks self.old self.new }
         ensures limit { (p : Pending) → SoundAllocator S.view self.old p file.old → 0 < count → IfErr result (IsFaultOr (HasNoPlace S.view file.new self.new count)) }
@@ -132,8 +135,9 @@ impl Allocator {
         ensures elsewhere { IfOk result (λ p. 0 < p.first_cluster) }
         ensures cause { IfErr result IsOfTables }
         ensures former { ListsReftables self.old.reftable self.new.reftable file.old.free_list file.new.free_list }
+        ensures made { (p : Pending) → AllocatorInvariant S.view self.old p file.old → TakesAlone S.view run_of (IsMadeInTurn file.old.header.fields self.old.reftable self.new.reftable file.old.free_list file.new.free_list) file.old file.new result }
         ensures unaligned { IsUnaligned file.old.header.fields self.old.reftable (max self.old.first_free_cluster 1 / counts_per_block file.old.header.fields) → 0 < count → OnOk result ⊥ }
-        ensures first_range { LacksFirst file.old.header.fields self.old.reftable (max self.old.first_free_cluster 1) → 0 < count → OnOk result ⊥ }
+        ensures first_range { LacksFirst file.old.header.fields self.old.reftable (max self.old.first_free_cluster 1) → 0 < count → OnOk result ⊥ × TurnsAlone S.view file.old file.new }
         ensures storage_faults { CountsFaults S.view file.old.storage file.new.storage result }
         ensures leaks { (p : Pending) → AllocatorInvariant S.view self.old p file.old → SameLeaks self.old self.new }
         ensures limit { (p : Pending) → SoundAllocator S.view self.old p file.old → 0 < count → IfErr result (IsFaultOr (HasNoPlace S.view file.new self.new count)) }
@@ -164,12 +168,15 @@ impl Allocator {
         ensures elsewhere { IfOk result (λ run. IsSome run → 0 < cluster) }
         ensures cause { IfErr result IsOfTables }
         ensures unaligned { IsUnaligned file.old.header.fields self.old.reftable (cluster / counts_per_block file.old.header.fields) → 0 < cluster → IsHostCluster file.old.header.fields.cluster_bits cluster → OnOk result ⊥ }
-        ensures first_range { LacksFirst file.old.header.fields self.old.reftable cluster → 0 < cluster → IsHostCluster file.old.header.fields.cluster_bits cluster → OnOk result ⊥ }
+        ensures first_range { LacksFirst file.old.header.fields self.old.reftable cluster → 0 < cluster → IsHostCluster file.old.header.fields.cluster_bits cluster → OnOk result ⊥ × TurnsAlone S.view file.old file.new }
         ensures former { ListsReftables self.old.reftable self.new.reftable file.old.free_list file.new.free_list }
+        ensures listed { (p : Pending) → AllocatorInvariant S.view self.old p file.old → ListsUsed S.view file.old file.new }
+        ensures made { (p : Pending) → AllocatorInvariant S.view self.old p file.old → TakesAlone S.view run_in (IsMadeOnTheWay file.old.header.fields self.old.reftable self.new.reftable) file.old file.new result }
         ensures storage_faults { CountsFaults S.view file.old.storage file.new.storage result }
         ensures leaks { (p : Pending) → AllocatorInvariant S.view self.old p file.old → SameLeaks self.old self.new }
         ensures limit { (p : Pending) → SoundAllocator S.view self.old p file.old → IfErr result (IsFaultOr (CantCount S.view file.new (λ k. 0) self.new cluster)) }
-        ensures none { (p : Pending) → AllocatorInvariant S.view self.old p file.old → IfOk result (λ run. IsNone run → (IsHostCluster file.old.header.fields.cluster_bits cluster → ⊥) ⊎ IsUsed S.view file.new cluster) }
+        ensures none { (p : Pending) → AllocatorInvariant S.view self.old p file.old → IfOk result (λ run. IsNone run → (IsHostCluster file.old.header.fields.cluster_bits cluster → ⊥)
+            ⊎ (IsUsed S.view file.new cluster × (IsUsed S.view file.old cluster ⊎ IsMadeOnTheWay file.old.header.fields self.old.reftable self.new.reftable cluster))) }
         ensures uses { (p : Pending) → AllocatorInvariant S.view self.old p file.old → OnOk result (StaysUsed S.view file.old file.new) }
         ensures hint { (p : Pending) → SoundAllocator S.view self.old p file.old → KeepsNoFreeBelowHint S.view self.new file.new result }
         ensures header_cluster { SparesHeaderButPointer S.view self.old.reftable file.old self.new.reftable file.new }
@@ -216,7 +223,7 @@ impl Allocator {
         ensures cause { IfErr result IsOfTables }
         ensures former { ListsReftables self.old.reftable self.new.reftable file.old.free_list file.new.free_list }
         ensures unaligned { IsUnaligned file.old.header.fields self.old.reftable (max self.old.first_free_cluster 1 / counts_per_block file.old.header.fields) → 0 < count → OnOk result ⊥ }
-        ensures first_range { LacksFirst file.old.header.fields self.old.reftable (max self.old.first_free_cluster 1) → 0 < count → RefusesByLimit result }
+        ensures first_range { LacksFirst file.old.header.fields self.old.reftable (max self.old.first_free_cluster 1) → 0 < count → RefusesByLimit result × (file.new ≡ file.old) }
         ensures storage_faults { CountsFaults S.view file.old.storage file.new.storage result }
         ensures leaks { (p : Pending) → AllocatorInvariant S.view self.old p file.old → SameLeaks self.old self.new }
         ensures limit { (p : Pending) → AllocatorInvariant S.view self.old p file.old → MayTake (is_data kind) file.old → NoFreeBelowHint S.view self.old file.old → 0 < count → IfErr result (IsFaultOr (HasNoPlace S.view file.new self.new count)) }
@@ -253,7 +260,7 @@ impl Allocator {
         ensures cause { IfErr result IsOfTables }
         ensures former { ListsReftables self.old.reftable self.new.reftable file.old.free_list file.new.free_list }
         ensures unaligned { IsUnaligned file.old.header.fields self.old.reftable (max self.old.first_free_cluster 1 / counts_per_block file.old.header.fields) → 0 < n → OnOk result ⊥ }
-        ensures first_range { LacksFirst file.old.header.fields self.old.reftable (max self.old.first_free_cluster 1) → 0 < n → IsErrOf result ImageError.Limit }
+        ensures first_range { LacksFirst file.old.header.fields self.old.reftable (max self.old.first_free_cluster 1) → 0 < n → IsErrOf result ImageError.Limit × (file.new ≡ file.old) }
         ensures storage_faults { CountsFaults S.view file.old.storage file.new.storage result }
         ensures leaks { (p : Pending) → AllocatorInvariant S.view self.old p file.old → SameLeaks self.old self.new }
         ensures limit { (p : Pending) (is_data : Bool) → AllocatorInvariant S.view self.old p file.old → MayTake is_data file.old → NoFreeBelowHint S.view self.old file.old → 0 < n → IfErr result (IsFaultOr (HasNoPlace S.view file.new self.new n)) }
@@ -290,6 +297,7 @@ impl Allocator {
         ensures within { IfOk result (λ taken. taken ≤ n) }
         ensures cause { IfErr result IsOfTables }
         ensures former { ListsReftables self.old.reftable self.new.reftable file.old.free_list file.new.free_list }
+        ensures first_range { LacksFirst file.old.header.fields self.old.reftable first → 0 < n → IsErrOf result ImageError.Limit × (file.new ≡ file.old) }
         ensures lacking { (e : ImageError) → LacksBlock file.old.header.fields self.old.reftable first e → 0 < n → IsErrOf result e }
         ensures storage_faults { CountsFaults S.view file.old.storage file.new.storage result }
         ensures leaks { (p : Pending) → AllocatorInvariant S.view self.old p file.old → SameLeaks self.old self.new }
@@ -333,6 +341,7 @@ impl Allocator {
         ensures unaligned { IsUnaligned file.old.header.fields self.old.reftable (cluster / counts_per_block file.old.header.fields) → IsErrOf result ImageError.UnalignedTable }
         ensures first_range { LacksFirst file.old.header.fields self.old.reftable cluster → IsErrOf result ImageError.Limit × (file.new ≡ file.old) }
         ensures former { ListsReftables self.old.reftable self.new.reftable file.old.free_list file.new.free_list }
+        ensures listed { (p : Pending) → AllocatorInvariant S.view self.old p file.old → ListsUsed S.view file.old file.new }
         ensures storage_faults { CountsFaults S.view file.old.storage file.new.storage result }
         ensures leaks { (p : Pending) → AllocatorInvariant S.view self.old p file.old → SameLeaks self.old self.new }
         ensures limit { (p : Pending) (is_data : Bool) → AllocatorInvariant S.view self.old p file.old → MayTake is_data file.old → NoFreeBelowHint S.view self.old file.old → IsHostCluster file.old.header.fields.cluster_bits cluster → IfErr result (IsFaultOr (CantCount S.view file.new (λ k. 0) self.new cluster)) }

@@ -31,7 +31,7 @@ impl Allocator {
         requires { first + n < 2 ^ 63 }
         ensures marks { KeepsMarks S.view file.old file.new }
         ensures reftable { self.new.reftable ≡ self.old.reftable }
-        ensures none { n ≡ 0 → IsOk result }
+        ensures none { n ≡ 0 → IsOk result × (file.new ≡ file.old) }
         ensures sound { GivesBackRun S.view self.old file.old self.new file.new first n result }
         ensures header { file.new.header ≡ file.old.header }
         ensures list { file.new.free_list ≡ file.old.free_list }

@@ -1,6 +1,9 @@
 ghost use Rattle.std.specs.Prelude.{◌≡◌, true};
 ghost use Rattle.qcow2_alloc.specs.CountedChanges.{IsOneChange};
 
+mod table_loads;
+mod told_writes;
+
 use crate::ImageError;
 use image_access::{Storage, StorageError, StoragePreallocate};
 
@@ -24,11 +27,12 @@ pub(crate) fn one_more(changes: u64) -> u64
     changes.saturating_add(1)
 }
 
-/// The image's storage. Every write to it goes through here, and is told its kind beforehand. Offsets and lengths are in bytes. A call is
-/// refused where the storage refuses it: 15 (storage) for a fault, 14 (memory) for want of memory, and then nothing changed.
+/// The image's storage. Each write to it is a call that demands to have been told its kind. Reading, its size and flushes pass through
+/// to the storage below. What writes without being told is refused 14 (memory), and changes nothing. All else is refused where that
+/// storage refuses it: 15 (storage) for a fault, 14 (memory) for want of memory, and then nothing changed.
 #[derive(Drop)]
 pub struct ImageStorage<S: Storage> {
-    pub(crate) storage: S,
+    storage: S,
     kind: WriteKind,
     pub(crate) is_changed: bool,
     changes: u64,
@@ -158,7 +162,7 @@ impl<S: Storage> Storage for ImageStorage<S> {
     ghost use Rattle.std.specs.Prelude.{◌≡◌, length, IfOk, OnOk};
     ghost use Rattle.image_access.specs.Contents.{bytes_at, overwritten, resized, zeroed};
     ghost use Rattle.image_access.specs.Moments.{Calls, Changes, ContentsStay, QuietCalls};
-    ghost use Rattle.qcow2_alloc.specs.ImageStorage.{storage_of, NotesWrite, SameNotes};
+    ghost use Rattle.qcow2_alloc.specs.ImageStorage.{storage_of, IsRefusedUntold, NotesWrite, SameNotes};
 
     ghost view = { λ s. S.view s.storage };
 
@@ -188,40 +192,48 @@ impl<S: Storage> Storage for ImageStorage<S> {
         self.storage.read(at, buf)
     }
 
+    // It isn't told its kind, so it is refused.
     fn write(&mut self, at: u64, bytes: &[u8]) -> Result<(), StorageError>
         ensures written { Changes (S.view (storage_of self.old)) (S.view (storage_of self.new)) result (overwritten (S.view (storage_of self.old)).contents at bytes.now) }
         ensures calls { Calls (S.view (storage_of self.old)) (S.view (storage_of self.new)) result }
         ensures noted { NotesWrite self.old self.new result }
+        ensures untold { IsRefusedUntold self.old self.new result }
     {
-        let done = self.storage.write(at, bytes);
-        self.noted(done)
+        let untold_write = StorageError::Memory;
+        Err(untold_write)
     }
 
+    // It isn't told its kind, so it is refused.
     fn write_zeroes(&mut self, at: u64, length: u64) -> Result<(), StorageError>
         ensures zeroed { Changes (S.view (storage_of self.old)) (S.view (storage_of self.new)) result (zeroed (S.view (storage_of self.old)).contents at length) }
         ensures calls { Calls (S.view (storage_of self.old)) (S.view (storage_of self.new)) result }
         ensures noted { NotesWrite self.old self.new result }
+        ensures untold { IsRefusedUntold self.old self.new result }
     {
-        let done = self.storage.write_zeroes(at, length);
-        self.noted(done)
+        let untold_zeros = StorageError::Memory;
+        Err(untold_zeros)
     }
 
+    // It isn't told its kind, so it is refused.
     fn write_allocated_zeroes(&mut self, at: u64, length: u64) -> Result<(), StorageError>
         ensures zeroed { Changes (S.view (storage_of self.old)) (S.view (storage_of self.new)) result (zeroed (S.view (storage_of self.old)).contents at length) }
         ensures calls { Calls (S.view (storage_of self.old)) (S.view (storage_of self.new)) result }
         ensures noted { NotesWrite self.old self.new result }
+        ensures untold { IsRefusedUntold self.old self.new result }
     {
-        let done = self.storage.write_allocated_zeroes(at, length);
-        self.noted(done)
+        let untold_allocated_zeros = StorageError::Memory;
+        Err(untold_allocated_zeros)
     }
 
+    // It isn't told its kind, so it is refused.
     fn resize(&mut self, size: u64, preallocate: StoragePreallocate) -> Result<(), StorageError>
         ensures resized { Changes (S.view (storage_of self.old)) (S.view (storage_of self.new)) result (resized (S.view (storage_of self.old)).contents size) }
         ensures calls { Calls (S.view (storage_of self.old)) (S.view (storage_of self.new)) result }
         ensures noted { NotesWrite self.old self.new result }
+        ensures untold { IsRefusedUntold self.old self.new result }
     {
-        let done = self.storage.resize(size, preallocate);
-        self.noted(done)
+        let untold_size = StorageError::Memory;
+        Err(untold_size)
     }
 
     fn flush(&mut self) -> Result<(), StorageError>

@@ -15,7 +15,6 @@ mod refblocks;
 mod reftable_growth;
 mod reftable_length;
 mod reftable_naming;
-mod told_writes;
 mod used_clusters;
 
 pub use allocation::Allocator;

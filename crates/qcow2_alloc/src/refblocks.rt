@@ -3,6 +3,7 @@ ghost use Rattle.std.specs.Prelude.{◌≡◌, ◌≢◌, ◌/◌, false, ℕ, �
 ghost use Rattle.qcow2_laws.specs.CrashInvariant.{Pending};
 ghost use Rattle.qcow2_alloc.specs.Allocation.{placing, first_counts, HasPlaceFor, KeepsEntries, KeepsNamed, KeepsNamed, MayTake, LoadsBlock, WritesBlock, PlacesBlock, NamesBlock, IsUnaligned, LacksFirst, TakesOne, HasNone, GetsBlock, TakesLowest, GrowsTable, SameLeaks};
 ghost use Rattle.qcow2_alloc.specs.FreeList.{pending_then, ListsTables, ListsReftables};
+ghost use Rattle.qcow2_alloc.specs.MadeClusters.{ListsUsed};
 ghost use Rattle.qcow2_alloc.specs.KeptMarks.{KeepsMarks};
 ghost use Rattle.qcow2_alloc.specs.CachePins.{LeavesPinned};
 ghost use Rattle.qcow2_alloc.specs.Faults.{CountsFaults};
@@ -167,6 +168,7 @@ impl Allocator {
         ensures unaligned { IsUnaligned file.old.header.fields self.old.reftable (cluster / counts_per_block file.old.header.fields) → IsErrOf result ImageError.UnalignedTable }
         ensures first_range { LacksFirst file.old.header.fields self.old.reftable cluster → IsErrOf result ImageError.Limit × (file.new ≡ file.old) }
         ensures former { ListsReftables self.old.reftable self.new.reftable file.old.free_list file.new.free_list }
+        ensures listed { (p : Pending) → AllocatorInvariant S.view self.old p file.old → ListsUsed S.view file.old file.new }
         ensures storage_faults { CountsFaults S.view file.old.storage file.new.storage result }
         ensures leaks { (p : Pending) → AllocatorInvariant S.view self.old p file.old → SameLeaks self.old self.new }
         ensures limit { (p : Pending) → AllocatorInvariant S.view self.old p file.old → NoFreeBelowHint S.view self.old file.old → IsHostCluster file.old.header.fields.cluster_bits cluster → IfErr result (IsFaultOr (CantCount S.view file.new (λ k. 0) self.new cluster)) }

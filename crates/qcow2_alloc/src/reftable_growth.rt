@@ -13,6 +13,7 @@ ghost use Rattle.qcow2_alloc.specs.declared.clusters_to_free.ClusterKind.TheVari
 ghost use Rattle.qcow2_alloc.specs.FreeList.{pending_then, ListsTables, IsRunOfTable, GivesWay};
 ghost use Rattle.qcow2_alloc.specs.GrownTables.{EntersReftable};
 ghost use Rattle.qcow2_alloc.specs.Growing.{IsLongEnough, IsLeastLength, IsCloneOf};
+ghost use Rattle.qcow2_alloc.specs.MadeClusters.{IsMadeOnTheWay, TakesAlone};
 ghost use Rattle.qcow2_alloc.specs.ImageError.{IsOfTables};
 ghost use Rattle.qcow2_alloc.specs.ImageFile.{has_noted, AllocatorInvariant, KeepsHeader};
 ghost use Rattle.qcow2_alloc.specs.Limits.{IsFaultOr, HasNoRoomFor, LiesLowest, CantGrow};
@@ -47,6 +48,7 @@ impl Allocator {
         ensures elsewhere { OnOk result (IfSome self.new.reftable.cluster (λ c. 0 < c)) }
         ensures cause { IfErr result IsOfTables }
         ensures former { GivesWay self.old.reftable self.new.reftable file.old.free_list file.new.free_list result }
+        ensures made { (p : Pending) → AllocatorInvariant S.view self.old p file.old → TakesAlone S.view (λ done k. 0) (IsMadeOnTheWay file.old.header.fields self.old.reftable self.new.reftable) file.old file.new result }
         ensures storage_faults { CountsFaults S.view file.old.storage file.new.storage result }
         ensures leaks { (p : Pending) → AllocatorInvariant S.view self.old p file.old → SameLeaks self.old self.new }
         ensures limit { (p : Pending) → SoundAllocator S.view self.old p file.old → IfErr result (IsFaultOr ((self.new.reftable ≡ self.old.reftable) × CantGrow S.view file.new (λ k. 0) self.old.reftable index)) }

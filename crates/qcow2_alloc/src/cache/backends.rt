@@ -55,7 +55,7 @@ impl<S: Storage> AsyncLruCacheBackend for L2CacheBackend<S> {
         if key.checked_offset(self.header.cluster_bits()).is_none() {
             return Err(MetadataError::Limit);
         }
-        match L2Table::load(alloc, &mut store.storage, &self.header, key) {
+        match store.load_l2_table(alloc, &self.header, key) {
             Err(MetadataError::Storage(StorageError::Fault)) => {
                 store.note_fault();
                 Err(MetadataError::Storage(StorageError::Fault))
@@ -159,7 +159,7 @@ impl<S: Storage> AsyncLruCacheBackend for RefBlockCacheBackend<S> {
         if key.checked_offset(self.header.cluster_bits()).is_none() {
             return Err(MetadataError::Limit);
         }
-        match RefBlock::load(alloc, &mut store.storage, &self.header, key) {
+        match store.load_refblock(alloc, &self.header, key) {
             Err(MetadataError::Storage(StorageError::Fault)) => {
                 store.note_fault();
                 Err(MetadataError::Storage(StorageError::Fault))

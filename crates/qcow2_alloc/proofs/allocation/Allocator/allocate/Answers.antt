@@ -9,7 +9,6 @@ use Rattle.qcow2_alloc.proofs.FormerReftables.{former_none}
 use Rattle.qcow2_alloc.proofs.ListedAfter.{header_same, lists_none}
 use Rattle.qcow2_alloc.proofs.Faults.{told_ok}
 use Rattle.qcow2_alloc.proofs.Outcomes.{ok_no_err, told_memory, told_err}
-use Rattle.std.proofs.Math.Nat.{le_refl}
 use Rattle.qcow2_alloc.proofs.SparedHeaders.{spares_none}
 use Rattle.qcow2_alloc.proofs.KeptMarks.{kept_marks_none}
 use Rattle.std.specs.Prelude.{IsErrOf}
@@ -125,10 +124,10 @@ pub returns-in-Err-clause-unaligned : goal.returns-in-Err-clause-unaligned
 returns-in-Err-clause-unaligned g c = λ u some. tt
 
 pub returns-in_default-clause-first_range : goal.returns-in_default-clause-first_range
-returns-in_default-clause-first_range g c = λ l some. inl (inr refl)
+returns-in_default-clause-first_range g c = λ l some. (inl (inr refl), refl)
 
 pub returns-in-Ok-lowest_run-clause-first_range : goal.returns-in-Ok-lowest_run-clause-first_range
-returns-in-Ok-lowest_run-clause-first_range g c = λ l some. ok_no_err c.in-Ok-lowest_run.first I.Limit (c.in-Ok-lowest_run.ensures.first_range l (subst (λ n. 0 < n) (sym c.value.ensures) some))
+returns-in-Ok-lowest_run-clause-first_range g c = λ l some. ok_no_err c.in-Ok-lowest_run.first I.Limit (c.in-Ok-lowest_run.ensures.first_range l (subst (λ n. 0 < n) (sym c.value.ensures) some)).0
 
 pub returns-in-Err-clause-first_range : goal.returns-in-Err-clause-first_range
-returns-in-Err-clause-first_range g c = λ l some. inr (refused_as {T = ℕ} c.in-Err.refusal I.Limit (c.in-Err.ensures.first_range l (subst (λ n. 0 < n) (sym c.value.ensures) some)))
+returns-in-Err-clause-first_range g c = λ l some. let refused = c.in-Err.ensures.first_range l (subst (λ n. 0 < n) (sym c.value.ensures) some) in (inr (refused_as {T = ℕ} c.in-Err.refusal I.Limit refused.0), refused.1)

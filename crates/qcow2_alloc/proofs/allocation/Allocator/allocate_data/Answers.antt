@@ -1,4 +1,4 @@
-use Rattle.std.proofs.Common.{Ok, Err, inl, refl, sym, subst, Result, ◌∙◌}
+use Rattle.std.proofs.Common.{◌≢◌, ℕ, Ok, Err, inl, refl, sym, subst, Result, ◌∙◌}
 use Rattle.qcow2_laws.specs.CrashInvariant.{Pending}
 use Rattle.qcow2_alloc.specs.declared.clusters_to_free.ClusterKind.TheVariants.{Data}
 use Rattle.qcow2_alloc.specs.declared.image_file.ImageFile.{ImageFile}
@@ -18,6 +18,13 @@ use Rattle.qcow2_alloc.proofs.Faults.{told_on, told_since}
 use Rattle.qcow2_alloc.proofs.Outcomes.{on_no_ok, if_no_ok, handed_cause, on_ok}
 use Rattle.qcow2_alloc.proofs.SparedHeaders.{spares_then, spares_less, spares_cached}
 use Rattle.qcow2_alloc.specs.KeptNotes.{kept_then}
+use Rattle.qcow2_alloc.proofs.MadeClusters.{alone_since, made_run}
+use Rattle.qcow2_alloc.specs.MadeClusters.{IsMadeInTurn, TakesAlone}
+use Rattle.qcow2_alloc.specs.FreeList.{run_of}
+use Rattle.qcow2_alloc.specs.LowestRuns.{IsUsed}
+use Rattle.qcow2_metadata.specs.Entries.{count}
+use Rattle.qcow2_alloc.proofs.TurnedCaches.{turned}
+use Rattle.qcow2_alloc.specs.TurnedCaches.{TurnsAlone}
 use Rattle.qcow2_alloc.proofs.allocation.Allocator.allocate_data.Goals as goal
 
 by_limit : {A : Type 0} (r : Result A ImageError) → RefusesByLimit r → OnOk r ⊥
@@ -153,10 +160,34 @@ pub returns-in_err-l2_depends_on_rb-clause-unaligned : goal.returns-in_err-l2_de
 returns-in_err-l2_depends_on_rb-clause-unaligned g c = λ _ _. on_no_ok _ c.from_residual.result c.in_err-l2_depends_on_rb.field-0.0 c.from_residual.ensures
 
 pub returns-in_err-l2_depends_on_rb-clause-first_range : goal.returns-in_err-l2_depends_on_rb-clause-first_range
-returns-in_err-l2_depends_on_rb-clause-first_range g c = λ _ _. on_no_ok _ c.from_residual.result c.in_err-l2_depends_on_rb.field-0.0 c.from_residual.ensures
+returns-in_err-l2_depends_on_rb-clause-first_range g c = λ _ _.
+    let file : ImageFile g.row.S.Denot = record c.args.file.now { storage = c.l2_depends_on_rb.new.storage; caches = c.l2_depends_on_rb.new.self } in
+    let alone : TurnsAlone g.S.Storage.view c.args.file.now file = turned g.S.Storage.view c.args.file.now c.l2_depends_on_rb.new.storage c.l2_depends_on_rb.new.self c.l2_depends_on_rb.ensures.blocks c.l2_depends_on_rb.ensures.keeps in
+    (on_no_ok _ c.from_residual.result c.in_err-l2_depends_on_rb.field-0.0 c.from_residual.ensures, alone)
 
 pub returns-clause-unaligned : goal.returns-clause-unaligned
 returns-clause-unaligned g c = c.allocate.ensures.unaligned
 
 pub returns-clause-first_range : goal.returns-clause-first_range
-returns-clause-first_range g c = λ l some. by_limit _ (c.allocate.ensures.first_range l some)
+returns-clause-first_range g c = λ l some.
+    let file : ImageFile g.row.S.Denot = record c.args.file.now { storage = c.l2_depends_on_rb.new.storage; caches = c.l2_depends_on_rb.new.self } in
+    let alone : TurnsAlone g.S.Storage.view c.args.file.now file = turned g.S.Storage.view c.args.file.now c.l2_depends_on_rb.new.storage c.l2_depends_on_rb.new.self c.l2_depends_on_rb.ensures.blocks c.l2_depends_on_rb.ensures.keeps in
+    let refused = c.allocate.ensures.first_range l some in
+    (by_limit _ refused.0, subst (λ (f : ImageFile g.row.S.Denot). TurnsAlone g.S.Storage.view c.args.file.now f) (sym refused.1) alone)
+
+pub returns-in_err-l2_depends_on_rb-clause-made : goal.returns-in_err-l2_depends_on_rb-clause-made
+returns-in_err-l2_depends_on_rb-clause-made g c = λ p sound.
+    let file : ImageFile g.row.S.Denot = record c.args.file.now { storage = c.l2_depends_on_rb.new.storage; caches = c.l2_depends_on_rb.new.self } in
+    let known = (c.l2_depends_on_rb.ensures.keeps c.args.file.now.header.fields p sound.sound.honest sound.sound.caches).known in
+    let uses : (k : ℕ) → IsUsed g.S.Storage.view file k → IsUsed g.S.Storage.view c.args.file.now k = λ k used. subst (λ b. count c.args.file.now.header.fields b k ≢ 0) known used in
+    handed_on (TakesAlone g.S.Storage.view run_of (IsMadeInTurn c.args.file.now.header.fields c.args.self.now.reftable c.args.self.now.reftable c.args.file.now.free_list c.args.file.now.free_list) c.args.file.now file) c.from_residual.result c.in_err-l2_depends_on_rb.field-0.0 c.from_residual.ensures (inl (λ k used. inl (uses k used)))
+
+pub returns-clause-made : goal.returns-clause-made
+returns-clause-made g c = λ p sound.
+    let one = allocator_step_cached g.S.Storage.view p c.args.file.now c.args.self.now c.l2_depends_on_rb.new.storage c.l2_depends_on_rb.new.self sound (c.l2_depends_on_rb.ensures.keeps c.args.file.now.header.fields p sound.sound.honest sound.sound.caches) c.l2_depends_on_rb.ensures.marks in
+    let file : ImageFile g.row.S.Denot = record c.args.file.now { storage = c.l2_depends_on_rb.new.storage; caches = c.l2_depends_on_rb.new.self } in
+    let now = is_sound_now g.S.Storage.view p p c.args.file.now file c.args.self.now one in
+    let known = (c.l2_depends_on_rb.ensures.keeps c.args.file.now.header.fields p sound.sound.honest sound.sound.caches).known in
+    let uses : (k : ℕ) → IsUsed g.S.Storage.view file k → IsUsed g.S.Storage.view c.args.file.now k = λ k used. subst (λ b. count c.args.file.now.header.fields b k ≢ 0) known used in
+    alone_since g.S.Storage.view run_of (IsMadeInTurn c.args.file.now.header.fields c.args.self.now.reftable c.allocate.new.self.reftable c.args.file.now.free_list c.allocate.new.file.free_list) c.args.file.now file c.allocate.new.file c.allocate.result uses
+    (made_run g.S.Storage.view p file c.allocate.new.file c.args.self.now c.allocate.new.self now c.allocate.ensures.list Data c.args.count c.allocate.result (c.allocate.ensures.sound p now c.in_ok-l2_depends_on_rb.ensures.order))

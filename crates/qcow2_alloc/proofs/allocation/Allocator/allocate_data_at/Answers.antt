@@ -1,4 +1,4 @@
-use Rattle.std.proofs.Common.{◌≢◌, inl, inr, true, refl, sym, ap, ◌∙◌, subst, Result, Option}
+use Rattle.std.proofs.Common.{◌≢◌, ℕ, inl, inr, Ok, Err, Some, None, arith, true, refl, sym, ap, ◌∙◌, subst, Result, Option}
 use Rattle.qcow2_metadata.specs.Entries.{count}
 use Rattle.qcow2_laws.specs.Changes.{one_at}
 use Rattle.qcow2_laws.specs.CrashInvariant.{Pending}
@@ -18,11 +18,14 @@ use Rattle.qcow2_metadata.specs.L2Mapping.{IsHostCluster}
 use Rattle.qcow2_alloc.proofs.FormerReftables.{former_none}
 use Rattle.qcow2_alloc.proofs.CachePins.{marks_then}
 use Rattle.qcow2_alloc.proofs.Faults.{told_on, told_ok, told_since}
-use Rattle.qcow2_alloc.proofs.Outcomes.{ok_no_err, told_memory, told_err, on_no_ok, if_no_ok, handed_cause}
-use Rattle.std.proofs.Math.Nat.{le_trans}
+use Rattle.qcow2_alloc.proofs.Outcomes.{not_both, ok_no_err, told_memory, told_err, on_no_ok, if_no_ok, handed_cause}
 use Rattle.qcow2_alloc.proofs.SparedHeaders.{spares_then, spares_less, spares_cached}
 use Rattle.qcow2_alloc.specs.KeptNotes.{kept_then}
 use Rattle.qcow2_alloc.specs.declared.error.ImageError.TheVariants as I
+use Rattle.qcow2_alloc.proofs.MadeClusters.{alone_since, lists_used_none, made_before, made_one, made_refused, made_untaken}
+use Rattle.qcow2_alloc.specs.MadeClusters.{run_in, IsMadeOnTheWay, TakesAlone}
+use Rattle.qcow2_alloc.proofs.TurnedCaches.{turned}
+use Rattle.qcow2_alloc.specs.TurnedCaches.{TurnsAlone}
 use Rattle.qcow2_alloc.proofs.allocation.Allocator.allocate_data_at.Goals as goal
 
 pub returns-in_err-l2_depends_on_rb-clause-sound : goal.returns-in_err-l2_depends_on_rb-clause-sound
@@ -49,12 +52,6 @@ returns-then-at-eq0-clause-hint g c = λ p kept.
     let one = allocator_step_cached g.S.Storage.view p c.args.file.now c.args.self.now c.l2_depends_on_rb.new.storage c.l2_depends_on_rb.new.self kept.sound (c.l2_depends_on_rb.ensures.keeps c.args.file.now.header.fields p kept.sound.sound.honest kept.sound.sound.caches) c.l2_depends_on_rb.ensures.marks in
     let file : ImageFile g.row.S.Denot = record c.args.file.now { storage = c.l2_depends_on_rb.new.storage; caches = c.l2_depends_on_rb.new.self } in
     hint_stays g.S.Storage.view p c.args.file.now file c.args.self.now c.args.self.now one refl kept.hint
-
-pub returns-then-at-eq0-clause-none : goal.returns-then-at-eq0-clause-none
-returns-then-at-eq0-clause-none g c = λ p sound _.
-    let one = allocator_step_cached g.S.Storage.view p c.args.file.now c.args.self.now c.l2_depends_on_rb.new.storage c.l2_depends_on_rb.new.self sound (c.l2_depends_on_rb.ensures.keeps c.args.file.now.header.fields p sound.sound.honest sound.sound.caches) c.l2_depends_on_rb.ensures.marks in
-    let file : ImageFile g.row.S.Denot = record c.args.file.now { storage = c.l2_depends_on_rb.new.storage; caches = c.l2_depends_on_rb.new.self } in
-    inr (subst (λ n. IsUsed g.S.Storage.view file n) (sym c.if-at-eq0.true ∙ c.value-at.ensures) (header_used g.S.Storage.view p file (is_sound_now g.S.Storage.view p p c.args.file.now file c.args.self.now one).sound))
 
 pub returns-in_default-clause-sound : goal.returns-in_default-clause-sound
 returns-in_default-clause-sound g c = λ p sound.
@@ -90,13 +87,6 @@ returns-in-Err-clause-sound g c = λ p sound.
     let file : ImageFile g.row.S.Denot = record c.args.file.now { storage = c.l2_depends_on_rb.new.storage; caches = c.l2_depends_on_rb.new.self } in
     let now = is_sound_now g.S.Storage.view p p c.args.file.now file c.args.self.now one in
     leaves_on g.S.Storage.view p p (pending_then p c.args.file.now.free_list c.take.new.file.free_list) c.args.file.now file c.take.new.file c.args.self.now c.take.new.self c.in-Err.refusal (λ k some. some) (on_of g.S.Storage.view p p c.args.file.now file c.args.self.now one) (c.in-Err.ensures.sound p true now c.in_ok-l2_depends_on_rb.ensures.order)
-
-pub returns-in-Ok-false-clause-none : goal.returns-in-Ok-false-clause-none
-returns-in-Ok-false-clause-none g c = λ p sound _.
-    let one = allocator_step_cached g.S.Storage.view p c.args.file.now c.args.self.now c.l2_depends_on_rb.new.storage c.l2_depends_on_rb.new.self sound (c.l2_depends_on_rb.ensures.keeps c.args.file.now.header.fields p sound.sound.honest sound.sound.caches) c.l2_depends_on_rb.ensures.marks in
-    let file : ImageFile g.row.S.Denot = record c.args.file.now { storage = c.l2_depends_on_rb.new.storage; caches = c.l2_depends_on_rb.new.self } in
-    let now = is_sound_now g.S.Storage.view p p c.args.file.now file c.args.self.now one in
-    inr (subst (λ n. IsUsed g.S.Storage.view c.take.new.file n) c.value.ensures (c.in-Ok-false.ensures.used p true now c.in_ok-l2_depends_on_rb.ensures.order c.in-Ok-false.field-0-test))
 
 pub returns-in_err-l2_depends_on_rb-clause-hint : goal.returns-in_err-l2_depends_on_rb-clause-hint
 returns-in_err-l2_depends_on_rb-clause-hint g c = λ p kept.
@@ -369,7 +359,10 @@ pub returns-in-Err-clause-notes : goal.returns-in-Err-clause-notes
 returns-in-Err-clause-notes g c = kept_then _ _ _ c.l2_depends_on_rb.ensures.notes c.take.ensures.marks.notes
 
 pub returns-in_err-l2_depends_on_rb-clause-first_range : goal.returns-in_err-l2_depends_on_rb-clause-first_range
-returns-in_err-l2_depends_on_rb-clause-first_range g c = λ _ _ _. on_no_ok _ c.from_residual.result c.in_err-l2_depends_on_rb.field-0.0 c.from_residual.ensures
+returns-in_err-l2_depends_on_rb-clause-first_range g c = λ _ _ _.
+    let file : ImageFile g.row.S.Denot = record c.args.file.now { storage = c.l2_depends_on_rb.new.storage; caches = c.l2_depends_on_rb.new.self } in
+    let alone : TurnsAlone g.S.Storage.view c.args.file.now file = turned g.S.Storage.view c.args.file.now c.l2_depends_on_rb.new.storage c.l2_depends_on_rb.new.self c.l2_depends_on_rb.ensures.blocks c.l2_depends_on_rb.ensures.keeps in
+    (on_no_ok _ c.from_residual.result c.in_err-l2_depends_on_rb.field-0.0 c.from_residual.ensures, alone)
 
 pub returns-in-Ok-true-clause-first_range : goal.returns-in-Ok-true-clause-first_range
 returns-in-Ok-true-clause-first_range g c = λ l some near. ok_no_err c.in-Ok-true.field-0 I.Limit (c.in-Ok-true.ensures.first_range (subst (LacksFirst c.args.file.now.header.fields c.args.self.now.reftable) (sym c.value.ensures) l)).0
@@ -406,3 +399,145 @@ returns-in-Ok-false-clause-uses g c = λ p sound k used.
     let file : ImageFile g.row.S.Denot = record c.args.file.now { storage = c.l2_depends_on_rb.new.storage; caches = c.l2_depends_on_rb.new.self } in
     let now = is_sound_now g.S.Storage.view p p c.args.file.now file c.args.self.now one in
     c.in-Ok-false.ensures.uses p true now c.in_ok-l2_depends_on_rb.ensures.order k (subst (λ b. count h b k ≢ 0) (sym known) used)
+
+pub returns-in_err-l2_depends_on_rb-clause-listed : goal.returns-in_err-l2_depends_on_rb-clause-listed
+returns-in_err-l2_depends_on_rb-clause-listed g c = λ p sound.
+    let file : ImageFile g.row.S.Denot = record c.args.file.now { storage = c.l2_depends_on_rb.new.storage; caches = c.l2_depends_on_rb.new.self } in
+    lists_used_none g.S.Storage.view c.args.file.now file refl
+
+pub returns-then-at-eq0-clause-listed : goal.returns-then-at-eq0-clause-listed
+returns-then-at-eq0-clause-listed g c = λ p sound.
+    let file : ImageFile g.row.S.Denot = record c.args.file.now { storage = c.l2_depends_on_rb.new.storage; caches = c.l2_depends_on_rb.new.self } in
+    lists_used_none g.S.Storage.view c.args.file.now file refl
+
+pub returns-then-not-is_nameable-clause-listed : goal.returns-then-not-is_nameable-clause-listed
+returns-then-not-is_nameable-clause-listed g c = λ p sound.
+    let file : ImageFile g.row.S.Denot = record c.args.file.now { storage = c.l2_depends_on_rb.new.storage; caches = c.l2_depends_on_rb.new.self } in
+    lists_used_none g.S.Storage.view c.args.file.now file refl
+
+pub returns-in_default-clause-listed : goal.returns-in_default-clause-listed
+returns-in_default-clause-listed g c = λ p sound.
+    let file : ImageFile g.row.S.Denot = record c.args.file.now { storage = c.l2_depends_on_rb.new.storage; caches = c.l2_depends_on_rb.new.self } in
+    lists_used_none g.S.Storage.view c.args.file.now file refl
+
+pub returns-in-Ok-true-clause-listed : goal.returns-in-Ok-true-clause-listed
+returns-in-Ok-true-clause-listed g c = λ p sound k since.
+    let one = allocator_step_cached g.S.Storage.view p c.args.file.now c.args.self.now c.l2_depends_on_rb.new.storage c.l2_depends_on_rb.new.self sound (c.l2_depends_on_rb.ensures.keeps c.args.file.now.header.fields p sound.sound.honest sound.sound.caches) c.l2_depends_on_rb.ensures.marks in
+    let file : ImageFile g.row.S.Denot = record c.args.file.now { storage = c.l2_depends_on_rb.new.storage; caches = c.l2_depends_on_rb.new.self } in
+    let known = (c.l2_depends_on_rb.ensures.keeps c.args.file.now.header.fields p sound.sound.honest sound.sound.caches).known in
+    subst (λ b. count c.args.file.now.header.fields b k ≢ 0) known (c.take.ensures.listed p (is_sound_now g.S.Storage.view p p c.args.file.now file c.args.self.now one) k since)
+
+pub returns-in-Ok-false-clause-listed : goal.returns-in-Ok-false-clause-listed
+returns-in-Ok-false-clause-listed g c = λ p sound k since.
+    let one = allocator_step_cached g.S.Storage.view p c.args.file.now c.args.self.now c.l2_depends_on_rb.new.storage c.l2_depends_on_rb.new.self sound (c.l2_depends_on_rb.ensures.keeps c.args.file.now.header.fields p sound.sound.honest sound.sound.caches) c.l2_depends_on_rb.ensures.marks in
+    let file : ImageFile g.row.S.Denot = record c.args.file.now { storage = c.l2_depends_on_rb.new.storage; caches = c.l2_depends_on_rb.new.self } in
+    let known = (c.l2_depends_on_rb.ensures.keeps c.args.file.now.header.fields p sound.sound.honest sound.sound.caches).known in
+    subst (λ b. count c.args.file.now.header.fields b k ≢ 0) known (c.take.ensures.listed p (is_sound_now g.S.Storage.view p p c.args.file.now file c.args.self.now one) k since)
+
+pub returns-in-Err-clause-listed : goal.returns-in-Err-clause-listed
+returns-in-Err-clause-listed g c = λ p sound k since.
+    let one = allocator_step_cached g.S.Storage.view p c.args.file.now c.args.self.now c.l2_depends_on_rb.new.storage c.l2_depends_on_rb.new.self sound (c.l2_depends_on_rb.ensures.keeps c.args.file.now.header.fields p sound.sound.honest sound.sound.caches) c.l2_depends_on_rb.ensures.marks in
+    let file : ImageFile g.row.S.Denot = record c.args.file.now { storage = c.l2_depends_on_rb.new.storage; caches = c.l2_depends_on_rb.new.self } in
+    let known = (c.l2_depends_on_rb.ensures.keeps c.args.file.now.header.fields p sound.sound.honest sound.sound.caches).known in
+    subst (λ b. count c.args.file.now.header.fields b k ≢ 0) known (c.take.ensures.listed p (is_sound_now g.S.Storage.view p p c.args.file.now file c.args.self.now one) k since)
+
+pub returns-then-at-eq0-clause-none : goal.returns-then-at-eq0-clause-none
+returns-then-at-eq0-clause-none g c = λ p sound _.
+    let one = allocator_step_cached g.S.Storage.view p c.args.file.now c.args.self.now c.l2_depends_on_rb.new.storage c.l2_depends_on_rb.new.self sound (c.l2_depends_on_rb.ensures.keeps c.args.file.now.header.fields p sound.sound.honest sound.sound.caches) c.l2_depends_on_rb.ensures.marks in
+    let file : ImageFile g.row.S.Denot = record c.args.file.now { storage = c.l2_depends_on_rb.new.storage; caches = c.l2_depends_on_rb.new.self } in
+    let here = sym c.if-at-eq0.true ∙ c.value-at.ensures in
+    inr (
+      subst (λ n. IsUsed g.S.Storage.view file n) here (header_used g.S.Storage.view p file (is_sound_now g.S.Storage.view p p c.args.file.now file c.args.self.now one).sound),
+      inl (subst (λ n. IsUsed g.S.Storage.view c.args.file.now n) here (header_used g.S.Storage.view p c.args.file.now sound.sound)),
+    )
+
+pub returns-in_err-l2_depends_on_rb-clause-made : goal.returns-in_err-l2_depends_on_rb-clause-made
+returns-in_err-l2_depends_on_rb-clause-made g c = λ p sound.
+    let file : ImageFile g.row.S.Denot = record c.args.file.now { storage = c.l2_depends_on_rb.new.storage; caches = c.l2_depends_on_rb.new.self } in
+    let known = (c.l2_depends_on_rb.ensures.keeps c.args.file.now.header.fields p sound.sound.honest sound.sound.caches).known in
+    let uses : (k : ℕ) → IsUsed g.S.Storage.view file k → IsUsed g.S.Storage.view c.args.file.now k = λ k used. subst (λ b. count c.args.file.now.header.fields b k ≢ 0) known used in
+    handed_on (TakesAlone g.S.Storage.view run_in (IsMadeOnTheWay c.args.file.now.header.fields c.args.self.now.reftable c.args.self.now.reftable) c.args.file.now file) c.from_residual.result c.in_err-l2_depends_on_rb.field-0.0 c.from_residual.ensures (inl (λ k used. inl (uses k used)))
+
+pub returns-then-at-eq0-clause-made : goal.returns-then-at-eq0-clause-made
+returns-then-at-eq0-clause-made g c = λ p sound k used.
+    let file : ImageFile g.row.S.Denot = record c.args.file.now { storage = c.l2_depends_on_rb.new.storage; caches = c.l2_depends_on_rb.new.self } in
+    let known = (c.l2_depends_on_rb.ensures.keeps c.args.file.now.header.fields p sound.sound.honest sound.sound.caches).known in
+    let uses : (k : ℕ) → IsUsed g.S.Storage.view file k → IsUsed g.S.Storage.view c.args.file.now k = λ k used. subst (λ b. count c.args.file.now.header.fields b k ≢ 0) known used in
+    inl (uses k used)
+
+pub returns-then-not-is_nameable-clause-made : goal.returns-then-not-is_nameable-clause-made
+returns-then-not-is_nameable-clause-made g c = λ p sound k used.
+    let file : ImageFile g.row.S.Denot = record c.args.file.now { storage = c.l2_depends_on_rb.new.storage; caches = c.l2_depends_on_rb.new.self } in
+    let known = (c.l2_depends_on_rb.ensures.keeps c.args.file.now.header.fields p sound.sound.honest sound.sound.caches).known in
+    let uses : (k : ℕ) → IsUsed g.S.Storage.view file k → IsUsed g.S.Storage.view c.args.file.now k = λ k used. subst (λ b. count c.args.file.now.header.fields b k ≢ 0) known used in
+    inl (uses k used)
+
+pub returns-in_default-clause-made : goal.returns-in_default-clause-made
+returns-in_default-clause-made g c = λ p sound.
+    let file : ImageFile g.row.S.Denot = record c.args.file.now { storage = c.l2_depends_on_rb.new.storage; caches = c.l2_depends_on_rb.new.self } in
+    let known = (c.l2_depends_on_rb.ensures.keeps c.args.file.now.header.fields p sound.sound.honest sound.sound.caches).known in
+    let uses : (k : ℕ) → IsUsed g.S.Storage.view file k → IsUsed g.S.Storage.view c.args.file.now k = λ k used. subst (λ b. count c.args.file.now.header.fields b k ≢ 0) known used in
+    inl (λ k used. inl (uses k used))
+
+pub returns-in-Ok-true-clause-made : goal.returns-in-Ok-true-clause-made
+returns-in-Ok-true-clause-made g c = λ p sound.
+    let one = allocator_step_cached g.S.Storage.view p c.args.file.now c.args.self.now c.l2_depends_on_rb.new.storage c.l2_depends_on_rb.new.self sound (c.l2_depends_on_rb.ensures.keeps c.args.file.now.header.fields p sound.sound.honest sound.sound.caches) c.l2_depends_on_rb.ensures.marks in
+    let file : ImageFile g.row.S.Denot = record c.args.file.now { storage = c.l2_depends_on_rb.new.storage; caches = c.l2_depends_on_rb.new.self } in
+    let now = is_sound_now g.S.Storage.view p p c.args.file.now file c.args.self.now one in
+    let known = (c.l2_depends_on_rb.ensures.keeps c.args.file.now.header.fields p sound.sound.honest sound.sound.caches).known in
+    let uses : (k : ℕ) → IsUsed g.S.Storage.view file k → IsUsed g.S.Storage.view c.args.file.now k = λ k used. subst (λ b. count c.args.file.now.header.fields b k ≢ 0) known used in
+    let two = rw c.in-Ok-true.field-0-test at (c.in-Ok-true.ensures.sound p true now c.in_ok-l2_depends_on_rb.ensures.order) in
+    alone_since g.S.Storage.view run_in (IsMadeOnTheWay c.args.file.now.header.fields c.args.self.now.reftable c.take.new.self.reftable) c.args.file.now file c.take.new.file (Ok (Some c.in-Ok.pending)) uses
+    (made_one g.S.Storage.view p file c.take.new.file c.args.self.now c.take.new.self now c.take.ensures.list (c.take.ensures.listed p now) true c.value.result c.args.cluster c.in-Ok.pending c.value.ensures (ap (λ (r : ClustersToFreeEntry). r.first_cluster) (c.in-Ok.ensures ∙ c.data-entry.ensures)) (ap (λ (r : ClustersToFreeEntry). r.count) (c.in-Ok.ensures ∙ c.data-entry.ensures) ∙ c.new.ensures) two)
+
+pub returns-in-Ok-false-clause-made : goal.returns-in-Ok-false-clause-made
+returns-in-Ok-false-clause-made g c = λ p sound.
+    let one = allocator_step_cached g.S.Storage.view p c.args.file.now c.args.self.now c.l2_depends_on_rb.new.storage c.l2_depends_on_rb.new.self sound (c.l2_depends_on_rb.ensures.keeps c.args.file.now.header.fields p sound.sound.honest sound.sound.caches) c.l2_depends_on_rb.ensures.marks in
+    let file : ImageFile g.row.S.Denot = record c.args.file.now { storage = c.l2_depends_on_rb.new.storage; caches = c.l2_depends_on_rb.new.self } in
+    let now = is_sound_now g.S.Storage.view p p c.args.file.now file c.args.self.now one in
+    let known = (c.l2_depends_on_rb.ensures.keeps c.args.file.now.header.fields p sound.sound.honest sound.sound.caches).known in
+    let uses : (k : ℕ) → IsUsed g.S.Storage.view file k → IsUsed g.S.Storage.view c.args.file.now k = λ k used. subst (λ b. count c.args.file.now.header.fields b k ≢ 0) known used in
+    let two = rw c.in-Ok-false.field-0-test at (c.in-Ok-false.ensures.sound p true now c.in_ok-l2_depends_on_rb.ensures.order) in
+    alone_since g.S.Storage.view run_in (IsMadeOnTheWay c.args.file.now.header.fields c.args.self.now.reftable c.take.new.self.reftable) c.args.file.now file c.take.new.file (Ok None) uses
+    (made_untaken g.S.Storage.view p file c.take.new.file c.args.self.now c.take.new.self now c.take.ensures.list (c.take.ensures.listed p now) two)
+
+pub returns-in-Err-clause-made : goal.returns-in-Err-clause-made
+returns-in-Err-clause-made g c = λ p sound.
+    let one = allocator_step_cached g.S.Storage.view p c.args.file.now c.args.self.now c.l2_depends_on_rb.new.storage c.l2_depends_on_rb.new.self sound (c.l2_depends_on_rb.ensures.keeps c.args.file.now.header.fields p sound.sound.honest sound.sound.caches) c.l2_depends_on_rb.ensures.marks in
+    let file : ImageFile g.row.S.Denot = record c.args.file.now { storage = c.l2_depends_on_rb.new.storage; caches = c.l2_depends_on_rb.new.self } in
+    let now = is_sound_now g.S.Storage.view p p c.args.file.now file c.args.self.now one in
+    let known = (c.l2_depends_on_rb.ensures.keeps c.args.file.now.header.fields p sound.sound.honest sound.sound.caches).known in
+    let uses : (k : ℕ) → IsUsed g.S.Storage.view file k → IsUsed g.S.Storage.view c.args.file.now k = λ k used. subst (λ b. count c.args.file.now.header.fields b k ≢ 0) known used in
+    alone_since g.S.Storage.view run_in (IsMadeOnTheWay c.args.file.now.header.fields c.args.self.now.reftable c.take.new.self.reftable) c.args.file.now file c.take.new.file (Err c.in-Err.refusal) uses
+    (made_refused g.S.Storage.view p file c.take.new.file c.args.self.now c.take.new.self now c.take.ensures.list (c.take.ensures.listed p now) c.in-Err.refusal (c.in-Err.ensures.sound p true now c.in_ok-l2_depends_on_rb.ensures.order))
+
+pub returns-in-Ok-false-clause-none : goal.returns-in-Ok-false-clause-none
+returns-in-Ok-false-clause-none g c = λ p sound _.
+    let one = allocator_step_cached g.S.Storage.view p c.args.file.now c.args.self.now c.l2_depends_on_rb.new.storage c.l2_depends_on_rb.new.self sound (c.l2_depends_on_rb.ensures.keeps c.args.file.now.header.fields p sound.sound.honest sound.sound.caches) c.l2_depends_on_rb.ensures.marks in
+    let file : ImageFile g.row.S.Denot = record c.args.file.now { storage = c.l2_depends_on_rb.new.storage; caches = c.l2_depends_on_rb.new.self } in
+    let now = is_sound_now g.S.Storage.view p p c.args.file.now file c.args.self.now one in
+    let known = (c.l2_depends_on_rb.ensures.keeps c.args.file.now.header.fields p sound.sound.honest sound.sound.caches).known in
+    let uses : (k : ℕ) → IsUsed g.S.Storage.view file k → IsUsed g.S.Storage.view c.args.file.now k = λ k used. subst (λ b. count c.args.file.now.header.fields b k ≢ 0) known used in
+    let two = rw c.in-Ok-false.field-0-test at (c.in-Ok-false.ensures.sound p true now c.in_ok-l2_depends_on_rb.ensures.order) in
+    let used = subst (λ n. IsUsed g.S.Storage.view c.take.new.file n) c.value.ensures (c.in-Ok-false.ensures.used p true now c.in_ok-l2_depends_on_rb.ensures.order c.in-Ok-false.field-0-test) in
+    inr (made_before g.S.Storage.view p file c.take.new.file c.args.self.now c.take.new.self now c.take.ensures.list (c.take.ensures.listed p now) c.args.file.now uses c.args.cluster two used)
+
+pub returns-then-at-eq0-clause-first_range : goal.returns-then-at-eq0-clause-first_range
+returns-then-at-eq0-clause-first_range g c = λ l some near. absurd (let zero = sym c.value-at.ensures ∙ c.if-at-eq0.true in omega (arith, some, zero))
+
+pub returns-then-not-is_nameable-clause-first_range : goal.returns-then-not-is_nameable-clause-first_range
+returns-then-not-is_nameable-clause-first_range g c = λ l some near.
+    not_both c.is_nameable.result (c.is_nameable.ensures.1 (subst (λ n. IsHostCluster n c.args.cluster) (sym c.cluster_bits.ensures.value) near)) c.if-not-is_nameable.true
+
+pub returns-in_default-clause-first_range : goal.returns-in_default-clause-first_range
+returns-in_default-clause-first_range g c = λ l some near.
+    let file : ImageFile g.row.S.Denot = record c.args.file.now { storage = c.l2_depends_on_rb.new.storage; caches = c.l2_depends_on_rb.new.self } in
+    let alone : TurnsAlone g.S.Storage.view c.args.file.now file = turned g.S.Storage.view c.args.file.now c.l2_depends_on_rb.new.storage c.l2_depends_on_rb.new.self c.l2_depends_on_rb.ensures.blocks c.l2_depends_on_rb.ensures.keeps in
+    (tt, alone)
+
+pub returns-in-Err-clause-first_range : goal.returns-in-Err-clause-first_range
+returns-in-Err-clause-first_range g c = λ l some near.
+    let file : ImageFile g.row.S.Denot = record c.args.file.now { storage = c.l2_depends_on_rb.new.storage; caches = c.l2_depends_on_rb.new.self } in
+    let alone : TurnsAlone g.S.Storage.view c.args.file.now file = turned g.S.Storage.view c.args.file.now c.l2_depends_on_rb.new.storage c.l2_depends_on_rb.new.self c.l2_depends_on_rb.ensures.blocks c.l2_depends_on_rb.ensures.keeps in
+    let refused = c.in-Err.ensures.first_range (subst (LacksFirst c.args.file.now.header.fields c.args.self.now.reftable) (sym c.value.ensures) l) in
+    (tt, subst (λ (f : ImageFile g.row.S.Denot). TurnsAlone g.S.Storage.view c.args.file.now f) (sym refused.1) alone)

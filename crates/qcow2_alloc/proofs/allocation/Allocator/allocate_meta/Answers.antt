@@ -1,3 +1,5 @@
+use Rattle.qcow2_alloc.specs.declared.clusters_to_free.ClusterKind.TheVariants.{Metadata}
+use Rattle.qcow2_alloc.proofs.MadeClusters.{made_run}
 use Rattle.qcow2_alloc.proofs.allocation.Allocator.allocate_meta.Goals as goal
 
 pub returns-clause-sound : goal.returns-clause-sound
@@ -20,3 +22,6 @@ returns-clause-unaligned g c = c.allocate.ensures.unaligned
 
 pub returns-clause-first_range : goal.returns-clause-first_range
 returns-clause-first_range g c = c.allocate.ensures.first_range
+
+pub returns-clause-made : goal.returns-clause-made
+returns-clause-made g c = λ p sound. made_run g.S.Storage.view p c.args.file.now c.allocate.new.file c.args.self.now c.allocate.new.self sound c.allocate.ensures.list Metadata c.args.count c.allocate.result (c.allocate.ensures.sound p sound tt)

@@ -10,7 +10,6 @@ use Rattle.qcow2_alloc.proofs.Hints.{kept_refused, not_in_run, taken_pending, us
 use Rattle.qcow2_alloc.proofs.Runs.{taken_first, taken_none, new_data_more}
 use Rattle.qcow2_alloc.proofs.Faults.{told_ok}
 use Rattle.qcow2_alloc.proofs.Outcomes.{told_after, handed_cause}
-use Rattle.std.proofs.Math.Nat.{le_trans, le_refl}
 use Rattle.qcow2_alloc.proofs.SparedHeaders.{spares_none, spares_then}
 use Rattle.qcow2_alloc.proofs.KeptMarks.{kept_marks_none, kept_marks_then}
 use Rattle.qcow2_alloc.proofs.allocation.Allocator.give_back.Goals as goal

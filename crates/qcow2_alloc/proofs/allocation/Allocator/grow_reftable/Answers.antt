@@ -1,4 +1,4 @@
-use Rattle.std.proofs.Common.{arith, ◌≡◌, ℕ, ◌^◌, ◌≤◌, IsSome, inl, inr, Result, refl, ◌∙◌, ◌++◌, ◌∷◌, [], List, sym, ap, subst}
+use Rattle.std.proofs.Common.{arith, ◌≡◌, ℕ, ◌^◌, ◌≤◌, IsSome, inl, inr, Result, Ok, Err, refl, ◌∙◌, ◌++◌, ◌∷◌, [], List, sym, ap, subst}
 use Rattle.std.specs.Prelude.{IfErr}
 use Rattle.qcow2_metadata.specs.EntryTable.{entry_count}
 use Rattle.qcow2_metadata.specs.Header.{HeaderView, counts_per_block, entries_per_cluster}
@@ -17,6 +17,8 @@ use Rattle.qcow2_alloc.proofs.GrownReftables.{grown}
 use Rattle.qcow2_alloc.proofs.SparedHeaders.{spares_none, spares_listed}
 use Rattle.qcow2_alloc.proofs.KeptMarks.{kept_marks_none}
 use Rattle.qcow2_alloc.proofs.Outcomes.{on_no_ok}
+use Rattle.qcow2_alloc.specs.MadeClusters.{IsMadeOnTheWay, TakesAlone}
+use Rattle.qcow2_alloc.proofs.MadeClusters.{made_entered}
 use Rattle.qcow2_alloc.proofs.allocation.Allocator.grow_reftable.Goals as goal
 
 pub returns-in-Ok-clause-sound : goal.returns-in-Ok-clause-sound
@@ -129,3 +131,15 @@ returns-in-Ok-clause-elsewhere g c = c.in-Ok.ensures.elsewhere
 
 pub returns-in-Err-clause-elsewhere : goal.returns-in-Err-clause-elsewhere
 returns-in-Err-clause-elsewhere g c = tt
+
+pub returns-in_err-table-clause-made : goal.returns-in_err-table-clause-made
+returns-in_err-table-clause-made g c = λ p sound. handed_on (TakesAlone g.S.Storage.view (λ done k. 0) (IsMadeOnTheWay c.args.file.now.header.fields c.args.self.now.reftable c.args.self.now.reftable) c.args.file.now c.args.file.now) c.from_residual.result c.in_err-table.field-0.0 c.from_residual.ensures (inl (λ k used. inl used))
+
+pub returns-in_err-former-clause-made : goal.returns-in_err-former-clause-made
+returns-in_err-former-clause-made g c = λ p sound. handed_on (TakesAlone g.S.Storage.view (λ done k. 0) (IsMadeOnTheWay c.args.file.now.header.fields c.args.self.now.reftable c.args.self.now.reftable) c.args.file.now c.args.file.now) c.from_residual-in_err-former.result c.in_err-former.field-0.0 c.from_residual-in_err-former.ensures (inl (λ k used. inl used))
+
+pub returns-in-Ok-clause-made : goal.returns-in-Ok-clause-made
+returns-in-Ok-clause-made g c = λ p sound. made_entered g.S.Storage.view p c.args.file.now c.enter_reftable.new.file c.args.self.now c.enter_reftable.new.self sound (Ok tt) (c.in-Ok.ensures.enters p sound c.in_ok-table.ensures.entries c.in_ok-table.ensures.length.enough.whole)
+
+pub returns-in-Err-clause-made : goal.returns-in-Err-clause-made
+returns-in-Err-clause-made g c = λ p sound. made_entered g.S.Storage.view p c.args.file.now c.enter_reftable.new.file c.args.self.now c.enter_reftable.new.self sound (Err c.in-Err.refusal) (c.in-Err.ensures.enters p sound c.in_ok-table.ensures.entries c.in_ok-table.ensures.length.enough.whole)

@@ -1,11 +1,11 @@
 use Rattle.std.proofs.Common.{◌≡◌, max, inl, false, refl, sym, ap, ◌+◌, ◌/◌, ◌^◌, ◌∙◌, subst, arith, inr, Result, ℕ, ◌≤◌, ◌<◌}
 use Rattle.qcow2_metadata.specs.L2Mapping.{greatest_offset}
-use Rattle.std.proofs.Math.Nat.{div-le_self, le_trans}
+use Rattle.std.proofs.Math.Nat.{div-le_self}
 use Rattle.qcow2_laws.specs.CrashInvariant.{Pending}
 use Rattle.qcow2_alloc.specs.LowestRuns.{KeepsNoFreeBelowHint}
 use Rattle.qcow2_alloc.specs.declared.allocation.Allocator.{Allocator}
 use Rattle.qcow2_alloc.proofs.Hints.{hint_header, lowest_behind, lowest_first, lowest_passed, lowest_stays, not_broken, used_stays}
-use Rattle.qcow2_alloc.specs.Allocation.{LacksBlock, run_at, UnseenAllocatorGrowth, TakesSomeRun, RefusedGrowth}
+use Rattle.qcow2_alloc.specs.Allocation.{LacksBlock, LacksFirst, run_at, UnseenAllocatorGrowth, TakesSomeRun, RefusedGrowth}
 use Rattle.qcow2_alloc.specs.FreeList.{pending_then}
 use Rattle.qcow2_alloc.proofs.AllocationSteps.{handed_on, may_still, on_none, on_of, leaves_as, is_sound_on}
 use Rattle.qcow2_alloc.proofs.ListedAfter.{header_same, header_then, lists_none, lists_same, lists_then, listed_after_same, then_none, then_taken, then_leaves, header_bits}
@@ -46,6 +46,10 @@ lacks_here : (h h' : HeaderFields) (t t' : EntryTableView) (from first : ℕ) (e
 lacks_here h h' t t' from first e same_header same_table place lacks =
     subst (λ x. LacksBlock x t' first e) (sym same_header) (subst (λ (y : EntryTableView). LacksBlock h y first e) (sym same_table) (subst (λ n. LacksBlock h t n e) (sym place) lacks))
 
+first_here : (h h' : HeaderFields) (t t' : EntryTableView) (from first : ℕ) → h' ≡ h → t' ≡ t → first ≡ from → LacksFirst h t from → LacksFirst h' t' first
+first_here h h' t t' from first same_header same_table place l =
+    subst (λ x. LacksFirst x t' first) (sym same_header) (subst (λ (y : EntryTableView). LacksFirst h y first) (sym same_table) (subst (LacksFirst h t) (sym place) l))
+
 pub search-init : goal.search-init
 search-init g c = record {
   header = header_same c.args.file.now.header c.args.file.now.header refl;
@@ -61,6 +65,7 @@ search-init g c = record {
       (on_none g.S.Storage.view p c.args.file.now (record c.args.self.now { first_free_cluster = c.max-self.result }) (record { sound = sound.sound; reftable = sound.reftable }));
   above = let first = c.max-self.ensures in omega (arith, first);
   lacking = λ e lacks. (c.max-self.ensures, refl, refl);
+  untouched = λ l. refl;
   leaks = λ p sound. refl;
   hint = λ p d sound may hint. hint_header g.S.Storage.view p c.args.file.now c.args.self.now (record c.args.self.now { first_free_cluster = c.max-self.result }) sound.sound (λ k some below. let first = c.max-self.ensures in omega (arith, first, some, below)) hint;
   lowest = λ p d sound may hint some.
@@ -94,6 +99,7 @@ search-preserved g c = record {
   lacking = λ e lacks.
       let at = c.search.invariant.lacking e lacks in
       ok_no_err c.in_ok-taken.taken e (c.in_ok-taken.ensures.lacking e (lacks_here c.args.file.now.header.fields c.search.file.header.fields c.args.self.now.reftable c.search.self.reftable (max c.args.self.now.first_free_cluster 1) c.search.first e (ap (λ (h : HeaderView). h.fields) at.2) at.1 at.0 lacks) c.search-test.true);
+  untouched = λ l. let at = c.search.invariant.lacking I.Limit (inr (l, refl)) in ok_no_err c.in_ok-taken.taken I.Limit (c.in_ok-taken.ensures.first_range (first_here c.args.file.now.header.fields c.search.file.header.fields c.args.self.now.reftable c.search.self.reftable (max c.args.self.now.first_free_cluster 1) c.search.first (ap (λ (h : HeaderView). h.fields) at.2) at.1 at.0 l) c.search-test.true).0;
   leaks = λ p sound.
       let q : Pending = pending_then p c.args.file.now.free_list c.search.file.free_list in
       let now = is_sound_on g.S.Storage.view p q c.args.file.now c.search.file c.search.self (c.search.invariant.sound p sound) in
@@ -374,10 +380,13 @@ pub returns-in_err-first-clause-first_range : goal.returns-in_err-first-clause-f
 returns-in_err-first-clause-first_range g c = λ l some. let e : ImageError = I.Limit in let lacks : LacksBlock c.args.file.now.header.fields c.args.self.now.reftable (max c.args.self.now.first_free_cluster 1) e = inr (l, refl) in let at = c.search.invariant.lacking e lacks in ok_no_err c.in_ok-taken.taken e (c.in_ok-taken.ensures.lacking e (lacks_here c.args.file.now.header.fields c.search.file.header.fields c.args.self.now.reftable c.search.self.reftable (max c.args.self.now.first_free_cluster 1) c.search.first e (ap (λ (h : HeaderView). h.fields) at.2) at.1 at.0 lacks) some)
 
 pub returns-in_err-taken-clause-first_range : goal.returns-in_err-taken-clause-first_range
-returns-in_err-taken-clause-first_range g c = λ l some. let e : ImageError = I.Limit in let lacks : LacksBlock c.args.file.now.header.fields c.args.self.now.reftable (max c.args.self.now.first_free_cluster 1) e = inr (l, refl) in let at = c.search.invariant.lacking e lacks in handed_on (λ r. IsErrOf r I.Limit) c.from_residual.result c.in_err-taken.field-0.0 c.from_residual.ensures (err_as c.in_err-taken.field-0.0 e (c.in_err-taken.ensures.lacking e (lacks_here c.args.file.now.header.fields c.search.file.header.fields c.args.self.now.reftable c.search.self.reftable (max c.args.self.now.first_free_cluster 1) c.search.first e (ap (λ (h : HeaderView). h.fields) at.2) at.1 at.0 lacks) some))
+returns-in_err-taken-clause-first_range g c = λ l some.
+    let at = c.search.invariant.lacking I.Limit (inr (l, refl)) in
+    let refused = c.in_err-taken.ensures.first_range (first_here c.args.file.now.header.fields c.search.file.header.fields c.args.self.now.reftable c.search.self.reftable (max c.args.self.now.first_free_cluster 1) c.search.first (ap (λ (h : HeaderView). h.fields) at.2) at.1 at.0 l) some in
+    (handed_on (λ r. IsErrOf r I.Limit) c.from_residual.result c.in_err-taken.field-0.0 c.from_residual.ensures (err_as c.in_err-taken.field-0.0 I.Limit refused.0), refused.1 ∙ c.search.invariant.untouched l)
 
 pub returns-then-taken-n-clause-first_range : goal.returns-then-taken-n-clause-first_range
 returns-then-taken-n-clause-first_range g c = λ l some. let e : ImageError = I.Limit in let lacks : LacksBlock c.args.file.now.header.fields c.args.self.now.reftable (max c.args.self.now.first_free_cluster 1) e = inr (l, refl) in let at = c.search.invariant.lacking e lacks in ok_no_err c.in_ok-taken.taken e (c.in_ok-taken.ensures.lacking e (lacks_here c.args.file.now.header.fields c.search.file.header.fields c.args.self.now.reftable c.search.self.reftable (max c.args.self.now.first_free_cluster 1) c.search.first e (ap (λ (h : HeaderView). h.fields) at.2) at.1 at.0 lacks) some)
 
 pub returns-clause-first_range : goal.returns-clause-first_range
-returns-clause-first_range g c = λ l some. refl
+returns-clause-first_range g c = λ l some. (refl, c.search.invariant.untouched l)

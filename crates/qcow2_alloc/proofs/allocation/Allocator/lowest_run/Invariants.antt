@@ -1,7 +1,7 @@
 use Rattle.std.proofs.Common.{max, ◌≡◌, ◌+◌, ◌-◌, ◌/◌, ◌^◌, ◌<◌, ◌≤◌, Bool}
 use Rattle.qcow2_metadata.specs.L2Mapping.{greatest_offset}
 use Rattle.qcow2_laws.specs.CrashInvariant.{Pending}
-use Rattle.qcow2_alloc.specs.Allocation.{LacksBlock, UnseenAllocatorGrowth, MayTake, SameLeaks}
+use Rattle.qcow2_alloc.specs.Allocation.{LacksBlock, LacksFirst, UnseenAllocatorGrowth, MayTake, SameLeaks}
 use Rattle.qcow2_alloc.specs.KeptMarks.{KeepsMarks}
 use Rattle.qcow2_alloc.specs.Faults.{faults_of}
 use Rattle.qcow2_alloc.specs.ImageFile.{AllocatorInvariant, KeepsHeader}
@@ -27,6 +27,7 @@ invariant-search g l = record {
   leaks : (p : Pending) → AllocatorInvariant g.S.Storage.view l.fn.self p l.fn.file → SameLeaks l.fn.self l.self;
   hint : (p : Pending) (d : Bool) → AllocatorInvariant g.S.Storage.view l.fn.self p l.fn.file → MayTake d l.fn.file → NoFreeBelowHint g.S.Storage.view l.fn.self l.fn.file → NoFreeBelowHint g.S.Storage.view l.self l.file;
   lacking : (e : ImageError) → LacksBlock l.fn.file.header.fields l.fn.self.reftable (max l.fn.self.first_free_cluster 1) e → (l.first ≡ max l.fn.self.first_free_cluster 1) × (l.self.reftable ≡ l.fn.self.reftable) × (l.file.header ≡ l.fn.file.header);
+  untouched : LacksFirst l.fn.file.header.fields l.fn.self.reftable (max l.fn.self.first_free_cluster 1) → l.file ≡ l.fn.file;
   lowest : (p : Pending) (d : Bool) → AllocatorInvariant g.S.Storage.view l.fn.self p l.fn.file → MayTake d l.fn.file → NoFreeBelowHint g.S.Storage.view l.fn.self l.fn.file → 0 < l.fn.n → IsLowestRun g.S.Storage.view l.file l.first l.fn.n;
 }
 

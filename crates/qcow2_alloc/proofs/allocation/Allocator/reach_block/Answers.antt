@@ -19,6 +19,7 @@ use Rattle.qcow2_alloc.proofs.Outcomes.{on_no_ok, handed_cause}
 use Rattle.qcow2_alloc.proofs.SparedHeaders.{spares_then, spares_less}
 use Rattle.qcow2_alloc.proofs.KeptMarks.{kept_marks_then}
 use Rattle.std.proofs.Math.Nat.{div-eq_of_lt}
+use Rattle.qcow2_alloc.proofs.MadeClusters.{lists_used_none, lists_used_one, lists_used_still}
 use Rattle.qcow2_alloc.proofs.allocation.Allocator.reach_block.Goals as goal
 
 pub returns-then-in_bounds-clause-sound : goal.returns-then-in_bounds-clause-sound
@@ -204,3 +205,15 @@ returns-clause-first_range g c = λ lacks.
     let first : c.args.cluster / 2 ^ c.rb_bits.result ≡ 0 = subst (λ n. c.args.cluster / n ≡ 0) c.rb_bits.ensures.counts (div-eq_of_lt lacks.first) in
     let some = lacks.some in
     absurd (omega (arith, past, first, some))
+
+pub returns-then-in_bounds-clause-listed : goal.returns-then-in_bounds-clause-listed
+returns-then-in_bounds-clause-listed g c = λ p sound. lists_used_none g.S.Storage.view c.args.file.now c.ensure_block.new.file c.ensure_block.ensures.list
+
+pub returns-in_err-grow_reftable-clause-listed : goal.returns-in_err-grow_reftable-clause-listed
+returns-in_err-grow_reftable-clause-listed g c = λ p sound. lists_used_none g.S.Storage.view c.args.file.now c.grow_reftable.new.file c.in_err-grow_reftable.ensures.former.1
+
+pub returns-clause-listed : goal.returns-clause-listed
+returns-clause-listed g c = λ p sound.
+    let gave = c.in_ok-grow_reftable.ensures.former in
+    lists_used_still g.S.Storage.view c.args.file.now c.grow_reftable.new.file c.ensure_block-2.new.file
+    (lists_used_one g.S.Storage.view p c.args.file.now c.grow_reftable.new.file c.args.self.now.reftable gave.0 sound.sound sound.reftable gave.1 gave.2) c.ensure_block-2.ensures.list

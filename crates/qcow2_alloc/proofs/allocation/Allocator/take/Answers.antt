@@ -16,9 +16,9 @@ use Rattle.qcow2_alloc.specs.Limits.{CantCount, IsFaultOr}
 use Rattle.qcow2_alloc.proofs.FormerReftables.{former_still}
 use Rattle.qcow2_alloc.proofs.Faults.{told_on, told_ok}
 use Rattle.qcow2_alloc.proofs.Outcomes.{err_as, ok_no_err, told_after, if_no_ok, handed_cause, handed_unaligned}
-use Rattle.std.proofs.Math.Nat.{le_trans}
 use Rattle.qcow2_alloc.specs.declared.error.ImageError.TheVariants as I
 use Rattle.qcow2_alloc.proofs.SparedHeaders.{spares_then, spares_less, spares_as}
+use Rattle.qcow2_alloc.proofs.MadeClusters.{lists_used_still}
 use Rattle.qcow2_alloc.proofs.allocation.Allocator.take.Goals as goal
 
 pub returns-in_err-reach_block-clause-sound : goal.returns-in_err-reach_block-clause-sound
@@ -245,3 +245,12 @@ returns-in_err-taken-clause-first_range g c = λ lacks. ok_no_err _ I.Limit (c.i
 
 pub returns-clause-first_range : goal.returns-clause-first_range
 returns-clause-first_range g c = λ lacks. ok_no_err _ I.Limit (c.in_ok-reach_block.ensures.first_range lacks).0
+
+pub returns-in_err-reach_block-clause-listed : goal.returns-in_err-reach_block-clause-listed
+returns-in_err-reach_block-clause-listed g c = λ p sound. c.reach_block.ensures.listed p sound
+
+pub returns-in_err-taken-clause-listed : goal.returns-in_err-taken-clause-listed
+returns-in_err-taken-clause-listed g c = λ p sound. lists_used_still g.S.Storage.view c.args.file.now c.reach_block.new.file c.raise.new.file (c.reach_block.ensures.listed p sound) c.raise.ensures.list
+
+pub returns-clause-listed : goal.returns-clause-listed
+returns-clause-listed g c = λ p sound. lists_used_still g.S.Storage.view c.args.file.now c.reach_block.new.file c.raise.new.file (c.reach_block.ensures.listed p sound) c.raise.ensures.list

@@ -23,7 +23,6 @@ use Rattle.qcow2_alloc.proofs.Limits.{cause_as, count_back, host_of_few}
 use Rattle.qcow2_alloc.proofs.FormerReftables.{former_none, former_then, former_still}
 use Rattle.qcow2_alloc.proofs.Faults.{stays_else, told_ok, told_since}
 use Rattle.qcow2_alloc.proofs.Outcomes.{ok_no_err, err_as, told_after, if_no_ok, handed_cause, told_err, told_still, not_both}
-use Rattle.std.proofs.Math.Nat.{le_trans}
 use Rattle.qcow2_alloc.specs.Faults.{FaultsTold, faults_of}
 use Rattle.qcow2_alloc.proofs.SparedHeaders.{spares_none, spares_then, spares_less}
 use Rattle.qcow2_alloc.specs.SparedHeaders.{SparesHeaderButPointer}
@@ -60,6 +59,12 @@ refuses h h' t t' first taken result e same_header same_table none unaligned fir
       | inr l ↦ subst (IsErrOf result) (sym l.1) (first_range (subst (λ x. LacksFirst x t' (first + taken)) (sym same_header) (subst (λ (y : EntryTableView). LacksFirst h y (first + taken)) (sym same_table) (subst (LacksFirst h t) place l.0))))
     ]
 
+-- so it is of the first range
+lacks_first : (h h' : HeaderFields) (t t' : EntryTableView) (first taken : ℕ) → h' ≡ h → t' ≡ t → taken ≡ 0 → LacksFirst h t first → LacksFirst h' t' (first + taken)
+lacks_first h h' t t' first taken same_header same_table none l =
+    let place : first ≡ first + taken = omega (arith, none) in
+    subst (λ x. LacksFirst x t' (first + taken)) (sym same_header) (subst (λ (y : EntryTableView). LacksFirst h y (first + taken)) (sym same_table) (subst (LacksFirst h t) place l))
+
 pub taking-init : goal.taking-init
 taking-init g c = record {
   header = header_same c.args.file.now.header c.args.file.now.header refl;
@@ -74,6 +79,7 @@ taking-init g c = record {
   uses = λ p d sound may k used. used;
   free = λ p d sound may k some used. let none = run_none c.args.first k in omega (arith, none, some);
   lacking = λ e lacks. (refl, refl, refl);
+  untouched = λ l. refl;
   sound = λ p d sound may.
       subst (λ (r : Pending). UnseenAllocatorGrowth g.S.Storage.view p c.args.file.now c.args.self.now c.args.file.now r)
       (sym (taken_none d (pending_then p c.args.file.now.free_list c.args.file.now.free_list) c.args.first 0 refl ∙ listed_after_same p c.args.file.now.free_list c.args.file.now.free_list refl)) (on_none g.S.Storage.view p c.args.file.now c.args.self.now sound);
@@ -160,6 +166,7 @@ taking-preserved g c = record {
   lacking = λ e lacks.
       let at = c.taking.invariant.lacking e lacks in
       ok_no_err c.in-Ok-true.field-0 e (refuses c.args.file.now.header.fields c.taking.file.header.fields c.args.self.now.reftable c.taking.self.reftable c.args.first c.taking.taken (Ok c.in-Ok-true.field-0) e (ap (λ (h : HeaderView). h.fields) at.2) at.1 at.0 c.in-Ok-true.ensures.unaligned (λ u. (c.in-Ok-true.ensures.first_range u).0) lacks);
+  untouched = λ l. let at = c.taking.invariant.lacking I.Limit (inr (l, refl)) in ok_no_err c.in-Ok-true.field-0 I.Limit (c.in-Ok-true.ensures.first_range (lacks_first c.args.file.now.header.fields c.taking.file.header.fields c.args.self.now.reftable c.taking.self.reftable c.args.first c.taking.taken (ap (λ (h : HeaderView). h.fields) at.2) at.1 at.0 l)).0;
   leaks = λ p sound.
       let before = c.taking.invariant.sound p false sound tt in
       let q : Pending = taken_as false (pending_then p c.args.file.now.free_list c.taking.file.free_list) (run_at c.args.first c.taking.taken) in
@@ -579,10 +586,37 @@ returns-in-Ok-false-clause-lacking g c = λ e lacks some.
 
 pub returns-in_err-give_back-in-Err-clause-lacking : goal.returns-in_err-give_back-in-Err-clause-lacking
 returns-in_err-give_back-in-Err-clause-lacking g c = λ e lacks some.
-    let bad = c.in_err-give_back-in-Err.ensures.none (c.taking.invariant.lacking e lacks).0 in
+    let bad = (c.in_err-give_back-in-Err.ensures.none (c.taking.invariant.lacking e lacks).0).0 in
     absurd (cc)
 
 pub returns-in-Err-clause-lacking : goal.returns-in-Err-clause-lacking
 returns-in-Err-clause-lacking g c = λ e lacks some.
     let at = c.taking.invariant.lacking e lacks in
     err_as c.in-Err.refusal e (refuses c.args.file.now.header.fields c.taking.file.header.fields c.args.self.now.reftable c.taking.self.reftable c.args.first c.taking.taken (Err c.in-Err.refusal) e (ap (λ (h : HeaderView). h.fields) at.2) at.1 at.0 c.in-Err.ensures.unaligned (λ u. (c.in-Err.ensures.first_range u).0) lacks)
+
+pub returns-clause-first_range : goal.returns-clause-first_range
+returns-clause-first_range g c = λ l some.
+    let all : c.taking.taken ≡ c.args.n = let le = c.taking.auto.taken-end in let past = c.taking-test.false in omega arith in
+    let none = (c.taking.invariant.lacking I.Limit (inr (l, refl))).0 in
+    absurd (omega (arith, all, none, some))
+
+pub returns-in_err-give_back-in-Ok-false-clause-first_range : goal.returns-in_err-give_back-in-Ok-false-clause-first_range
+returns-in_err-give_back-in-Ok-false-clause-first_range g c = λ l some. let at = c.taking.invariant.lacking I.Limit (inr (l, refl)) in ok_no_err c.in-Ok-false.field-0 I.Limit (c.in-Ok-false.ensures.first_range (lacks_first c.args.file.now.header.fields c.taking.file.header.fields c.args.self.now.reftable c.taking.self.reftable c.args.first c.taking.taken (ap (λ (h : HeaderView). h.fields) at.2) at.1 at.0 l)).0
+
+pub returns-in-Ok-false-clause-first_range : goal.returns-in-Ok-false-clause-first_range
+returns-in-Ok-false-clause-first_range g c = λ l some. let at = c.taking.invariant.lacking I.Limit (inr (l, refl)) in ok_no_err c.in-Ok-false.field-0 I.Limit (c.in-Ok-false.ensures.first_range (lacks_first c.args.file.now.header.fields c.taking.file.header.fields c.args.self.now.reftable c.taking.self.reftable c.args.first c.taking.taken (ap (λ (h : HeaderView). h.fields) at.2) at.1 at.0 l)).0
+
+pub returns-in_err-give_back-in-Err-clause-first_range : goal.returns-in_err-give_back-in-Err-clause-first_range
+returns-in_err-give_back-in-Err-clause-first_range g c = λ l some. let bad = (c.in_err-give_back-in-Err.ensures.none (c.taking.invariant.lacking I.Limit (inr (l, refl))).0).0 in absurd (cc)
+
+pub returns-in-Err-clause-first_range : goal.returns-in-Err-clause-first_range
+returns-in-Err-clause-first_range g c = λ l some.
+    let at = c.taking.invariant.lacking I.Limit (inr (l, refl)) in
+    let refused = c.in-Err.ensures.first_range (lacks_first c.args.file.now.header.fields c.taking.file.header.fields c.args.self.now.reftable c.taking.self.reftable c.args.first c.taking.taken (ap (λ (h : HeaderView). h.fields) at.2) at.1 at.0 l) in
+    let same = refused.1 ∙ c.taking.invariant.untouched l in (
+      err_as c.in-Err.refusal I.Limit refused.0,
+      elim c.if-not-is_fault.branch [
+        | then-not-is_fault+in_ok-give_back-in-Err w ↦ w.file-is ∙ (w.give_back-then-not-is_fault.ensures.none at.0).1 ∙ same
+        | else-not-is_fault w ↦ w.file-is ∙ same
+      ],
+    )

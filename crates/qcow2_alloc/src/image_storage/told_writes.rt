@@ -27,7 +27,8 @@ impl<S: Storage> ImageStorage<S> {
         ensures calls { Calls (S.view (storage_of self.old)) (S.view (storage_of self.new)) result }
         ensures noted { NotesWrite self.old self.new result }
     {
-        self.write(at, bytes)
+        let data_written = self.storage.write(at, bytes);
+        self.noted(data_written)
     }
 
     /// Writes so many zeros at an offset, both in bytes, as a guest's bytes. The place that they take may be given back. Refused
@@ -38,7 +39,8 @@ impl<S: Storage> ImageStorage<S> {
         ensures calls { Calls (S.view (storage_of self.old)) (S.view (storage_of self.new)) result }
         ensures noted { NotesWrite self.old self.new result }
     {
-        self.write_zeroes(at, length)
+        let zeros_written = self.storage.write_zeroes(at, length);
+        self.noted(zeros_written)
     }
 
     /// The same, and the place that they take stays taken where it can. Refused 14 (memory), 15 (storage), as the storage is.
@@ -48,7 +50,8 @@ impl<S: Storage> ImageStorage<S> {
         ensures calls { Calls (S.view (storage_of self.old)) (S.view (storage_of self.new)) result }
         ensures noted { NotesWrite self.old self.new result }
     {
-        self.write_allocated_zeroes(at, length)
+        let allocated_zeros_written = self.storage.write_allocated_zeroes(at, length);
+        self.noted(allocated_zeros_written)
     }
 
     /// Writes an L2 table of the cache to a cluster, if it is modified. Refused 14 (memory), 15 (storage), as the storage is.

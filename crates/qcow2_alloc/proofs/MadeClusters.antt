@@ -1,0 +1,363 @@
+-- What is in use after steps that no guest sees, and wasn't before: it is pending, or a refblock or the reftable came to stand in it.
+use Rattle.std.proofs.Common.{◌≡◌, ◌≢◌, ◌⊎◌, inl, inr, ℕ, ◌+◌, ◌-◌, ◌*◌, ◌/◌, ◌^◌, ◌<◌, ◌≤◌, ◌==◌, Bool, true, false, List, [], ◌∷◌, ◌++◌, Option, Some, None, Result, Ok, Err, refl, sym, ap, ◌∙◌, subst, arith}
+use Rattle.std.specs.Prelude.{IfOk, IsNone}
+use Rattle.std.proofs.lemmas.Bool.{cases_eq, cond-true, cond-false, eq-eqb, ne_eqb}
+use Rattle.std.proofs.Math.Nat.{mul-le-mul_left}
+use Rattle.std.proofs.lemmas.Nat.{div-add-mod', div-mul-add, pow_pos}
+use Rattle.image_access.specs.Moments.{StorageView}
+use Rattle.qcow2_metadata.specs.Bytes.{Bytes}
+use Rattle.qcow2_metadata.specs.declared.header.HeaderFields.{HeaderFields}
+use Rattle.qcow2_metadata.specs.Header.{cluster_size, entries_per_cluster, reftable_entries, with_reftable}
+use Rattle.qcow2_metadata.specs.Entries.{l1_entry, reftable_entry, block_offset, count}
+use Rattle.qcow2_metadata.specs.EntryTable.{EntryTableView, entry_count}
+use Rattle.qcow2_metadata.specs.L2Mapping.{IsHostCluster}
+use Rattle.qcow2_metadata.specs.Named.{in_cluster, table_in, named_by_cover, named_by_reftable, named_by_l1_table, named_for_tables}
+use Rattle.qcow2_laws.specs.Changes.{one_at}
+use Rattle.qcow2_laws.specs.Clusters.{Direction}
+use Rattle.qcow2_laws.specs.CrashInvariant.{Pending, CrashInvariant, SameCovers}
+use Rattle.qcow2_laws.specs.Guests.{over_guests, names}
+use Rattle.qcow2_laws.specs.Unseen.{KeepsFormat}
+use Rattle.qcow2_laws.proofs.Formats.{size_format, guests_format, l1_format}
+use Rattle.qcow2_laws.proofs.Guests.{over_guests-same}
+use Rattle.qcow2_laws.proofs.Shares.{shares, in_l1, in_reftable, block_has}
+use Rattle.qcow2_laws.proofs.Sums.{some_term}
+use Rattle.qcow2_laws.proofs.Tops.{l1_names-same}
+use Rattle.qcow2_alloc.specs.Allocation.{run_at, taken_as, is_data, Allocates, RefusedGrowth, UnseenAllocatorGrowth}
+use Rattle.qcow2_alloc.specs.FreeList.{of_data, of_tables, to_free, pending_then, run_of, ListsTables, IsRunOfTable}
+use Rattle.qcow2_alloc.specs.GrownTables.{reftable_at, without_reftable, EntersReftable}
+use Rattle.qcow2_alloc.specs.ImageFile.{pending_at, contents_in, known_in, FileInvariant, HasReftable, AllocatorInvariant, UnseenFileGrowth}
+use Rattle.qcow2_alloc.specs.LowestRuns.{IsUsed}
+use Rattle.qcow2_alloc.specs.MetadataCaches.{order_of}
+use Rattle.qcow2_alloc.specs.MadeClusters.{IsOfNewRefblock, IsOfReftable, IsMadeOnTheWay, IsMadeInTurn, IsListedSince, listed_at, run_in, ListsUsed, TakesAlone}
+use Rattle.qcow2_alloc.specs.declared.allocation.Allocator.{Allocator}
+use Rattle.qcow2_alloc.specs.declared.clusters_to_free.ClusterKind.{ClusterKind}
+use Rattle.qcow2_alloc.specs.declared.clusters_to_free.ClusterKind.TheVariants.{Data, Metadata}
+use Rattle.qcow2_alloc.specs.declared.clusters_to_free.ClustersToFreeEntry.{ClustersToFreeEntry}
+use Rattle.qcow2_alloc.specs.declared.error.ImageError.{ImageError}
+use Rattle.qcow2_alloc.specs.declared.image_file.ImageFile.{ImageFile}
+use Rattle.qcow2_alloc.proofs.Freeing.{free_more}
+use Rattle.qcow2_alloc.proofs.Hints.{taken_pending, header_used}
+use Rattle.qcow2_alloc.proofs.PlacedBlocks.{file_sizes}
+use Rattle.qcow2_alloc.proofs.Runs.{taken_alone}
+
+-- ---- the clusters of the reftable, as the header has them and as the reftable in memory does
+module _ {S : Type 0} (view : S → StorageView) (p : Pending) (file : ImageFile S) (t : EntryTableView) (sound : FileInvariant view p file) (has : HasReftable view file t) where
+  pub reftable_clusters : (k : ℕ) → reftable_at file.header.fields k ≡ run_at (file.header.fields.reftable_offset / cluster_size file.header.fields) ((8 * entry_count t + 2 ^ t.cluster_bits - 1) / 2 ^ t.cluster_bits) k
+  reftable_clusters k =
+      let h = file.header.fields in
+      let sizes = file_sizes view p file sound in
+      let eights : h.reftable_clusters * cluster_size h ≡ 8 * (h.reftable_clusters * entries_per_cluster h) = ap (λ s. h.reftable_clusters * s) sizes.eights ∙ omega arith in
+      let long : h.reftable_clusters * cluster_size h ≡ 8 * entry_count t = let many = has.count in omega (arith, eights, many) in
+      ap (λ n. run_at (h.reftable_offset / cluster_size h) ((n + 2 ^ h.cluster_bits - 1) / 2 ^ h.cluster_bits) k) long
+      ∙ ap (λ b. run_at (h.reftable_offset / cluster_size h) ((8 * entry_count t + 2 ^ b - 1) / 2 ^ b) k) (sym has.bits)
+
+  first_is : (first : ℕ) → t.cluster ≡ Some first → file.header.fields.reftable_offset / cluster_size file.header.fields ≡ first
+  first_is first placed = some_is (sym has.cluster ∙ placed)
+    where
+      some_is : {A : Type 0} {a b : A} → Some a ≡ Some b → a ≡ b
+      some_is e = cc
+
+  named_run : (k first : ℕ) → t.cluster ≡ Some first → 0 < run_at first ((8 * entry_count t + 2 ^ t.cluster_bits - 1) / 2 ^ t.cluster_bits) k → 0 < in_reftable file.header.fields k
+  named_run k first placed within =
+      let same = reftable_clusters k in
+      let there : 0 < run_at (file.header.fields.reftable_offset / cluster_size file.header.fields) ((8 * entry_count t + 2 ^ t.cluster_bits - 1) / 2 ^ t.cluster_bits) k =
+      subst (λ n. 0 < run_at n ((8 * entry_count t + 2 ^ t.cluster_bits - 1) / 2 ^ t.cluster_bits) k) (sym (first_is first placed)) within in
+      subst (λ n. 0 < n) (sym same) there
+
+  -- a cluster of the reftable is in use
+  pub reftable_used : (k : ℕ) → 0 < in_reftable file.header.fields k → IsUsed view file k
+  reftable_used k some zero =
+      let tally = (sound.caches.kept.kept.crash_invariant.each_cluster k).tally in
+      let parts = shares file.header.fields (contents_in view file) k in
+      absurd (omega (arith, some, tally, parts, zero))
+
+  -- so is each of those that are listed where it goes
+  pub run_used : (e : ClustersToFreeEntry) → IsRunOfTable t e → (k : ℕ) → 0 < run_of e k → IsUsed view file k
+  run_used e run k some = reftable_used k (named_run k run.cluster run.placed (subst (λ (e : ClustersToFreeEntry). 0 < run_of e k) run.run some))
+
+-- ---- what is named anew
+l1_named_with : (h : HeaderFields) (offset clusters : ℕ) (b : Bytes) (k : ℕ) → named_by_l1_table (with_reftable h offset clusters) b k ≡ named_by_l1_table h b k
+unfolding named_by_l1_table l1_entry
+l1_named_with h offset clusters b k = refl
+
+module _ (h h' : HeaderFields) (format : KeepsFormat h h') (d d' : Direction) (p p' : Pending) (on_storage on_storage' known known' : Bytes) (old : CrashInvariant h d p on_storage known) (new : CrashInvariant h' d' p' on_storage' known')
+    (covers : SameCovers h known known') (l1 : (i : ℕ) → l1_entry h on_storage' i ≡ l1_entry h on_storage i) (k : ℕ) (same : p'.surplus k ≡ p.surplus k) (free : count h known k ≡ 0) where
+  before : named_for_tables h on_storage k ≡ 0
+  before = let tally = (old.each_cluster k).tally in omega (arith, tally, free)
+
+  none_pending : pending_at p k ≡ 0
+  none_pending = let tally = (old.each_cluster k).tally in omega (arith, tally, free)
+
+  by_guests : over_guests h' (names h' known' k) ≡ 0
+  by_guests =
+      let tally = (old.each_cluster k).tally in
+      let none : over_guests h (names h known k) ≡ 0 = omega (arith, tally, free) in
+      guests_format h h' format known' k ∙ over_guests-same h (names h known' k) (names h known k) (λ g. ap (named_by_cover h k) (sym (covers g))) ∙ none
+
+  header_format : in_cluster h' k 0 ≡ in_cluster h k 0
+  header_format = ap (λ (j : HeaderFields). in_cluster j k 0) format
+
+  in_l1_format : in_l1 h' k ≡ in_l1 h k
+  in_l1_format = ap (λ (j : HeaderFields). in_l1 j k) format
+
+  l1_same : (i : ℕ) → l1_entry h' on_storage' i ≡ l1_entry h' on_storage i
+  l1_same i = l1_format h h' format on_storage' i ∙ l1 i ∙ sym (l1_format h h' format on_storage i)
+
+  l1_named : named_by_l1_table h' on_storage' k ≡ named_by_l1_table h on_storage k
+  l1_named = l1_names-same h' on_storage' on_storage k l1_same ∙ ap (λ (j : HeaderFields). named_by_l1_table j on_storage k) format ∙ l1_named_with h h'.reftable_offset h'.reftable_clusters on_storage k
+
+  pub named_anew : count h' known' k ≢ 0 → (0 < in_reftable h' k) ⊎ (0 < named_by_reftable h' on_storage' k) ⊎ (pending_at p k < pending_at p' k)
+  named_anew used = elim (cases_eq (in_reftable h' k) 0) [
+    | inr some ↦ inl (omega (arith, some))
+    | inl no_table ↦ elim (cases_eq (named_by_reftable h' on_storage' k) 0) [
+      | inr some ↦ inr (inl (omega (arith, some)))
+      | inl no_block ↦
+          let was = shares h on_storage k in
+          let now = shares h' on_storage' k in
+          let tally = (new.each_cluster k).tally in
+          let tally_before = (old.each_cluster k).tally in
+          let a = before in let b = none_pending in let c = by_guests in let d = header_format in let e = in_l1_format in let f = l1_named in
+          let table_refs : named_for_tables h' on_storage' k ≡ 0 = omega (arith, was, now, no_table, no_block, a, d, e, f) in
+          inr (inr (omega (arith, tally, tally_before, table_refs, b, c, used, free, same)))
+    ]
+  ]
+
+-- a table in a cluster is one, and begins in it
+table_there : (h : HeaderFields) (k place : ℕ) → 0 < table_in h k place → (place ≢ 0) × (place / cluster_size h ≡ k)
+table_there h k place some = elim (cases_eq place 0) [
+  | inl none ↦
+      let zero : table_in h k place ≡ 0 = cond-true {A = ℕ} (place == 0) 0 (in_cluster h k place) (eq-eqb _ 0 none) in
+      absurd (omega (arith, some, zero))
+  | inr real ↦ elim (cases_eq (place / cluster_size h) k) [
+    | inl here ↦ (real, here)
+    | inr other ↦
+        let one : table_in h k place ≡ in_cluster h k place = cond-false _ _ _ (ne_eqb place 0 real) in
+        let zero : in_cluster h k place ≡ 0 = cond-false _ _ _ (ne_eqb (place / cluster_size h) k other) in
+        absurd (omega (arith, some, one, zero))
+  ]
+]
+
+-- an entry of the reftable names it
+block_there : (h : HeaderFields) (b : Bytes) (k : ℕ) → 0 < named_by_reftable h b k → (i : ℕ) × (i < reftable_entries h) × (0 < table_in h k (block_offset (reftable_entry h b i)))
+unfolding named_by_reftable
+block_there h b k some = some_term (reftable_entries h) (λ i. table_in h k (block_offset (reftable_entry h b i))) some
+
+module _ {S : Type 0} (view : S → StorageView) (p q : Pending) (old new : ImageFile S) (t t' : EntryTableView) (sound : FileInvariant view p old) (has : HasReftable view old t) (growth : UnseenFileGrowth view p q old new) (has' : HasReftable view new t') (k : ℕ)
+    (same : q.surplus k ≡ p.surplus k) where
+  abbrev h : HeaderFields
+  h = old.header.fields
+
+  abbrev h' : HeaderFields
+  h' = new.header.fields
+
+  size : cluster_size h' ≡ cluster_size h
+  size = size_format h h' growth.unseen.header
+
+  -- nothing named it before
+  free_named : count h (known_in view old) k ≡ 0 → named_for_tables h (contents_in view old) k ≡ 0
+  free_named free = let tally = (sound.caches.kept.kept.crash_invariant.each_cluster k).tally in omega (arith, tally, free)
+
+  -- it isn't the header's
+  behind : count h (known_in view old) k ≡ 0 → 0 < k
+  behind free = elim (cases_eq k 0) [ inl zero ↦ absurd (header_used view p old sound (subst (λ n. count h (known_in view old) n ≡ 0) zero free)) | inr some ↦ omega (arith, some) ]
+
+  of_block : count h (known_in view old) k ≡ 0 → 0 < named_by_reftable h' (contents_in view new) k → IsOfNewRefblock h t t' k
+  of_block free some =
+      let at = block_there h' (contents_in view new) k some in
+      let there = table_there h' k (block_offset (reftable_entry h' (contents_in view new) at.0)) at.2 in
+      let aligned = growth.sound.caches.kept.kept.crash_invariant.top.refblocks_aligned at.0 at.1 in
+      let whole = div-add-mod' (block_offset (reftable_entry h' (contents_in view new) at.0)) (cluster_size h') in
+      let begin : k * cluster_size h' ≡ block_offset (reftable_entry h' (contents_in view new) at.0) = ap (λ n. n * cluster_size h') (sym there.1) ∙ (omega (arith, whole, aligned)) in
+      record {
+        range = at.0;
+        within = subst (λ n. at.0 < n) (sym has'.count) at.1;
+        behind_header = behind free;
+        names = ap (λ n. k * n) (sym size) ∙ begin ∙ ap block_offset (sym (has'.entries at.0));
+        anew = λ named.
+            let place : k * cluster_size h ≡ block_offset (reftable_entry h (contents_in view old) at.0) = named ∙ ap block_offset (has.entries at.0) in
+            let real : block_offset (reftable_entry h (contents_in view old) at.0) ≢ 0 = λ zero. product_some k (cluster_size h) (behind free) (pow_pos h.cluster_bits) (place ∙ zero) in
+            let plus : k * cluster_size h ≡ k * cluster_size h + 0 = omega arith in
+            let here : block_offset (reftable_entry h (contents_in view old) at.0) / cluster_size h ≡ k = ap (λ n. n / cluster_size h) (sym place) ∙ ap (λ n. n / cluster_size h) plus ∙ div-mul-add k (cluster_size h) 0 (pow_pos h.cluster_bits) in
+            let one = subst (λ n. 1 ≤ named_by_reftable h (contents_in view old) n) here (block_has h (contents_in view old) at.0 real) in
+            let parts = shares h (contents_in view old) k in
+            let none = free_named free in
+            absurd (omega (arith, one, parts, none));
+      }
+    where
+      product_some : (a b : ℕ) → 0 < a → 0 < b → a * b ≡ 0 → ⊥
+      product_some a b some_a some_b zero = let more = mul-le-mul_left a some_b in absurd (omega (arith, some_a, more, zero))
+
+  of_table : count h (known_in view old) k ≡ 0 → 0 < in_reftable h' k → IsOfReftable t' k × ¬ IsOfReftable t k
+  of_table free some = (
+    record { first = h'.reftable_offset / cluster_size h'; placed = has'.cluster; within = subst (λ n. 0 < n) (reftable_clusters view q new t' growth.sound has' k) some },
+    λ was. absurd (reftable_used view p old t sound has k (named_run view p old t sound has k was.first was.placed was.within) free),
+  )
+
+  pub made : IsUsed view new k → IsUsed view old k ⊎ IsMadeOnTheWay h t t' k ⊎ (pending_at p k < pending_at q k)
+  made used = elim (cases_eq (count h (known_in view old) k) 0) [
+    | inr was ↦ inl was
+    | inl free ↦
+        elim (named_anew h h' growth.unseen.header (order_of old.caches) (order_of new.caches) p q (contents_in view old) (contents_in view new) (known_in view old) (known_in view new)
+        sound.caches.kept.kept.crash_invariant growth.safe_step.sound growth.unseen.covers growth.l1_table k same free used) [
+          | inl table ↦ inr (inl (inr (of_table free table)))
+          | inr (inl block) ↦ inr (inl (inl (of_block free block)))
+          | inr (inr more) ↦ inr (inr more)
+        ]
+  ]
+
+-- ---- what is listed
+listed_parts : (l : List ClustersToFreeEntry) (k : ℕ) → listed_at l k ≡ to_free of_tables l k + to_free of_data l k
+listed_parts [] k = refl
+listed_parts (e ∷ es) k = of_kind e.kind (listed_parts es k)
+  where
+    of_kind : (kind : ClusterKind) → listed_at es k ≡ to_free of_tables es k + to_free of_data es k → run_of e k + listed_at es k ≡ of_tables kind (run_of e k) + to_free of_tables es k + (of_data kind (run_of e k) + to_free of_data es k)
+    of_kind Data rest = omega (arith, rest)
+    of_kind Metadata rest = omega (arith, rest)
+
+listed_pending : (p : Pending) (l l' : List ClustersToFreeEntry) → ListsTables l l' → (k n : ℕ) → pending_at p k < pending_at (pending_then p l l') k + n → IsListedSince l l' k ⊎ (0 < n)
+listed_pending p l l' lists k n more =
+    let before = listed_parts l k in
+    let after = listed_parts l' k in
+    let tables : to_free of_tables l' k ≡ to_free of_tables l k + to_free of_tables lists.more k = ap (λ (x : List ClustersToFreeEntry). to_free of_tables x k) lists.is ∙ free_more of_tables l lists.more k in
+    let of_files : to_free of_data l' k ≡ to_free of_data l k + to_free of_data lists.more k = ap (λ (x : List ClustersToFreeEntry). to_free of_data x k) lists.is ∙ free_more of_data l lists.more k in
+    elim (cases_eq n 0) [
+      | inl none ↦ inl (omega (arith, before, after, tables, of_files, more, none))
+      | inr some ↦ inr (omega (arith, some))
+    ]
+
+pub listed_one : (l : List ClustersToFreeEntry) (e : ClustersToFreeEntry) (k : ℕ) → IsListedSince l (l ++ e ∷ []) k → 0 < run_of e k
+listed_one [] e k more = omega (arith, more)
+listed_one (x ∷ l) e k more = listed_one l e k (omega (arith, more))
+
+-- ---- what a call takes into use
+module _ {S : Type 0} (view : S → StorageView) (p : Pending) (old new : ImageFile S) (allocator allocator' : Allocator) (sound : AllocatorInvariant view allocator p old) (lists : ListsTables old.free_list new.free_list) where
+  abbrev q : Pending
+  q = pending_then p old.free_list new.free_list
+
+  abbrev Made : ℕ → Type 0
+  Made = IsMadeOnTheWay old.header.fields allocator.reftable allocator'.reftable
+
+  taken_surplus : (d : Bool) (n : ℕ → ℕ) (k : ℕ) → (taken_as d q n).surplus k ≡ p.surplus k
+  taken_surplus true n k = refl
+  taken_surplus false n k = refl
+
+  made_taken : (d : Bool) (n : ℕ → ℕ) → UnseenAllocatorGrowth view p old allocator' new (taken_as d q n) → (k : ℕ) → IsUsed view new k → IsUsed view old k ⊎ (0 < n k) ⊎ Made k ⊎ IsListedSince old.free_list new.free_list k
+  made_taken d n growth k used =
+      elim (made view p (taken_as d q n) old new allocator.reftable allocator'.reftable sound.sound sound.reftable growth.file_step growth.reftable k (taken_surplus d n k) used) [
+        | inl was ↦ inl was
+        | inr (inl anew) ↦ inr (inr (inl anew))
+        | inr (inr more) ↦
+            elim (listed_pending p old.free_list new.free_list lists k (n k) (let parts = taken_pending d q n k in omega (arith, more, parts))) [
+              | inl listed ↦ inr (inr (inr listed))
+              | inr taken ↦ inr (inl taken)
+            ]
+      ]
+
+  made_none : UnseenAllocatorGrowth view p old allocator' new q → (k : ℕ) → IsUsed view new k → IsUsed view old k ⊎ Made k ⊎ IsListedSince old.free_list new.free_list k
+  made_none growth k used =
+      elim (made view p q old new allocator.reftable allocator'.reftable sound.sound sound.reftable growth.file_step growth.reftable k refl used) [
+        | inl was ↦ inl was
+        | inr (inl anew) ↦ inr (inl anew)
+        | inr (inr more) ↦
+            elim (listed_pending p old.free_list new.free_list lists k 0 (omega (arith, more))) [
+              | inl listed ↦ inr (inr listed)
+              | inr some ↦ absurd (omega (arith, some))
+            ]
+      ]
+
+  -- a run of clusters was taken, or none
+  pub made_run : (kind : ClusterKind) (count : ℕ) (result : Result ClustersToFreeEntry ImageError) → Allocates view p old allocator' new q kind count result
+      → TakesAlone view run_of (IsMadeInTurn old.header.fields allocator.reftable allocator'.reftable old.free_list new.free_list) old new result
+  made_run kind count (Ok run) takes = λ k used.
+      elim (made_taken (is_data kind) (run_at run.first_cluster count) takes.2 k used) [
+        | inl was ↦ inl was
+        | inr (inl taken) ↦ inr (inl (subst (λ n. 0 < run_at run.first_cluster n k) (sym takes.0) taken))
+        | inr (inr anew) ↦ inr (inr anew)
+      ]
+  made_run kind count (Err e) takes = elim takes [
+    | inl growth ↦ inl (made_none growth)
+    | inr interrupted ↦ inr (interrupted.fault, interrupted.noted)
+  ]
+
+  -- what was listed was in use
+  module _ (listed : ListsUsed view old new) where
+    made_alone : UnseenAllocatorGrowth view p old allocator' new q → (k : ℕ) → IsUsed view new k → IsUsed view old k ⊎ Made k
+    made_alone growth k used = elim (made_none growth k used) [
+      | inl was ↦ inl was
+      | inr (inl anew) ↦ inr anew
+      | inr (inr since) ↦ inl (listed k since)
+    ]
+
+    -- just this cluster was taken
+    pub made_one : (d : Bool) (n cluster : ℕ) (run : ClustersToFreeEntry) → n ≡ cluster → run.first_cluster ≡ cluster → run.count ≡ 1 → UnseenAllocatorGrowth view p old allocator' new (taken_as d q (one_at n)) → TakesAlone view run_in Made old new (Ok (Some run))
+    made_one d n cluster run same first count growth k used =
+        let here : run_of run k ≡ run_at n 1 k = ap (λ m. run_at run.first_cluster m k) count ∙ ap (λ m. run_at m 1 k) (first ∙ sym same) in
+        elim (made_taken d (run_at n 1) (subst (λ (r : Pending). UnseenAllocatorGrowth view p old allocator' new r) (taken_alone d q n) growth) k used) [
+          | inl was ↦ inl was
+          | inr (inl taken) ↦ inr (inl (subst (λ m. 0 < m) (sym here) taken))
+          | inr (inr (inl anew)) ↦ inr (inr anew)
+          | inr (inr (inr since)) ↦ inl (listed k since)
+        ]
+
+    -- it was not
+    pub made_untaken : UnseenAllocatorGrowth view p old allocator' new q → TakesAlone view run_in Made old new (Ok None)
+    made_untaken growth k used = elim (made_alone growth k used) [ inl was ↦ inl was | inr anew ↦ inr (inr anew) ]
+
+    -- that was refused
+    pub made_refused : (e : ImageError) → RefusedGrowth view p old allocator' new q e → TakesAlone view run_in Made old new (Err e)
+    made_refused e leaves = elim leaves [
+      | inl growth ↦ inl (made_alone growth)
+      | inr interrupted ↦ inr (interrupted.fault, interrupted.noted)
+    ]
+
+    -- a cluster that can't be taken was in use, or was made on the way
+    pub made_before : (start : ImageFile S) → ((k : ℕ) → IsUsed view old k → IsUsed view start k) → (cluster : ℕ) → UnseenAllocatorGrowth view p old allocator' new q → IsUsed view new cluster → IsUsed view new cluster × (IsUsed view start cluster ⊎ Made cluster)
+    made_before start uses cluster growth used = (used, elim (made_alone growth cluster used) [ inl was ↦ inl (uses cluster was) | inr anew ↦ inr anew ])
+
+-- a longer reftable is entered: where the former one stands was in use
+module _ {S : Type 0} (view : S → StorageView) (p : Pending) (old new : ImageFile S) (allocator allocator' : Allocator) (sound : AllocatorInvariant view allocator p old) where
+  pub made_entered : (result : Result (Unit {0}) ImageError) → EntersReftable view p old allocator' new result
+      → TakesAlone view (λ done k. 0) (IsMadeOnTheWay old.header.fields allocator.reftable allocator'.reftable) old new result
+  made_entered (Ok done) growth = λ k used.
+      elim (made view p (without_reftable p old.header.fields) old new allocator.reftable allocator'.reftable sound.sound sound.reftable growth.file_step growth.reftable k refl used) [
+        | inl was ↦ inl was
+        | inr (inl anew) ↦ inr (inr anew)
+        | inr (inr more) ↦ inl (reftable_used view p old allocator.reftable sound.sound sound.reftable k (omega (arith, more)))
+      ]
+  made_entered (Err e) leaves = elim leaves [
+    | inl growth ↦ inl (λ k used.
+        elim (made view p p old new allocator.reftable allocator'.reftable sound.sound sound.reftable growth.file_step growth.reftable k refl used) [
+          | inl was ↦ inl was
+          | inr (inl anew) ↦ inr anew
+          | inr (inr more) ↦ absurd (omega (arith, more))
+        ])
+    | inr interrupted ↦ inr (interrupted.fault, interrupted.noted)
+  ]
+
+-- it began before, where as much was in use
+pub alone_since : {S A : Type 0} (view : S → StorageView) (taken : A → ℕ → ℕ) (Made : ℕ → Type 0) (start old new : ImageFile S) (result : Result A ImageError) → ((k : ℕ) → IsUsed view old k → IsUsed view start k) → TakesAlone view taken Made old new result → TakesAlone view taken Made start new result
+alone_since view taken Made start old new (Ok answer) uses alone = λ k used. elim (alone k used) [ inl was ↦ inl (uses k was) | inr anew ↦ inr anew ]
+alone_since view taken Made start old new (Err e) uses alone = elim alone [
+  | inl stays ↦ inl (λ k used. elim (stays k used) [ inl was ↦ inl (uses k was) | inr anew ↦ inr anew ])
+  | inr broke ↦ inr broke
+]
+
+-- ---- nothing is listed, or a reftable that gave way
+none_listed : (l l' : List ClustersToFreeEntry) → l' ≡ l → (k : ℕ) → IsListedSince l l' k → ⊥
+none_listed l l' same k since = let e = ap (λ (x : List ClustersToFreeEntry). listed_at x k) same in omega (arith, e, since)
+
+module _ {S : Type 0} (view : S → StorageView) where
+  pub lists_used_none : (old new : ImageFile S) → new.free_list ≡ old.free_list → ListsUsed view old new
+  lists_used_none old new same k since = absurd (none_listed old.free_list new.free_list same k since)
+
+  pub lists_used_still : (old mid new : ImageFile S) → ListsUsed view old mid → new.free_list ≡ mid.free_list → ListsUsed view old new
+  lists_used_still old mid new listed same k since = listed k (subst (λ (l : List ClustersToFreeEntry). IsListedSince old.free_list l k) same since)
+
+  pub lists_used_one : (p : Pending) (old new : ImageFile S) (t : EntryTableView) (e : ClustersToFreeEntry) → FileInvariant view p old → HasReftable view old t → IsRunOfTable t e → new.free_list ≡ old.free_list ++ e ∷ [] → ListsUsed view old new
+  lists_used_one p old new t e sound has run same k since = run_used view p old t sound has e run k (listed_one old.free_list e k (subst (λ (l : List ClustersToFreeEntry). IsListedSince old.free_list l k) same since))
+
+-- the answer that no cluster was taken, with less said of it
+pub none_used : {S : Type 0} (view : S → StorageView) (new : ImageFile S) (h : HeaderFields) (cluster : ℕ) (Was : Type 0) (result : Result (Option ClustersToFreeEntry) ImageError)
+    → IfOk result (λ run. IsNone run → (IsHostCluster h.cluster_bits cluster → ⊥) ⊎ (IsUsed view new cluster × Was)) → IfOk result (λ run. IsNone run → (IsHostCluster h.cluster_bits cluster → ⊥) ⊎ IsUsed view new cluster)
+none_used view new h cluster Was (Ok run) why = λ none. elim (why none) [ inl far ↦ inl far | inr used ↦ inr used.0 ]
+none_used view new h cluster Was (Err e) why = tt
