@@ -9,7 +9,7 @@ use Rattle.qcow2_image.proofs.Formats.{lists_grow}
 use Rattle.qcow2_image.proofs.Prepare.Gaining.{takes_data}
 use Rattle.qcow2_image.proofs.Call.BehindHeader.{behind_allocated}
 use Rattle.std.specs.Prelude.{IfOk}
-use Rattle.qcow2_alloc.specs.LowestRuns.{IsLowestRun}
+use Rattle.qcow2_alloc.specs.LowestRuns.{IsLowestRun, IsUsed}
 use Rattle.qcow2_image.proofs.Prepare.InUse.{all_used}
 use Rattle.qcow2_image.proofs.Map.Loading.{if_ok}
 use Rattle.qcow2_image.proofs.image.Qcow2.take_data.Goals as goal
@@ -42,4 +42,4 @@ returns-clause-lowest g c = λ p out sound.
     let one : c.new.result ≡ 1 = c.new.ensures in
     let own = subst (λ x. IfSome x (IsAllocatorOf view c.args.self.now.file)) c.in-Some.is sound.reftable in
     if_ok c.allocate_data.result (λ run low. all_used view c.allocate_data.new.file run.first_cluster low)
-    (subst (λ n. IfOk c.allocate_data.result (λ run. IsLowestRun view c.allocate_data.new.file run.first_cluster n)) one (c.allocate_data.ensures.lowest p (record { sound = record { sound = sound.file; reftable = own.reftable }; hint = own.hint })))
+    (subst (λ n. IfOk c.allocate_data.result (λ run. IsLowestRun (IsUsed view c.allocate_data.new.file) run.first_cluster n)) one (c.allocate_data.ensures.lowest p (record { sound = record { sound = sound.file; reftable = own.reftable }; hint = own.hint })))
