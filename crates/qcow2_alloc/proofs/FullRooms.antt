@@ -89,30 +89,30 @@ full_stays view a b t per clusters end first uses full start n some below is wit
 -- ---- a longer reftable that has no room
 module _ {S : Type 0} (view : S → StorageView) (file : ImageFile S) (taken : ℕ → ℕ) (t : EntryTableView) where
   pub no_room_for : (clusters length limit : ℕ) → clusters ≡ length / entries_per_cluster file.header.fields → ((end : ℕ) → end ≤ length * counts_per_block file.header.fields → end ≤ nameable_clusters file.header.fields → end ≤ limit)
-      → HasNoRoomBelow view file taken t clusters limit → HasNoRoomFor view file taken t length
+      → HasNoRoomBelow (IsUsed view file) file.header.fields taken t clusters limit → HasNoRoomFor (IsUsed view file) file.header.fields taken t length
   no_room_for clusters length limit is below none end low near first n some is_long within =
       let less = below end low near in
       let same : n ≡ opened t (counts_per_block file.header.fields) first n + clusters = is_long ∙ ap (λ m. opened t (counts_per_block file.header.fields) first n + m) (sym is) in
       none first n some same (omega (arith, less, within))
 
-  pub cant_grow : (index length p per_block : ℕ) → entries_per_cluster file.header.fields ≡ p → counts_per_block file.header.fields ≡ per_block → IsLeastLength (entry_count t) index p per_block length → HasNoRoomFor view file taken t length
-      → CantGrow view file taken t index
+  pub cant_grow : (index length p per_block : ℕ) → entries_per_cluster file.header.fields ≡ p → counts_per_block file.header.fields ≡ per_block → IsLeastLength (entry_count t) index p per_block length → HasNoRoomFor (IsUsed view file) file.header.fields taken t length
+      → CantGrow (IsUsed view file) file.header.fields taken t index
   cant_grow index length p per_block same_p same_block least none other small is_least =
       let same = one_least (entry_count t) index p (entries_per_cluster file.header.fields) per_block (counts_per_block file.header.fields) length other same_p same_block least is_least in
-      subst (HasNoRoomFor view file taken t) (sym same) none
+      subst (HasNoRoomFor (IsUsed view file) file.header.fields taken t) (sym same) none
 
 -- ---- the lowest room
 module _ {S : Type 0} (view : S → StorageView) where
   -- as another header of the same numbers tells it, while what is in use stays in use
   pub lowest_room_stays : (a b : ImageFile S) (t : EntryTableView) (clusters end room : ℕ) → counts_per_block b.header.fields ≡ counts_per_block a.header.fields → ((k : ℕ) → IsUsed view a k → IsUsed view b k)
-      → IsLowestRoom view a t clusters end room → IsLowestRoom view b t clusters end room
+      → IsLowestRoom (IsUsed view a) a.header.fields t clusters end room → IsLowestRoom (IsUsed view b) b.header.fields t clusters end room
   lowest_room_stays a b t clusters end room same uses lowest first n some below is within =
       let at = lowest first n some below (is ∙ ap (λ per. opened t per first n + clusters) same) within in (at.0, at.1, at.2, at.3, uses at.0 at.4)
 
   -- a reftable that was placed in it
   pub lies_lowest : (file : ImageFile S) (old new : EntryTableView) (first blocks clusters limit : ℕ) (result : Result (Unit {0}) ImageError) → (entries : ℕ) → 0 < first → OnOk result (new.cluster ≡ Some (first + blocks)) → OnOk result (entry_count new ≡ entries)
       → clusters ≡ entries / entries_per_cluster file.header.fields → blocks ≡ opened old (counts_per_block file.header.fields) first (blocks + clusters)
-      → ((end : ℕ) → end ≤ entries * counts_per_block file.header.fields → end ≤ nameable_clusters file.header.fields → end ≤ limit) → OnOk result (IsLowestRoom view file old clusters limit first) → OnOk result (LiesLowest view file old new)
+      → ((end : ℕ) → end ≤ entries * counts_per_block file.header.fields → end ≤ nameable_clusters file.header.fields → end ≤ limit) → OnOk result (IsLowestRoom (IsUsed view file) file.header.fields old clusters limit first) → OnOk result (LiesLowest (IsUsed view file) file.header.fields old new)
   lies_lowest file old new first blocks clusters limit (Err e) entries above cluster count is lacks below lowest = tt
   lies_lowest file old new first blocks clusters limit (Ok done) entries above cluster count is lacks below lowest =
       let so : clusters ≡ entry_count new / entries_per_cluster file.header.fields = is ∙ ap (λ n. n / entries_per_cluster file.header.fields) (sym count) in record {
@@ -124,11 +124,11 @@ module _ {S : Type 0} (view : S → StorageView) where
         lowest = λ end low near.
             let most = ap (λ n. n * counts_per_block file.header.fields) count in
             let less = below end (omega (arith, low, most)) near in
-            subst (λ m. IsLowestRoom view file old m end first) so (λ start n some before long within. lowest start n some before long (omega (arith, less, within)));
+            subst (λ m. IsLowestRoom (IsUsed view file) file.header.fields old m end first) so (λ start n some before long within. lowest start n some before long (omega (arith, less, within)));
       }
 
   -- where it was answered, what was in use is
   pub lowest_entered : (a b : ImageFile S) (t : EntryTableView) (clusters end room : ℕ) (result : Result (Unit {0}) ImageError) → counts_per_block b.header.fields ≡ counts_per_block a.header.fields → KeepsUsed view a b result
-      → IsLowestRoom view a t clusters end room → OnOk result (IsLowestRoom view b t clusters end room)
+      → IsLowestRoom (IsUsed view a) a.header.fields t clusters end room → OnOk result (IsLowestRoom (IsUsed view b) b.header.fields t clusters end room)
   lowest_entered a b t clusters end room (Ok done) same uses lowest = lowest_room_stays a b t clusters end room same uses lowest
   lowest_entered a b t clusters end room (Err e) same uses lowest = tt

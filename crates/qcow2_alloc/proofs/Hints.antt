@@ -247,22 +247,22 @@ module _ {S : Type 0} (view : S → StorageView) where
   -- ---- the search for the lowest run
 
   -- all below the first free cluster is in use
-  pub lowest_first : (file : ImageFile S) (t : Allocator) (n : ℕ) → NoFreeBelowHint view t file → 0 < n → IsLowestRun view file t.first_free_cluster n
+  pub lowest_first : (file : ImageFile S) (t : Allocator) (n : ℕ) → NoFreeBelowHint view t file → 0 < n → IsLowestRun (IsUsed view file) t.first_free_cluster n
   lowest_first file t n hint some start below = (start, omega arith, omega (arith, some), below, hint start below)
 
   -- what is in use stays in use
-  pub lowest_stays : (a b : ImageFile S) (first n : ℕ) → ((k : ℕ) → IsUsed view a k → IsUsed view b k) → IsLowestRun view a first n → IsLowestRun view b first n
+  pub lowest_stays : (a b : ImageFile S) (first n : ℕ) → ((k : ℕ) → IsUsed view a k → IsUsed view b k) → IsLowestRun (IsUsed view a) first n → IsLowestRun (IsUsed view b) first n
   lowest_stays a b first n uses lowest start below = let at = lowest start below in (at.0, at.1, at.2, at.3, uses at.0 at.4)
 
   -- the search goes on behind a cluster that is in use
-  pub lowest_behind : (file : ImageFile S) (first n taken : ℕ) → taken ≤ n → taken ≢ n → IsUsed view file (first + taken) → IsLowestRun view file first n → IsLowestRun view file (first + (taken + 1)) n
+  pub lowest_behind : (file : ImageFile S) (first n taken : ℕ) → taken ≤ n → taken ≢ n → IsUsed view file (first + taken) → IsLowestRun (IsUsed view file) first n → IsLowestRun (IsUsed view file) (first + (taken + 1)) n
   lowest_behind file first n taken within some used lowest start below = elim (cases_lt start first) [
     | inl before ↦ let at = lowest start before in (at.0, at.1, at.2, (let lt = at.3 in omega arith), at.4)
     | inr above ↦ (first + taken, omega (arith, below), omega (arith, within, some, above), omega arith, used)
   ]
 
   -- it passes over clusters in use
-  pub lowest_passed : (file : ImageFile S) (first next n : ℕ) → first ≤ next → 0 < n → AreUsed view file first next → IsLowestRun view file first n → IsLowestRun view file next n
+  pub lowest_passed : (file : ImageFile S) (first next n : ℕ) → first ≤ next → 0 < n → AreUsed view file first next → IsLowestRun (IsUsed view file) first n → IsLowestRun (IsUsed view file) next n
   lowest_passed file first next n onward some used lowest start below = elim (cases_lt start first) [
     | inl before ↦ let at = lowest start before in (at.0, at.1, at.2, (let lt = at.3 in omega (arith, lt, onward)), at.4)
     | inr above ↦ (start, omega arith, omega (arith, some), below, used start above below)

@@ -19,7 +19,7 @@ use Rattle.qcow2_alloc.specs.LowestRuns.{IsUsed, IsLowestRun}
 use Rattle.qcow2_alloc.specs.Growing.{IsLeastLength}
 use Rattle.qcow2_alloc.specs.Rooms.{opened}
 use Rattle.qcow2_alloc.proofs.ListedAfter.{header_counts}
-use Rattle.qcow2_alloc.specs.Limits.{IsFaultOr, nameable_clusters, IsFull, CantGrow, CantCount}
+use Rattle.qcow2_alloc.specs.Limits.{IsFaultOr, nameable_clusters, IsFull, CantGrow, CantCount, HasNoPlace}
 
 -- another cause that follows from the one
 pub cause_as : (A B : Type 0) (e : ImageError) → (A → B) → IsFaultOr A e → IsFaultOr B e
@@ -75,22 +75,47 @@ GrowsNot h Busy t index =
 grows_not_still : (h : HeaderFields) (A B : ℕ → Type 0) (t : EntryTableView) (index : ℕ) → ((k : ℕ) → A k → B k) → GrowsNot h A t index → GrowsNot h B t index
 grows_not_still h A B t index to not length small least end low high first n some is within = let at = not length small least end low high first n some is within in (at.0, at.1, at.2, to at.0 at.3)
 
+-- more clusters in use keep each cause, of an allocator with the same reftable
+module _ (A B : ℕ → Type 0) (h : HeaderFields) (more : (k : ℕ) → A k → B k) where
+  pub full_more : (n : ℕ) → IsFull A h n → IsFull B h n
+  full_more n full start within = let at = full start within in (at.0, at.1, at.2, more at.0 at.3)
+
+  pub lowest_more : (first n : ℕ) → IsLowestRun A first n → IsLowestRun B first n
+  lowest_more first n lowest start below = let at = lowest start below in (at.0, at.1, at.2, at.3, more at.0 at.4)
+
+  pub count_more : (taken taken' : ℕ → ℕ) (a b : Allocator) (cluster : ℕ) → b.reftable ≡ a.reftable → ((k : ℕ) → 0 < taken k → B k ⊎ (0 < taken' k)) → CantCount A h taken a cluster → CantCount B h taken' b cluster
+  count_more taken taken' a b cluster same took cant =
+      let busy : (k : ℕ) → A k ⊎ (0 < taken k) → B k ⊎ (0 < taken' k) = λ k was. elim was [ inl used ↦ inl (more k used) | inr before ↦ took k before ] in
+      let now = grows_not_still h (λ k. A k ⊎ (0 < taken k)) (λ k. B k ⊎ (0 < taken' k)) a.reftable (cluster / counts_per_block h) busy cant.1 in
+      subst (λ (t : EntryTableView). (entry_count t ≤ cluster / counts_per_block h) × GrowsNot h (λ k. B k ⊎ (0 < taken' k)) t (cluster / counts_per_block h)) (sym same) (cant.0, now)
+
+  pub place_more : (a b : Allocator) (n : ℕ) → b.reftable ≡ a.reftable → HasNoPlace A h a n → HasNoPlace B h b n
+  place_more a b n same none = elim none [
+    | inl full ↦ inl (full_more n full)
+    | inr run ↦ let behind = run.3 in inr (
+      run.0,
+      run.1,
+      lowest_more run.0 n run.2,
+      (behind.0, behind.1, count_more (run_at run.0 behind.0) (run_at run.0 behind.0) a b (run.0 + behind.0) same (λ k took. inr took) behind.2),
+    )
+  ]
+
 module _ {S : Type 0} (view : S → StorageView) (a b : ImageFile S) (t t' : Allocator) where
   -- a reftable that couldn't grow, as it is said of a cluster's count
   pub grown_why : (cluster bits : ℕ) (e : ImageError) → counts_per_block a.header.fields ≡ 2 ^ bits → KeepsHeader a.header b.header → entry_count t.reftable ≤ cluster / 2 ^ bits
-      → IsFaultOr ((t'.reftable ≡ t.reftable) × CantGrow view b (λ k. 0) t.reftable (cluster / 2 ^ bits)) e → IsFaultOr (CantCount view b (λ k. 0) t' cluster) e
+      → IsFaultOr ((t'.reftable ≡ t.reftable) × CantGrow (IsUsed view b) b.header.fields (λ k. 0) t.reftable (cluster / 2 ^ bits)) e → IsFaultOr (CantCount (IsUsed view b) b.header.fields (λ k. 0) t' cluster) e
   grown_why cluster bits e counts keeps past why =
       let per : counts_per_block b.header.fields ≡ 2 ^ bits = header_counts a.header b.header keeps ∙ counts in
       let range : cluster / counts_per_block b.header.fields ≡ cluster / 2 ^ bits = ap (λ n. cluster / n) per in
-      cause_as ((t'.reftable ≡ t.reftable) × CantGrow view b (λ k. 0) t.reftable (cluster / 2 ^ bits)) (CantCount view b (λ k. 0) t' cluster) e
+      cause_as ((t'.reftable ≡ t.reftable) × CantGrow (IsUsed view b) b.header.fields (λ k. 0) t.reftable (cluster / 2 ^ bits)) (CantCount (IsUsed view b) b.header.fields (λ k. 0) t' cluster) e
       (λ cause. (
         (let same = ap entry_count cause.0 in omega (arith, same, range, past)),
-        subst (λ (x : EntryTableView). CantGrow view b (λ k. 0) x (cluster / counts_per_block b.header.fields)) (sym cause.0) (subst (λ n. CantGrow view b (λ k. 0) t.reftable n) (sym range) cause.1),
+        subst (λ (x : EntryTableView). CantGrow (IsUsed view b) b.header.fields (λ k. 0) x (cluster / counts_per_block b.header.fields)) (sym cause.0) (subst (λ n. CantGrow (IsUsed view b) b.header.fields (λ k. 0) t.reftable n) (sym range) cause.1),
       )) why
 
   -- after those that were taken before were given back
   pub count_back : (first taken cluster : ℕ) → b.header ≡ a.header → t'.reftable ≡ t.reftable → ((k : ℕ) → run_at first taken k ≡ 0 → IsUsed view a k → IsUsed view b k)
-      → CantCount view a (λ k. 0) t cluster → CantCount view b (run_at first taken) t' cluster
+      → CantCount (IsUsed view a) a.header.fields (λ k. 0) t cluster → CantCount (IsUsed view b) b.header.fields (run_at first taken) t' cluster
   count_back first taken cluster same_header same kept not =
       let h : b.header.fields ≡ a.header.fields = ap (λ x. x.fields) same_header in
       let busy : (k : ℕ) → IsUsed view a k ⊎ (0 < 0) → IsUsed view b k ⊎ (0 < run_at first taken k) = λ k was. elim was [
@@ -102,5 +127,5 @@ module _ {S : Type 0} (view : S → StorageView) (a b : ImageFile S) (t t' : All
       (subst (λ (x : EntryTableView). (entry_count x ≤ cluster / counts_per_block a.header.fields) × GrowsNot a.header.fields (λ k. IsUsed view b k ⊎ (0 < run_at first taken k)) x (cluster / counts_per_block a.header.fields)) (sym same) (not.0, now))
 
 -- where the search for a run ended, each run has a cluster in use
-pub full_behind : {S : Type 0} (view : S → StorageView) (file : ImageFile S) (first n limit : ℕ) → limit ≡ nameable_clusters file.header.fields → (n ≤ limit → limit < first + n) → IsLowestRun view file first n → IsFull view file n
+pub full_behind : {S : Type 0} (view : S → StorageView) (file : ImageFile S) (first n limit : ℕ) → limit ≡ nameable_clusters file.header.fields → (n ≤ limit → limit < first + n) → IsLowestRun (IsUsed view file) first n → IsFull (IsUsed view file) file.header.fields n
 full_behind view file first n limit is past lowest start within = let at = lowest start (let over = past (omega (arith, is, within)) in omega (arith, is, over, within)) in (at.0, at.1, at.2, at.4)

@@ -1,6 +1,5 @@
 -- What stands in the way of taking clusters where it is no fault: each run has a cluster in use, or the reftable can't grow.
 use Rattle.std.specs.Prelude.{ℕ, ◌+◌, ◌*◌, ◌/◌, ◌^◌, ◌<◌, ◌≤◌, ◌≡◌, ◌⊎◌, Some, Result, Ok, Err}
-use Rattle.image_access.specs.Moments.{StorageView}
 use Rattle.qcow2_metadata.specs.declared.header.HeaderFields.{HeaderFields}
 use Rattle.qcow2_metadata.specs.EntryTable.{EntryTableView, entry_count}
 use Rattle.qcow2_metadata.specs.Header.{counts_per_block, entries_per_cluster}
@@ -8,12 +7,11 @@ use Rattle.qcow2_metadata.specs.L2Mapping.{greatest_offset}
 use Rattle.qcow2_alloc.specs.Allocation.{run_at}
 use Rattle.qcow2_alloc.specs.Growing.{IsLeastLength}
 use Rattle.qcow2_alloc.specs.ImageError.{IsFault}
-use Rattle.qcow2_alloc.specs.LowestRuns.{IsUsed, IsLowestRun}
+use Rattle.qcow2_alloc.specs.LowestRuns.{IsLowestRun}
 use Rattle.qcow2_alloc.specs.Rooms.{opened}
 use Rattle.qcow2_alloc.specs.declared.allocation.Allocator.{Allocator}
 use Rattle.qcow2_alloc.specs.declared.error.ImageError.{ImageError}
 use Rattle.qcow2_alloc.specs.declared.error.ImageError.TheVariants as I
-use Rattle.qcow2_alloc.specs.declared.image_file.ImageFile.{ImageFile}
 
 -- a refusal is a fault, or 13 for this cause
 abbrev pub IsFaultOr : Type 0 → ImageError → Type 0
@@ -28,25 +26,26 @@ RefusesByLimit (Err e) = IsFault e ⊎ (e ≡ I.Limit)
 abbrev pub nameable_clusters : HeaderFields → ℕ
 nameable_clusters h = greatest_offset / 2 ^ h.cluster_bits + 1
 
-module _ {S : Type 0} (view : S → StorageView) (file : ImageFile S) where
+-- By what counts as in use, and by the header's numbers.
+module _ (used : ℕ → Type 0) (h : HeaderFields) where
   -- of n clusters that can be named, from each one on, one is in use
   abbrev pub IsFull : ℕ → Type 0
-  IsFull n = (start : ℕ) → start + n ≤ nameable_clusters file.header.fields → (k : ℕ) × (start ≤ k) × (k < start + n) × IsUsed view file k
+  IsFull n = (start : ℕ) → start + n ≤ nameable_clusters h → (k : ℕ) × (start ≤ k) × (k < start + n) × used k
 
   -- Below an end there is no room for so many clusters of a reftable and the refblocks that they lack. One of them is in use, or one of those that were taken before.
   abbrev pub HasNoRoomBelow : (ℕ → ℕ) → EntryTableView → ℕ → ℕ → Type 0
   HasNoRoomBelow taken t clusters end =
-      (first n : ℕ) → 0 < first → n ≡ opened t (counts_per_block file.header.fields) first n + clusters → first + n ≤ end
-      → (k : ℕ) × (first ≤ k) × (k < first + n) × (IsUsed view file k ⊎ (0 < taken k))
+      (first n : ℕ) → 0 < first → n ≡ opened t (counts_per_block h) first n + clusters → first + n ≤ end
+      → (k : ℕ) × (first ≤ k) × (k < first + n) × (used k ⊎ (0 < taken k))
 
   -- so it is for a reftable of so many entries, below the clusters that it has entries for, and those that can be named
   abbrev pub HasNoRoomFor : (ℕ → ℕ) → EntryTableView → ℕ → Type 0
-  HasNoRoomFor taken t length = (end : ℕ) → end ≤ length * counts_per_block file.header.fields → end ≤ nameable_clusters file.header.fields → HasNoRoomBelow taken t (length / entries_per_cluster file.header.fields) end
+  HasNoRoomFor taken t length = (end : ℕ) → end ≤ length * counts_per_block h → end ≤ nameable_clusters h → HasNoRoomBelow taken t (length / entries_per_cluster h) end
 
   -- of each lower room for so many clusters of a reftable, below an end, a cluster is in use that isn't of this one
   abbrev pub IsLowestRoom : EntryTableView → ℕ → ℕ → ℕ → Type 0
   IsLowestRoom t clusters end room =
-      (first n : ℕ) → 0 < first → first < room → n ≡ opened t (counts_per_block file.header.fields) first n + clusters → first + n ≤ end → (k : ℕ) × (first ≤ k) × (k < first + n) × (k < room) × IsUsed view file k
+      (first n : ℕ) → 0 < first → first < room → n ≡ opened t (counts_per_block h) first n + clusters → first + n ≤ end → (k : ℕ) × (first ≤ k) × (k < first + n) × (k < room) × used k
 
   -- A longer reftable lies behind as many clusters as its room lacked refblocks. Its room is the lowest below the clusters that it has entries for, and those that can be named.
   pub record LiesLowest (old new : EntryTableView) : Type 0 where
@@ -54,19 +53,19 @@ module _ {S : Type 0} (view : S → StorageView) (file : ImageFile S) where
     pub blocks : ℕ
     pub above : 0 < first
     pub behind : new.cluster ≡ Some (first + blocks)
-    pub lacked : blocks ≡ opened old (counts_per_block file.header.fields) first (blocks + entry_count new / entries_per_cluster file.header.fields)
-    pub lowest : (end : ℕ) → end ≤ entry_count new * counts_per_block file.header.fields → end ≤ nameable_clusters file.header.fields
-        → IsLowestRoom old (entry_count new / entries_per_cluster file.header.fields) end first
+    pub lacked : blocks ≡ opened old (counts_per_block h) first (blocks + entry_count new / entries_per_cluster h)
+    pub lowest : (end : ℕ) → end ≤ entry_count new * counts_per_block h → end ≤ nameable_clusters h
+        → IsLowestRoom old (entry_count new / entries_per_cluster h) end first
 
   -- a reftable that has an entry of an index is too long, or there is no room for it
   abbrev pub CantGrow : (ℕ → ℕ) → EntryTableView → ℕ → Type 0
   CantGrow taken t index =
-      (length : ℕ) → length ≤ 2 ^ 20 → IsLeastLength (entry_count t) index (entries_per_cluster file.header.fields) (counts_per_block file.header.fields) length → HasNoRoomFor taken t length
+      (length : ℕ) → length ≤ 2 ^ 20 → IsLeastLength (entry_count t) index (entries_per_cluster h) (counts_per_block h) length → HasNoRoomFor taken t length
 
   -- the reftable has no entry for the refblock that counts a cluster, and can't grow
   abbrev pub CantCount : (ℕ → ℕ) → Allocator → ℕ → Type 0
   CantCount taken allocator cluster =
-      (entry_count allocator.reftable ≤ cluster / counts_per_block file.header.fields) × CantGrow taken allocator.reftable (cluster / counts_per_block file.header.fields)
+      (entry_count allocator.reftable ≤ cluster / counts_per_block h) × CantGrow taken allocator.reftable (cluster / counts_per_block h)
 
   -- in a run one of n clusters can't be counted, after those before it were taken
   abbrev pub CantCountRun : Allocator → ℕ → ℕ → Type 0
@@ -74,4 +73,4 @@ module _ {S : Type 0} (view : S → StorageView) (file : ImageFile S) where
 
   -- n clusters have no place: of n one is always in use, or one of the lowest n that could be taken can't be counted
   abbrev pub HasNoPlace : Allocator → ℕ → Type 0
-  HasNoPlace allocator n = IsFull n ⊎ ((first : ℕ) × (first + n ≤ nameable_clusters file.header.fields) × IsLowestRun view file first n × CantCountRun allocator first n)
+  HasNoPlace allocator n = IsFull n ⊎ ((first : ℕ) × (first + n ≤ nameable_clusters h) × IsLowestRun used first n × CantCountRun allocator first n)

@@ -13,6 +13,10 @@ use Rattle.qcow2_alloc.specs.declared.image_file.ImageFile.{ImageFile}
 abbrev pub BrokeOff : {S : Type 0} → ImageFile S → ImageError → Type 0
 BrokeOff file e = IsFault e × (e ≡ I.Memory → IsTrue (has_noted file))
 
+-- by what counts as in use, a run of n clusters is the lowest that can be taken: of n clusters from each lower one on, one is in use that lies below the run
+abbrev pub IsLowestRun : (ℕ → Type 0) → ℕ → ℕ → Type 0
+IsLowestRun used first n = (start : ℕ) → start < first → (k : ℕ) × (start ≤ k) × (k < start + n) × (k < first) × used k
+
 module _ {S : Type 0} (view : S → StorageView) where
   -- the cluster's count isn't 0
   abbrev pub IsUsed : ImageFile S → ℕ → Type 0
@@ -40,7 +44,3 @@ module _ {S : Type 0} (view : S → StorageView) where
   abbrev pub KeepsNoFreeBelowHint : {A : Type 0} → Allocator → ImageFile S → Result A ImageError → Type 0
   KeepsNoFreeBelowHint allocator file (Ok answer) = NoFreeBelowHint allocator file
   KeepsNoFreeBelowHint allocator file (Err e) = NoFreeBelowHint allocator file ⊎ BrokeOff file e
-
-  -- a run of n clusters is the lowest that can be taken: of n clusters from each lower one on, one is in use that lies below the run
-  abbrev pub IsLowestRun : ImageFile S → ℕ → ℕ → Type 0
-  IsLowestRun file first n = (start : ℕ) → start < first → (k : ℕ) × (start ≤ k) × (k < start + n) × (k < first) × IsUsed file k

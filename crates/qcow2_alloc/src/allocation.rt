@@ -109,8 +109,8 @@ impl Allocator {
         ensures first_range { LacksFirst file.old.header.fields self.old.reftable (max self.old.first_free_cluster 1) → 0 < count → RefusesByLimit result × (file.new ≡ file.old) }
         ensures storage_faults { CountsFaults S.view file.old.storage file.new.storage result }
         ensures leaks { (p : Pending) → AllocatorInvariant S.view self.old p file.old → SameLeaks self.old self.new }
-        ensures limit { (p : Pending) → SoundAllocator S.view self.old p file.old → 0 < count → IfErr result (IsFaultOr (HasNoPlace S.view file.new self.new count)) }
-        ensures lowest { (p : Pending) → SoundAllocator S.view self.old p file.old → IfOk result (λ run. IsLowestRun S.view file.new run.first_cluster count) }
+        ensures limit { (p : Pending) → SoundAllocator S.view self.old p file.old → 0 < count → IfErr result (IsFaultOr (HasNoPlace (IsUsed S.view file.new) file.new.header.fields self.new count)) }
+        ensures lowest { (p : Pending) → SoundAllocator S.view self.old p file.old → IfOk result (λ run. IsLowestRun (IsUsed S.view file.new) run.first_cluster count) }
         ensures hint { (p : Pending) → SoundAllocator S.view self.old p file.old → KeepsNoFreeBelowHint S.view self.new file.new result }
         ensures header_cluster { SparesHeaderButPointer S.view self.old.reftable file.old self.new.reftable file.new }
     {
@@ -140,8 +140,8 @@ impl Allocator {
         ensures first_range { LacksFirst file.old.header.fields self.old.reftable (max self.old.first_free_cluster 1) → 0 < count → OnOk result ⊥ × TurnsAlone S.view file.old file.new }
         ensures storage_faults { CountsFaults S.view file.old.storage file.new.storage result }
         ensures leaks { (p : Pending) → AllocatorInvariant S.view self.old p file.old → SameLeaks self.old self.new }
-        ensures limit { (p : Pending) → SoundAllocator S.view self.old p file.old → 0 < count → IfErr result (IsFaultOr (HasNoPlace S.view file.new self.new count)) }
-        ensures lowest { (p : Pending) → SoundAllocator S.view self.old p file.old → IfOk result (λ run. IsLowestRun S.view file.new run.first_cluster count) }
+        ensures limit { (p : Pending) → SoundAllocator S.view self.old p file.old → 0 < count → IfErr result (IsFaultOr (HasNoPlace (IsUsed S.view file.new) file.new.header.fields self.new count)) }
+        ensures lowest { (p : Pending) → SoundAllocator S.view self.old p file.old → IfOk result (λ run. IsLowestRun (IsUsed S.view file.new) run.first_cluster count) }
         ensures hint { (p : Pending) → SoundAllocator S.view self.old p file.old → KeepsNoFreeBelowHint S.view self.new file.new result }
         ensures header_cluster { SparesHeaderButPointer S.view self.old.reftable file.old self.new.reftable file.new }
     {
@@ -174,7 +174,8 @@ impl Allocator {
         ensures made { (p : Pending) → AllocatorInvariant S.view self.old p file.old → TakesAlone S.view run_in (IsMadeOnTheWay file.old.header.fields self.old.reftable self.new.reftable) file.old file.new result }
         ensures storage_faults { CountsFaults S.view file.old.storage file.new.storage result }
         ensures leaks { (p : Pending) → AllocatorInvariant S.view self.old p file.old → SameLeaks self.old self.new }
-        ensures limit { (p : Pending) → SoundAllocator S.view self.old p file.old → IfErr result (IsFaultOr (CantCount S.view file.new (λ k. 0) self.new cluster)) }
+        ensures limit { (p : Pending) → SoundAllocator S.view self.old p file.old → IfErr result (IsFaultOr (CantCount (IsUsed S.view file.new) file.new.header.fields (λ k. 0) self.new cluster)) }
+        ensures kept { (p : Pending) → AllocatorInvariant S.view self.old p file.old → IfErr result (λ e. IsFault e ⊎ StaysUsed S.view file.old file.new) }
         ensures none { (p : Pending) → AllocatorInvariant S.view self.old p file.old → IfOk result (λ run. IsNone run → (IsHostCluster file.old.header.fields.cluster_bits cluster → ⊥)
             ⊎ (IsUsed S.view file.new cluster × (IsUsed S.view file.old cluster ⊎ IsMadeOnTheWay file.old.header.fields self.old.reftable self.new.reftable cluster))) }
         ensures uses { (p : Pending) → AllocatorInvariant S.view self.old p file.old → OnOk result (StaysUsed S.view file.old file.new) }
@@ -226,8 +227,8 @@ impl Allocator {
         ensures first_range { LacksFirst file.old.header.fields self.old.reftable (max self.old.first_free_cluster 1) → 0 < count → RefusesByLimit result × (file.new ≡ file.old) }
         ensures storage_faults { CountsFaults S.view file.old.storage file.new.storage result }
         ensures leaks { (p : Pending) → AllocatorInvariant S.view self.old p file.old → SameLeaks self.old self.new }
-        ensures limit { (p : Pending) → AllocatorInvariant S.view self.old p file.old → MayTake (is_data kind) file.old → NoFreeBelowHint S.view self.old file.old → 0 < count → IfErr result (IsFaultOr (HasNoPlace S.view file.new self.new count)) }
-        ensures lowest { (p : Pending) → AllocatorInvariant S.view self.old p file.old → MayTake (is_data kind) file.old → NoFreeBelowHint S.view self.old file.old → IfOk result (λ run. IsLowestRun S.view file.new run.first_cluster count) }
+        ensures limit { (p : Pending) → AllocatorInvariant S.view self.old p file.old → MayTake (is_data kind) file.old → NoFreeBelowHint S.view self.old file.old → 0 < count → IfErr result (IsFaultOr (HasNoPlace (IsUsed S.view file.new) file.new.header.fields self.new count)) }
+        ensures lowest { (p : Pending) → AllocatorInvariant S.view self.old p file.old → MayTake (is_data kind) file.old → NoFreeBelowHint S.view self.old file.old → IfOk result (λ run. IsLowestRun (IsUsed S.view file.new) run.first_cluster count) }
         ensures hint { (p : Pending) → AllocatorInvariant S.view self.old p file.old → MayTake (is_data kind) file.old → NoFreeBelowHint S.view self.old file.old → KeepsNoFreeBelowHint S.view self.new file.new result }
         ensures header_cluster { SparesHeaderButPointer S.view self.old.reftable file.old self.new.reftable file.new }
     {
@@ -263,8 +264,8 @@ impl Allocator {
         ensures first_range { LacksFirst file.old.header.fields self.old.reftable (max self.old.first_free_cluster 1) → 0 < n → IsErrOf result ImageError.Limit × (file.new ≡ file.old) }
         ensures storage_faults { CountsFaults S.view file.old.storage file.new.storage result }
         ensures leaks { (p : Pending) → AllocatorInvariant S.view self.old p file.old → SameLeaks self.old self.new }
-        ensures limit { (p : Pending) (is_data : Bool) → AllocatorInvariant S.view self.old p file.old → MayTake is_data file.old → NoFreeBelowHint S.view self.old file.old → 0 < n → IfErr result (IsFaultOr (HasNoPlace S.view file.new self.new n)) }
-        ensures lowest { (p : Pending) (is_data : Bool) → AllocatorInvariant S.view self.old p file.old → MayTake is_data file.old → NoFreeBelowHint S.view self.old file.old → IfOk result (λ first. IsLowestRun S.view file.new first n) }
+        ensures limit { (p : Pending) (is_data : Bool) → AllocatorInvariant S.view self.old p file.old → MayTake is_data file.old → NoFreeBelowHint S.view self.old file.old → 0 < n → IfErr result (IsFaultOr (HasNoPlace (IsUsed S.view file.new) file.new.header.fields self.new n)) }
+        ensures lowest { (p : Pending) (is_data : Bool) → AllocatorInvariant S.view self.old p file.old → MayTake is_data file.old → NoFreeBelowHint S.view self.old file.old → IfOk result (λ first. IsLowestRun (IsUsed S.view file.new) first n) }
         ensures hint { (p : Pending) (is_data : Bool) → AllocatorInvariant S.view self.old p file.old → MayTake is_data file.old → NoFreeBelowHint S.view self.old file.old → KeepsNoFreeBelowHint S.view self.new file.new result }
         ensures header_cluster { SparesHeaderButPointer S.view self.old.reftable file.old self.new.reftable file.new }
     {
@@ -301,7 +302,7 @@ impl Allocator {
         ensures lacking { (e : ImageError) → LacksBlock file.old.header.fields self.old.reftable first e → 0 < n → IsErrOf result e }
         ensures storage_faults { CountsFaults S.view file.old.storage file.new.storage result }
         ensures leaks { (p : Pending) → AllocatorInvariant S.view self.old p file.old → SameLeaks self.old self.new }
-        ensures limit { (p : Pending) (is_data : Bool) → AllocatorInvariant S.view self.old p file.old → MayTake is_data file.old → NoFreeBelowHint S.view self.old file.old → first + n ≤ nameable_clusters file.old.header.fields → IfErr result (IsFaultOr (CantCountRun S.view file.new self.new first n)) }
+        ensures limit { (p : Pending) (is_data : Bool) → AllocatorInvariant S.view self.old p file.old → MayTake is_data file.old → NoFreeBelowHint S.view self.old file.old → first + n ≤ nameable_clusters file.old.header.fields → IfErr result (IsFaultOr (CantCountRun (IsUsed S.view file.new) file.new.header.fields self.new first n)) }
         ensures used { (p : Pending) (is_data : Bool) → AllocatorInvariant S.view self.old p file.old → MayTake is_data file.old → IfOk result (λ taken. taken ≢ n → IsUsed S.view file.new (first + taken)) }
         ensures hint { (p : Pending) (is_data : Bool) → AllocatorInvariant S.view self.old p file.old → MayTake is_data file.old → NoFreeBelowHint S.view self.old file.old → KeepsNoFreeBelowHint S.view self.new file.new result }
         ensures uses { (p : Pending) (is_data : Bool) → AllocatorInvariant S.view self.old p file.old → MayTake is_data file.old → KeepsUsed S.view file.old file.new result }
@@ -344,7 +345,7 @@ impl Allocator {
         ensures listed { (p : Pending) → AllocatorInvariant S.view self.old p file.old → ListsUsed S.view file.old file.new }
         ensures storage_faults { CountsFaults S.view file.old.storage file.new.storage result }
         ensures leaks { (p : Pending) → AllocatorInvariant S.view self.old p file.old → SameLeaks self.old self.new }
-        ensures limit { (p : Pending) (is_data : Bool) → AllocatorInvariant S.view self.old p file.old → MayTake is_data file.old → NoFreeBelowHint S.view self.old file.old → IsHostCluster file.old.header.fields.cluster_bits cluster → IfErr result (IsFaultOr (CantCount S.view file.new (λ k. 0) self.new cluster)) }
+        ensures limit { (p : Pending) (is_data : Bool) → AllocatorInvariant S.view self.old p file.old → MayTake is_data file.old → NoFreeBelowHint S.view self.old file.old → IsHostCluster file.old.header.fields.cluster_bits cluster → IfErr result (IsFaultOr (CantCount (IsUsed S.view file.new) file.new.header.fields (λ k. 0) self.new cluster)) }
         ensures used { (p : Pending) (is_data : Bool) → AllocatorInvariant S.view self.old p file.old → MayTake is_data file.old → IfOk result (λ taken. taken ≡ false → IsUsed S.view file.new cluster) }
         ensures hint { (p : Pending) (is_data : Bool) → AllocatorInvariant S.view self.old p file.old → MayTake is_data file.old → NoFreeBelowHint S.view self.old file.old → KeepsNoFreeBelowHint S.view self.new file.new result }
         ensures uses { (p : Pending) (is_data : Bool) → AllocatorInvariant S.view self.old p file.old → MayTake is_data file.old → KeepsUsed S.view file.old file.new result }

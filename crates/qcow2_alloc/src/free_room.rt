@@ -54,13 +54,13 @@ impl Allocator {
         ensures clusters { IfOk result (λ room. room.clusters ≡ clusters) }
         ensures above { IfOk result (λ room. 0 < room.first) }
         ensures below { IfOk result (λ room. room.first + room_length room ≤ end) }
-        ensures lowest { (p : Pending) → AllocatorInvariant S.view self.old p file.old → NoFreeBelowHint S.view self.old file.old → IfOk result (λ room. IsLowestRoom S.view file.new self.old.reftable clusters end room.first) }
+        ensures lowest { (p : Pending) → AllocatorInvariant S.view self.old p file.old → NoFreeBelowHint S.view self.old file.old → IfOk result (λ room. IsLowestRoom (IsUsed S.view file.new) file.new.header.fields self.old.reftable clusters end room.first) }
         ensures header { file.new.header ≡ file.old.header }
         ensures list { file.new.free_list ≡ file.old.free_list }
         ensures cause { IfErr result IsOfTables }
         ensures storage_faults { CountsFaults S.view file.old.storage file.new.storage result }
         ensures leaks { (p : Pending) → AllocatorInvariant S.view self.old p file.old → SameLeaks self.old self.new }
-        ensures room { (p : Pending) → AllocatorInvariant S.view self.old p file.old → NoFreeBelowHint S.view self.old file.old → IfErr result (IsFaultOr (HasNoRoomBelow S.view file.new (λ k. 0) self.old.reftable clusters end)) }
+        ensures room { (p : Pending) → AllocatorInvariant S.view self.old p file.old → NoFreeBelowHint S.view self.old file.old → IfErr result (IsFaultOr (HasNoRoomBelow (IsUsed S.view file.new) file.new.header.fields (λ k. 0) self.old.reftable clusters end)) }
         ensures header_cluster { SparesHeader S.view self.old.reftable file.old self.new.reftable file.new }
     {
         let mut first = self.first_free_cluster.max(1);

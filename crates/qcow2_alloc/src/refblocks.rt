@@ -171,7 +171,7 @@ impl Allocator {
         ensures listed { (p : Pending) → AllocatorInvariant S.view self.old p file.old → ListsUsed S.view file.old file.new }
         ensures storage_faults { CountsFaults S.view file.old.storage file.new.storage result }
         ensures leaks { (p : Pending) → AllocatorInvariant S.view self.old p file.old → SameLeaks self.old self.new }
-        ensures limit { (p : Pending) → AllocatorInvariant S.view self.old p file.old → NoFreeBelowHint S.view self.old file.old → IsHostCluster file.old.header.fields.cluster_bits cluster → IfErr result (IsFaultOr (CantCount S.view file.new (λ k. 0) self.new cluster)) }
+        ensures limit { (p : Pending) → AllocatorInvariant S.view self.old p file.old → NoFreeBelowHint S.view self.old file.old → IsHostCluster file.old.header.fields.cluster_bits cluster → IfErr result (IsFaultOr (CantCount (IsUsed S.view file.new) file.new.header.fields (λ k. 0) self.new cluster)) }
         ensures has { OnOk result (HasNone self.new.reftable (cluster / counts_per_block file.old.header.fields) → ⊥) }
         ensures named { cluster / counts_per_block file.old.header.fields < entry_count self.old.reftable → KeepsNamed self.old.reftable self.new.reftable }
         ensures hint { (p : Pending) → AllocatorInvariant S.view self.old p file.old → NoFreeBelowHint S.view self.old file.old → KeepsNoFreeBelowHint S.view self.new file.new result }

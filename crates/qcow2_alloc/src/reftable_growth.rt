@@ -18,7 +18,7 @@ ghost use Rattle.qcow2_alloc.specs.ImageError.{IsOfTables};
 ghost use Rattle.qcow2_alloc.specs.ImageFile.{has_noted, AllocatorInvariant, KeepsHeader};
 ghost use Rattle.qcow2_alloc.specs.Limits.{IsFaultOr, HasNoRoomFor, LiesLowest, CantGrow};
 ghost use Rattle.qcow2_alloc.specs.SoundAllocators.{SoundAllocator};
-ghost use Rattle.qcow2_alloc.specs.LowestRuns.{NoFreeBelowHint, KeepsUsed};
+ghost use Rattle.qcow2_alloc.specs.LowestRuns.{NoFreeBelowHint, KeepsUsed, IsUsed};
 
 use crate::reftable_length::grown_length;
 use crate::{
@@ -44,14 +44,14 @@ impl Allocator {
         ensures header { KeepsHeader file.old.header file.new.header }
         ensures list { ListsTables file.old.free_list file.new.free_list }
         ensures length { OnOk result (IsLeastLength (entry_count self.old.reftable) index (entries_per_cluster file.old.header.fields) (counts_per_block file.old.header.fields) (entry_count self.new.reftable)) }
-        ensures lowest { (p : Pending) → SoundAllocator S.view self.old p file.old → OnOk result (LiesLowest S.view file.new self.old.reftable self.new.reftable) }
+        ensures lowest { (p : Pending) → SoundAllocator S.view self.old p file.old → OnOk result (LiesLowest (IsUsed S.view file.new) file.new.header.fields self.old.reftable self.new.reftable) }
         ensures elsewhere { OnOk result (IfSome self.new.reftable.cluster (λ c. 0 < c)) }
         ensures cause { IfErr result IsOfTables }
         ensures former { GivesWay self.old.reftable self.new.reftable file.old.free_list file.new.free_list result }
         ensures made { (p : Pending) → AllocatorInvariant S.view self.old p file.old → TakesAlone S.view (λ done k. 0) (IsMadeOnTheWay file.old.header.fields self.old.reftable self.new.reftable) file.old file.new result }
         ensures storage_faults { CountsFaults S.view file.old.storage file.new.storage result }
         ensures leaks { (p : Pending) → AllocatorInvariant S.view self.old p file.old → SameLeaks self.old self.new }
-        ensures limit { (p : Pending) → SoundAllocator S.view self.old p file.old → IfErr result (IsFaultOr ((self.new.reftable ≡ self.old.reftable) × CantGrow S.view file.new (λ k. 0) self.old.reftable index)) }
+        ensures limit { (p : Pending) → SoundAllocator S.view self.old p file.old → IfErr result (IsFaultOr ((self.new.reftable ≡ self.old.reftable) × CantGrow (IsUsed S.view file.new) file.new.header.fields (λ k. 0) self.old.reftable index)) }
         ensures first { self.new.first_free_cluster ≡ self.old.first_free_cluster }
         ensures uses { (p : Pending) → AllocatorInvariant S.view self.old p file.old → KeepsUsed S.view file.old file.new result }
         ensures header_cluster { SparesHeaderButPointer S.view self.old.reftable file.old self.new.reftable file.new }
@@ -128,7 +128,7 @@ impl Allocator {
         ensures noted { OnOk result (IsTrue (has_noted file.new)) }
         ensures enters { (p : Pending) → AllocatorInvariant S.view self.old p file.old → IsCloneOf self.old.reftable table → entry_count table % entries_per_cluster file.old.header.fields ≡ 0 → EntersReftable S.view p file.old self.new file.new result }
         ensures uses { (p : Pending) → AllocatorInvariant S.view self.old p file.old → IsCloneOf self.old.reftable table → entry_count table % entries_per_cluster file.old.header.fields ≡ 0 → KeepsUsed S.view file.old file.new result }
-        ensures lowest { (p : Pending) → AllocatorInvariant S.view self.old p file.old → NoFreeBelowHint S.view self.old file.old → IsCloneOf self.old.reftable table → entry_count table % entries_per_cluster file.old.header.fields ≡ 0 → OnOk result (LiesLowest S.view file.new self.old.reftable self.new.reftable) }
+        ensures lowest { (p : Pending) → AllocatorInvariant S.view self.old p file.old → NoFreeBelowHint S.view self.old file.old → IsCloneOf self.old.reftable table → entry_count table % entries_per_cluster file.old.header.fields ≡ 0 → OnOk result (LiesLowest (IsUsed S.view file.new) file.new.header.fields self.old.reftable self.new.reftable) }
         ensures header { KeepsHeader file.old.header file.new.header }
         ensures list { file.new.free_list ≡ file.old.free_list }
         ensures table { OnOk result (entry_count self.new.reftable ≡ entry_count table) }
@@ -140,7 +140,7 @@ impl Allocator {
         ensures storage_faults { CountsFaults S.view file.old.storage file.new.storage result }
         ensures leaks { (p : Pending) → AllocatorInvariant S.view self.old p file.old → SameLeaks self.old self.new }
         ensures limit { (p : Pending) → AllocatorInvariant S.view self.old p file.old → NoFreeBelowHint S.view self.old file.old → IsCloneOf self.old.reftable table → entry_count table % entries_per_cluster file.old.header.fields ≡ 0
-            → IfErr result (IsFaultOr ((self.new.reftable ≡ self.old.reftable) × HasNoRoomFor S.view file.new (λ k. 0) self.old.reftable (entry_count table))) }
+            → IfErr result (IsFaultOr ((self.new.reftable ≡ self.old.reftable) × HasNoRoomFor (IsUsed S.view file.new) file.new.header.fields (λ k. 0) self.old.reftable (entry_count table))) }
         ensures header_cluster { SparesHeaderButPointer S.view self.old.reftable file.old self.new.reftable file.new }
     {
         let bits = file.header.cluster_bits();

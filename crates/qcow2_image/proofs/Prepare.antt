@@ -20,6 +20,8 @@ pub mod Behind
 pub mod Onward
 pub mod KeptShares
 pub mod Listing
+pub mod Lacked
+pub mod LackedBehind
 pub mod FarEntries
 pub mod InUse
 pub mod Pinned

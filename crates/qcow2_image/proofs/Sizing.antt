@@ -9,3 +9,4 @@ pub mod Growing
 pub mod GrowCalls
 pub mod GrownTables
 pub mod CountedTurns
+pub mod LackedTables

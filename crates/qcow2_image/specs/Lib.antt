@@ -28,5 +28,7 @@ pub mod L1Entries
 pub mod PinnedTables
 pub mod ListedClusters
 pub mod LowestPlaces
+pub mod LackedPlaces
+pub mod LackedTables
 pub mod Noted
 pub mod BehindHeader

@@ -1,4 +1,5 @@
 //! Clearing the whole clusters of a range: to zeros, or to what the disk below shows.
+ghost use Rattle.qcow2_image.specs.LackedPlaces.{IsLimitedByTable};
 ghost use Rattle.qcow2_image.specs.BehindHeader.{StaysBehindHeader};
 ghost use Rattle.qcow2_image.specs.Noted.{ChangesRose, FailsOnceWritten, NotesPart};
 ghost use Rattle.qcow2_alloc.specs.KeptMarks.{KeepsFileNotes};
@@ -121,6 +122,7 @@ impl<S: Storage, F: WrappedFormat<S>> Qcow2<S, F> {
     ) -> Result<(u64, u64), ImageError>
         ensures early { IfSome (refuses_to_clear self.old offset length Clearance.Uncovered) (λ e. (result ≡ Err e) × (self.new ≡ self.old)) }
         ensures late { refuses_to_clear self.old offset length Clearance.Uncovered ≡ None → IfErr result IsMetPreparing }
+        ensures limit { refuses_to_clear self.old offset length Clearance.Uncovered ≡ None → from_in self.old offset length < to_in self.old offset length → (out : List (Option Prepared)) → (abstract_of S.view F.backing self.old out).is_sound → IfErr result (IsLimitedByTable S.view (from_in self.old offset length) self.old self.new) }
         ensures nothing { refuses_to_clear self.old offset length Clearance.Uncovered ≡ None → to_in self.old offset length ≤ from_in self.old offset length → (result ≡ Ok (from_in self.old offset length, 0)) × (self.new ≡ self.old) }
         ensures marks { MarksFailed self.old self.new result }
         ensures image { IsSameImage self.old self.new }
@@ -157,6 +159,7 @@ impl<S: Storage, F: WrappedFormat<S>> Qcow2<S, F> {
     ) -> Result<(u64, u64), ImageError>
         ensures early { IfSome (refuses_to_clear self.old offset length Clearance.Zeros) (λ e. (result ≡ Err e) × (self.new ≡ self.old)) }
         ensures late { refuses_to_clear self.old offset length Clearance.Zeros ≡ None → IfErr result IsMetPreparing }
+        ensures limit { refuses_to_clear self.old offset length Clearance.Zeros ≡ None → from_in self.old offset length < to_in self.old offset length → (out : List (Option Prepared)) → (abstract_of S.view F.backing self.old out).is_sound → IfErr result (IsLimitedByTable S.view (from_in self.old offset length) self.old self.new) }
         ensures nothing { refuses_to_clear self.old offset length Clearance.Zeros ≡ None → to_in self.old offset length ≤ from_in self.old offset length → (result ≡ Ok (from_in self.old offset length, 0)) × (self.new ≡ self.old) }
         ensures marks { MarksFailed self.old self.new result }
         ensures image { IsSameImage self.old self.new }
@@ -193,6 +196,7 @@ impl<S: Storage, F: WrappedFormat<S>> Qcow2<S, F> {
     ) -> Result<(u64, u64), ImageError>
         ensures early { IfSome (refuses_to_clear self.old offset length Clearance.Zeros) (λ e. (result ≡ Err e) × (self.new ≡ self.old)) }
         ensures late { refuses_to_clear self.old offset length Clearance.Zeros ≡ None → IfErr result IsMetPreparing }
+        ensures limit { refuses_to_clear self.old offset length Clearance.Zeros ≡ None → from_in self.old offset length < to_in self.old offset length → (out : List (Option Prepared)) → (abstract_of S.view F.backing self.old out).is_sound → IfErr result (IsLimitedByTable S.view (from_in self.old offset length) self.old self.new) }
         ensures nothing { refuses_to_clear self.old offset length Clearance.Zeros ≡ None → to_in self.old offset length ≤ from_in self.old offset length → (result ≡ Ok (from_in self.old offset length, 0)) × (self.new ≡ self.old) }
         ensures marks { MarksFailed self.old self.new result }
         ensures image { IsSameImage self.old self.new }
@@ -229,6 +233,7 @@ impl<S: Storage, F: WrappedFormat<S>> Qcow2<S, F> {
     ) -> Result<(u64, u64), ImageError>
         ensures early { IfSome (refuses_to_clear self.old offset length Clearance.KeptZeros) (λ e. (result ≡ Err e) × (self.new ≡ self.old)) }
         ensures late { refuses_to_clear self.old offset length Clearance.KeptZeros ≡ None → IfErr result IsMetPreparing }
+        ensures limit { refuses_to_clear self.old offset length Clearance.KeptZeros ≡ None → from_in self.old offset length < to_in self.old offset length → (out : List (Option Prepared)) → (abstract_of S.view F.backing self.old out).is_sound → IfErr result (IsLimitedByTable S.view (from_in self.old offset length) self.old self.new) }
         ensures nothing { refuses_to_clear self.old offset length Clearance.KeptZeros ≡ None → to_in self.old offset length ≤ from_in self.old offset length → (result ≡ Ok (from_in self.old offset length, 0)) × (self.new ≡ self.old) }
         ensures marks { MarksFailed self.old self.new result }
         ensures image { IsSameImage self.old self.new }
@@ -260,6 +265,7 @@ impl<S: Storage, F: WrappedFormat<S>> Qcow2<S, F> {
     ) -> Result<(u64, u64), ImageError>
         ensures early { IfSome (refuses_to_clear self.old offset length how) (λ e. (result ≡ Err e) × (self.new ≡ self.old)) }
         ensures late { refuses_to_clear self.old offset length how ≡ None → IfErr result IsMetPreparing }
+        ensures limit { refuses_to_clear self.old offset length how ≡ None → from_in self.old offset length < to_in self.old offset length → (out : List (Option Prepared)) → (abstract_of S.view F.backing self.old out).is_sound → IfErr result (IsLimitedByTable S.view (from_in self.old offset length) self.old self.new) }
         ensures nothing { refuses_to_clear self.old offset length how ≡ None → to_in self.old offset length ≤ from_in self.old offset length → (result ≡ Ok (from_in self.old offset length, 0)) × (self.new ≡ self.old) }
         ensures image { IsSameImage self.old self.new × MarksFailed self.old self.new result }
         ensures under { refuses_to_clear self.old offset length how ≡ None → from_in self.old offset length < to_in self.old offset length → (out : List (Option Prepared)) → (abstract_of S.view F.backing self.old out).is_sound
@@ -350,6 +356,7 @@ impl<S: Storage, F: WrappedFormat<S>> Qcow2<S, F> {
         ensures notes { KeepsFileNotes S.view self.old.file self.new.file }
         ensures header_cluster { StaysBehindHeader S.view self.old self.new }
         ensures cause { IfErr result IsMetPreparing }
+        ensures limit { (out : List (Option Prepared)) → ImageInvariant S.view F.backing (pending_in S.view F.backing self.old out) self.old out → IsClearable self.old.file.header.fields how from to → IfErr result (IsLimitedByTable S.view from self.old self.new) }
         ensures lacks { (out : List (Option Prepared)) → ImageInvariant S.view F.backing (pending_in S.view F.backing self.old out) self.old out → IsClearable self.old.file.header.fields how from to
             → (HasPrepared out → ⊥) → IfErr result (IsFaultOrLacksTable S.view self.new from) }
         ensures clears { (out : List (Option Prepared)) → ImageInvariant S.view F.backing (pending_in S.view F.backing self.old out) self.old out → IsClearable self.old.file.header.fields how from to
@@ -379,6 +386,7 @@ impl<S: Storage, F: WrappedFormat<S>> Qcow2<S, F> {
         ensures notes { KeepsFileNotes S.view self.old.file self.new.file }
         ensures header_cluster { StaysBehindHeader S.view self.old self.new }
         ensures cause { IfErr result IsMetPreparing }
+        ensures limit { (out : List (Option Prepared)) → ImageInvariant S.view F.backing (pending_in S.view F.backing self.old out) self.old out → IsClearable self.old.file.header.fields how from to → IfErr result (IsLimitedByTable S.view from self.old self.new) }
         ensures lacks { (out : List (Option Prepared)) → ImageInvariant S.view F.backing (pending_in S.view F.backing self.old out) self.old out → IsClearable self.old.file.header.fields how from to
             → (HasPrepared out → ⊥) → IfErr result (IsFaultOrLacksTable S.view self.new from) }
         ensures clears { (out : List (Option Prepared)) → ImageInvariant S.view F.backing (pending_in S.view F.backing self.old out) self.old out → IsClearable self.old.file.header.fields how from to

@@ -1,4 +1,6 @@
 //! The first cluster of a prepared range.
+ghost use Rattle.qcow2_image.specs.LackedPlaces.{IsLimitedByCluster};
+ghost use Rattle.qcow2_metadata.specs.TableBytes.{HasPlace};
 ghost use Rattle.qcow2_image.specs.BehindHeader.{StaysBehindHeader};
 ghost use Rattle.qcow2_alloc.specs.KeptMarks.{KeepsFileNotes};
 ghost use Rattle.std.specs.Prelude.{List, Option, ◌≡◌, ◌+◌, ◌-◌, ◌/◌, ◌%◌, ◌^◌, ◌<◌, ◌≤◌, true, false, Some, [], ◌∷◌, vec_capacity, IfOk, IfErr, IsSome, IsTrue, OnOk};
@@ -16,7 +18,7 @@ ghost use Rattle.qcow2_image.specs.Image.{ImageStays, is_writable, number_of};
 ghost use Rattle.qcow2_image.specs.ListedClusters.{KeepsList, ListsFormer};
 ghost use Rattle.qcow2_image.specs.LowestPlaces.{BeginsLowest, IsUsedBelow};
 ghost use Rattle.qcow2_image.specs.Prepared.{image_of, length_of, offset_of};
-ghost use Rattle.qcow2_image.specs.Refusals.{IsMet, IsMetPreparing};
+ghost use Rattle.qcow2_image.specs.Refusals.{IsMet, IsMetPreparing, IsUnlimited};
 ghost use Rattle.qcow2_image.specs.declared.prepared.Prepared.{Prepared};
 ghost use Rattle.qcow2_image.specs.declared.mapping.Place.TheVariants.{Image};
 ghost use Rattle.qcow2_image.specs.CallParts.{Readies};
@@ -58,6 +60,7 @@ impl<S: Storage, F: WrappedFormat<S>> Qcow2<S, F> {
         ensures notes { KeepsFileNotes S.view self.old.file self.new.file }
         ensures header_cluster { 0 < table → StaysBehindHeader S.view self.old self.new }
         ensures cause { IfErr result IsMetPreparing }
+        ensures limit { (out : List (Option Prepared)) → ImageInvariant S.view F.backing (pending_in S.view F.backing self.old out) self.old out → HoldsTable S.view F.backing self.old offset table → IfErr result (IsLimitedByCluster S.view self.old self.new) }
         ensures taken { IfErr result (λ e. e ≡ TablePrepared → 0 < l2_pins self.old.file.caches table) }
         ensures unpinned { OnOk result (l2_pins self.old.file.caches table ≡ 0) }
         ensures own { IfOk result (λ p. image_of p ≡ number_of self.old) }
@@ -102,6 +105,7 @@ impl<S: Storage, F: WrappedFormat<S>> Qcow2<S, F> {
         ensures notes { KeepsFileNotes S.view self.old.file self.new.file }
         ensures header_cluster { 0 < table → StaysBehindHeader S.view self.old self.new }
         ensures cause { IfErr result IsMet }
+        ensures limit { (out : List (Option Prepared)) → ImageInvariant S.view F.backing (pending_in S.view F.backing self.old out) self.old out → HoldsTable S.view F.backing self.old offset table → IfErr result (IsLimitedByCluster S.view self.old self.new) }
         ensures own { IfOk result (λ p. image_of p ≡ number_of self.old) }
         ensures first { IfOk result (IsFirst self.old.file.header.fields offset table) }
         ensures room { IfOk result (λ p. vec_capacity p.shares ≡ vec_capacity room) }
@@ -137,6 +141,7 @@ impl<S: Storage, F: WrappedFormat<S>> Qcow2<S, F> {
         ensures notes { KeepsFileNotes S.view self.old.file self.new.file }
         ensures header_cluster { StaysBehindHeader S.view self.old self.new }
         ensures cause { IfErr result IsMet }
+        ensures limited { IfErr result IsUnlimited }
         ensures own { IfOk result (λ p. image_of p ≡ number_of self.old) }
         ensures first { IfOk result (IsFirst self.old.file.header.fields offset table) }
         ensures room { IfOk result (λ p. vec_capacity p.shares ≡ vec_capacity room) }
@@ -173,6 +178,7 @@ impl<S: Storage, F: WrappedFormat<S>> Qcow2<S, F> {
         ensures notes { KeepsFileNotes S.view self.old.file self.new.file }
         ensures header_cluster { 0 < table → StaysBehindHeader S.view self.old self.new }
         ensures cause { IfErr result IsMet }
+        ensures limit { (out : List (Option Prepared)) → ImageInvariant S.view F.backing (pending_in S.view F.backing self.old out) self.old out → HoldsTable S.view F.backing self.old offset table → IfErr result (IsLimitedByCluster S.view self.old self.new) }
         ensures own { IfOk result (λ p. image_of p ≡ number_of self.old) }
         ensures first { IfOk result (IsFirst self.old.file.header.fields offset table) }
         ensures room { IfOk result (λ p. vec_capacity p.shares ≡ vec_capacity room) }
@@ -209,6 +215,7 @@ impl<S: Storage, F: WrappedFormat<S>> Qcow2<S, F> {
         ensures notes { KeepsFileNotes S.view self.old.file self.new.file }
         ensures header_cluster { 0 < table → StaysBehindHeader S.view self.old self.new }
         ensures cause { IfErr result IsMet }
+        ensures limited { (p : Pending) (out : List (Option Prepared)) → ImageInvariant S.view F.backing p self.old out → HasPlace self.old.file.header.fields.cluster_bits table → IfErr result IsUnlimited }
         ensures allocator { self.new.allocator ≡ self.old.allocator }
         ensures table { self.new.l1_table ≡ self.old.l1_table }
         ensures list { self.new.file.free_list ≡ self.old.file.free_list }
@@ -279,6 +286,7 @@ impl<S: Storage, F: WrappedFormat<S>> Qcow2<S, F> {
         ensures notes { KeepsFileNotes S.view self.old.file self.new.file }
         ensures header_cluster { StaysBehindHeader S.view self.old self.new }
         ensures cause { IfErr result IsMet }
+        ensures limit { (p : Pending) (out : List (Option Prepared)) → ImageInvariant S.view F.backing p self.old out → IfErr result (IsLimitedByCluster S.view self.old self.new) }
         ensures gains { (p : Pending) (out : List (Option Prepared)) → ImageInvariant S.view F.backing p self.old out → HoldsAll S.view F.backing p out → Gains S.view F.backing p self.old self.new out offset length overwrite old.now result }
         ensures former { OnOk result (ListsFormer self.old self.new) }
         ensures lowest { (p : Pending) (out : List (Option Prepared)) → ImageInvariant S.view F.backing p self.old out → HoldsAll S.view F.backing p out → IfOk result (λ run. IsUsedBelow S.view self.new run.first_cluster) }
@@ -304,6 +312,7 @@ impl<S: Storage, F: WrappedFormat<S>> Qcow2<S, F> {
         ensures notes { KeepsFileNotes S.view self.old.file self.new.file }
         ensures header_cluster { StaysBehindHeader S.view self.old self.new }
         ensures cause { IfErr result IsMet }
+        ensures limit { (p : Pending) (out : List (Option Prepared)) → ImageInvariant S.view F.backing p self.old out → IfErr result (IsLimitedByCluster S.view self.old self.new) }
         ensures takes { (p : Pending) (out : List (Option Prepared)) → ImageInvariant S.view F.backing p self.old out → HoldsAll S.view F.backing p out → TakesData S.view F.backing p self.old self.new out result }
         ensures former { ListsFormer self.old self.new }
         ensures lowest { (p : Pending) (out : List (Option Prepared)) → ImageInvariant S.view F.backing p self.old out → IfOk result (λ run. IsUsedBelow S.view self.new run.first_cluster) }

@@ -1,4 +1,5 @@
 ghost use Rattle.qcow2_alloc.specs.BehindHeader.{AreBehindHeader};
+ghost use Rattle.qcow2_image.specs.LackedPlaces.{FreesJustListed};
 ghost use Rattle.qcow2_image.specs.BehindHeader.{IsL1TableBehind, LiesBehindHeader, NamesTablesBehind, StaysBehindHeader, TablesBehindHeader};
 ghost use Rattle.qcow2_alloc.specs.SparedHeaders.{StandsBehindHeader};
 ghost use Rattle.std.specs.Prelude.{◌≡◌, ◌<◌};
@@ -499,6 +500,7 @@ impl<S: Storage, F: WrappedFormat<S>> Qcow2<S, F> {
         ensures table { self.new.l1_table ≡ self.old.l1_table }
         ensures former { KeepsReftable self.old self.new }
         ensures cause { IfErr result IsOfTables }
+        ensures uses { (p : Pending) (out : List (Option Prepared)) → ImageInvariant S.view F.backing (with_listed p self.old.file.free_list) self.old out → OnOk result (FreesJustListed S.view self.old self.new) }
         ensures emptied { IsTrue (is_writable self.old) → OnOk result (HasNothingToFree self.new) }
         ensures frees { (p : Pending) (out : List (Option Prepared)) → ImageInvariant S.view F.backing (with_listed p self.old.file.free_list) self.old out → FreesListed S.view F.backing p self.old self.new out result }
         ensures faults { (p : Pending) (out : List (Option Prepared)) → ImageInvariant S.view F.backing (with_listed p self.old.file.free_list) self.old out → IfErr result IsFault }

@@ -401,6 +401,7 @@ impl<S: Storage, F: WrappedFormat<S>> Qcow2<S, F> {
     pub(crate) fn write_data(&mut self, host: u64, bytes: &[u8]) -> Result<(), ImageError>
         ensures stays { ImageStays self.old self.new }
         ensures cause { IfErr result IsMet }
+        ensures limited { IfErr result IsUnlimited }
         ensures current { result ≢ Err OutdatedMapping }
         ensures written { WritesBytes S.view self.old self.new host bytes.now result }
         ensures faults { CountsImageFaults S.view F.backing self.old self.new result }

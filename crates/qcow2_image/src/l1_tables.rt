@@ -12,7 +12,9 @@ ghost use Rattle.qcow2_image.specs.ImageInvariant.{ImageInvariant, pending_in};
 ghost use Rattle.qcow2_image.specs.ListedClusters.{SomeGaveWay};
 ghost use Rattle.qcow2_image.specs.LongerTables.{run_of_table, listed, with_table, IsLongerL1, StandsWhole, PlacesTable, NamesTable, NamesTaken, TakesTable, Lengthens, MakesEntry};
 ghost use Rattle.qcow2_image.specs.NewTables.{IsFaultOrLacksTable};
-ghost use Rattle.qcow2_image.specs.Refusals.{IsMet};
+ghost use Rattle.qcow2_alloc.specs.declared.error.ImageError.TheVariants.{Limit};
+ghost use Rattle.qcow2_image.specs.LackedPlaces.{EndsBefore, HasNoTablePlace, IsPlacedNear, LacksLongerTable, StandsInWay};
+ghost use Rattle.qcow2_image.specs.Refusals.{IsMet, IsUnlimited};
 ghost use Rattle.qcow2_image.specs.UnseenSteps.{ListGrows};
 ghost use Rattle.qcow2_image.specs.Faults.{CountsImageFaults, IsNotOfStorage};
 
@@ -32,9 +34,11 @@ impl<S: Storage, F: WrappedFormat<S>> Qcow2<S, F> {
         ensures notes { KeepsFileNotes S.view self.old.file self.new.file }
         ensures header_cluster { StaysBehindHeader S.view self.old self.new }
         ensures cause { IfErr result IsMet }
+        ensures limit { (out : List (Option Prepared)) → ImageInvariant S.view F.backing (pending_in S.view F.backing self.old out) self.old out → IfErr result (λ e. e ≡ Limit → EndsBefore offset self.old × LacksLongerTable S.view (l1_index_of self.old.file.header.fields offset) (l1_index_of self.old.file.header.fields offset + 1) self.old.file.free_list self.old self.new) }
         ensures former { OnOk result (SomeGaveWay self.old self.new) }
         ensures lacks { (out : List (Option Prepared)) → ImageInvariant S.view F.backing (pending_in S.view F.backing self.old out) self.old out → IfErr result (IsFaultOrLacksTable S.view self.new offset) }
         ensures length { OnOk result (entry_count self.new.l1_table ≡ max (entry_count self.old.l1_table) (l1_index_of self.old.file.header.fields offset + 1)) }
+        ensures placed { EndsBefore offset self.old → self.old.l1_table.cluster_bits ≡ self.old.file.header.fields.cluster_bits → OnOk result (IsPlacedNear self.new.l1_table) }
         ensures none { l1_index_of self.old.file.header.fields offset < entry_count self.old.l1_table → self.new ≡ self.old }
         ensures emptied { entry_count self.old.l1_table ≤ l1_index_of self.old.file.header.fields offset → OnOk result (HasNothingToFree self.new) }
         ensures makes { (out : List (Option Prepared)) → ImageInvariant S.view F.backing (pending_in S.view F.backing self.old out) self.old out → MakesEntry S.view F.backing self.old self.new out result }
@@ -55,9 +59,11 @@ impl<S: Storage, F: WrappedFormat<S>> Qcow2<S, F> {
         ensures noted { OnOk result (IsTrue self.new.file.caches.is_changed) }
         ensures header_cluster { StaysBehindHeader S.view self.old self.new }
         ensures cause { IsTrue (is_writable self.old) → IfErr result IsMet }
+        ensures limit { (p : Pending) (out : List (Option Prepared)) → ImageInvariant S.view F.backing p self.old out → IfErr result (λ e. e ≡ Limit → LacksLongerTable S.view index (max (entry_count self.old.l1_table) (index + 1)) self.old.file.free_list self.old self.new) }
         ensures former { OnOk result (SomeGaveWay self.old self.new) }
         ensures lengthens { (p : Pending) (out : List (Option Prepared)) → ImageInvariant S.view F.backing p self.old out → Lengthens S.view F.backing p self.old self.new out result }
         ensures length { OnOk result (entry_count self.new.l1_table ≡ max (entry_count self.old.l1_table) (index + 1)) }
+        ensures placed { self.old.l1_table.cluster_bits ≡ self.old.file.header.fields.cluster_bits → OnOk result (IsPlacedNear self.new.l1_table) }
         ensures list { OnOk result (ListGrows self.old self.new) }
         ensures faults { CountsImageFaults S.view F.backing self.old self.new result }
     {
@@ -82,6 +88,7 @@ impl<S: Storage, F: WrappedFormat<S>> Qcow2<S, F> {
     // Room on the list of clusters to be freed for those of the L1 table.
     fn former_l1_table(&self) -> Result<Option<PendingClusters>, ImageError>
         ensures cause { IfErr result IsMet }
+        ensures limited { IfErr result IsUnlimited }
         ensures run { IfOk result (λ former. former ≡ run_of_table self.now.l1_table self.now.l1_table.cluster) }
         ensures faults { IfErr result IsNotOfStorage }
     {
@@ -100,9 +107,11 @@ impl<S: Storage, F: WrappedFormat<S>> Qcow2<S, F> {
         ensures noted { OnOk result (IsTrue self.new.file.caches.is_changed) }
         ensures header_cluster { table.cluster_bits ≡ self.old.l1_table.cluster_bits → StaysBehindHeader S.view self.old self.new }
         ensures cause { IsTrue (is_writable self.old) → IfErr result IsMet }
+        ensures limit { (p : Pending) (out : List (Option Prepared)) → ImageInvariant S.view F.backing p self.old out → IsLongerL1 self.old table → 0 < entry_count table → IfErr result (λ e. e ≡ Limit → StandsInWay S.view (HasNoTablePlace (entry_count table)) self.old.file.free_list self.old self.new) }
         ensures former { OnOk result (SomeGaveWay self.old self.new) }
         ensures takes { (p : Pending) (out : List (Option Prepared)) → ImageInvariant S.view F.backing p self.old out → IsLongerL1 self.old table → TakesTable S.view F.backing p self.old self.new out result }
         ensures entries { OnOk result (entry_count self.new.l1_table ≡ entry_count table) }
+        ensures placed { entry_count table ≤ 4194304 → table.cluster_bits ≡ self.old.file.header.fields.cluster_bits → OnOk result (IsPlacedNear self.new.l1_table) }
         ensures list { OnOk result (ListGrows self.old self.new) }
         ensures faults { CountsImageFaults S.view F.backing self.old self.new result }
     {
@@ -120,10 +129,12 @@ impl<S: Storage, F: WrappedFormat<S>> Qcow2<S, F> {
         ensures notes { KeepsFileNotes S.view self.old.file self.new.file }
         ensures header_cluster { table.cluster_bits ≡ self.old.l1_table.cluster_bits → 0 < taken.first_cluster → StaysBehindHeader S.view self.old self.new }
         ensures cause { IfErr result IsMet }
+        ensures limited { (p : Pending) (out : List (Option Prepared)) → ImageInvariant S.view F.backing (with_table p table taken.first_cluster) self.old out → IsLongerL1 self.old table → IfErr result IsUnlimited }
         ensures allocator { self.new.allocator ≡ self.old.allocator }
         ensures names { (p : Pending) (out : List (Option Prepared)) → ImageInvariant S.view F.backing (with_table p table taken.first_cluster) self.old out → IsTrue self.old.file.caches.is_changed → IsLongerL1 self.old table
             → NamesTaken S.view F.backing p self.old self.new out table taken result }
         ensures entries { OnOk result (entry_count self.new.l1_table ≡ entry_count table) }
+        ensures placed { OnOk result (self.new.l1_table ≡ record table { cluster = Some taken.first_cluster }) }
         ensures kept { OnOk result (self.new.file.free_list ≡ self.old.file.free_list) }
         ensures listed { OnErr result (self.new.file.free_list ≡ self.old.file.free_list ++ taken ∷ []) }
         ensures faults { CountsImageFaults S.view F.backing self.old self.new result }
@@ -139,10 +150,12 @@ impl<S: Storage, F: WrappedFormat<S>> Qcow2<S, F> {
         ensures notes { KeepsFileNotes S.view self.old.file self.new.file }
         ensures header_cluster { table.cluster_bits ≡ self.old.l1_table.cluster_bits → 0 < cluster → StaysBehindHeader S.view self.old self.new }
         ensures cause { IfErr result IsMet }
+        ensures limited { (p : Pending) (out : List (Option Prepared)) → ImageInvariant S.view F.backing (with_table p table cluster) self.old out → IsLongerL1 self.old table → IfErr result IsUnlimited }
         ensures allocator { self.new.allocator ≡ self.old.allocator }
         ensures names { (p : Pending) (out : List (Option Prepared)) → ImageInvariant S.view F.backing (with_table p table cluster) self.old out → IsTrue self.old.file.caches.is_changed → IsLongerL1 self.old table
             → NamesTable S.view F.backing p self.old self.new out table cluster result }
         ensures entries { OnOk result (entry_count self.new.l1_table ≡ entry_count table) }
+        ensures placed { OnOk result (self.new.l1_table ≡ record table { cluster = Some cluster }) }
         ensures list { self.new.file.free_list ≡ self.old.file.free_list }
         ensures faults { CountsImageFaults S.view F.backing self.old self.new result }
     {
@@ -159,6 +172,7 @@ impl<S: Storage, F: WrappedFormat<S>> Qcow2<S, F> {
         ensures notes { KeepsFileNotes S.view self.old.file self.new.file }
         ensures header_cluster { table.old.cluster_bits ≡ self.old.l1_table.cluster_bits → 0 < cluster → StaysBehindHeader S.view self.old self.new }
         ensures cause { IfErr result IsMet }
+        ensures limited { (p : Pending) (out : List (Option Prepared)) → ImageInvariant S.view F.backing (with_table p table.old cluster) self.old out → IsHostCluster table.old.cluster_bits cluster → IfErr result IsUnlimited }
         ensures rest { self.new ≡ record self.old { file = record self.old.file { storage = self.new.file.storage; caches = self.new.file.caches } } }
         ensures noted { IsTrue self.old.file.caches.is_changed → IsTrue self.new.file.caches.is_changed }
         ensures places { (p : Pending) (out : List (Option Prepared)) → ImageInvariant S.view F.backing (with_table p table.old cluster) self.old out → IsLongerL1 self.old table.old
@@ -183,10 +197,12 @@ impl<S: Storage, F: WrappedFormat<S>> Qcow2<S, F> {
         ensures notes { KeepsFileNotes S.view self.old.file self.new.file }
         ensures header_cluster { KeepsL1TableBehind self.old.l1_table table → StaysBehindHeader S.view self.old self.new }
         ensures cause { IfErr result IsMet }
+        ensures limited { IfErr result IsUnlimited }
         ensures allocator { self.new.allocator ≡ self.old.allocator }
         ensures names { (p : Pending) (out : List (Option Prepared)) → ImageInvariant S.view F.backing (with_table p table cluster) self.old out → IsTrue self.old.file.caches.is_changed → StandsWhole S.view self.old table cluster
             → NamesTable S.view F.backing p self.old self.new out table cluster result }
         ensures entries { OnOk result (entry_count self.new.l1_table ≡ entry_count table) }
+        ensures table { OnOk result (self.new.l1_table ≡ table) }
         ensures list { self.new.file.free_list ≡ self.old.file.free_list }
         ensures faults { CountsImageFaults S.view F.backing self.old self.new result }
     {

@@ -25,7 +25,8 @@ ghost use Rattle.qcow2_alloc.specs.TableCaches.{IsTableOf};
 ghost use Rattle.qcow2_laws.specs.Changes.{one_at, with_new_tables};
 ghost use Rattle.qcow2_metadata.specs.L2Table.{L2TableView};
 ghost use Rattle.qcow2_image.specs.PinnedTables.{FindsOwn, own_table};
-ghost use Rattle.qcow2_image.specs.Refusals.{IsMet};
+ghost use Rattle.qcow2_image.specs.LackedPlaces.{HasNearEntry, IsLimitedByCluster, IsLimitedByTable};
+ghost use Rattle.qcow2_image.specs.Refusals.{IsMet, IsUnlimited};
 ghost use Rattle.qcow2_image.specs.Faults.{CountsImageFaults};
 
 use crate::Qcow2;
@@ -44,6 +45,7 @@ impl<S: Storage, F: WrappedFormat<S>> Qcow2<S, F> {
         ensures elsewhere { IfOk result (λ table. 0 < table) }
         ensures header_cluster { StaysBehindHeader S.view self.old self.new }
         ensures cause { IfErr result IsMet }
+        ensures limit { (out : List (Option Prepared)) → ImageInvariant S.view F.backing (pending_in S.view F.backing self.old out) self.old out → IfErr result (IsLimitedByTable S.view offset self.old self.new) }
         ensures lacks { (out : List (Option Prepared)) → ImageInvariant S.view F.backing (pending_in S.view F.backing self.old out) self.old out → (HasPrepared out → ⊥) → IfErr result (IsFaultOrLacksTable S.view self.new offset) }
         ensures cached { IfOk result (λ table. IsSome (l2_at self.new.file.caches table)) }
         ensures finds { (out : List (Option Prepared)) → ImageInvariant S.view F.backing (pending_in S.view F.backing self.old out) self.old out → FindsTable S.view F.backing self.old self.new out offset result }
@@ -93,6 +95,7 @@ impl<S: Storage, F: WrappedFormat<S>> Qcow2<S, F> {
         ensures elsewhere { IfOk result (λ table. 0 < table) }
         ensures header_cluster { StaysBehindHeader S.view self.old self.new }
         ensures cause { IfErr result IsMet }
+        ensures limited { (p : Pending) (out : List (Option Prepared)) → ImageInvariant S.view F.backing p self.old out → HasOwnTable self.old offset → IfErr result IsUnlimited }
         ensures lacks { (p : Pending) (out : List (Option Prepared)) → ImageInvariant S.view F.backing p self.old out → (HasPrepared out → ⊥) → IfErr result (IsFaultOrLacksTable S.view self.new offset) }
         ensures cached { IfOk result (λ table. IsSome (l2_at self.new.file.caches table)) }
         ensures ready { (p : Pending) (out : List (Option Prepared)) → ImageInvariant S.view F.backing p self.old out → Ensures S.view F.backing p self.old self.new out offset result }
@@ -116,6 +119,8 @@ impl<S: Storage, F: WrappedFormat<S>> Qcow2<S, F> {
         ensures elsewhere { IfOk result (λ table. 0 < table) }
         ensures header_cluster { StaysBehindHeader S.view self.old self.new }
         ensures cause { IfErr result IsMet }
+        ensures limited { (p : Pending) (out : List (Option Prepared)) → ImageInvariant S.view F.backing p self.old out → HasOwnTable self.old offset → IfErr result IsUnlimited }
+        ensures limit { (p : Pending) (out : List (Option Prepared)) → ImageInvariant S.view F.backing p self.old out → HasNearEntry self.old (l1_index_of self.old.file.header.fields offset) → IfErr result (IsLimitedByCluster S.view self.old self.new) }
         ensures former { OnOk result (SomeGaveWay self.old self.new) }
         ensures lacks { (p : Pending) (out : List (Option Prepared)) → ImageInvariant S.view F.backing p self.old out → IfErr result (IsFaultOrLacksTable S.view self.new offset) }
         ensures owns { (p : Pending) (out : List (Option Prepared)) → ImageInvariant S.view F.backing p self.old out → OwnsTable S.view F.backing p self.old self.new out (l1_index_of self.old.file.header.fields offset) result }
@@ -150,6 +155,7 @@ impl<S: Storage, F: WrappedFormat<S>> Qcow2<S, F> {
         ensures elsewhere { IfOk result (λ table. 0 < table) }
         ensures header_cluster { 0 < old → StaysBehindHeader S.view self.old self.new }
         ensures cause { IfErr result IsMet }
+        ensures limit { (p : Pending) (out : List (Option Prepared)) → ImageInvariant S.view F.backing p self.old out → NamesShared S.view self.old index old → HasNearEntry self.old index → IfErr result (IsLimitedByCluster S.view self.old self.new) }
         ensures former { OnOk result (SomeGaveWay self.old self.new) }
         ensures l1_table { IfErr result (IsFaultOrKeepsL1Table self.old self.new) }
         ensures owns { (p : Pending) (out : List (Option Prepared)) → ImageInvariant S.view F.backing p self.old out → NamesShared S.view self.old index old → OwnsTable S.view F.backing p self.old self.new out index result }
@@ -179,6 +185,7 @@ impl<S: Storage, F: WrappedFormat<S>> Qcow2<S, F> {
         ensures elsewhere { IfOk result (λ table. 0 < table) }
         ensures header_cluster { StaysBehindHeader S.view self.old self.new }
         ensures cause { IfErr result IsMet }
+        ensures limit { (p : Pending) (out : List (Option Prepared)) → ImageInvariant S.view F.backing p self.old out → NamesShared S.view self.old index old → SaysKnown self.old.file.header.fields (known_in S.view self.old.file) index table → HasNearEntry self.old index → IfErr result (IsLimitedByCluster S.view self.old self.new) }
         ensures former { OnOk result (SomeGaveWay self.old self.new) }
         ensures l1_table { IfErr result (IsFaultOrKeepsL1Table self.old self.new) }
         ensures owns { (p : Pending) (out : List (Option Prepared)) → ImageInvariant S.view F.backing p self.old out → NamesShared S.view self.old index old → SaysKnown self.old.file.header.fields (known_in S.view self.old.file) index table → OwnsTable S.view F.backing p self.old self.new out index result }
@@ -207,6 +214,7 @@ impl<S: Storage, F: WrappedFormat<S>> Qcow2<S, F> {
         ensures elsewhere { IfOk result (λ table. 0 < table) }
         ensures header_cluster { StaysBehindHeader S.view self.old self.new }
         ensures cause { IfErr result IsMet }
+        ensures limit { (p : Pending) (out : List (Option Prepared)) → ImageInvariant S.view F.backing p self.old out → MayName S.view self.old index → SaysKnown self.old.file.header.fields (known_in S.view self.old.file) index table → HasNearEntry self.old index → IfErr result (IsLimitedByCluster S.view self.old self.new) }
         ensures former { OnOk result (SomeGaveWay self.old self.new) }
         ensures l1_table { IfErr result (IsFaultOrKeepsL1Table self.old self.new) }
         ensures enters { (p : Pending) (out : List (Option Prepared)) → ImageInvariant S.view F.backing p self.old out → MayName S.view self.old index → SaysKnown self.old.file.header.fields (known_in S.view self.old.file) index table → EntersTable S.view F.backing p self.old self.new out index result }
@@ -241,6 +249,8 @@ impl<S: Storage, F: WrappedFormat<S>> Qcow2<S, F> {
         ensures notes { KeepsFileNotes S.view self.old.file self.new.file }
         ensures header_cluster { 0 < cluster → StaysBehindHeader S.view self.old self.new }
         ensures cause { IfErr result IsMet }
+        ensures limited { (p : Pending) (out : List (Option Prepared)) → ImageInvariant S.view F.backing (with_new_tables p (one_at cluster)) self.old out → SaysKnown self.old.file.header.fields (known_in S.view self.old.file) index table
+            → HasNearEntry self.old index → IsHostCluster self.old.file.header.fields.cluster_bits cluster → IfErr result IsUnlimited }
         ensures allocator { self.new.allocator ≡ self.old.allocator }
         ensures l1_table { IfErr result (IsFaultOrKeepsL1Table self.old self.new) }
         ensures list { self.new.file.free_list ≡ self.old.file.free_list }
@@ -263,6 +273,7 @@ impl<S: Storage, F: WrappedFormat<S>> Qcow2<S, F> {
         ensures notes { KeepsFileNotes S.view self.old.file self.new.file }
         ensures header_cluster { StaysBehindHeader S.view self.old self.new }
         ensures cause { IfErr result IsMet }
+        ensures limited { (p : Pending) (out : List (Option Prepared)) → ImageInvariant S.view F.backing p self.old out → IfErr result IsUnlimited }
         ensures rest { self.new ≡ record self.old { file = record self.old.file { storage = self.new.file.storage; caches = self.new.file.caches } } }
         ensures noted { IsTrue self.old.file.caches.is_changed → IsTrue self.new.file.caches.is_changed }
         ensures stores { (p : Pending) (out : List (Option Prepared)) → ImageInvariant S.view F.backing p self.old out → Stores S.view F.backing p self.old self.new out result }
@@ -279,6 +290,7 @@ impl<S: Storage, F: WrappedFormat<S>> Qcow2<S, F> {
         ensures notes { KeepsFileNotes S.view self.old.file self.new.file }
         ensures header_cluster { 0 < cluster → StaysBehindHeader S.view self.old self.new }
         ensures cause { IfErr result IsMet }
+        ensures limited { (p : Pending) (out : List (Option Prepared)) → ImageInvariant S.view F.backing p self.old out → 0 < p.new_tables cluster → IsTableOf self.old.file.header.fields table → IsStored S.view self.old → IsHostCluster table.cluster_bits cluster → IfErr result IsUnlimited }
         ensures rest { self.new ≡ record self.old { file = record self.old.file { storage = self.new.file.storage; caches = self.new.file.caches } } }
         ensures noted { IsTrue self.old.file.caches.is_changed → IsTrue self.new.file.caches.is_changed }
         ensures long { length table.bytes ≡ 2 ^ table.cluster_bits }
@@ -329,6 +341,7 @@ impl<S: Storage, F: WrappedFormat<S>> Qcow2<S, F> {
         ensures placed { IsTrue result → IsSome self.now.l1_table.cluster }
         ensures room { IsTrue result → HasRoomIfPlaced self.now.l1_table.cluster_bits (8 * index) self.now.l1_table.cluster }
         ensures nameable { IsTrue result → IsHostCluster self.now.l1_table.cluster_bits cluster }
+        ensures near { HasNearEntry self.now index → IsSome self.now.l1_table.cluster → IsHostCluster self.now.l1_table.cluster_bits cluster → IsTrue result }
     {
         self.l1_table.in_bounds(index)
             && self.l1_table.get_cluster().is_some()

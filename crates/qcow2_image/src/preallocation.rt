@@ -14,7 +14,7 @@ ghost use Rattle.qcow2_image.specs.CallParts.{WritesBytes};
 ghost use Rattle.qcow2_image.specs.Image.{HasNothingToFree, ImageStays, is_writable, size_of};
 ghost use Rattle.qcow2_image.specs.ImageInvariant.{ImageInvariant, pending_in};
 ghost use Rattle.qcow2_image.specs.Preallocation.{AreZeros, CommitsWhole, FillsFirst, FillsGrownOrRefuses, FillsOrRefuses, IsWholeRange, most_of};
-ghost use Rattle.qcow2_image.specs.Refusals.{FreesRefused, IsMet, IsMetPreparing};
+ghost use Rattle.qcow2_image.specs.Refusals.{FreesRefused, IsMet, IsMetPreparing, IsUnlimited};
 ghost use Rattle.qcow2_image.specs.Faults.{CountsImageFaults, IsNotOfStorage, SameFaults};
 
 use crate::discarding::{Clearance, rounded_up};
@@ -96,6 +96,7 @@ impl<S: Storage, F: WrappedFormat<S>> Qcow2<S, F> {
         requires larger { old < size }
         ensures stays { ImageStays self.old self.new }
         ensures cause { IfErr result IsMetPreparing }
+        ensures limited { mode ≡ PreallocateNone → IfErr result IsUnlimited }
         ensures emptied { HasNothingToFree self.old → OnOk result (HasNothingToFree self.new) }
         ensures unfilled { mode ≡ PreallocateNone → self.new ≡ self.old }
         ensures version { HasNothingToFree self.old → mode ≡ Zero → self.old.file.header.fields.version < 3 → (result ≡ Err Version) × (self.new ≡ self.old) }

@@ -4,6 +4,7 @@ use Rattle.image_access.specs.declared.error.StorageError.{StorageError}
 use Rattle.image_access.specs.declared.error.StorageError.TheVariants as S
 use Rattle.qcow2_metadata.specs.declared.error.MetadataError.{MetadataError}
 use Rattle.qcow2_metadata.specs.declared.error.MetadataError.TheVariants as M
+use Rattle.qcow2_metadata.specs.EntryTable.{IsOfLengthOrMemory}
 use Rattle.qcow2_alloc.specs.CachePins.{IsInUseOrFault}
 use Rattle.qcow2_alloc.specs.ImageError.{IsFault, of_metadata, of_storage}
 use Rattle.qcow2_alloc.specs.declared.cache.MetadataCaches.{MetadataCaches}
@@ -29,3 +30,12 @@ fault_unlimited e (inr is) = subst IsUnlimited (sym is) tt
 pub in_use_unlimited : {S : Type 0} (caches : MetadataCaches S) (e : ImageError) → IsInUseOrFault caches e → IsUnlimited e
 in_use_unlimited caches e (inl used) = subst IsUnlimited (sym used.0) tt
 in_use_unlimited caches e (inr fault) = fault_unlimited e fault
+
+-- memory was wanted, where no limit was passed
+pub short_unlimited : (Past : Type 0) → (Past → ⊥) → (e : MetadataError) → IsOfLengthOrMemory Past e → IsUnlimited (of_metadata e)
+short_unlimited Past not M.Memory why = tt
+short_unlimited Past not M.Limit why = absurd (not why)
+short_unlimited Past not (M.Storage e) why = absurd why
+short_unlimited Past not M.Version why = absurd why
+short_unlimited Past not M.Unaligned why = absurd why
+short_unlimited Past not M.Format why = absurd why

@@ -174,11 +174,11 @@ module _ {S F : Type 0} (view : S → StorageView) (backing : F → BackingView)
     ]
 
     module _ (t : EntryTableView) (cluster n : ℕ) (many : n ≡ clusters_of t) (allocator_step : UnseenAllocatorGrowth view p old.file a file (taken_as false since (run_at cluster n))) (hint : NoFreeBelowHint view a file) (longer : IsLongerL1 old t) where
-      keeps_taken : UnseenStep view backing p (with_table since t cluster) old taken out
+      pub keeps_taken : UnseenStep view backing p (with_table since t cluster) old taken out
       keeps_taken = subst (λ m. UnseenStep view backing p (taken_as false since (run_at cluster m)) old taken out) many
           (file_moved_on view backing old out p (taken_as false since (run_at cluster n)) sound file (Some a) allocator_step.file_step (record { reftable = allocator_step.reftable; hint = hint }) marks.pins (lists_grow old taken lists))
 
-      longer_taken : IsLongerL1 taken t
+      pub longer_taken : IsLongerL1 taken t
       longer_taken = record {
         bits = longer.bits ∙ ap (λ (v : HeaderView). v.fields.cluster_bits) (sym header);
         whole = longer.whole;

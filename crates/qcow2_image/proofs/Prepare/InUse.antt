@@ -25,7 +25,7 @@ use Rattle.qcow2_image.specs.UnseenSteps.{Pins}
 
 module _ {S : Type 0} (view : S → StorageView) where
   -- below the lowest free cluster all are in use
-  pub all_used : (file : ImageFile S) (first : ℕ) → IsLowestRun view file first 1 → (k : ℕ) → k < first → IsUsed view file k
+  pub all_used : (file : ImageFile S) (first : ℕ) → IsLowestRun (IsUsed view file) first 1 → (k : ℕ) → k < first → IsUsed view file k
   all_used file first lowest k lt = let w = lowest k lt in let is : w.0 ≡ k = omega (arith, w.1, w.2) in subst (IsUsed view file) is w.4
 
 module _ {S F : Type 0} (view : S → StorageView) (backing : F → BackingView) where

@@ -2,7 +2,7 @@ use Rattle.std.proofs.Common.{ℕ, ◌≡◌, Err, sym, ap, ◌∙◌, inl, inr,
 use Rattle.qcow2_alloc.specs.declared.clusters_to_free.ClustersToFreeEntry.{ClustersToFreeEntry}
 use Rattle.qcow2_alloc.specs.Allocation.{run_at, taken_as, is_data, UnseenAllocatorGrowth}
 use Rattle.qcow2_alloc.specs.FreeList.{pending_then}
-use Rattle.qcow2_alloc.specs.LowestRuns.{IsLowestRun}
+use Rattle.qcow2_alloc.specs.LowestRuns.{IsLowestRun, IsUsed}
 use Rattle.qcow2_alloc.proofs.AllocationSteps.{of_equal}
 use Rattle.qcow2_alloc.specs.Limits.{IsFaultOr, HasNoPlace}
 use Rattle.qcow2_alloc.proofs.FormerReftables.{former_none}
@@ -34,7 +34,7 @@ returns-in-Err-clause-sound g c = λ p sound may. c.in-Err.ensures.sound p (is_d
 pub returns-in-Ok-lowest_run-clause-lowest : goal.returns-in-Ok-lowest_run-clause-lowest
 returns-in-Ok-lowest_run-clause-lowest g c = λ p sound may hint.
     let first = ap (λ (r : ClustersToFreeEntry). r.first_cluster) c.placed_at.ensures ∙ c.new-in-Ok-lowest_run.ensures in
-    of_equal (λ f n. IsLowestRun g.S.Storage.view c.lowest_run.new.file f n) c.placed_at.result.first_cluster c.in-Ok-lowest_run.first c.args.count c.value.result first (sym c.value.ensures)
+    of_equal (λ f n. IsLowestRun (IsUsed g.S.Storage.view c.lowest_run.new.file) f n) c.placed_at.result.first_cluster c.in-Ok-lowest_run.first c.args.count c.value.result first (sym c.value.ensures)
     (c.in-Ok-lowest_run.ensures.lowest p (is_data c.args.kind) sound may hint)
 
 pub returns-in-Ok-lowest_run-clause-hint : goal.returns-in-Ok-lowest_run-clause-hint
@@ -48,7 +48,7 @@ returns-in_default-clause-limit g c = λ p sound may hint some. inl (inr refl)
 
 pub returns-in-Err-clause-limit : goal.returns-in-Err-clause-limit
 returns-in-Err-clause-limit g c = λ p sound may hint some.
-    subst (λ n. IsFaultOr (HasNoPlace g.S.Storage.view c.lowest_run.new.file c.lowest_run.new.self n) c.in-Err.refusal) c.value.ensures
+    subst (λ n. IsFaultOr (HasNoPlace (IsUsed g.S.Storage.view c.lowest_run.new.file) c.lowest_run.new.file.header.fields c.lowest_run.new.self n) c.in-Err.refusal) c.value.ensures
     (c.in-Err.ensures.limit p (is_data c.args.kind) sound may hint (subst (λ n. 0 < n) (sym c.value.ensures) some))
 
 pub returns-in_default-clause-former : goal.returns-in_default-clause-former

@@ -4,7 +4,7 @@ use Rattle.qcow2_alloc.specs.declared.clusters_to_free.ClusterKind.TheVariants.{
 use Rattle.qcow2_alloc.specs.declared.image_file.ImageFile.{ImageFile}
 use Rattle.qcow2_alloc.specs.Allocation.{UnseenAllocatorGrowth, Allocates}
 use Rattle.qcow2_alloc.specs.FreeList.{pending_then}
-use Rattle.qcow2_alloc.specs.LowestRuns.{KeepsNoFreeBelowHint}
+use Rattle.qcow2_alloc.specs.LowestRuns.{KeepsNoFreeBelowHint, IsUsed}
 use Rattle.qcow2_alloc.proofs.Hints.{hint_stays}
 use Rattle.qcow2_alloc.proofs.AllocationSteps.{handed_on, on_of, allocator_step_cached, is_sound_now, allocates_then}
 use Rattle.qcow2_alloc.proofs.ListedAfter.{listed_after_same, header_same, lists_none}
@@ -66,7 +66,7 @@ returns-clause-hint g c = λ p kept.
 pub returns-in_err-l2_depends_on_rb-clause-limit : goal.returns-in_err-l2_depends_on_rb-clause-limit
 returns-in_err-l2_depends_on_rb-clause-limit g c = λ p kept some.
     let file : ImageFile g.row.S.Denot = record c.args.file.now { storage = c.l2_depends_on_rb.new.storage; caches = c.l2_depends_on_rb.new.self } in
-    handed_on (λ (r : Result ClustersToFreeEntry ImageError). IfErr r (IsFaultOr (HasNoPlace g.S.Storage.view file c.args.self.now c.args.count))) c.from_residual.result c.in_err-l2_depends_on_rb.field-0.0 c.from_residual.ensures
+    handed_on (λ (r : Result ClustersToFreeEntry ImageError). IfErr r (IsFaultOr (HasNoPlace (IsUsed g.S.Storage.view file) file.header.fields c.args.self.now c.args.count))) c.from_residual.result c.in_err-l2_depends_on_rb.field-0.0 c.from_residual.ensures
     (inl (c.in_err-l2_depends_on_rb.ensures.faults c.args.file.now.header.fields p kept.sound.sound.honest kept.sound.sound.caches kept.sound.sound.named_blocks))
 
 pub returns-clause-limit : goal.returns-clause-limit

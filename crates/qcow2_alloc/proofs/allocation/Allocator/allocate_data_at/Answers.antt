@@ -1,4 +1,4 @@
-use Rattle.std.proofs.Common.{◌≢◌, ℕ, inl, inr, Ok, Err, Some, None, arith, true, refl, sym, ap, ◌∙◌, subst, Result, Option}
+use Rattle.std.proofs.Common.{◌≢◌, ℕ, inl, inr, Ok, Err, Some, None, arith, true, refl, sym, ap, ◌∙◌, subst, Result, Option, ◌⊎◌}
 use Rattle.qcow2_metadata.specs.Entries.{count}
 use Rattle.qcow2_laws.specs.Changes.{one_at}
 use Rattle.qcow2_laws.specs.CrashInvariant.{Pending}
@@ -6,13 +6,14 @@ use Rattle.qcow2_alloc.specs.declared.clusters_to_free.ClustersToFreeEntry.{Clus
 use Rattle.qcow2_alloc.specs.declared.image_file.ImageFile.{ImageFile}
 use Rattle.qcow2_alloc.specs.Allocation.{LacksFirst, taken_as, UnseenAllocatorGrowth, AllocatesAt}
 use Rattle.qcow2_alloc.specs.FreeList.{pending_then}
-use Rattle.qcow2_alloc.specs.LowestRuns.{IsUsed, KeepsNoFreeBelowHint}
+use Rattle.qcow2_alloc.specs.LowestRuns.{IsUsed, KeepsNoFreeBelowHint, StaysUsed}
 use Rattle.qcow2_alloc.proofs.AllocationSteps.{handed_on, on_of, allocator_step_on, allocator_step_cached, is_sound_now, leaves_on, of_equal}
 use Rattle.qcow2_alloc.proofs.ListedAfter.{listed_after_same, header_same, lists_none}
 use Rattle.qcow2_alloc.proofs.Hints.{header_used, hint_stays}
 use Rattle.qcow2_alloc.proofs.Runs.{taken_alone}
 use Rattle.std.specs.Prelude.{IfErr}
 use Rattle.qcow2_alloc.specs.declared.error.ImageError.{ImageError}
+use Rattle.qcow2_alloc.specs.ImageError.{IsFault}
 use Rattle.qcow2_alloc.specs.Limits.{IsFaultOr, CantCount}
 use Rattle.qcow2_metadata.specs.L2Mapping.{IsHostCluster}
 use Rattle.qcow2_alloc.proofs.FormerReftables.{former_none}
@@ -124,7 +125,7 @@ returns-in-Err-clause-hint g c = λ p kept.
 pub returns-in_err-l2_depends_on_rb-clause-limit : goal.returns-in_err-l2_depends_on_rb-clause-limit
 returns-in_err-l2_depends_on_rb-clause-limit g c = λ p kept.
     let file : ImageFile g.row.S.Denot = record c.args.file.now { storage = c.l2_depends_on_rb.new.storage; caches = c.l2_depends_on_rb.new.self } in
-    handed_on (λ (r : Result (Option ClustersToFreeEntry) ImageError). IfErr r (IsFaultOr (CantCount g.S.Storage.view file (λ k. 0) c.args.self.now c.args.cluster))) c.from_residual.result c.in_err-l2_depends_on_rb.field-0.0 c.from_residual.ensures
+    handed_on (λ (r : Result (Option ClustersToFreeEntry) ImageError). IfErr r (IsFaultOr (CantCount (IsUsed g.S.Storage.view file) file.header.fields (λ k. 0) c.args.self.now c.args.cluster))) c.from_residual.result c.in_err-l2_depends_on_rb.field-0.0 c.from_residual.ensures
     (inl (c.in_err-l2_depends_on_rb.ensures.faults c.args.file.now.header.fields p kept.sound.sound.honest kept.sound.sound.caches kept.sound.sound.named_blocks))
 
 pub returns-in_default-clause-hint : goal.returns-in_default-clause-hint
@@ -142,7 +143,7 @@ returns-in-Err-clause-limit g c = λ p kept.
     let file : ImageFile g.row.S.Denot = record c.args.file.now { storage = c.l2_depends_on_rb.new.storage; caches = c.l2_depends_on_rb.new.self } in
     let now = is_sound_now g.S.Storage.view p p c.args.file.now file c.args.self.now one in
     let near : IsHostCluster c.args.file.now.header.fields.cluster_bits c.value.result = of_equal IsHostCluster c.args.file.now.header.fields.cluster_bits c.cluster_bits.result c.value.result c.args.cluster (sym c.cluster_bits.ensures.value) c.value.ensures (c.is_nameable.ensures.0 c.if-not-is_nameable.false) in
-    subst (λ n. IsFaultOr (CantCount g.S.Storage.view c.take.new.file (λ k. 0) c.take.new.self n) c.in-Err.refusal) c.value.ensures
+    subst (λ n. IsFaultOr (CantCount (IsUsed g.S.Storage.view c.take.new.file) c.take.new.file.header.fields (λ k. 0) c.take.new.self n) c.in-Err.refusal) c.value.ensures
     (c.in-Err.ensures.limit p true now c.in_ok-l2_depends_on_rb.ensures.order (hint_stays g.S.Storage.view p c.args.file.now file c.args.self.now c.args.self.now one refl kept.hint) near)
 
 pub returns-in_err-l2_depends_on_rb-clause-former : goal.returns-in_err-l2_depends_on_rb-clause-former
@@ -541,3 +542,24 @@ returns-in-Err-clause-first_range g c = λ l some near.
     let alone : TurnsAlone g.S.Storage.view c.args.file.now file = turned g.S.Storage.view c.args.file.now c.l2_depends_on_rb.new.storage c.l2_depends_on_rb.new.self c.l2_depends_on_rb.ensures.blocks c.l2_depends_on_rb.ensures.keeps in
     let refused = c.in-Err.ensures.first_range (subst (LacksFirst c.args.file.now.header.fields c.args.self.now.reftable) (sym c.value.ensures) l) in
     (tt, subst (λ (f : ImageFile g.row.S.Denot). TurnsAlone g.S.Storage.view c.args.file.now f) (sym refused.1) alone)
+
+pub returns-in_err-l2_depends_on_rb-clause-kept : goal.returns-in_err-l2_depends_on_rb-clause-kept
+returns-in_err-l2_depends_on_rb-clause-kept g c = λ p sound.
+    let file : ImageFile g.row.S.Denot = record c.args.file.now { storage = c.l2_depends_on_rb.new.storage; caches = c.l2_depends_on_rb.new.self } in
+    handed_on (λ (r : Result (Option ClustersToFreeEntry) ImageError). IfErr r (λ e. IsFault e ⊎ StaysUsed g.S.Storage.view c.args.file.now file)) c.from_residual.result c.in_err-l2_depends_on_rb.field-0.0 c.from_residual.ensures
+    (inl (c.in_err-l2_depends_on_rb.ensures.faults c.args.file.now.header.fields p sound.sound.honest sound.sound.caches sound.sound.named_blocks))
+
+pub returns-in_default-clause-kept : goal.returns-in_default-clause-kept
+returns-in_default-clause-kept g c = λ p sound. inl (inr refl)
+
+pub returns-in-Err-clause-kept : goal.returns-in-Err-clause-kept
+returns-in-Err-clause-kept g c = λ p sound.
+    let h = c.args.file.now.header.fields in
+    let known = (c.l2_depends_on_rb.ensures.keeps h p sound.sound.honest sound.sound.caches).known in
+    let one = allocator_step_cached g.S.Storage.view p c.args.file.now c.args.self.now c.l2_depends_on_rb.new.storage c.l2_depends_on_rb.new.self sound (c.l2_depends_on_rb.ensures.keeps c.args.file.now.header.fields p sound.sound.honest sound.sound.caches) c.l2_depends_on_rb.ensures.marks in
+    let file : ImageFile g.row.S.Denot = record c.args.file.now { storage = c.l2_depends_on_rb.new.storage; caches = c.l2_depends_on_rb.new.self } in
+    let now = is_sound_now g.S.Storage.view p p c.args.file.now file c.args.self.now one in
+    elim (c.in-Err.ensures.uses p true now c.in_ok-l2_depends_on_rb.ensures.order) [
+      | inl kept ↦ inr (λ k used. kept k (subst (λ b. count h b k ≢ 0) (sym known) used))
+      | inr broke ↦ inl broke.0
+    ]

@@ -1,4 +1,4 @@
-use Rattle.std.proofs.Common.{Option, Some, Ok, Err, ◌≡◌, ℕ, ◌+◌, ◌*◌, ◌/◌, ◌%◌, ◌^◌, ◌<◌, ◌≤◌, min, Result, ◌∙◌, sym, ap, subst, arith, refl}
+use Rattle.std.proofs.Common.{Option, Some, Ok, Err, ◌≡◌, ℕ, ◌+◌, ◌*◌, ◌/◌, ◌%◌, ◌^◌, ◌<◌, ◌≤◌, min, Result, ◌∙◌, sym, ap, subst, arith}
 use Rattle.std.proofs.Math.Nat.{mul-le-mul_left}
 use Rattle.std.proofs.Math.Pow.{pow_mono}
 use Rattle.std.specs.Prelude.{IfSome, IfErr, OnOk}
@@ -13,7 +13,7 @@ use Rattle.qcow2_alloc.specs.Growing.{IsCloneOf}
 use Rattle.qcow2_alloc.specs.GrownTables.{with_run, EntersReftable, NamesReftable}
 use Rattle.qcow2_alloc.specs.ImageFile.{AllocatorInvariant, KeepsHeader}
 use Rattle.qcow2_alloc.specs.Limits.{IsFaultOr, nameable_clusters, HasNoRoomBelow, HasNoRoomFor, LiesLowest}
-use Rattle.qcow2_alloc.specs.LowestRuns.{KeepsUsed}
+use Rattle.qcow2_alloc.specs.LowestRuns.{KeepsUsed, IsUsed}
 use Rattle.qcow2_alloc.specs.Rooms.{IsLonger, room_length, opened}
 use Rattle.qcow2_alloc.proofs.AllocationSteps.{handed_on, is_sound_now, leaves_as}
 use Rattle.qcow2_alloc.proofs.FullRooms.{no_room_for, lies_lowest, lowest_entered}
@@ -106,8 +106,8 @@ returns-in_err-room-clause-limit g c = λ p sound hint clone whole.
     ap (λ n. greatest_offset / 2 ^ n + 1) c.cluster_bits-bits.ensures.value ∙ ap (λ (h : HeaderView). nameable_clusters h.fields) (sym header) in
     let end = c.min-end.ensures in
     let fits = few_clusters c.len.result c.rb_bits.result c.len.ensures.limit c.rb_bits.ensures.high in
-    handed_on (λ (r : Result (Unit {0}) ImageError). IfErr r (IsFaultOr ((c.take_room.new.self.reftable ≡ t) × HasNoRoomFor view new (λ k. 0) t length))) c.from_residual.result c.in_err-room.field-0.0 c.from_residual.ensures
-    (cause_as (HasNoRoomBelow view new (λ k. 0) t c.value.result c.min-end.result) ((c.take_room.new.self.reftable ≡ t) × HasNoRoomFor view new (λ k. 0) t length) c.in_err-room.field-0.0
+    handed_on (λ (r : Result (Unit {0}) ImageError). IfErr r (IsFaultOr ((c.take_room.new.self.reftable ≡ t) × HasNoRoomFor (IsUsed view new) new.header.fields (λ k. 0) t length))) c.from_residual.result c.in_err-room.field-0.0 c.from_residual.ensures
+    (cause_as (HasNoRoomBelow (IsUsed view new) new.header.fields (λ k. 0) t c.value.result c.min-end.result) ((c.take_room.new.self.reftable ≡ t) × HasNoRoomFor (IsUsed view new) new.header.fields (λ k. 0) t length) c.in_err-room.field-0.0
     (λ none. (c.take_room.ensures.reftable, no_room_for view new (λ k. 0) t c.value.result length c.min-end.result clusters (λ e low near. lesser (c.len.result * 2 ^ c.rb_bits.result) (length * counts_per_block new.header.fields) (greatest_offset / 2 ^ c.cluster_bits-bits.result + 1) (nameable_clusters new.header.fields) c.min-end.result e fits named nameable end low near) none))
     (c.in_err-room.ensures.room p sound hint))
 
@@ -132,7 +132,7 @@ returns-clause-limit g c = λ p sound hint clone whole.
 
 pub returns-in_err-room-clause-lowest : goal.returns-in_err-room-clause-lowest
 returns-in_err-room-clause-lowest g c = λ p sound hint clone whole.
-    handed_on (λ (r : Result (Unit {0}) ImageError). OnOk r (LiesLowest g.S.Storage.view c.take_room.new.file c.args.self.now.reftable c.take_room.new.self.reftable)) c.from_residual.result c.in_err-room.field-0.0 c.from_residual.ensures tt
+    handed_on (λ (r : Result (Unit {0}) ImageError). OnOk r (LiesLowest (IsUsed g.S.Storage.view c.take_room.new.file) c.take_room.new.file.header.fields c.args.self.now.reftable c.take_room.new.self.reftable)) c.from_residual.result c.in_err-room.field-0.0 c.from_residual.ensures tt
 
 pub returns-clause-lowest : goal.returns-clause-lowest
 returns-clause-lowest g c = λ p sound hint clone whole.

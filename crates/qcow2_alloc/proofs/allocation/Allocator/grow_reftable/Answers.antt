@@ -1,4 +1,5 @@
-use Rattle.std.proofs.Common.{arith, ◌≡◌, ℕ, ◌^◌, ◌≤◌, IsSome, inl, inr, Result, Ok, Err, refl, ◌∙◌, ◌++◌, ◌∷◌, [], List, sym, ap, subst}
+use Rattle.std.proofs.Common.{◌≡◌, ℕ, ◌^◌, ◌≤◌, IsSome, inl, inr, Result, Ok, Err, refl, ◌∙◌, ◌++◌, ◌∷◌, [], List, sym, ap, subst}
+use Rattle.qcow2_alloc.specs.LowestRuns.{IsUsed}
 use Rattle.std.specs.Prelude.{IfErr}
 use Rattle.qcow2_metadata.specs.EntryTable.{entry_count}
 use Rattle.qcow2_metadata.specs.Header.{HeaderView, counts_per_block, entries_per_cluster}
@@ -50,15 +51,15 @@ returns-in_err-table-clause-limit g c = λ p kept.
     let t = c.args.self.now.reftable in
     let old = c.args.file.now in
     let Enough : ℕ → Type 0 = IsLongEnough (entry_count t) c.args.index (entries_per_cluster old.header.fields) (counts_per_block old.header.fields) in
-    handed_on (λ (r : Result (Unit {0}) ImageError). IfErr r (IsFaultOr ((t ≡ t) × CantGrow view old (λ k. 0) t c.args.index))) c.from_residual.result c.in_err-table.field-0.0 c.from_residual.ensures
-    (cause_as ((n : ℕ) → n ≤ 2 ^ 20 → Enough n → ⊥) ((t ≡ t) × CantGrow view old (λ k. 0) t c.args.index) c.in_err-table.field-0.0
+    handed_on (λ (r : Result (Unit {0}) ImageError). IfErr r (IsFaultOr ((t ≡ t) × CantGrow (IsUsed view old) old.header.fields (λ k. 0) t c.args.index))) c.from_residual.result c.in_err-table.field-0.0 c.from_residual.ensures
+    (cause_as ((n : ℕ) → n ≤ 2 ^ 20 → Enough n → ⊥) ((t ≡ t) × CantGrow (IsUsed view old) old.header.fields (λ k. 0) t c.args.index) c.in_err-table.field-0.0
     (λ none. (refl, λ n small least end low near. absurd (none n small least.enough))) c.in_err-table.ensures.limit)
 
 pub returns-in_err-former-clause-limit : goal.returns-in_err-former-clause-limit
 returns-in_err-former-clause-limit g c = λ p kept.
     let t = c.args.self.now.reftable in
     let some : IsSome t.cluster = rw kept.sound.reftable.cluster refl in
-    handed_on (λ (r : Result (Unit {0}) ImageError). IfErr r (IsFaultOr ((t ≡ t) × CantGrow g.S.Storage.view c.args.file.now (λ k. 0) t c.args.index))) c.from_residual-in_err-former.result c.in_err-former.field-0.0 c.from_residual-in_err-former.ensures
+    handed_on (λ (r : Result (Unit {0}) ImageError). IfErr r (IsFaultOr ((t ≡ t) × CantGrow (IsUsed g.S.Storage.view c.args.file.now) c.args.file.now.header.fields (λ k. 0) t c.args.index))) c.from_residual-in_err-former.result c.in_err-former.field-0.0 c.from_residual-in_err-former.ensures
     (inl (inr (c.in_err-former.ensures.placed some)))
 
 pub returns-in-Err-clause-limit : goal.returns-in-Err-clause-limit
@@ -69,7 +70,7 @@ returns-in-Err-clause-limit g c = λ p kept.
     let new = c.enter_reftable.new.file in
     let length : ℕ = entry_count c.in_ok-table.table in
     let header = c.enter_reftable.ensures.header in
-    cause_as ((c.enter_reftable.new.self.reftable ≡ t) × HasNoRoomFor view new (λ k. 0) t length) ((c.enter_reftable.new.self.reftable ≡ t) × CantGrow view new (λ k. 0) t c.args.index) c.in-Err.refusal
+    cause_as ((c.enter_reftable.new.self.reftable ≡ t) × HasNoRoomFor (IsUsed view new) new.header.fields (λ k. 0) t length) ((c.enter_reftable.new.self.reftable ≡ t) × CantGrow (IsUsed view new) new.header.fields (λ k. 0) t c.args.index) c.in-Err.refusal
     (λ none. (
       none.0,
       cant_grow view new (λ k. 0) t c.args.index length (entries_per_cluster old.header.fields) (counts_per_block old.header.fields)

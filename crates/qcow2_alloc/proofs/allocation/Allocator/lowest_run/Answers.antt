@@ -2,7 +2,7 @@ use Rattle.std.proofs.Common.{◌≡◌, max, inl, false, refl, sym, ap, ◌+◌
 use Rattle.qcow2_metadata.specs.L2Mapping.{greatest_offset}
 use Rattle.std.proofs.Math.Nat.{div-le_self}
 use Rattle.qcow2_laws.specs.CrashInvariant.{Pending}
-use Rattle.qcow2_alloc.specs.LowestRuns.{KeepsNoFreeBelowHint}
+use Rattle.qcow2_alloc.specs.LowestRuns.{KeepsNoFreeBelowHint, IsUsed}
 use Rattle.qcow2_alloc.specs.declared.allocation.Allocator.{Allocator}
 use Rattle.qcow2_alloc.proofs.Hints.{hint_header, lowest_behind, lowest_first, lowest_passed, lowest_stays, not_broken, used_stays}
 use Rattle.qcow2_alloc.specs.Allocation.{LacksBlock, LacksFirst, run_at, UnseenAllocatorGrowth, TakesSomeRun, RefusedGrowth}
@@ -166,7 +166,7 @@ returns-in_err-first-clause-limit g c = λ p d sound may hint some.
     let mid = then_none g.S.Storage.view p c.args.file.now c.search.file c.take_run.new.file c.search.self c.take_run.new.self c.search.invariant.list c.take_run.ensures.list before ((c.in_ok-taken.ensures.sound q false now tt).1 c.if-taken-n.false) in
     let r : Pending = pending_then p c.args.file.now.free_list c.take_run.new.file.free_list in
     let there = is_sound_on g.S.Storage.view p r c.args.file.now c.take_run.new.file c.take_run.new.self mid in
-    handed_on (λ (x : Result ℕ ImageError). IfErr x (IsFaultOr (HasNoPlace g.S.Storage.view c.pass_used.new.file c.pass_used.new.self c.args.n))) c.from_residual-in_err-first.result c.in_err-first.field-0.0 c.from_residual-in_err-first.ensures
+    handed_on (λ (x : Result ℕ ImageError). IfErr x (IsFaultOr (HasNoPlace (IsUsed g.S.Storage.view c.pass_used.new.file) c.pass_used.new.file.header.fields c.pass_used.new.self c.args.n))) c.from_residual-in_err-first.result c.in_err-first.field-0.0 c.from_residual-in_err-first.ensures
     (inl (c.in_err-first.ensures.sound r there).0)
 
 pub returns-in_err-first-clause-header : goal.returns-in_err-first-clause-header
@@ -249,7 +249,7 @@ returns-in_err-taken-clause-limit g c = λ p d sound may hint some.
     let few = c.if-n-limit.true in let below = c.if-first-limit.true in let limit = c.search.invariant.limit in let now = ap (λ n. greatest_offset / 2 ^ n + 1) bits in omega (arith, few, below, limit, now) in
     let after = header_bits c.search.file.header c.take_run.new.file.header c.take_run.ensures.header in
     let same = ap (λ n. greatest_offset / 2 ^ n + 1) after in
-    handed_on (λ (r : Result ℕ ImageError). IfErr r (IsFaultOr (HasNoPlace g.S.Storage.view c.take_run.new.file c.take_run.new.self c.args.n))) c.from_residual.result c.in_err-taken.field-0.0 c.from_residual.ensures
+    handed_on (λ (r : Result ℕ ImageError). IfErr r (IsFaultOr (HasNoPlace (IsUsed g.S.Storage.view c.take_run.new.file) c.take_run.new.file.header.fields c.take_run.new.self c.args.n))) c.from_residual.result c.in_err-taken.field-0.0 c.from_residual.ensures
     (elim (c.in_err-taken.ensures.limit q d now may_now (c.search.invariant.hint p d sound may hint) within) [
       | inl fault ↦ inl fault
       | inr why ↦

@@ -3,7 +3,7 @@ use Rattle.qcow2_laws.specs.CrashInvariant.{Pending}
 use Rattle.qcow2_metadata.specs.Header.{counts_per_block}
 use Rattle.qcow2_alloc.specs.Allocation.{GrowsTable}
 use Rattle.qcow2_alloc.specs.FreeList.{pending_then}
-use Rattle.qcow2_alloc.specs.LowestRuns.{KeepsNoFreeBelowHint, KeepsUsed}
+use Rattle.qcow2_alloc.specs.LowestRuns.{KeepsNoFreeBelowHint, KeepsUsed, IsUsed}
 use Rattle.qcow2_alloc.proofs.AllocationSteps.{handed_on, is_sound_on}
 use Rattle.qcow2_alloc.proofs.ListedAfter.{listed_after_same, grows_none, grows_on, header_counts, header_bits, header_then, header_same, lists_then, lists_same}
 use Rattle.qcow2_alloc.proofs.Hints.{hint_used, ok_as, range_as, uses_got, uses_then, hint_or_interruption}
@@ -69,12 +69,12 @@ returns-clause-uses g c = λ p sound.
 
 pub returns-then-in_bounds-clause-limit : goal.returns-then-in_bounds-clause-limit
 returns-then-in_bounds-clause-limit g c = λ p sound hint near.
-    fault_or c.ensure_block.result (CantCount g.S.Storage.view c.ensure_block.new.file (λ k. 0) c.ensure_block.new.self c.args.cluster)
+    fault_or c.ensure_block.result (CantCount (IsUsed g.S.Storage.view c.ensure_block.new.file) c.ensure_block.new.file.header.fields (λ k. 0) c.ensure_block.new.self c.args.cluster)
     (c.ensure_block.ensures.fault p sound (let within = c.in_bounds.ensures.0 c.if-in_bounds.true in let range = ap (λ n. c.args.cluster / n) c.rb_bits.ensures.counts in omega (arith, within, range)) near)
 
 pub returns-in_err-grow_reftable-clause-limit : goal.returns-in_err-grow_reftable-clause-limit
 returns-in_err-grow_reftable-clause-limit g c = λ p sound hint near.
-    handed_on (λ (r : Result (Unit {0}) ImageError). IfErr r (IsFaultOr (CantCount g.S.Storage.view c.grow_reftable.new.file (λ k. 0) c.grow_reftable.new.self c.args.cluster))) c.from_residual.result c.in_err-grow_reftable.field-0.0 c.from_residual.ensures
+    handed_on (λ (r : Result (Unit {0}) ImageError). IfErr r (IsFaultOr (CantCount (IsUsed g.S.Storage.view c.grow_reftable.new.file) c.grow_reftable.new.file.header.fields (λ k. 0) c.grow_reftable.new.self c.args.cluster))) c.from_residual.result c.in_err-grow_reftable.field-0.0 c.from_residual.ensures
     (grown_why g.S.Storage.view c.args.file.now c.grow_reftable.new.file c.args.self.now c.grow_reftable.new.self c.args.cluster c.rb_bits.result c.in_err-grow_reftable.field-0.0 c.rb_bits.ensures.counts c.grow_reftable.ensures.header
     (not_below (c.args.cluster / 2 ^ c.rb_bits.result) (entry_count c.args.self.now.reftable) c.in_bounds.result c.in_bounds.ensures c.if-in_bounds.false) (c.in_err-grow_reftable.ensures.limit p (record { sound = sound; hint = hint })))
 
@@ -82,7 +82,7 @@ pub returns-clause-limit : goal.returns-clause-limit
 returns-clause-limit g c = λ p sound hint near.
     let q : Pending = pending_then p c.args.file.now.free_list c.grow_reftable.new.file.free_list in
     let counts = header_counts c.args.file.now.header c.grow_reftable.new.file.header c.grow_reftable.ensures.header ∙ c.rb_bits.ensures.counts in
-    fault_or c.ensure_block-2.result (CantCount g.S.Storage.view c.ensure_block-2.new.file (λ k. 0) c.ensure_block-2.new.self c.args.cluster)
+    fault_or c.ensure_block-2.result (CantCount (IsUsed g.S.Storage.view c.ensure_block-2.new.file) c.ensure_block-2.new.file.header.fields (λ k. 0) c.ensure_block-2.new.self c.args.cluster)
     (c.ensure_block-2.ensures.fault q (is_sound_on g.S.Storage.view p q c.args.file.now c.grow_reftable.new.file c.grow_reftable.new.self (c.in_ok-grow_reftable.ensures.sound p sound))
     (let within = c.in_ok-grow_reftable.ensures.length.enough.above in let range = ap (λ n. c.args.cluster / n) counts in omega (arith, within, range))
     (subst (λ n. IsHostCluster n c.args.cluster) (sym (header_bits c.args.file.now.header c.grow_reftable.new.file.header c.grow_reftable.ensures.header)) near))

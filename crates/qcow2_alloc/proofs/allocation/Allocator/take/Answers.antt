@@ -4,7 +4,7 @@ use Rattle.qcow2_metadata.specs.Header.{counts_per_block}
 use Rattle.qcow2_alloc.specs.declared.allocation.Allocator.{Allocator}
 use Rattle.qcow2_alloc.specs.Allocation.{RefusedGrowth, TakesCluster}
 use Rattle.qcow2_alloc.specs.FreeList.{pending_then}
-use Rattle.qcow2_alloc.specs.LowestRuns.{NoFreeBelowHint, KeepsNoFreeBelowHint, KeepsUsed}
+use Rattle.qcow2_alloc.specs.LowestRuns.{NoFreeBelowHint, KeepsNoFreeBelowHint, KeepsUsed, IsUsed}
 use Rattle.qcow2_alloc.proofs.Hints.{hint_more, hint_raised, hint_refused, raised_used, range_as, uses_raised, uses_refused}
 use Rattle.qcow2_alloc.proofs.AllocationSteps.{handed_on, leaves_as, leaves_on, may_still, is_sound_on, takes_on}
 use Rattle.qcow2_alloc.proofs.ListedAfter.{header_counts, header_then, header_same, lists_then, lists_same}
@@ -109,12 +109,12 @@ returns-clause-free g c = λ p sound taken used.
 
 pub returns-in_err-reach_block-clause-limit : goal.returns-in_err-reach_block-clause-limit
 returns-in_err-reach_block-clause-limit g c = λ p d sound may hint near.
-    handed_on (λ (r : Result Bool ImageError). IfErr r (IsFaultOr (CantCount g.S.Storage.view c.reach_block.new.file (λ k. 0) c.reach_block.new.self c.args.cluster))) c.from_residual.result c.in_err-reach_block.field-0.0 c.from_residual.ensures (c.in_err-reach_block.ensures.limit p sound hint near)
+    handed_on (λ (r : Result Bool ImageError). IfErr r (IsFaultOr (CantCount (IsUsed g.S.Storage.view c.reach_block.new.file) c.reach_block.new.file.header.fields (λ k. 0) c.reach_block.new.self c.args.cluster))) c.from_residual.result c.in_err-reach_block.field-0.0 c.from_residual.ensures (c.in_err-reach_block.ensures.limit p sound hint near)
 
 pub returns-in_err-taken-clause-limit : goal.returns-in_err-taken-clause-limit
 returns-in_err-taken-clause-limit g c = λ p d sound may hint near.
     let q : Pending = pending_then p c.args.file.now.free_list c.reach_block.new.file.free_list in
-    handed_on (λ (r : Result Bool ImageError). IfErr r (IsFaultOr (CantCount g.S.Storage.view c.raise.new.file (λ k. 0) c.raise.new.self c.args.cluster))) c.from_residual-in_err-taken.result c.in_err-taken.field-0.0 c.from_residual-in_err-taken.ensures
+    handed_on (λ (r : Result Bool ImageError). IfErr r (IsFaultOr (CantCount (IsUsed g.S.Storage.view c.raise.new.file) c.raise.new.file.header.fields (λ k. 0) c.raise.new.self c.args.cluster))) c.from_residual-in_err-taken.result c.in_err-taken.field-0.0 c.from_residual-in_err-taken.ensures
     (inl (c.in_err-taken.ensures.fault q (is_sound_on g.S.Storage.view p q c.args.file.now c.reach_block.new.file c.reach_block.new.self (c.in_ok-reach_block.ensures.sound p sound))))
 
 pub returns-in_err-taken-clause-former : goal.returns-in_err-taken-clause-former

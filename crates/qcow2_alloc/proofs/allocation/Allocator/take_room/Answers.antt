@@ -1,3 +1,4 @@
+use Rattle.qcow2_alloc.specs.LowestRuns.{IsUsed}
 use Rattle.std.proofs.Common.{◌≡◌, ℕ, Result, inl, inr, ◌+◌, refl, sym, ap, ◌∙◌, subst, arith}
 use Rattle.std.specs.Prelude.{IfErr}
 use Rattle.qcow2_metadata.specs.EntryTable.{EntryTableView}
@@ -17,7 +18,6 @@ use Rattle.qcow2_alloc.proofs.FullRooms.{full_behind, full_passed, full_stays, I
 use Rattle.qcow2_alloc.proofs.Rooms.{run_of_same, noted_of_same, noted_of_room}
 use Rattle.qcow2_alloc.proofs.Faults.{told_ok}
 use Rattle.qcow2_alloc.proofs.Outcomes.{told_limit, told_after, if_no_ok, handed_cause}
-use Rattle.std.proofs.Math.Nat.{le_trans}
 use Rattle.qcow2_alloc.specs.declared.allocation.Allocator.{Allocator}
 use Rattle.qcow2_alloc.proofs.SparedHeaders.{spares_none, spares_then}
 use Rattle.qcow2_alloc.proofs.KeptMarks.{kept_marks_none, kept_marks_then}
@@ -155,7 +155,7 @@ returns-in_err-first-clause-room g c = λ p sound hint.
     let back = c.in_ok-leave_run.ensures.sound p c.search.file (sym c.reach_room.ensures.header) (subst (λ (r : Pending). UnseenAllocatorStep view p c.search.file c.reach_room.new.self c.reach_room.new.file r) same reached) noted in
     let mid = allocator_step_then view p p c.args.file.now c.search.file c.leave_run.new.file c.search.self c.leave_run.new.self before back in
     let there = is_sound_now view p p c.args.file.now c.leave_run.new.file c.leave_run.new.self mid in
-    handed_on (λ (r : Result Room ImageError). IfErr r (IsFaultOr (HasNoRoomBelow view c.behind_used.new.file (λ k. 0) c.args.self.now.reftable c.args.clusters c.args.end))) c.from_residual-in_err-first.result c.in_err-first.field-0.0 c.from_residual-in_err-first.ensures
+    handed_on (λ (r : Result Room ImageError). IfErr r (IsFaultOr (HasNoRoomBelow (IsUsed view c.behind_used.new.file) c.behind_used.new.file.header.fields (λ k. 0) c.args.self.now.reftable c.args.clusters c.args.end))) c.from_residual-in_err-first.result c.in_err-first.field-0.0 c.from_residual-in_err-first.ensures
     (inl (c.in_err-first.ensures.sound p there).0)
 
 pub returns-in_err-first-clause-marks : goal.returns-in_err-first-clause-marks
@@ -203,7 +203,7 @@ pub returns-in_err-reach-clause-room : goal.returns-in_err-reach-clause-room
 returns-in_err-reach-clause-room g c = λ p sound hint.
     let view = g.S.Storage.view in
     let before = c.search.invariant.sound p sound in
-    handed_on (λ (r : Result Room ImageError). IfErr r (IsFaultOr (HasNoRoomBelow view c.reach_room.new.file (λ k. 0) c.args.self.now.reftable c.args.clusters c.args.end))) c.from_residual.result c.in_err-reach.field-0.0 c.from_residual.ensures
+    handed_on (λ (r : Result Room ImageError). IfErr r (IsFaultOr (HasNoRoomBelow (IsUsed view c.reach_room.new.file) c.reach_room.new.file.header.fields (λ k. 0) c.args.self.now.reftable c.args.clusters c.args.end))) c.from_residual.result c.in_err-reach.field-0.0 c.from_residual.ensures
     (inl (c.in_err-reach.ensures.sound p (is_sound_now view p p c.args.file.now c.search.file c.search.self before)).0)
 
 pub returns-in_err-leave_run-clause-room : goal.returns-in_err-leave_run-clause-room
@@ -215,7 +215,7 @@ returns-in_err-leave_run-clause-room g c = λ p sound hint.
     let same = run_of_same p c.search.file.header.fields c.search.file.header.fields c.search.self.reftable c.reach_room.new.self.reftable c.search.first c.in_ok-reach.reach.taken c.in_ok-reach.reach.taken refl t_same refl in
     let noted = noted_of_same c.search.file.header.fields c.search.self.reftable c.reach_room.new.self.reftable c.search.first c.in_ok-reach.reach.taken c.reach_room.new.file.caches.is_changed t_same c.in_ok-reach.ensures.noted in
     let back = c.in_err-leave_run.ensures.sound p c.search.file (sym c.reach_room.ensures.header) (subst (λ (r : Pending). UnseenAllocatorStep view p c.search.file c.reach_room.new.self c.reach_room.new.file r) same reached) noted in
-    handed_on (λ (r : Result Room ImageError). IfErr r (IsFaultOr (HasNoRoomBelow view c.leave_run.new.file (λ k. 0) c.args.self.now.reftable c.args.clusters c.args.end))) c.from_residual-in_err-leave_run.result c.in_err-leave_run.field-0.0 c.from_residual-in_err-leave_run.ensures
+    handed_on (λ (r : Result Room ImageError). IfErr r (IsFaultOr (HasNoRoomBelow (IsUsed view c.leave_run.new.file) c.leave_run.new.file.header.fields (λ k. 0) c.args.self.now.reftable c.args.clusters c.args.end))) c.from_residual-in_err-leave_run.result c.in_err-leave_run.field-0.0 c.from_residual-in_err-leave_run.ensures
     (inl back.0)
 
 pub returns-clause-room : goal.returns-clause-room

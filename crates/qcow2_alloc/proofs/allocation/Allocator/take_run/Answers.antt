@@ -348,7 +348,7 @@ returns-in_err-give_back-in-Ok-false-clause-limit g c = λ p d sound may hint ne
     let two = rw c.in-Ok-false.field-0-test at (c.in-Ok-false.ensures.sound q d now may_now) in
     let taken = still_taken g.S.Storage.view d p (run_at c.args.first c.taking.taken) c.args.file.now c.taking.file c.take.new.file c.taking.self c.take.new.self c.taking.invariant.list c.take.ensures.list before two in
     let back = c.in_err-give_back-in-Ok-false.ensures.sound p (pending_then p c.args.file.now.free_list c.take.new.file.free_list) d c.args.file.now (λ k some. some) taken (λ some. c.take.ensures.marks.pins.changes.noted (c.taking.invariant.noted some)) in
-    handed_on (λ (r : Result ℕ ImageError). IfErr r (IsFaultOr (CantCountRun g.S.Storage.view c.give_back.new.file c.give_back.new.self c.args.first c.args.n))) c.from_residual.result c.in_err-give_back-in-Ok-false.field-0.0 c.from_residual.ensures (inl back.0)
+    handed_on (λ (r : Result ℕ ImageError). IfErr r (IsFaultOr (CantCountRun (IsUsed g.S.Storage.view c.give_back.new.file) c.give_back.new.file.header.fields c.give_back.new.self c.args.first c.args.n))) c.from_residual.result c.in_err-give_back-in-Ok-false.field-0.0 c.from_residual.ensures (inl back.0)
 
 pub returns-in_err-give_back-in-Err-clause-limit : goal.returns-in_err-give_back-in-Err-clause-limit
 returns-in_err-give_back-in-Err-clause-limit g c = λ p d sound may hint near.
@@ -359,7 +359,7 @@ returns-in_err-give_back-in-Err-clause-limit g c = λ p d sound may hint near.
     let two = still_as g.S.Storage.view q (pending_then q c.taking.file.free_list c.take.new.file.free_list) c.taking.file c.take.new.file c.take.new.self c.in-Err.refusal (λ fault. not_both c.is_fault.result (c.is_fault.ensures.1 fault) c.if-not-is_fault.true) (c.in-Err.ensures.sound q d now may_now) in
     let taken = still_taken g.S.Storage.view d p (run_at c.args.first c.taking.taken) c.args.file.now c.taking.file c.take.new.file c.taking.self c.take.new.self c.taking.invariant.list c.take.ensures.list before two in
     let back = c.in_err-give_back-in-Err.ensures.sound p (pending_then p c.args.file.now.free_list c.take.new.file.free_list) d c.args.file.now (λ k some. some) taken (λ some. c.take.ensures.marks.pins.changes.noted (c.taking.invariant.noted some)) in
-    handed_on (λ (r : Result ℕ ImageError). IfErr r (IsFaultOr (CantCountRun g.S.Storage.view c.give_back-then-not-is_fault.new.file c.give_back-then-not-is_fault.new.self c.args.first c.args.n)))
+    handed_on (λ (r : Result ℕ ImageError). IfErr r (IsFaultOr (CantCountRun (IsUsed g.S.Storage.view c.give_back-then-not-is_fault.new.file) c.give_back-then-not-is_fault.new.file.header.fields c.give_back-then-not-is_fault.new.self c.args.first c.args.n)))
     c.from_residual-in_err-give_back-in-Err.result c.in_err-give_back-in-Err.field-0.0 c.from_residual-in_err-give_back-in-Err.ensures (inl back.0)
 
 pub returns-in-Err-clause-limit : goal.returns-in-Err-clause-limit
@@ -379,8 +379,8 @@ returns-in-Err-clause-limit g c = λ p d sound may hint near.
           let taken = still_taken g.S.Storage.view d p (run_at c.args.first c.taking.taken) c.args.file.now c.taking.file c.take.new.file c.taking.self c.take.new.self c.taking.invariant.list c.take.ensures.list before two in
           let kept = w.in_ok-give_back-in-Err.ensures.kept (pending_then p c.args.file.now.free_list c.take.new.file.free_list) d
           (is_sound_on g.S.Storage.view p (taken_as d (pending_then p c.args.file.now.free_list c.take.new.file.free_list) (run_at c.args.first c.taking.taken)) c.args.file.now c.take.new.file c.take.new.self taken) in
-          of_equal (λ t f. IsFaultOr (CantCountRun g.S.Storage.view f t c.args.first c.args.n) c.in-Err.refusal) c.if-not-is_fault.self w.give_back-then-not-is_fault.new.self c.if-not-is_fault.file w.give_back-then-not-is_fault.new.file w.self-is w.file-is
-          (cause_as (CantCount g.S.Storage.view c.take.new.file (λ k. 0) c.take.new.self (c.args.first + c.taking.taken)) (CantCountRun g.S.Storage.view w.give_back-then-not-is_fault.new.file w.give_back-then-not-is_fault.new.self c.args.first c.args.n) c.in-Err.refusal
+          of_equal (λ t f. IsFaultOr (CantCountRun (IsUsed g.S.Storage.view f) f.header.fields t c.args.first c.args.n) c.in-Err.refusal) c.if-not-is_fault.self w.give_back-then-not-is_fault.new.self c.if-not-is_fault.file w.give_back-then-not-is_fault.new.file w.self-is w.file-is
+          (cause_as (CantCount (IsUsed g.S.Storage.view c.take.new.file) c.take.new.file.header.fields (λ k. 0) c.take.new.self (c.args.first + c.taking.taken)) (CantCountRun (IsUsed g.S.Storage.view w.give_back-then-not-is_fault.new.file) w.give_back-then-not-is_fault.new.file.header.fields w.give_back-then-not-is_fault.new.self c.args.first c.args.n) c.in-Err.refusal
           (λ not. (
             c.taking.taken,
             lt,

@@ -6,6 +6,7 @@ use Rattle.qcow2_image.proofs.Call.FaultCounts.{counted_as, counted_of, untouche
 use Rattle.qcow2_image.proofs.Call.FreedBehind.{lacking_freed, refused_freed}
 use Rattle.qcow2_image.proofs.Call.Refused.{back_then_freed}
 use Rattle.qcow2_image.proofs.Prepare.FarEntries.{far_refusal, far_then_freed, far_unanswered}
+use Rattle.qcow2_image.proofs.Prepare.Lacked.{lacks_freed, limited_frees}
 use Rattle.qcow2_image.proofs.image.Qcow2.clear_between.Goals as goal
 
 pub returns-in-Ok-clause-clears : goal.returns-in-Ok-clause-clears
@@ -67,3 +68,12 @@ returns-in-Ok-clause-pinned g c = λ own. c.in-Ok.ensures.pinned own
 
 pub returns-in-Err-clause-pinned : goal.returns-in-Err-clause-pinned
 returns-in-Err-clause-pinned g c = λ own is. c.in-Err.ensures.pinned own (c.free_after.ensures.taken c.in-Err.ensures.cause is)
+
+pub returns-in-Err-clause-limit : goal.returns-in-Err-clause-limit
+returns-in-Err-clause-limit g c = λ out sound whole is.
+    let view = g.S.Storage.view in
+    let below = g.F.BackingDisk.backing in
+    let old = c.args.self.now in
+    let mid = c.clear_in_table.new.self in
+    let freed = limited_frees view below out old mid c.free_after.new.self c.in-Err.refusal c.free_after.result (c.in-Err.ensures.clears out sound whole) c.free_after.ensures.fault (c.free_after.ensures.limit out) is in
+    lacks_freed view c.args.from old mid c.free_after.new.self c.free_after.ensures.keeps_rest.header freed.1 (c.in-Err.ensures.limit out sound whole freed.0)

@@ -32,6 +32,10 @@ use Rattle.qcow2_image.proofs.Prepare.Pinned.{begun_own, heeds_begun, heeds_refu
 use Rattle.qcow2_image.specs.PinnedTables.{HeedsPins}
 use Rattle.qcow2_image.specs.L1Entries.{HasOwnTable}
 use Rattle.qcow2_alloc.specs.declared.error.ImageError.{ImageError}
+use Rattle.qcow2_image.proofs.Prepare.Lacked.{hands_limit, lacks_ended, other_limit}
+use Rattle.qcow2_image.specs.LackedPlaces.{LacksTableFor}
+use Rattle.qcow2_image.proofs.Call.Unlimited.{fault_unlimited}
+use Rattle.qcow2_alloc.specs.declared.error.ImageError.TheVariants.{Limit}
 use Rattle.qcow2_image.proofs.image.Qcow2.clear_range.Goals as goal
 
 pub returns-in_err-from-clause-early : goal.returns-in_err-from-clause-early
@@ -611,3 +615,62 @@ returns-in_err-end_freeing-clause-freed g c = λ none some out sound.
     let x = c.in_err-end_freeing.field-0.0 in
     subst (λ (r : Result _ _). IfErr r (FreesRefused freed)) (sym (err_is c.from_residual-in_err-end_freeing.result c.from_residual-in_err-end_freeing.ensures))
     (inl (fault_of x (fault_interruption view below old how offset n works begun entries quiet parts freed c.end_freeing.result ends number x c.in_err-end_freeing.was out sound)))
+
+pub returns-in_err-from-clause-limit : goal.returns-in_err-from-clause-limit
+returns-in_err-from-clause-limit g c = λ none some out sound.
+    let old = c.args.self.now in
+    let refused = refused_for c.check_clear.result _ (refuses_to_clear old c.args.offset c.args.length c.args.how) c.in_err-from.field-0.0 c.check_clear.ensures.refusal c.in_err-from.was in
+    absurd (let no : None ≡ Some c.in_err-from.field-0.0 = sym none ∙ refused in cc)
+
+pub returns-in_err-mark_failure-clause-limit : goal.returns-in_err-mark_failure-clause-limit
+returns-in_err-mark_failure-clause-limit g c = λ none some out sound.
+    let view = g.S.Storage.view in
+    let below = g.F.BackingDisk.backing in
+    let old = c.args.self.now in
+    let begun = c.begin.new.self in
+    let entries = c.clear_between-cleared.new.self in
+    let at = from_in old c.args.offset c.args.length in
+    let e = c.in_err-mark_failure.field-0.0 in
+    let range = not_refused c.check_clear.result _ (refuses_to_clear old c.args.offset c.args.length c.args.how) (c.in_ok-from.from, c.in_ok-from.to) c.check_clear.ensures.refusal c.in_ok-from.was in
+    let from : c.in_ok-from.from ≡ from_in c.args.self.now c.args.offset c.args.length = ap (λ (r : ℕ × ℕ). r.0) range.1 in
+    let to : c.in_ok-from.to ≡ to_in c.args.self.now c.args.offset c.args.length = ap (λ (r : ℕ × ℕ). r.1) range.1 in
+    let works = clear_works old c.args.offset c.args.length c.args.how range.0 in
+    let quiet : (out : _) → _ → Quietly view below out old begun = λ out sound. record { keeps = c.begin.ensures.keeps (pending_in view below old out) out sound; list = c.begin.ensures.list } in
+    let done : c.clear_between-cleared.result ≡ Err c.in_err-mark_failure.field-0.0 = sym c.mark_failure.ensures.answer ∙ c.in_err-mark_failure.was in
+    let whole : (out : _) → UnseenCall view below old begun out → IsClearable begun.file.header.fields c.args.how c.in_ok-from.from c.in_ok-from.to = λ out call.
+    subst (λ n. IsClearable begun.file.header.fields c.args.how n c.in_ok-from.to) (sym from) (subst (λ n. IsClearable begun.file.header.fields c.args.how (from_in old c.args.offset c.args.length) n) (sym to)
+    (whole_in view below old c.args.how c.args.offset c.args.length works begun entries quiet out call c.in_ok-from.ensures.version)) in
+    let call = begins view below old c.args.how c.args.offset c.args.length works begun entries quiet out sound in
+    let why = subst (λ (r : Result _ _). IfErr r (λ x. x ≡ Limit → LacksTableFor view c.in_ok-from.from begun entries)) done (c.clear_between-cleared.ensures.limit out call.sound (whole out call)) in
+    subst (λ (r : Result _ _). IfErr r (λ x. x ≡ Limit → LacksTableFor view at old c.mark_failure.new.self)) (sym (err_is c.from_residual-in_err-mark_failure.result c.from_residual-in_err-mark_failure.ensures))
+    (λ is. subst (λ (image : Qcow2 _ _). LacksTableFor view at old image) (sym c.mark_failure.ensures.rest)
+    (lacks_ended view at old begun entries (is_failed c.mark_failure.new.self) c.begin.ensures.rest (subst (λ n. LacksTableFor view n begun entries) from (why is))))
+
+pub returns-in_err-end_freeing-clause-limit : goal.returns-in_err-end_freeing-clause-limit
+returns-in_err-end_freeing-clause-limit g c = λ none some out sound.
+    let view = g.S.Storage.view in
+    let below = g.F.BackingDisk.backing in
+    let old = c.args.self.now in
+    let begun = c.begin.new.self in
+    let entries = c.clear_between-cleared.new.self in
+    let freed = c.end_freeing.new.self in
+    let how = c.args.how in
+    let offset = c.args.offset in
+    let n = c.args.length in
+    let range = not_refused c.check_clear.result _ (refuses_to_clear old c.args.offset c.args.length c.args.how) (c.in_ok-from.from, c.in_ok-from.to) c.check_clear.ensures.refusal c.in_ok-from.was in
+    let from : c.in_ok-from.from ≡ from_in c.args.self.now c.args.offset c.args.length = ap (λ (r : ℕ × ℕ). r.0) range.1 in
+    let to : c.in_ok-from.to ≡ to_in c.args.self.now c.args.offset c.args.length = ap (λ (r : ℕ × ℕ). r.1) range.1 in
+    let works = clear_works old c.args.offset c.args.length c.args.how range.0 in
+    let quiet : (out : _) → _ → Quietly view below out old begun = λ out sound. record { keeps = c.begin.ensures.keeps (pending_in view below old out) out sound; list = c.begin.ensures.list } in
+    let done : c.clear_between-cleared.result ≡ Ok c.in_ok-mark_failure.field-0 = sym c.mark_failure.ensures.answer ∙ c.in_ok-mark_failure.was in
+    let marks = subst (λ (r : Result _ _). MayMarkBy r (is_failed entries) (is_failed c.mark_failure.new.self)) done (may_mark c.clear_between-cleared.new.self c.mark_failure.new.self c.clear_between-cleared.result c.mark_failure.ensures.marks) in
+    let same : c.mark_failure.new.self ≡ c.clear_between-cleared.new.self = c.mark_failure.ensures.rest ∙ ap (λ f. record entries { is_failed = f }) marks in
+    let parts : (out : _) → UnseenCall view below old begun out → ClearsPart view below how (from_in old offset n) (to_in old offset n) begun entries out = λ out call. subst (λ k. ClearsPart view below how k (to_in old offset n) begun entries out) from (subst (λ k. ClearsPart view below how c.in_ok-from.from k begun entries out) to
+    (subst (ClearsOrRefuses view below how c.in_ok-from.from c.in_ok-from.to begun entries out) done (c.clear_between-cleared.ensures.clears out call.sound
+    (subst (λ k. IsClearable begun.file.header.fields how k c.in_ok-from.to) (sym from) (subst (λ k. IsClearable begun.file.header.fields how (from_in old offset n) k) (sym to)
+    (whole_in view below old how offset n works begun entries quiet out call c.in_ok-from.ensures.version)))))) in
+    let ends = subst (λ (image : Qcow2 _ _). (out : _) → ImageInvariant view below (pending_in view below image out) image out → EndsFreeing view below image freed out c.end_freeing.result) same c.end_freeing.ensures.frees in
+    let number = c.end_freeing.ensures.image.number ∙ c.mark_failure.ensures.image.number ∙ c.clear_between-cleared.ensures.stays.image.number ∙ c.begin.ensures.stays.image.number in
+    let x = c.in_err-end_freeing.field-0.0 in
+    hands_limit (λ e. LacksTableFor view (from_in old offset n) old freed) c.from_residual-in_err-end_freeing.result x c.from_residual-in_err-end_freeing.ensures
+    (other_limit _ x (fault_unlimited x (fault_of x (fault_interruption view below old how offset n works begun entries quiet parts freed c.end_freeing.result ends number x c.in_err-end_freeing.was out sound))))

@@ -12,6 +12,7 @@ use Rattle.qcow2_image.proofs.Map.Reading.{none_below, zero_shown}
 use Rattle.qcow2_image.proofs.Prepare.Filling.{disk_kept, image_step_data, image_step_kept, image_step_then, own_of, there_written}
 use Rattle.qcow2_alloc.proofs.KeptMarks.{notes_then}
 use Rattle.qcow2_image.proofs.Call.BehindHeader.{behind_then}
+use Rattle.qcow2_image.proofs.Prepare.Lacked.{hands_unlimited}
 use Rattle.qcow2_image.proofs.image.Qcow2.copy_old.Goals as goal
 
 pub returns-in-Zero-clause-image_step : goal.returns-in-Zero-clause-image_step
@@ -86,3 +87,6 @@ returns-in_err-read_as-clause-header_cluster g c = c.read_as.ensures.header_clus
 
 pub returns-clause-header_cluster : goal.returns-clause-header_cluster
 returns-clause-header_cluster g c = behind_then c.read_as.ensures.header_cluster c.write_data.ensures.header_cluster
+
+pub returns-in_err-read_as-clause-limited : goal.returns-in_err-read_as-clause-limited
+returns-in_err-read_as-clause-limited g c = hands_unlimited c.from_residual-in_err-read_as.result c.in_err-read_as.field-0.0 c.from_residual-in_err-read_as.ensures c.in_err-read_as.ensures.limited

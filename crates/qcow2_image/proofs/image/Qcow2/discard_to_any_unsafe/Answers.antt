@@ -50,3 +50,6 @@ returns-clause-freed g c = c.discard_to_zero_unsafe.ensures.freed
 
 pub returns-clause-pinned : goal.returns-clause-pinned
 returns-clause-pinned g c = c.discard_to_zero_unsafe.ensures.pinned
+
+pub returns-clause-limit : goal.returns-clause-limit
+returns-clause-limit g c = c.discard_to_zero_unsafe.ensures.limit

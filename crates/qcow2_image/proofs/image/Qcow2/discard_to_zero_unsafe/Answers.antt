@@ -50,3 +50,6 @@ returns-clause-freed g c = c.clear_range.ensures.freed
 
 pub returns-clause-pinned : goal.returns-clause-pinned
 returns-clause-pinned g c = c.clear_range.ensures.pinned
+
+pub returns-clause-limit : goal.returns-clause-limit
+returns-clause-limit g c = c.clear_range.ensures.limit

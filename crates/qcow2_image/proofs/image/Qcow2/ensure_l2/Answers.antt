@@ -13,6 +13,8 @@ use Rattle.qcow2_alloc.proofs.KeptMarks.{notes_then, notes_of_both}
 use Rattle.qcow2_image.proofs.Call.BehindHeader.{behind_caches, behind_then}
 use Rattle.qcow2_alloc.specs.CachePins.{l2_pins}
 use Rattle.qcow2_image.specs.PinnedTables.{FindsOwn}
+use Rattle.qcow2_image.proofs.Prepare.Lacked.{hands_unlimited}
+use Rattle.qcow2_image.proofs.Call.Unlimited.{in_use_unlimited}
 use Rattle.qcow2_image.proofs.image.Qcow2.ensure_l2.Goals as goal
 
 pub returns-in_err-cluster-clause-ready : goal.returns-in_err-cluster-clause-ready
@@ -107,3 +109,19 @@ pub returns-clause-own : goal.returns-clause-own
 returns-clause-own g c = λ own.
     let same = c.own_l2.ensures.quiet own in
     record { table = c.in_ok-cluster.ensures.own own; pins = λ t. c.l2_get_or_insert.ensures.marks.pins t ∙ ap (λ (i : Qcow2 _ _). l2_pins i.file.caches t) same }
+
+pub returns-in_err-cluster-clause-limited : goal.returns-in_err-cluster-clause-limited
+returns-in_err-cluster-clause-limited g c = λ p out sound own. hands_unlimited c.from_residual.result c.in_err-cluster.field-0.0 c.from_residual.ensures (c.in_err-cluster.ensures.limited p out sound own)
+
+pub returns-in_err-l2_get_or_insert-clause-limited : goal.returns-in_err-l2_get_or_insert-clause-limited
+returns-in_err-l2_get_or_insert-clause-limited g c = λ p out sound own.
+    let view = g.S.Storage.view in
+    let old = c.args.self.now in
+    let mid = c.own_l2.new.self in
+    let q = pending_with_listed p old mid in
+    let owned = c.in_ok-cluster.ensures.owns p out sound in
+    let file = owned.0.sound.file in
+    let e = c.in_err-l2_get_or_insert.field-0.0 in
+    hands_unlimited c.from_residual-in_err-l2_get_or_insert.result e c.from_residual-in_err-l2_get_or_insert.ensures
+    (in_use_unlimited mid.file.caches e
+    (c.in_err-l2_get_or_insert.ensures.refusals mid.file.header.fields (named_place mid.file.header.fields (contents_in view mid.file) (l1_index_of old.file.header.fields c.args.offset) c.in_ok-cluster.cluster owned.1.place) q file.honest file.caches file.named_blocks))

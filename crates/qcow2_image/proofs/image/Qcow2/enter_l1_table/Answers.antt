@@ -11,6 +11,15 @@ use Rattle.qcow2_alloc.proofs.KeptMarks.{notes_none, notes_then, notes_of_marks}
 use Rattle.qcow2_image.proofs.Call.BehindHeader.{behind_allocated, behind_none, behind_then}
 use Rattle.qcow2_image.proofs.Prepare.Listing.{gave_former, gave_still}
 use Rattle.qcow2_alloc.proofs.KeptTables.Turning.{always_ok}
+use Rattle.qcow2_image.proofs.Prepare.Lacked.{cause_of, hands_limit, placed_near, stands_untaken, table_clusters, table_more, unlimited_all}
+use Rattle.std.proofs.Common.{ap, arith, sym, ◌<◌}
+use Rattle.qcow2_metadata.specs.Header.{HeaderView}
+use Rattle.qcow2_metadata.specs.EntryTable.{entry_count}
+use Rattle.qcow2_metadata.specs.L2Mapping.{IsHostCluster}
+use Rattle.qcow2_alloc.specs.Limits.{HasNoPlace, IsFaultOr}
+use Rattle.qcow2_alloc.specs.LowestRuns.{IsUsed}
+use Rattle.qcow2_image.specs.LackedPlaces.{HasNoTablePlace, StandsInWay}
+use Rattle.qcow2_image.proofs.Grow.Lengthened.{keeps_taken, longer_taken}
 use Rattle.qcow2_image.proofs.image.Qcow2.enter_l1_table.Goals as goal
 
 pub returns-in_default-clause-takes : goal.returns-in_default-clause-takes
@@ -65,3 +74,35 @@ returns-in_err-pending-clause-noted g c = on_no_ok _ c.from_residual.result c.in
 
 pub returns-clause-noted : goal.returns-clause-noted
 returns-clause-noted g c = on_ok _ c.write_taken.result (c.write_taken.ensures.notes.tables.noted c.in_ok-pending.ensures.noted)
+
+pub returns-in_err-pending-clause-limit : goal.returns-in_err-pending-clause-limit
+returns-in_err-pending-clause-limit g c = λ p out sound longer some.
+    let view = g.S.Storage.view in
+    let old = c.args.self.now in
+    let file = c.allocate_meta.new.file in
+    let own = subst (λ o. IfSome o (IsAllocatorOf view old.file)) c.in-Some.is sound.reftable in
+    let new = record old { file = file; allocator = Some c.allocate_meta.new.self } in
+    let entries = entry_count c.args.table in
+    let e = c.in_err-pending.field-0.0 in
+    let many = table_clusters view g.F.BackingDisk.backing out p old sound c.args.table longer file.header c.allocate_meta.ensures.header c.cluster_count.result c.cluster_count.ensures in
+    hands_limit (λ x. StandsInWay view (HasNoTablePlace entries) old.file.free_list old new) c.from_residual.result e c.from_residual.ensures
+    (λ is. stands_untaken view (HasNoTablePlace entries) (table_more entries) old file c.in-Some.allocator c.allocate_meta.new.self c.in-Some.is c.allocate_meta.ensures.former
+    (cause_of _ e (subst (λ n. IsFaultOr (HasNoPlace (IsUsed view file) file.header.fields c.allocate_meta.new.self n) e) many.0
+    (c.in_err-pending.ensures.limit p (record { sound = record { sound = sound.file; reftable = own.reftable }; hint = own.hint }) (many.1 some))) is))
+
+pub returns-clause-limit : goal.returns-clause-limit
+returns-clause-limit g c = λ p out sound longer some.
+    let view = g.S.Storage.view in
+    let below = g.F.BackingDisk.backing in
+    let old = c.args.self.now in
+    let file = c.allocate_meta.new.file in
+    let own = subst (λ o. IfSome o (IsAllocatorOf view old.file)) c.in-Some.is sound.reftable in
+    let took = c.in_ok-pending.ensures.sound p (record { sound = sound.file; reftable = own.reftable }) in
+    let since = pending_then p old.file.free_list file.free_list in
+    let hint = c.in_ok-pending.ensures.hint p (record { sound = record { sound = sound.file; reftable = own.reftable }; hint = own.hint }) in
+    let keeps = keeps_taken view below out p old sound file c.allocate_meta.new.self c.allocate_meta.ensures.marks.pins c.allocate_meta.ensures.list c.allocate_meta.ensures.header c.args.table c.in_ok-pending.pending.first_cluster c.cluster_count.result c.cluster_count.ensures took.2 hint longer in
+    let there = longer_taken view below out p old sound file c.allocate_meta.new.self c.allocate_meta.ensures.marks.pins c.allocate_meta.ensures.list c.allocate_meta.ensures.header c.args.table c.in_ok-pending.pending.first_cluster c.cluster_count.result c.cluster_count.ensures took.2 hint longer in
+    unlimited_all c.write_taken.result (λ e. StandsInWay view (HasNoTablePlace (entry_count c.args.table)) old.file.free_list old c.write_taken.new.self) (c.write_taken.ensures.limited since out keeps.sound there)
+
+pub returns-clause-placed : goal.returns-clause-placed
+returns-clause-placed g c = λ few bits. placed_near c.args.table c.in_ok-pending.pending.first_cluster c.args.self.now.file.header.fields.cluster_bits few bits c.in_ok-pending.ensures.nameable c.write_taken.new.self.l1_table c.write_taken.result c.write_taken.ensures.placed

@@ -9,6 +9,15 @@ use Rattle.qcow2_image.proofs.Prepare.Entering.{none_taken, table_entered, table
 use Rattle.qcow2_alloc.proofs.KeptMarks.{notes_then, notes_of_marks}
 use Rattle.qcow2_image.proofs.Call.BehindHeader.{behind_allocated, behind_then}
 use Rattle.qcow2_image.proofs.Prepare.Listing.{gave_former, gave_still}
+use Rattle.qcow2_image.proofs.Prepare.Lacked.{cause_of, cluster_more, hands_limit, other_limit, stands_untaken}
+use Rattle.std.proofs.Common.{ap, arith}
+use Rattle.qcow2_metadata.specs.Header.{HeaderView}
+use Rattle.qcow2_metadata.specs.L2Mapping.{IsHostCluster}
+use Rattle.qcow2_alloc.specs.Limits.{HasNoPlace, IsFaultOr}
+use Rattle.qcow2_alloc.specs.LowestRuns.{IsUsed}
+use Rattle.qcow2_image.specs.LackedPlaces.{HasNoCluster, StandsInWay}
+use Rattle.qcow2_image.proofs.Prepare.Entering.{keeps_taken, says_still}
+use Rattle.qcow2_laws.specs.Changes.{one_at, with_new_tables}
 use Rattle.qcow2_image.proofs.image.Qcow2.enter_l2.Goals as goal
 
 pub returns-in_err-pending-clause-enters : goal.returns-in_err-pending-clause-enters
@@ -69,3 +78,33 @@ returns-in-Ok-clause-former g c =
     let mid = record c.args.self.now { file = c.allocate_meta.new.file; allocator = Some c.allocate_meta.new.self } in
     let took = gave_former old mid (record { before = c.in-Some.allocator; after = c.allocate_meta.new.self; was = c.in-Some.is; is = refl; behind = c.allocate_meta.ensures.former }) in
     (_, gave_still _ old mid c.write_l2.new.self took c.write_l2.ensures.allocator)
+
+pub returns-in_err-pending-clause-limit : goal.returns-in_err-pending-clause-limit
+returns-in_err-pending-clause-limit g c = λ p out sound may says near.
+    let view = g.S.Storage.view in
+    let old = c.args.self.now in
+    let own = subst (λ o. IfSome o (IsAllocatorOf view old.file)) c.in-Some.is sound.reftable in
+    let new = record old { file = c.allocate_meta.new.file; allocator = Some c.allocate_meta.new.self } in
+    let e = c.in_err-pending.field-0.0 in
+    let one = c.new.ensures in
+    let why = subst (λ n. IsFaultOr (HasNoPlace (IsUsed view c.allocate_meta.new.file) c.allocate_meta.new.file.header.fields c.allocate_meta.new.self n) e) one
+    (c.in_err-pending.ensures.limit p (record { sound = record { sound = sound.file; reftable = own.reftable }; hint = own.hint }) (omega (arith, one))) in
+    hands_limit (λ x. StandsInWay view HasNoCluster old.file.free_list old new) c.from_residual.result e c.from_residual.ensures
+    (λ is. stands_untaken view HasNoCluster cluster_more old c.allocate_meta.new.file c.in-Some.allocator c.allocate_meta.new.self c.in-Some.is c.allocate_meta.ensures.former (cause_of _ e why is))
+
+pub returns-in-Err-clause-limit : goal.returns-in-Err-clause-limit
+returns-in-Err-clause-limit g c = λ p out sound may says near.
+    let view = g.S.Storage.view in
+    let below = g.F.BackingDisk.backing in
+    let old = c.args.self.now in
+    let taken = record old { file = c.allocate_meta.new.file; allocator = Some c.allocate_meta.new.self } in
+    let own = subst (λ o. IfSome o (IsAllocatorOf view old.file)) c.in-Some.is sound.reftable in
+    let took = c.in_ok-pending.ensures.sound p (record { sound = sound.file; reftable = own.reftable }) in
+    let since = pending_then p old.file.free_list c.allocate_meta.new.file.free_list in
+    let allocator_step = subst (λ n. UnseenAllocatorGrowth view p old.file c.allocate_meta.new.self c.allocate_meta.new.file (taken_as false since (run_at n c.new.result))) (sym c.cluster-cluster.ensures) took.2 in
+    let keeps = keeps_taken view below out p old sound c.allocate_meta.new.file c.allocate_meta.new.self c.allocate_meta.ensures.marks.pins c.allocate_meta.ensures.list c.cluster-cluster.result c.new.result c.new.ensures allocator_step
+    (c.in_ok-pending.ensures.hint p (record { sound = record { sound = sound.file; reftable = own.reftable }; hint = own.hint })) in
+    let known = says_still view below out p (with_new_tables since (one_at c.cluster-cluster.result)) old taken c.args.index c.args.table keeps says in
+    let host = subst (λ n. IsHostCluster n c.cluster-cluster.result) (sym (ap (λ (v : HeaderView). v.fields.cluster_bits) c.allocate_meta.ensures.header))
+    (subst (λ n. IsHostCluster old.file.header.fields.cluster_bits n) (sym c.cluster-cluster.ensures) c.in_ok-pending.ensures.nameable) in
+    other_limit _ c.in-Err.refusal (c.in-Err.ensures.limited since out keeps.sound known (record { within = near.within; room = near.room }) host)

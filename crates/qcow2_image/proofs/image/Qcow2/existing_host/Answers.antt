@@ -5,6 +5,7 @@ use Rattle.qcow2_disk.specs.Found.{rest_of_table}
 use Rattle.qcow2_image.specs.Found.{writable_place}
 use Rattle.qcow2_image.specs.Preparing.{IsPlaceOf}
 use Rattle.qcow2_image.proofs.Prepare.Writable.{place_found, short_of}
+use Rattle.qcow2_image.proofs.Prepare.Lacked.{hands_unlimited}
 use Rattle.qcow2_image.proofs.image.Qcow2.existing_host.Goals as goal
 
 pub returns-then-found-length-clause-place : goal.returns-then-found-length-clause-place
@@ -23,3 +24,6 @@ returns-clause-place g c = λ p sound at some.
     let run = c.in_ok-kind.ensures.run p sound at (omega (arith, limit)) in
     subst (IsPlaceOf h known c.args.offset c.args.length) (sym (c.writable_place.ensures ∙ ap writable_place run.kind_is))
     (place_found h known c.args.offset c.args.length c.in_ok-kind.found some (subst (λ m. IsLongestRun h known c.args.offset m c.in_ok-kind.found) limit run.longest) (is_some c.args.self.now.backing) (let l = c.if-found-length.false in omega arith))
+
+pub returns-in_err-kind-clause-limited : goal.returns-in_err-kind-clause-limited
+returns-in_err-kind-clause-limited g c = hands_unlimited c.from_residual.result c.in_err-kind.field-0.0 c.from_residual.ensures c.in_err-kind.ensures.limited

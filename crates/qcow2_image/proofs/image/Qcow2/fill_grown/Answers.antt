@@ -62,3 +62,6 @@ returns-in-Ok-clause-notes g c = c.fill_behind.ensures.notes
 
 pub returns-in-Err-clause-notes : goal.returns-in-Err-clause-notes
 returns-in-Err-clause-notes g c = notes_then c.fill_behind.ensures.notes c.free_after.ensures.notes
+
+pub returns-in-Err-clause-limited : goal.returns-in-Err-clause-limited
+returns-in-Err-clause-limited g c = λ none. absurd (let no : Ok tt ≡ Err c.in-Err.refusal = sym (c.fill_behind.ensures.unfilled none).0 ∙ c.in-Err.is in cc)

@@ -9,6 +9,8 @@ use Rattle.qcow2_alloc.proofs.KeptMarks.{notes_none, notes_of_both}
 use Rattle.qcow2_image.proofs.Call.BehindHeader.{behind_none, behind_freed}
 use Rattle.qcow2_image.proofs.Prepare.Listing.{same_value}
 use Rattle.qcow2_alloc.specs.declared.allocation.Allocator.{Allocator}
+use Rattle.qcow2_image.proofs.Prepare.Lacked.{frees_just, just_none}
+use Rattle.std.proofs.Common.{Some}
 use Rattle.qcow2_image.proofs.image.Qcow2.free_listed.Goals as goal
 
 pub returns-then-is_empty-clause-frees : goal.returns-then-is_empty-clause-frees
@@ -59,3 +61,15 @@ returns-in_default-clause-former g c = λ before is. (before, is, refl)
 
 pub returns-clause-former : goal.returns-clause-former
 returns-clause-former g c = λ before is. (c.free.new.self, refl, c.free.ensures.reftable ∙ ap (λ (a : Allocator). a.reftable) (same_value c.in-Some.allocator before (sym c.in-Some.is ∙ is)))
+
+pub returns-then-is_empty-clause-uses : goal.returns-then-is_empty-clause-uses
+returns-then-is_empty-clause-uses g c = λ p out sound. just_none g.S.Storage.view g.F.BackingDisk.backing out c.args.self.now
+
+pub returns-in_default-clause-uses : goal.returns-in_default-clause-uses
+returns-in_default-clause-uses g c = λ p out sound. just_none g.S.Storage.view g.F.BackingDisk.backing out c.args.self.now
+
+pub returns-clause-uses : goal.returns-clause-uses
+returns-clause-uses g c = λ p out sound.
+    let old = c.args.self.now in
+    let new = record old { file = c.free.new.file; allocator = Some c.free.new.self } in
+    frees_just g.S.Storage.view g.F.BackingDisk.backing out p c.in-Some.allocator old new c.free.result sound (returns-clause-frees g c p out sound) c.free.ensures.header c.in-Some.is (returns-clause-former g c) refl c.free.ensures.emptied

@@ -41,6 +41,11 @@ use Rattle.qcow2_alloc.proofs.Outcomes.{err_as}
 use Rattle.qcow2_image.specs.Noted.{FailsOnceWritten}
 use Rattle.qcow2_image.proofs.Call.OnceWritten.{once_written, kept_noted, once_marked}
 use Rattle.qcow2_image.proofs.Call.BehindHeader.{behind_by, behind_call, behind_none, behind_then}
+use Rattle.qcow2_image.proofs.Prepare.Lacked.{faults_unlimited, unlimited_all}
+use Rattle.qcow2_image.proofs.Sizing.LackedTables.{longer_ended}
+use Rattle.qcow2_image.specs.LackedTables.{LacksTableReaching}
+use Rattle.qcow2_alloc.specs.declared.error.ImageError.TheVariants.{Limit}
+use Rattle.qcow2_image.specs.Refusals.{IsUnlimited}
 use Rattle.qcow2_image.proofs.image.Qcow2.grow_disk.Goals as goal
 
 pub returns-in_err-mark_failure-clause-sees : goal.returns-in_err-mark_failure-clause-sees
@@ -399,3 +404,33 @@ pub returns-clause-freed : goal.returns-clause-freed
 returns-clause-freed g c = λ out sound.
     let new = c.mark_fault-2.new.self in
     subst (λ (r : Result _ _). IfErr r (FreesRefused new)) (sym c.mark_fault-2.ensures.answer) (if_err c.write_size-written.result (λ e fault. inl fault) c.write_size-written.ensures.cause)
+
+pub returns-in_err-mark_failure-clause-limit : goal.returns-in_err-mark_failure-clause-limit
+returns-in_err-mark_failure-clause-limit g c = λ none out sound.
+    let view = g.S.Storage.view in
+    let below = g.F.BackingDisk.backing in
+    let old = c.args.self.now in
+    let begun = c.begin.new.self in
+    let mid = c.renew_l1_table-longer.new.self in
+    let first = begun_call view below old begun (λ out sound. record { keeps = c.begin.ensures.keeps (pending_in view below old out) out sound; list = c.begin.ensures.list }) in
+    let done : c.renew_l1_table-longer.result ≡ Err c.in_err-mark_failure.field-0.0 = sym c.mark_failure.ensures.answer ∙ c.in_err-mark_failure.was in
+    let offset = c.args.size - 1 in
+    let why = subst (λ (r : Result _ _). IfErr r (λ x. x ≡ Limit → LacksTableReaching view offset begun mid)) done (c.renew_l1_table-longer.ensures.limit out (first out sound).sound) in
+    subst (λ (r : Result _ _). IfErr r (λ x. x ≡ Limit → LacksTableReaching view offset old c.mark_failure.new.self)) (sym (err_is c.from_residual.result c.from_residual.ensures))
+    (λ is. subst (λ (image : Qcow2 _ _). LacksTableReaching view offset old image) (sym c.mark_failure.ensures.rest) (longer_ended view offset old begun mid (is_failed c.mark_failure.new.self) c.begin.ensures.rest (why is)))
+
+pub returns-in_err-mark_fault-clause-limit : goal.returns-in_err-mark_fault-clause-limit
+returns-in_err-mark_fault-clause-limit g c = λ none out sound.
+    let view = g.S.Storage.view in
+    let old = c.args.self.now in
+    let e = c.in_err-mark_fault.field-0.0 in
+    let done : c.fill_grown-filled.result ≡ Err c.in_err-mark_fault.field-0.0 = sym c.mark_fault.ensures.answer ∙ c.in_err-mark_fault.was in
+    let offset = c.args.size - 1 in
+    unlimited_all c.from_residual-in_err-mark_fault.result (λ x. LacksTableReaching view offset old c.mark_fault.new.self)
+    (subst (λ (r : Result _ _). IfErr r IsUnlimited) (sym (err_is c.from_residual-in_err-mark_fault.result c.from_residual-in_err-mark_fault.ensures)) (subst (λ (r : Result _ _). IfErr r IsUnlimited) done (c.fill_grown-filled.ensures.limited none)))
+
+pub returns-clause-limit : goal.returns-clause-limit
+returns-clause-limit g c = λ none out sound.
+    let new = c.mark_fault-2.new.self in
+    unlimited_all c.mark_fault-2.result (λ x. LacksTableReaching g.S.Storage.view (c.args.size - 1) c.args.self.now new)
+    (subst (λ (r : Result _ _). IfErr r IsUnlimited) (sym c.mark_fault-2.ensures.answer) (faults_unlimited c.write_size-written.result c.write_size-written.ensures.cause))

@@ -12,6 +12,9 @@ use Rattle.qcow2_image.proofs.Grow.Lengthened.{freed_then, refused_moved, stays_
 use Rattle.qcow2_alloc.proofs.KeptMarks.{notes_then}
 use Rattle.qcow2_alloc.proofs.Outcomes.{on_no_ok, on_ok}
 use Rattle.qcow2_image.proofs.Call.BehindHeader.{behind_then}
+use Rattle.qcow2_image.proofs.Prepare.Lacked.{faults_unlimited, hands_limit, unlimited_all}
+use Rattle.qcow2_image.specs.LackedPlaces.{LacksLongerTable}
+use Rattle.qcow2_image.specs.LackedTables.{LacksTableReaching}
 use Rattle.qcow2_image.proofs.image.Qcow2.lengthen_l1_table.Goals as goal
 
 pub returns-in_err-grow_l1_table-clause-makes : goal.returns-in_err-grow_l1_table-clause-makes
@@ -61,3 +64,24 @@ returns-in_err-grow_l1_table-clause-noted g c = on_no_ok _ c.from_residual.resul
 
 pub returns-clause-noted : goal.returns-clause-noted
 returns-clause-noted g c = on_ok _ c.free_listed.result (c.free_listed.ensures.notes.tables.noted c.in_ok-grow_l1_table.ensures.noted)
+
+pub returns-in_err-grow_l1_table-clause-limit : goal.returns-in_err-grow_l1_table-clause-limit
+returns-in_err-grow_l1_table-clause-limit g c = λ out sound.
+    let view = g.S.Storage.view in
+    let old = c.args.self.now in
+    let new = c.grow_l1_table.new.self in
+    let idx : c.l1_index-index.result ≡ l1_index_of old.file.header.fields c.args.offset =
+    c.l1_index-index.ensures ∙ ap (λ n. n / 2 ^ c.cluster_bits.result / (2 ^ c.cluster_bits.result / 8)) c.new.ensures ∙ ap (λ b. c.args.offset / 2 ^ b / (2 ^ b / 8)) c.cluster_bits.ensures.value in
+    hands_limit (λ x. LacksTableReaching view c.args.offset old new) c.from_residual.result c.in_err-grow_l1_table.field-0.0 c.from_residual.ensures
+    (λ is. subst (λ i. LacksLongerTable view i (max (entry_count old.l1_table) (i + 1)) old.file.free_list old new) idx (c.in_err-grow_l1_table.ensures.limit (pending_in view g.F.BackingDisk.backing old out) out sound is))
+
+pub returns-clause-limit : goal.returns-clause-limit
+returns-clause-limit g c = λ out sound.
+    let view = g.S.Storage.view in
+    let below = g.F.BackingDisk.backing in
+    let old = c.args.self.now in
+    let mid = c.grow_l1_table.new.self in
+    let new = c.free_listed.new.self in
+    let first = stays_moved view below out old mid sound (c.in_ok-grow_l1_table.ensures.lengthens (pending_in view below old out) out sound) in
+    let listed = subst (λ (x : Pending). ImageInvariant view below x mid out) (all_listed view below mid out) first.sound in
+    unlimited_all c.free_listed.result (λ e. LacksTableReaching view c.args.offset old new) (faults_unlimited c.free_listed.result (c.free_listed.ensures.faults (beside view below mid out) out listed))

@@ -2,6 +2,7 @@ use Rattle.qcow2_alloc.proofs.KeptMarks.{notes_of_both}
 use Rattle.qcow2_image.proofs.Prepare.Filling.{same_new_data}
 use Rattle.qcow2_image.proofs.Map.Loading.{caches_moved}
 use Rattle.qcow2_image.proofs.Call.BehindHeader.{behind_caches}
+use Rattle.qcow2_image.proofs.Prepare.Lacked.{in_use_all}
 use Rattle.qcow2_image.proofs.image.Qcow2.load_l2.Goals as goal
 
 pub returns-clause-keeps : goal.returns-clause-keeps
@@ -20,3 +21,8 @@ returns-clause-notes g c = (notes_of_both c.l2_get_or_insert.ensures.marks c.l2_
 
 pub returns-clause-header_cluster : goal.returns-clause-header_cluster
 returns-clause-header_cluster g c = λ some. behind_caches (c.l2_get_or_insert.ensures.header_cluster some)
+
+pub returns-clause-limited : goal.returns-clause-limited
+returns-clause-limited g c = λ p out sound place.
+    let old = c.args.self.now in
+    in_use_all old.file.caches c.l2_get_or_insert.result (c.l2_get_or_insert.ensures.refusals old.file.header.fields place p sound.file.honest sound.file.caches sound.file.named_blocks)

@@ -15,6 +15,8 @@ use Rattle.qcow2_alloc.proofs.KeptMarks.{notes_then}
 use Rattle.qcow2_image.proofs.Call.Notes.{same_kept}
 use Rattle.qcow2_image.proofs.Call.BehindHeader.{behind_by, behind_none, behind_then}
 use Rattle.qcow2_image.proofs.Prepare.InUse.{used_stays}
+use Rattle.qcow2_image.proofs.Prepare.Lacked.{hands_limit, other_limit}
+use Rattle.qcow2_image.specs.LackedPlaces.{HasNoCluster, StandsInWay}
 use Rattle.qcow2_image.proofs.image.Qcow2.new_cluster.Goals as goal
 
 pub returns-in-Ok-clause-gains : goal.returns-in-Ok-clause-gains
@@ -98,3 +100,10 @@ returns-in-Ok-clause-lowest g c = λ p out sound holds k lt.
     let filled = c.fill_cluster.ensures.image_step new_data out took.2.sound (still_holds view below out old mid p n took.0 holds took.2) some free in
     let former = c.take_data.ensures.former in
     used_stays view below out new_data former.after mid new took.2.sound filled.sound c.fill_cluster.ensures.value former.is c.fill_cluster.ensures.allocator c.fill_cluster.ensures.table filled.covers k (c.in_ok-pending.ensures.lowest p out sound k lt)
+
+pub returns-in_err-pending-clause-limit : goal.returns-in_err-pending-clause-limit
+returns-in_err-pending-clause-limit g c = λ p out sound.
+    hands_limit (λ x. StandsInWay g.S.Storage.view HasNoCluster c.args.self.now.file.free_list c.args.self.now c.take_data.new.self) c.from_residual.result c.in_err-pending.field-0.0 c.from_residual.ensures (c.in_err-pending.ensures.limit p out sound)
+
+pub returns-in-Err-clause-limit : goal.returns-in-Err-clause-limit
+returns-in-Err-clause-limit g c = λ p out sound. other_limit _ c.in-Err.refusal c.in-Err.ensures.limited

@@ -17,6 +17,8 @@ use Rattle.qcow2_alloc.proofs.KeptMarks.{notes_then}
 use Rattle.qcow2_image.proofs.Call.Notes.{same_kept}
 use Rattle.qcow2_image.proofs.Call.BehindHeader.{behind_by, behind_none, behind_then}
 use Rattle.qcow2_image.proofs.Prepare.InUse.{used_stays}
+use Rattle.qcow2_image.proofs.Prepare.Lacked.{hands_limit, other_limit}
+use Rattle.qcow2_image.specs.LackedPlaces.{CantTake}
 use Rattle.qcow2_image.proofs.image.Qcow2.new_cluster_at.Goals as goal
 
 pub returns-in_default-clause-gains : goal.returns-in_default-clause-gains
@@ -111,3 +113,10 @@ returns-in-Ok-clause-uses g c = λ p out sound holds k used.
     let filled = c.fill_cluster.ensures.image_step new_data out took.3.sound (still_holds view below out old mid p n took.1 holds took.3) some free in
     let former = c.take_data_at.ensures.former in
     used_stays view below out new_data former.after mid new took.3.sound filled.sound c.fill_cluster.ensures.value former.is c.fill_cluster.ensures.allocator c.fill_cluster.ensures.table filled.covers k (c.in_ok-pending.ensures.uses p out sound holds k used)
+
+pub returns-in_err-pending-clause-limit : goal.returns-in_err-pending-clause-limit
+returns-in_err-pending-clause-limit g c = λ p out sound holds.
+    hands_limit (λ x. CantTake g.S.Storage.view c.args.cluster c.args.self.now c.take_data_at.new.self) c.from_residual.result c.in_err-pending.field-0.0 c.from_residual.ensures (c.in_err-pending.ensures.limit p out sound)
+
+pub returns-in-Err-clause-limit : goal.returns-in-Err-clause-limit
+returns-in-Err-clause-limit g c = λ p out sound holds. other_limit _ c.in-Err.refusal c.in-Err.ensures.limited

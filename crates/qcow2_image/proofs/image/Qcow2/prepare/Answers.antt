@@ -6,6 +6,9 @@ use Rattle.qcow2_image.proofs.Call.FaultCounts.{counted_as, counted_of, untouche
 use Rattle.qcow2_image.proofs.Prepare.FarEntries.{far_refusal, far_then_freed, far_unanswered}
 use Rattle.qcow2_alloc.proofs.KeptMarks.{notes_then}
 use Rattle.qcow2_image.proofs.Call.BehindHeader.{behind_then}
+use Rattle.qcow2_image.proofs.Prepare.Lacked.{emptied_by_limit, limited_frees}
+use Rattle.qcow2_image.proofs.Prepare.LackedBehind.{range_freed}
+use Rattle.qcow2_image.specs.Image.{HasNothingToFree}
 use Rattle.qcow2_image.proofs.image.Qcow2.prepare.Goals as goal
 
 pub returns-in-Ok-clause-readies : goal.returns-in-Ok-clause-readies
@@ -72,3 +75,14 @@ returns-in-Err-clause-far_refused g c = λ needs. elim c.free_after.ensures.hand
   | inl still ↦ inl (still ∙ far_refusal c.prepare_range.result c.in-Err.refusal c.in-Err.is (c.prepare_range.ensures.far needs).0)
   | inr met ↦ inr met
 ]
+
+pub returns-in-Err-clause-limit : goal.returns-in-Err-clause-limit
+returns-in-Err-clause-limit g c = λ some out sound is.
+    let view = g.S.Storage.view in
+    let below = g.F.BackingDisk.backing in
+    let old = c.args.self.now in
+    let mid = c.prepare_range.new.self in
+    let new = c.free_after.new.self in
+    let freed = limited_frees view below out old mid new c.in-Err.refusal c.free_after.result (c.in-Err.ensures.readies some out sound) c.free_after.ensures.fault (c.free_after.ensures.limit out) is in
+    let empty : HasNothingToFree new = emptied_by_limit new c.free_after.result (returns-in-Err-clause-listed g c some out sound) is in
+    range_freed view c.args.offset c.args.length old mid new c.free_after.ensures.keeps_rest.header freed.1 empty (c.in-Err.ensures.limit some out sound freed.0)

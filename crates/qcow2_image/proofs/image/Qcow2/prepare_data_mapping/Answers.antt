@@ -27,6 +27,10 @@ use Rattle.qcow2_image.proofs.Call.BehindHeader.{behind_call, behind_none}
 use Rattle.qcow2_image.proofs.Prepare.Pinned.{begun_own, unpinned_begun}
 use Rattle.qcow2_image.specs.PinnedTables.{PreparesUnpinned}
 use Rattle.qcow2_image.specs.LowestPlaces.{BeginsLowest}
+use Rattle.qcow2_image.proofs.Prepare.Lacked.{limits_as}
+use Rattle.qcow2_image.proofs.Prepare.LackedBehind.{first_begun, place_ended}
+use Rattle.qcow2_image.specs.LackedPlaces.{LacksPlaceFor}
+use Rattle.qcow2_alloc.specs.declared.error.ImageError.TheVariants.{Limit}
 use Rattle.qcow2_image.proofs.image.Qcow2.prepare_data_mapping.Goals as goal
 
 pub returns-then-length-eq0-clause-sees : goal.returns-then-length-eq0-clause-sees
@@ -173,3 +177,23 @@ returns-clause-lowest g c = λ some out sound.
     let stays = stays_kept view below out old mid sound (listed view below out old mid (λ s. record { keeps = c.begin.ensures.keeps (pending_in view below old out) out s; list = c.begin.ensures.list }) sound) in
     subst (λ (image : Qcow2 _ _). IfOk c.mark_failure.result (BeginsLowest view image)) (sym c.mark_failure.ensures.rest)
     (subst (λ r. IfOk r (BeginsLowest view new)) (sym c.mark_failure.ensures.answer) (c.prepare-prepared.ensures.lowest out stays.sound))
+
+pub returns-in_err-check_prepare-clause-limit : goal.returns-in_err-check_prepare-clause-limit
+returns-in_err-check_prepare-clause-limit g c = λ none some out sound.
+    let refused = refused_for c.check_prepare.result tt (refuses_to_prepare c.args.self.now c.args.offset c.args.length) c.in_err-check_prepare.field-0.0 c.check_prepare.ensures.refusal c.in_err-check_prepare.was in
+    absurd (let no : None ≡ Some c.in_err-check_prepare.field-0.0 = sym none ∙ refused in cc)
+
+pub returns-clause-limit : goal.returns-clause-limit
+returns-clause-limit g c = λ may some out sound.
+    let view = g.S.Storage.view in
+    let below = g.F.BackingDisk.backing in
+    let old = c.args.self.now in
+    let mid = c.begin.new.self in
+    let new = c.prepare-prepared.new.self in
+    let failed = is_failed c.mark_failure.new.self in
+    let stays = stays_kept view below out old mid sound (listed view below out old mid (λ s. record { keeps = c.begin.ensures.keeps (pending_in view below old out) out s; list = c.begin.ensures.list }) sound) in
+    let same = first_begun view c.args.offset old mid stays.header stays.covers in
+    subst (λ (r : Result _ _). IfErr r (λ x. x ≡ Limit → LacksPlaceFor view c.args.offset c.args.length old c.mark_failure.new.self)) (sym c.mark_failure.ensures.answer)
+    (subst (λ (image : Qcow2 _ _). IfErr c.prepare-prepared.result (λ x. x ≡ Limit → LacksPlaceFor view c.args.offset c.args.length old image)) (sym c.mark_failure.ensures.rest)
+    (limits_as (λ x. LacksPlaceFor view c.args.offset c.args.length mid new) (λ x. LacksPlaceFor view c.args.offset c.args.length old (record new { is_failed = failed })) c.prepare-prepared.result
+    (λ e lacks. place_ended view c.args.offset c.args.length old mid new failed c.begin.ensures.rest same lacks) (c.prepare-prepared.ensures.limit some out stays.sound)))

@@ -24,6 +24,8 @@ use Rattle.qcow2_image.proofs.Prepare.InUse.{in_place_lowest}
 use Rattle.qcow2_alloc.proofs.KeptTables.Turning.{always_ok}
 use Rattle.qcow2_alloc.specs.CachePins.{l2_pins}
 use Rattle.qcow2_image.proofs.Clear.Between.{no_pins}
+use Rattle.qcow2_image.proofs.Prepare.Lacked.{hands_limit, other_limit}
+use Rattle.qcow2_image.specs.LackedPlaces.{HasNoCluster, StandsInWay}
 use Rattle.qcow2_image.proofs.image.Qcow2.prepare_first.Goals as goal
 
 pub returns-then-l2_is_pinned-clause-readies : goal.returns-then-l2_is_pinned-clause-readies
@@ -142,3 +144,7 @@ returns-in-Some-clause-unpinned g c = no_pins c.l2_is_pinned.result (l2_pins c.a
 
 pub returns-in-None-clause-unpinned : goal.returns-in-None-clause-unpinned
 returns-in-None-clause-unpinned g c = always_ok c.prepare_private.result (no_pins c.l2_is_pinned.result (l2_pins c.args.self.now.file.caches c.args.table) c.l2_is_pinned.ensures c.if-l2_is_pinned.false)
+
+pub returns-in_err-old-clause-limit : goal.returns-in_err-old-clause-limit
+returns-in_err-old-clause-limit g c = λ out sound holds.
+    hands_limit (λ x. StandsInWay g.S.Storage.view HasNoCluster c.args.self.now.file.free_list c.args.self.now c.args.self.now) c.from_residual-in_err-old.result c.in_err-old.field-0.0 c.from_residual-in_err-old.ensures (other_limit _ c.in_err-old.field-0.0 c.in_err-old.ensures.limited)

@@ -16,6 +16,24 @@ use Rattle.qcow2_image.proofs.Prepare.Listing.{lists_then}
 use Rattle.qcow2_alloc.proofs.KeptMarks.{notes_then}
 use Rattle.qcow2_image.proofs.Call.BehindHeader.{behind_then}
 use Rattle.qcow2_image.proofs.Prepare.InUse.{first_of, longer_lowest}
+use Rattle.qcow2_image.proofs.Prepare.Lacked.{hands_limit}
+use Rattle.qcow2_image.proofs.Prepare.LackedBehind.{cant_go_on, first_cluster, lacks_uncounted, own_released}
+use Rattle.std.proofs.Common.{inl, inr, ℕ, length, ◌<◌, ◌*◌, ◌^◌, Some, Option}
+use Rattle.std.specs.Prelude.{slice_get}
+use Rattle.std.proofs.lemmas.Nat.{pow_pos}
+use Rattle.qcow2_disk.specs.Found.{rest_of_table}
+use Rattle.std.proofs.Common.{min}
+use Rattle.qcow2_image.specs.LackedPlaces.{LacksData, bytes_in_table, first_of_range}
+use Rattle.qcow2_image.specs.ImageInvariant.{IsPending, IsReadyWith}
+use Rattle.qcow2_image.specs.Ranges.{EndsWithCluster}
+use Rattle.qcow2_image.proofs.Call.Slots.{get_set_same}
+use Rattle.qcow2_alloc.specs.ImageFile.{contents_in}
+use Rattle.qcow2_alloc.specs.LowestRuns.{IsUsed}
+use Rattle.qcow2_metadata.specs.Bytes.{Bytes}
+use Rattle.qcow2_metadata.specs.Entries.{count}
+use Rattle.std.proofs.Common.{◌≢◌}
+use Rattle.qcow2_metadata.specs.Header.{HeaderView}
+use Rattle.qcow2_image.specs.UnseenSteps.{freed_by}
 use Rattle.qcow2_image.proofs.image.Qcow2.prepare_in.Goals as goal
 
 pub returns-in_err-prepared-clause-readies : goal.returns-in_err-prepared-clause-readies
@@ -139,3 +157,49 @@ returns-in-Ok-clause-lowest g c = λ out k free sound holds.
 
 pub returns-in-Ok-clause-unpinned : goal.returns-in-Ok-clause-unpinned
 returns-in-Ok-clause-unpinned g c = c.in_ok-prepared.ensures.unpinned
+
+pub returns-in_err-prepared-clause-limit : goal.returns-in_err-prepared-clause-limit
+returns-in_err-prepared-clause-limit g c = λ out sound holds some.
+    hands_limit (λ x. LacksData g.S.Storage.view c.args.offset c.args.length c.args.self.now.file.free_list c.args.self.now c.prepare_first.new.self) c.from_residual.result c.in_err-prepared.field-0.0 c.from_residual.ensures
+    (λ is. inl (c.in_err-prepared.ensures.limit out sound holds is))
+
+pub returns-in-Err-clause-limit : goal.returns-in-Err-clause-limit
+returns-in-Err-clause-limit g c = λ out sound holds some is.
+    let view = g.S.Storage.view in
+    let below = g.F.BackingDisk.backing in
+    let old = c.args.self.now in
+    let mid = c.prepare_first.new.self in
+    let rest = c.prepare_rest.new.self in
+    let new = c.release_prepared.new.self in
+    let p = c.in_ok-prepared.prepared in
+    let q = c.prepare_rest.new.prepared in
+    let first = c.in_ok-prepared.ensures.first in
+    let longer = c.prepare_rest.ensures.longer in
+    let placed = (free_places view below).free old [] out sound in
+    let ready = subst (λ o. IsReadied view below old mid (None ∷ out) 0 o c.args.length c.args.overwrite p) (sym first.guest) (c.in_ok-prepared.ensures.readies (None ∷ out) placed holds 0 refl) in
+    let broken = c.in-Err.ensures.image_step old (None ∷ out) 0 refl first.under ready in
+    let why = c.in-Err.ensures.limit old (None ∷ out) 0 refl first.under ready is in
+    let bounded : bytes_in_table view c.args.offset c.args.length mid ≡ bytes_in_table view c.args.offset c.args.length old = ap (λ (x : HeaderFields). min c.args.length (rest_of_table x c.args.offset)) (header_format old.file.header mid.file.header c.in_ok-prepared.ensures.header) in
+    let short : q.length < bytes_in_table view c.args.offset c.args.length old = subst (λ m. q.length < m) (ap (λ o. min c.args.length (rest_of_table mid.file.header.fields o)) first.guest ∙ bounded) why.0 in
+    let cant = why.1 in
+    let m = broken.mid in
+    let h = m.file.header.fields in
+    let size_old : cluster_size old.file.header.fields ≡ cluster_size h = sym (ap (λ (x : HeaderFields). cluster_size x) broken.readied.header) in
+    let size_mid : cluster_size mid.file.header.fields ≡ cluster_size h = ap (λ (x : HeaderFields). cluster_size x) (header_format old.file.header mid.file.header c.in_ok-prepared.ensures.header) ∙ size_old in
+    let size_rest : cluster_size rest.file.header.fields ≡ cluster_size h = ap (λ (x : HeaderFields). cluster_size x) (header_format mid.file.header rest.file.header c.prepare_rest.ensures.header) ∙ size_mid in
+    let pending : IsPending h (known_in view m.file) (contents_in view m.file) q c.args.table =
+    subst (IsReadyWith h (known_in view m.file) (contents_in view m.file) q) (longer.under ∙ first.under) (broken.readied.sound.ready 0 q (get_set_same (None ∷ out) 0 (Some q) None refl)).mapped in
+    let at : cant.0 * cluster_size h ≡ q.offset + q.length = subst (λ s. cant.0 * s ≡ q.offset + q.length) size_mid cant.1 in
+    let whole : EndsWithCluster h q = subst (λ s. q.guest % s + q.length ≡ length q.shares.items * s) size_mid (longer.whole (omega (arith, short))) in
+    let positive = pow_pos h.cluster_bits in
+    let cluster = first_cluster h (known_in view m.file) (contents_in view m.file) q c.args.table positive pending cant.0 at whole in
+    let share = first_of p.shares.items first.one in
+    let it = cant.2 in
+    let h_new = ap (λ (i : Qcow2 _ _). i.file.header) c.release_prepared.ensures.rest.rest in
+    inr (lacks_uncounted view (first_of_range view c.args.offset old) (c.args.offset % cluster_size old.file.header.fields) (bytes_in_table view c.args.offset c.args.length old) cluster (length q.shares.items) old mid rest new (freed_by q.shares.items) c.in_ok-prepared.ensures.former it.former
+    (ap (λ (i : Qcow2 _ _). i.allocator) c.release_prepared.ensures.rest.rest) h_new
+    (λ k used. subst (λ (v : HeaderView). count v.fields (known_in view new.file) k ≢ 0) (sym h_new) (subst (λ (b : Bytes). count rest.file.header.fields b k ≢ 0) (sym c.release_prepared.ensures.rest.known) used)) c.release_prepared.ensures.list
+    (own_released h (known_in view m.file) (contents_in view m.file) q c.args.table positive pending cant.0 at whole)
+    it.allocator it.is (cant_go_on view old m rest q c.args.table positive pending cant.0 at whole c.args.offset (bytes_in_table view c.args.offset c.args.length old) it.allocator share.0 size_old size_rest (longer.guest ∙ first.guest) short broken.readied.covers (longer.first share.0 share.1)
+    (λ taken old_data new_share k lt. it.uses k (c.in_ok-prepared.ensures.lowest out sound taken old_data (share.1 ∙ sym (longer.first share.0 share.1) ∙ new_share) k (subst (λ n. k < n) (ap (λ o. o / cluster_size h) longer.place ∙ ap (λ s. p.offset / s) (sym size_mid)) lt)))
+    it.uncounted))

@@ -14,6 +14,7 @@ use Rattle.qcow2_alloc.proofs.KeptMarks.{notes_then}
 use Rattle.qcow2_image.proofs.Call.Notes.{pins_kept}
 use Rattle.qcow2_image.proofs.Call.BehindHeader.{behind_by, behind_tables, behind_then}
 use Rattle.qcow2_image.proofs.Prepare.InUse.{kept_lowest}
+use Rattle.qcow2_image.proofs.Prepare.Lacked.{hands_unlimited}
 use Rattle.qcow2_image.proofs.image.Qcow2.prepare_kept.Goals as goal
 
 pub returns-in_err-fill_kept-clause-readies : goal.returns-in_err-fill_kept-clause-readies
@@ -73,3 +74,6 @@ returns-clause-header_cluster g c = behind_then c.fill_kept.ensures.header_clust
 
 pub returns-clause-lowest : goal.returns-clause-lowest
 returns-clause-lowest g c = kept_lowest g.S.Storage.view g.F.BackingDisk.backing c.prepare_at.new.self c.prepare_at.result c.prepare_at.ensures.share
+
+pub returns-in_err-fill_kept-clause-limited : goal.returns-in_err-fill_kept-clause-limited
+returns-in_err-fill_kept-clause-limited g c = hands_unlimited c.from_residual.result c.in_err-fill_kept.field-0.0 c.from_residual.ensures c.in_err-fill_kept.ensures.limited

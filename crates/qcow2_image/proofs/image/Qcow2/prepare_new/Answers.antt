@@ -23,6 +23,13 @@ use Rattle.qcow2_image.proofs.Call.BehindHeader.{behind_by, behind_none, behind_
 use Rattle.std.proofs.Common.{◌+◌, ◌/◌, ◌<◌}
 use Rattle.std.proofs.lemmas.Nat.{div-mul-add, mod_below, pow_pos}
 use Rattle.qcow2_image.proofs.Prepare.InUse.{used_pinned, used_stays}
+use Rattle.qcow2_image.proofs.Prepare.Lacked.{hands_limit, other_limit}
+use Rattle.qcow2_image.specs.LackedPlaces.{HasNoCluster, StandsInWay}
+use Rattle.qcow2_metadata.specs.TableBytes.{HasPlace}
+use Rattle.qcow2_image.proofs.Prepare.Lacking.{named_place}
+use Rattle.qcow2_metadata.specs.Header.{HeaderView}
+use Rattle.qcow2_alloc.specs.ImageFile.{known_in}
+use Rattle.qcow2_image.specs.Found.{l1_index_of}
 use Rattle.qcow2_image.proofs.image.Qcow2.prepare_new.Goals as goal
 
 pub returns-in_err-old_data-clause-readies : goal.returns-in_err-old_data-clause-readies
@@ -138,3 +145,29 @@ returns-in-Ok-clause-lowest g c = λ out sound taken old_data begins j lt.
     used_pinned view below c.args.table mid c.prepare_at.new.self c.prepare_at.ensures.pins j
     (used_stays view below out new_data former.after filled mid gained.image_step.sound kept.sound c.load_l2.ensures.header former.is c.load_l2.ensures.allocator c.load_l2.ensures.table kept.unseen.covers j
     (c.in_ok-pending.ensures.lowest p out sound (λ x. omega arith) j (subst (λ m. j < m) place lt)))
+
+pub returns-in_err-old_data-clause-limit : goal.returns-in_err-old_data-clause-limit
+returns-in_err-old_data-clause-limit g c = λ out sound holds.
+    hands_limit (λ x. StandsInWay g.S.Storage.view HasNoCluster c.args.self.now.file.free_list c.args.self.now c.args.self.now) c.from_residual.result c.in_err-old_data.field-0.0 c.from_residual.ensures (other_limit _ c.in_err-old_data.field-0.0 c.in_err-old_data.ensures.limited)
+
+pub returns-in_err-pending-clause-limit : goal.returns-in_err-pending-clause-limit
+returns-in_err-pending-clause-limit g c = λ out sound holds.
+    let view = g.S.Storage.view in
+    let old = c.args.self.now in
+    hands_limit (λ x. StandsInWay view HasNoCluster old.file.free_list old c.new_cluster.new.self) c.from_residual-in_err-pending.result c.in_err-pending.field-0.0 c.from_residual-in_err-pending.ensures
+    (c.in_err-pending.ensures.limit (pending_in view g.F.BackingDisk.backing old out) out sound)
+
+pub returns-in-Err-clause-limit : goal.returns-in-Err-clause-limit
+returns-in-Err-clause-limit g c = λ out sound holds.
+    let view = g.S.Storage.view in
+    let below = g.F.BackingDisk.backing in
+    let old = c.args.self.now in
+    let p = pending_in view below old out in
+    let filled = c.new_cluster.new.self in
+    let n = c.in_ok-pending.pending in
+    let new_data = with_new_data (pending_with_listed p old filled) (run_of n) in
+    let all_new_data : HoldsAll view below p out = λ x. omega arith in
+    let gained = c.in_ok-pending.ensures.gains p out sound all_new_data in
+    let place = subst (λ b. HasPlace b c.args.table) (sym (ap (λ (v : HeaderView). v.fields.cluster_bits) c.new_cluster.ensures.header))
+    (named_place old.file.header.fields (known_in view old.file) (l1_index_of old.file.header.fields c.args.offset) c.args.table holds.entry.place) in
+    other_limit _ c.in-Err.refusal (c.in-Err.ensures.limited new_data out gained.image_step.sound place)

@@ -6,6 +6,8 @@ use Rattle.qcow2_alloc.proofs.ListedAfter.{header_format}
 use Rattle.qcow2_image.specs.declared.prepared.Prepared.{Prepared}
 use Rattle.qcow2_image.specs.Ranges.{FindsBehind, IsExtended}
 use Rattle.qcow2_image.proofs.Prepare.Extending.{extended}
+use Rattle.qcow2_image.proofs.Prepare.Lacked.{hands_limit}
+use Rattle.qcow2_image.specs.LackedPlaces.{CantTakeAt}
 use Rattle.qcow2_image.proofs.image.Qcow2.prepare_next.Goals as goal
 
 pub returns-in_default-clause-image_step : goal.returns-in_default-clause-image_step
@@ -45,3 +47,7 @@ returns-in_default-clause-uses g c = λ out k at may sound. c.in_ok-share.ensure
 
 pub returns-clause-uses : goal.returns-clause-uses
 returns-clause-uses g c = λ out k at may sound. c.in_ok-share.ensures.uses out k at may sound
+
+pub returns-in_err-share-clause-limit : goal.returns-in_err-share-clause-limit
+returns-in_err-share-clause-limit g c = λ out k at may sound.
+    hands_limit (λ x. CantTakeAt g.S.Storage.view (c.args.prepared.now.offset + c.args.prepared.now.length) c.args.self.now c.share_behind.new.self) c.from_residual.result c.in_err-share.field-0.0 c.from_residual.ensures (c.in_err-share.ensures.limit out k at may sound)

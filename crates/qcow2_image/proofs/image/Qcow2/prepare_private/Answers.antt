@@ -3,6 +3,8 @@ use Rattle.qcow2_image.proofs.Map.Loading.{if_ok, if_ok_any}
 use Rattle.qcow2_image.proofs.Prepare.KeptShares.{begins_kept}
 use Rattle.qcow2_alloc.proofs.KeptTables.Turning.{always_ok}
 use Rattle.qcow2_image.proofs.Prepare.Listing.{lists_none, lists_still}
+use Rattle.qcow2_image.proofs.Prepare.Lacked.{unlimited_all}
+use Rattle.qcow2_image.specs.LackedPlaces.{HasNoCluster, StandsInWay}
 use Rattle.qcow2_image.proofs.image.Qcow2.prepare_private.Goals as goal
 
 pub returns-in-Some-clause-readies : goal.returns-in-Some-clause-readies
@@ -34,3 +36,7 @@ returns-in-Some-clause-lowest g c = λ out sound. c.prepare_kept.ensures.lowest
 
 pub returns-in-None-clause-lowest : goal.returns-in-None-clause-lowest
 returns-in-None-clause-lowest g c = λ out sound. c.prepare_new.ensures.lowest out sound
+
+pub returns-in-Some-clause-limit : goal.returns-in-Some-clause-limit
+returns-in-Some-clause-limit g c = λ out sound holds.
+    unlimited_all c.prepare_kept.result (λ e. StandsInWay g.S.Storage.view HasNoCluster c.args.self.now.file.free_list c.args.self.now c.prepare_kept.new.self) c.prepare_kept.ensures.limited

@@ -1,4 +1,4 @@
-use Rattle.std.proofs.Common.{◌≡◌, true, false, inl, refl, sym, ◌∙◌, subst, None, Option, [], ◌∷◌}
+use Rattle.std.proofs.Common.{◌≡◌, true, false, inl, inr, refl, sym, ◌∙◌, subst, None, Option, [], ◌∷◌}
 use Rattle.qcow2_alloc.specs.ImageFile.{known_in}
 use Rattle.qcow2_alloc.proofs.AllocationSteps.{handed_on}
 use Rattle.qcow2_image.specs.CallParts.{PreparesRange}
@@ -18,6 +18,9 @@ use Rattle.qcow2_alloc.proofs.KeptMarks.{notes_then}
 use Rattle.qcow2_image.proofs.Call.BehindHeader.{behind_then}
 use Rattle.qcow2_image.proofs.Prepare.InUse.{none_lowest}
 use Rattle.qcow2_image.proofs.Prepare.Pinned.{found_pins, met_untaken, prepared_unpinned, unpinned_refused}
+use Rattle.qcow2_image.proofs.Prepare.Lacked.{hands_limit, limits_as, other_limit}
+use Rattle.qcow2_image.proofs.Prepare.LackedBehind.{data_after_table}
+use Rattle.qcow2_image.specs.LackedPlaces.{LacksData, LacksRange}
 use Rattle.qcow2_image.proofs.image.Qcow2.prepare_range.Goals as goal
 
 pub returns-in_err-table-clause-readies : goal.returns-in_err-table-clause-readies
@@ -165,3 +168,21 @@ returns-in-Some-clause-pinned g c = λ own some. absurd (let no : false ≡ true
 pub returns-in-None-clause-pinned : goal.returns-in-None-clause-pinned
 returns-in-None-clause-pinned g c = λ own.
     prepared_unpinned c.args.self.now c.args.offset _ c.prepare_in.result (found_pins c.args.self.now c.table_for.new.self c.args.offset c.in_ok-table.table (c.in_ok-table.ensures.own own)) c.prepare_in.ensures.taken c.prepare_in.ensures.unpinned
+
+pub returns-in_err-table-clause-limit : goal.returns-in_err-table-clause-limit
+returns-in_err-table-clause-limit g c = λ some out sound.
+    hands_limit (λ x. LacksRange g.S.Storage.view c.args.offset c.args.length c.args.self.now c.table_for.new.self) c.from_residual.result c.in_err-table.field-0.0 c.from_residual.ensures (λ is. inl (c.in_err-table.ensures.limit out sound is))
+
+pub returns-in_err-host-clause-limit : goal.returns-in_err-host-clause-limit
+returns-in_err-host-clause-limit g c = λ some out sound.
+    hands_limit (λ x. LacksRange g.S.Storage.view c.args.offset c.args.length c.args.self.now c.table_for.new.self) c.from_residual-in_err-host.result c.in_err-host.field-0.0 c.from_residual-in_err-host.ensures (other_limit _ c.in_err-host.field-0.0 c.in_err-host.ensures.limited)
+
+pub returns-in-None-clause-limit : goal.returns-in-None-clause-limit
+returns-in-None-clause-limit g c = λ some out sound.
+    let view = g.S.Storage.view in
+    let old = c.args.self.now in
+    let mid = c.table_for.new.self in
+    let new = c.prepare_in.new.self in
+    let found = c.in_ok-table.ensures.finds out sound in
+    limits_as (λ x. LacksData view c.args.offset c.args.length mid.file.free_list mid new) (λ x. LacksRange view c.args.offset c.args.length old new) c.prepare_in.result
+    (λ e lacks. inr (data_after_table view c.args.offset c.args.length old mid new found.0.header found.0.covers (c.in_ok-table.ensures.freed out sound) lacks)) (c.prepare_in.ensures.limit out found.0.sound found.1 some)

@@ -10,6 +10,10 @@ use Rattle.qcow2_image.proofs.Call.FaultCounts.{counted_ok, counted_on, faults_t
 use Rattle.qcow2_image.proofs.Prepare.Listing.{lists_none, lists_then}
 use Rattle.qcow2_alloc.proofs.KeptMarks.{notes_then}
 use Rattle.qcow2_image.proofs.Call.BehindHeader.{behind_then}
+use Rattle.qcow2_image.proofs.Prepare.Lacked.{cant_after, hands_limit}
+use Rattle.qcow2_disk.specs.Found.{rest_of_table}
+use Rattle.qcow2_image.specs.LackedPlaces.{CantTakeAt}
+use Rattle.std.proofs.Common.{◌+◌}
 use Rattle.qcow2_image.proofs.image.Qcow2.prepare_rest.Goals as goal
 
 pub returns-in_err-prepare_next-clause-image_step : goal.returns-in_err-prepare_next-clause-image_step
@@ -130,3 +134,28 @@ returns-then-not-branch-clause-uses g c = λ start out k free under is j used.
 
 pub returns-clause-uses : goal.returns-clause-uses
 returns-clause-uses g c = λ start out k free under is. c.loop-prepared.invariant.uses start out k free under is
+
+pub returns-in_err-prepare_next-clause-limit : goal.returns-in_err-prepare_next-clause-limit
+returns-in_err-prepare_next-clause-limit g c = λ start out k free under is.
+    let view = g.S.Storage.view in
+    let below = g.F.BackingDisk.backing in
+    let old = c.args.self.now in
+    let now = c.loop-prepared.self in
+    let new = c.prepare_next.new.self in
+    let p = c.args.prepared.now in
+    let q = c.loop-prepared.prepared in
+    let n = c.args.length in
+    let e = c.in_err-prepare_next.field-0.0 in
+    let so = c.loop-prepared.invariant.turns in
+    let bound = c.min-end.ensures ∙ ap (min c.args.length) c.rest_of_table.ensures.value in
+    let same : c.prepare_next.new.prepared ≡ q = c.prepare_next.ensures.same (λ ok. absurd (let f : Err e ≡ Ok true = sym c.in_err-prepare_next.was ∙ ok in cc)) in
+    let may = may_go_on view below old now p q n c.min-end.result c.args.table c.args.overwrite so bound c.loop-prepared-test.true start out k under is in
+    let before = so.image_step start out k free under is in
+    let most = min n (rest_of_table old.file.header.fields p.guest) in
+    hands_limit (λ x. (c.prepare_next.new.prepared.length < most) × CantTakeAt view (c.prepare_next.new.prepared.offset + c.prepare_next.new.prepared.length) old new) c.from_residual.result e c.from_residual.ensures
+    (λ limit.
+    subst (λ (x : Prepared). (x.length < most) × CantTakeAt view (x.offset + x.length) old new) (sym same) (
+      subst (λ m. q.length < m) bound c.loop-prepared-test.true,
+      cant_after view (q.offset + q.length) old now new (so.header) c.loop-prepared.invariant.former (c.loop-prepared.invariant.uses start out k free under is)
+          (c.in_err-prepare_next.ensures.limit (slice_set out k (Some q)) k (get_set_same out k (Some q) None free) may before.sound limit),
+    ))

@@ -14,6 +14,9 @@ use Rattle.qcow2_image.proofs.Prepare.Lacking.{fault_or_lacking, not_within, sho
 use Rattle.qcow2_alloc.proofs.KeptMarks.{notes_none, notes_then}
 use Rattle.qcow2_image.proofs.Call.BehindHeader.{behind_none, behind_then}
 use Rattle.qcow2_image.proofs.Prepare.Listing.{some_kept, some_none}
+use Rattle.qcow2_image.proofs.Prepare.Lacked.{faults_unlimited, hands_limit, unlimited_all}
+use Rattle.std.proofs.Common.{◌<◌}
+use Rattle.qcow2_image.specs.LackedPlaces.{EndsBefore, IsPlacedNear, LacksLongerTable}
 use Rattle.qcow2_image.proofs.image.Qcow2.reach_entry.Goals as goal
 
 pub returns-then-in_bounds-clause-makes : goal.returns-then-in_bounds-clause-makes
@@ -100,3 +103,43 @@ returns-then-in_bounds-clause-former g c = some_none c.args.self.now c.requires.
 
 pub returns-clause-former : goal.returns-clause-former
 returns-clause-former g c = always_ok c.free_listed.result (some_kept c.args.self.now c.grow_l1_table.new.self c.free_listed.new.self c.in_ok-grow_l1_table.ensures.former c.free_listed.ensures.former)
+
+pub returns-in_err-grow_l1_table-clause-limit : goal.returns-in_err-grow_l1_table-clause-limit
+returns-in_err-grow_l1_table-clause-limit g c = λ out sound.
+    let view = g.S.Storage.view in
+    let old = c.args.self.now in
+    let new = c.grow_l1_table.new.self in
+    let at = l1_index_of old.file.header.fields c.args.offset in
+    let idx : c.l1_index-index.result ≡ at =
+    c.l1_index-index.ensures ∙ ap (λ n. n / 2 ^ c.cluster_bits.result / (2 ^ c.cluster_bits.result / 8)) c.new.ensures ∙ ap (λ b. c.args.offset / 2 ^ b / (2 ^ b / 8)) c.cluster_bits.ensures.value in
+    let past : entry_count old.l1_table ≤ at = subst (λ i. entry_count old.l1_table ≤ i) idx (not_within c.in_bounds.result c.l1_index-index.result (entry_count old.l1_table) c.in_bounds.ensures c.if-in_bounds.false) in
+    let many : max (entry_count old.l1_table) (at + 1) ≡ at + 1 = omega (arith, past) in
+    hands_limit (λ x. EndsBefore c.args.offset old × LacksLongerTable view at (at + 1) old.file.free_list old new) c.from_residual.result c.in_err-grow_l1_table.field-0.0 c.from_residual.ensures
+    (λ is. (
+      past,
+      subst (λ n. LacksLongerTable view at n old.file.free_list old new) many
+          (subst (λ i. LacksLongerTable view i (max (entry_count old.l1_table) (i + 1)) old.file.free_list old new) idx (c.in_err-grow_l1_table.ensures.limit (pending_in view g.F.BackingDisk.backing old out) out sound is)),
+    ))
+
+pub returns-clause-limit : goal.returns-clause-limit
+returns-clause-limit g c = λ out sound.
+    let view = g.S.Storage.view in
+    let below = g.F.BackingDisk.backing in
+    let old = c.args.self.now in
+    let mid = c.grow_l1_table.new.self in
+    let new = c.free_listed.new.self in
+    let at = l1_index_of old.file.header.fields c.args.offset in
+    let first = stays_moved view below out old mid sound (c.in_ok-grow_l1_table.ensures.lengthens (pending_in view below old out) out sound) in
+    let listed = subst (λ (x : Pending). ImageInvariant view below x mid out) (all_listed view below mid out) first.sound in
+    unlimited_all c.free_listed.result (λ e. EndsBefore c.args.offset old × LacksLongerTable view at (at + 1) old.file.free_list old new)
+    (faults_unlimited c.free_listed.result (c.free_listed.ensures.faults (beside view below mid out) out listed))
+
+pub returns-then-in_bounds-clause-placed : goal.returns-then-in_bounds-clause-placed
+returns-then-in_bounds-clause-placed g c = λ past bits.
+    let old = c.args.self.now in
+    let idx : c.l1_index-index.result ≡ l1_index_of old.file.header.fields c.args.offset =
+    c.l1_index-index.ensures ∙ ap (λ n. n / 2 ^ c.cluster_bits.result / (2 ^ c.cluster_bits.result / 8)) c.new.ensures ∙ ap (λ b. c.args.offset / 2 ^ b / (2 ^ b / 8)) c.cluster_bits.ensures.value in
+    absurd (let lt = c.in_bounds.ensures.0 c.if-in_bounds.true in omega (arith, lt, idx, past))
+
+pub returns-clause-placed : goal.returns-clause-placed
+returns-clause-placed g c = λ past bits. always_ok c.free_listed.result (subst IsPlacedNear (sym c.free_listed.ensures.table) (c.in_ok-grow_l1_table.ensures.placed bits))

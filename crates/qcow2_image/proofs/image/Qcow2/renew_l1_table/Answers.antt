@@ -5,6 +5,8 @@ use Rattle.qcow2_image.proofs.Call.BehindHeader.{behind_then}
 use Rattle.qcow2_image.proofs.Call.FaultCounts.{counted_as, counted_of, untouched}
 use Rattle.qcow2_image.proofs.Call.FreedBehind.{met_freed, refused_freed}
 use Rattle.qcow2_image.proofs.Call.Refused.{back_then_freed}
+use Rattle.qcow2_image.proofs.Prepare.Lacked.{limited_frees}
+use Rattle.qcow2_image.proofs.Sizing.LackedTables.{longer_freed}
 use Rattle.qcow2_image.proofs.image.Qcow2.renew_l1_table.Goals as goal
 
 pub returns-in-Err-clause-cause : goal.returns-in-Err-clause-cause
@@ -44,3 +46,12 @@ returns-in-Err-clause-header_cluster g c = behind_then c.lengthen_l1_table.ensur
 
 pub returns-in-Ok-clause-noted : goal.returns-in-Ok-clause-noted
 returns-in-Ok-clause-noted g c = c.in-Ok.ensures.noted
+
+pub returns-in-Err-clause-limit : goal.returns-in-Err-clause-limit
+returns-in-Err-clause-limit g c = λ out sound is.
+    let view = g.S.Storage.view in
+    let below = g.F.BackingDisk.backing in
+    let old = c.args.self.now in
+    let mid = c.lengthen_l1_table.new.self in
+    let freed = limited_frees view below out old mid c.free_after.new.self c.in-Err.refusal c.free_after.result (c.in-Err.ensures.makes out sound) c.free_after.ensures.fault (c.free_after.ensures.limit out) is in
+    longer_freed view _ _ old.file.free_list old mid c.free_after.new.self c.free_after.ensures.keeps_rest.header freed.1 (c.in-Err.ensures.limit out sound freed.0)

@@ -7,6 +7,11 @@ use Rattle.qcow2_alloc.proofs.KeptMarks.{notes_then, notes_of_both}
 use Rattle.qcow2_image.proofs.Call.BehindHeader.{behind_caches, behind_then}
 use Rattle.qcow2_image.proofs.Grow.Lengths.{on_ok}
 use Rattle.qcow2_image.proofs.Prepare.Listing.{some_from}
+use Rattle.qcow2_image.proofs.Prepare.Lacked.{hands_limit, limits_as, other_limit, stands_alike}
+use Rattle.qcow2_alloc.specs.ImageFile.{contents_in}
+use Rattle.qcow2_image.proofs.Prepare.Lacking.{named_place}
+use Rattle.qcow2_image.proofs.Call.Unlimited.{in_use_unlimited}
+use Rattle.qcow2_image.specs.LackedPlaces.{HasNoCluster, StandsInWay}
 use Rattle.qcow2_image.proofs.image.Qcow2.replace_l2.Goals as goal
 
 pub returns-in_err-l2_get_or_insert-clause-owns : goal.returns-in_err-l2_get_or_insert-clause-owns
@@ -63,3 +68,25 @@ returns-clause-former g c =
     let old = c.args.self.now in
     let mid = record old { file = record old.file { storage = c.l2_get_or_insert.new.storage; caches = c.l2_get_or_insert.new.self } } in
     on_ok c.swap_l2.result (λ gave. some_from old mid c.swap_l2.new.self refl gave) c.swap_l2.ensures.former
+
+pub returns-in_err-l2_get_or_insert-clause-limit : goal.returns-in_err-l2_get_or_insert-clause-limit
+returns-in_err-l2_get_or_insert-clause-limit g c = λ p out sound shared near.
+    let view = g.S.Storage.view in
+    let old = c.args.self.now in
+    let h = old.file.header.fields in
+    let e = c.in_err-l2_get_or_insert.field-0.0 in
+    hands_limit (λ x. StandsInWay view HasNoCluster old.file.free_list old (with_caches view g.F.BackingDisk.backing old out p sound c.l2_get_or_insert.new.storage c.l2_get_or_insert.new.self)) c.from_residual.result e c.from_residual.ensures
+    (other_limit _ e (in_use_unlimited old.file.caches e (c.in_err-l2_get_or_insert.ensures.refusals h (named_place h (contents_in view old.file) c.args.index c.args.old shared.place) p sound.file.honest sound.file.caches sound.file.named_blocks)))
+
+pub returns-clause-limit : goal.returns-clause-limit
+returns-clause-limit g c = λ p out sound shared near.
+    let view = g.S.Storage.view in
+    let below = g.F.BackingDisk.backing in
+    let old = c.args.self.now in
+    let mid = with_caches view below old out p sound c.l2_get_or_insert.new.storage c.l2_get_or_insert.new.self in
+    let kept = caches_moved view below old out p sound c.l2_get_or_insert.new.storage c.l2_get_or_insert.new.self
+    (c.l2_get_or_insert.ensures.keeps old.file.header.fields p sound.file.honest sound.file.caches) c.l2_get_or_insert.ensures.marks.room c.l2_get_or_insert.ensures.marks.pins in
+    let still = shared_still view below out p old sound c.args.index mid kept refl refl c.args.old shared in
+    limits_as (λ x. StandsInWay view HasNoCluster mid.file.free_list mid c.swap_l2.new.self) (λ x. StandsInWay view HasNoCluster old.file.free_list old c.swap_l2.new.self) c.swap_l2.result (λ e s. stands_alike view HasNoCluster old.file.free_list old mid c.swap_l2.new.self refl s)
+    (c.swap_l2.ensures.limit p out kept.sound still
+    (says_copy view below out p mid kept.sound c.args.index c.args.old still c.in-Some.held.now c.in_ok-table.table c.in-Some.ensures.shows c.in_ok-table.ensures.ok) (record { within = near.within; room = near.room }))

@@ -12,6 +12,8 @@ use Rattle.qcow2_image.proofs.Prepare.Owning.{refused as any_refusal}
 use Rattle.qcow2_image.proofs.Prepare.ReadyingNew.{back_none}
 use Rattle.qcow2_alloc.proofs.KeptMarks.{notes_none}
 use Rattle.qcow2_image.proofs.Call.BehindHeader.{behind_none}
+use Rattle.qcow2_image.proofs.Prepare.Lacked.{hands_limit, other_limit}
+use Rattle.qcow2_image.specs.LackedPlaces.{CantTakeAt}
 use Rattle.qcow2_image.proofs.image.Qcow2.share_at.Goals as goal
 
 pub returns-in_default-clause-shares : goal.returns-in_default-clause-shares
@@ -84,3 +86,14 @@ returns-in_default-2-clause-uses g c = λ p out sound holds. c.in_ok-pending.ens
 
 pub returns-clause-uses : goal.returns-clause-uses
 returns-clause-uses g c = λ p out sound holds. c.in_ok-pending.ensures.uses p out sound holds
+
+pub returns-in_err-old_data-clause-limit : goal.returns-in_err-old_data-clause-limit
+returns-in_err-old_data-clause-limit g c = λ p out sound holds.
+    hands_limit (λ x. CantTakeAt g.S.Storage.view c.args.host c.args.self.now c.args.self.now) c.from_residual.result c.in_err-old_data.field-0.0 c.from_residual.ensures (other_limit _ c.in_err-old_data.field-0.0 c.in_err-old_data.ensures.limited)
+
+pub returns-in_err-pending-clause-limit : goal.returns-in_err-pending-clause-limit
+returns-in_err-pending-clause-limit g c = λ p out sound holds.
+    let h = c.args.self.now.file.header.fields in
+    let host_is : c.in-Some.cluster * cluster_size h ≡ c.args.host = ap (λ b. c.in-Some.cluster * 2 ^ b) (sym c.cluster_bits-bits.ensures.value) ∙ c.in-Some.ensures.cluster ∙ c.new.ensures in
+    hands_limit (λ x. CantTakeAt g.S.Storage.view c.args.host c.args.self.now c.new_cluster_at.new.self) c.from_residual-in_err-pending.result c.in_err-pending.field-0.0 c.from_residual-in_err-pending.ensures
+    (λ is. (c.in-Some.cluster, host_is, c.in_err-pending.ensures.limit p out sound holds is))

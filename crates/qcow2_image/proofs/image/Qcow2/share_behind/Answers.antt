@@ -17,6 +17,8 @@ use Rattle.qcow2_image.proofs.Prepare.Listing.{lists_none, lists_still}
 use Rattle.qcow2_alloc.proofs.KeptMarks.{notes_none}
 use Rattle.qcow2_image.proofs.Call.BehindHeader.{behind_none}
 use Rattle.qcow2_image.proofs.Prepare.InUse.{used_stays}
+use Rattle.qcow2_image.proofs.Prepare.Lacked.{hands_limit, limits_as, other_limit}
+use Rattle.qcow2_image.specs.LackedPlaces.{CantTakeAt}
 use Rattle.qcow2_image.proofs.image.Qcow2.share_behind.Goals as goal
 
 pub returns-in-Some-copied_place-clause-finds : goal.returns-in-Some-copied_place-clause-finds
@@ -174,3 +176,19 @@ returns-in_ok-fill_kept-in-None-clause-uses g c = λ out k at may sound.
     let rest = c.fill_kept.ensures.rest in
     let a = lists_none old c.requires.writable in
     used_stays view below out before a.after old new sound image_step.sound (ap (λ (i : Qcow2 _ _). i.file.header) rest) a.is (ap (λ (i : Qcow2 _ _). i.allocator) rest) (ap (λ (i : Qcow2 _ _). i.l1_table) rest) image_step.covers
+
+pub returns-in_err-old-clause-limit : goal.returns-in_err-old-clause-limit
+returns-in_err-old-clause-limit g c = λ out k at may sound.
+    hands_limit (λ x. CantTakeAt g.S.Storage.view (c.args.prepared.now.offset + c.args.prepared.now.length) c.args.self.now c.args.self.now) c.from_residual.result c.in_err-old.field-0.0 c.from_residual.ensures (other_limit _ c.in_err-old.field-0.0 c.in_err-old.ensures.limited)
+
+pub returns-in_err-fill_kept-in-None-clause-limit : goal.returns-in_err-fill_kept-in-None-clause-limit
+returns-in_err-fill_kept-in-None-clause-limit g c = λ out k at may sound.
+    hands_limit (λ x. CantTakeAt g.S.Storage.view (c.args.prepared.now.offset + c.args.prepared.now.length) c.args.self.now c.fill_kept.new.self) c.from_residual-in_err-fill_kept-in-None.result c.in_err-fill_kept-in-None.field-0.0 c.from_residual-in_err-fill_kept-in-None.ensures
+    (other_limit _ c.in_err-fill_kept-in-None.field-0.0 c.in_err-fill_kept-in-None.ensures.limited)
+
+pub returns-in-None-2-clause-limit : goal.returns-in-None-2-clause-limit
+returns-in-None-2-clause-limit g c = λ out k at may sound.
+    let view = g.S.Storage.view in
+    limits_as (λ x. CantTakeAt view c.in-Some-checked_add.host c.args.self.now c.share_at.new.self) (λ x. CantTakeAt view (c.args.prepared.now.offset + c.args.prepared.now.length) c.args.self.now c.share_at.new.self) c.share_at.result
+    (λ e cant. subst (λ n. CantTakeAt view n c.args.self.now c.share_at.new.self) c.in-Some-checked_add.ensures.1 cant)
+    (c.share_at.ensures.limit (pending_in view g.F.BackingDisk.backing c.args.self.now out) out sound (λ m. omega arith))

@@ -2,6 +2,7 @@ use Rattle.qcow2_alloc.proofs.KeptMarks.{notes_of_both}
 use Rattle.qcow2_image.proofs.Map.Loading.{caches_moved, with_caches}
 use Rattle.qcow2_image.proofs.Prepare.Storing.{stores_counts}
 use Rattle.qcow2_image.proofs.Call.BehindHeader.{behind_caches}
+use Rattle.qcow2_image.proofs.Prepare.Lacked.{faults_unlimited}
 use Rattle.qcow2_image.proofs.image.Qcow2.store_first.Goals as goal
 
 pub returns-clause-stores : goal.returns-clause-stores
@@ -17,3 +18,6 @@ returns-clause-notes g c = (notes_of_both c.flush_rb.ensures.marks c.flush_rb.en
 
 pub returns-clause-header_cluster : goal.returns-clause-header_cluster
 returns-clause-header_cluster g c = behind_caches c.flush_rb.ensures.header_cluster
+
+pub returns-clause-limited : goal.returns-clause-limited
+returns-clause-limited g c = λ p out sound. faults_unlimited c.flush_rb.result (c.flush_rb.ensures.faults c.args.self.now.file.header.fields p sound.file.honest sound.file.caches sound.file.named_blocks)

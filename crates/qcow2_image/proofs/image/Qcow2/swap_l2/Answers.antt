@@ -5,6 +5,7 @@ use Rattle.qcow2_image.proofs.Prepare.Owning.{refused, left_alone, swapped_owns}
 use Rattle.qcow2_alloc.proofs.KeptMarks.{notes_none}
 use Rattle.qcow2_image.proofs.Call.BehindHeader.{behind_none}
 use Rattle.qcow2_image.proofs.Prepare.Listing.{some_still}
+use Rattle.qcow2_image.proofs.Prepare.Lacked.{other_limit}
 use Rattle.qcow2_image.proofs.image.Qcow2.swap_l2.Goals as goal
 
 pub returns-in-Err-clause-owns : goal.returns-in-Err-clause-owns
@@ -42,3 +43,6 @@ returns-in-Ok-clause-elsewhere g c = c.in-Ok.ensures.elsewhere
 
 pub returns-in-Ok-clause-former : goal.returns-in-Ok-clause-former
 returns-in-Ok-clause-former g c = some_still c.args.self.now c.enter_l2.new.self (record c.enter_l2.new.self { file = record c.enter_l2.new.self.file { free_list = c.hand_back.new.list } }) c.in-Ok.ensures.former refl
+
+pub returns-in-Err-clause-limit : goal.returns-in-Err-clause-limit
+returns-in-Err-clause-limit g c = λ p out sound shared says near. c.in-Err.ensures.limit p out sound shared.may says near

@@ -18,6 +18,12 @@ use Rattle.qcow2_alloc.proofs.KeptMarks.{notes_none, notes_then}
 use Rattle.qcow2_image.proofs.Call.BehindHeader.{behind_none, behind_then}
 use Rattle.qcow2_image.proofs.Prepare.Listing.{lists_made, lists_own, some_kept, some_then}
 use Rattle.qcow2_image.proofs.Call.FaultCounts.{counted_since, same_of}
+use Rattle.qcow2_image.proofs.Prepare.Lacked.{cluster_more, hands_limit, longer_wider, near_reached, other_limit, reached_runs, stands_then, unlimited_all}
+use Rattle.qcow2_image.specs.LackedPlaces.{HasNearEntry, HasNoCluster, LacksTableFor, listed_or_l1}
+use Rattle.qcow2_alloc.proofs.Outcomes.{not_both}
+use Rattle.qcow2_metadata.specs.declared.header.HeaderFields.{HeaderFields}
+use Rattle.std.proofs.Common.{◌+◌}
+use Rattle.qcow2_image.proofs.Call.Unlimited.{fault_unlimited}
 use Rattle.qcow2_image.proofs.image.Qcow2.table_for.Goals as goal
 
 pub returns-then-has_own_l2-clause-finds : goal.returns-then-has_own_l2-clause-finds
@@ -246,3 +252,67 @@ returns-clause-faults g c =
     counted_since view below old c.reach_entry.new.self c.ensure_l2-2.new.self c.ensure_l2-2.result reached
     (counted_since view below c.reach_entry.new.self c.own_l2.new.self c.ensure_l2-2.new.self c.ensure_l2-2.result owned
     (counted_since view below c.own_l2.new.self c.free_listed.new.self c.ensure_l2-2.new.self c.ensure_l2-2.result freed c.ensure_l2-2.ensures.faults))
+
+pub returns-then-has_own_l2-clause-limit : goal.returns-then-has_own_l2-clause-limit
+returns-then-has_own_l2-clause-limit g c = λ out sound.
+    unlimited_all c.ensure_l2.result (λ e. LacksTableFor g.S.Storage.view c.args.offset c.args.self.now c.ensure_l2.new.self)
+    (c.ensure_l2.ensures.limited (pending_in g.S.Storage.view g.F.BackingDisk.backing c.args.self.now out) out sound (c.has_own_l2.ensures.0 c.if-has_own_l2.true))
+
+pub returns-in_err-reach_entry-clause-limit : goal.returns-in_err-reach_entry-clause-limit
+returns-in_err-reach_entry-clause-limit g c = λ out sound.
+    let view = g.S.Storage.view in
+    let old = c.args.self.now in
+    let new = c.reach_entry.new.self in
+    hands_limit (λ x. LacksTableFor view c.args.offset old new) c.from_residual.result c.in_err-reach_entry.field-0.0 c.from_residual.ensures
+    (λ is.
+    let why = c.in_err-reach_entry.ensures.limit out sound is in
+    ((λ own. absurd (let no : false ≡ true = sym c.if-has_own_l2.false ∙ c.has_own_l2.ensures.1 own in cc)), inl (why.0, longer_wider view (l1_index_of old.file.header.fields c.args.offset) (l1_index_of old.file.header.fields c.args.offset + 1) old new why.1)))
+
+pub returns-in_err-own_l2-clause-limit : goal.returns-in_err-own_l2-clause-limit
+returns-in_err-own_l2-clause-limit g c = λ out sound.
+    let view = g.S.Storage.view in
+    let below = g.F.BackingDisk.backing in
+    let old = c.args.self.now in
+    let long = c.reach_entry.new.self in
+    let new = c.own_l2.new.self in
+    let e = c.in_err-own_l2.field-0.0 in
+    let reached = c.in_ok-reach_entry.ensures.makes out sound in
+    let gave = c.in_ok-reach_entry.ensures.former in
+    let near : HasNearEntry long (l1_index_of long.file.header.fields c.args.offset) =
+    near_reached old long c.args.offset sound.l1_table.bits (λ far. not_both c.has_far_entry.result (c.has_far_entry.ensures.1 far) c.if-has_far_entry.false) c.reach_entry.ensures.none c.in_ok-reach_entry.ensures.placed c.in_ok-reach_entry.ensures.length (ap (λ (h : HeaderFields). l1_index_of h c.args.offset) reached.header) in
+    hands_limit (λ x. LacksTableFor view c.args.offset old new) c.from_residual-in_err-own_l2.result e c.from_residual-in_err-own_l2.ensures
+    (λ is.
+    let s = c.in_err-own_l2.ensures.limit (pending_in view below long out) out reached.sound near is in (
+      (λ own. absurd (let no : false ≡ true = sym c.if-has_own_l2.false ∙ c.has_own_l2.ensures.1 own in cc)),
+      inr (stands_then view HasNoCluster cluster_more long.file.free_list (listed_or_l1 old) gave.0 old long new gave.1 (reached_runs old long c.args.offset gave.0 c.reach_entry.ensures.none c.in_ok-reach_entry.ensures.emptied) s),
+    ))
+
+pub returns-in_err-free_listed-clause-limit : goal.returns-in_err-free_listed-clause-limit
+returns-in_err-free_listed-clause-limit g c = λ out sound.
+    let view = g.S.Storage.view in
+    let below = g.F.BackingDisk.backing in
+    let long = c.reach_entry.new.self in
+    let mid = c.own_l2.new.self in
+    let e = c.in_err-free_listed.field-0.0 in
+    let reached = c.in_ok-reach_entry.ensures.makes out sound in
+    let first = stays_kept view below out long mid reached.sound (c.in_ok-own_l2.ensures.owns (pending_in view below long out) out reached.sound).0 in
+    let listed = subst (λ (x : Pending). ImageInvariant view below x mid out) (all_listed view below mid out) first.sound in
+    hands_limit (λ x. LacksTableFor view c.args.offset c.args.self.now c.free_listed.new.self) c.from_residual-in_err-free_listed.result e c.from_residual-in_err-free_listed.ensures
+    (other_limit _ e (fault_unlimited e (c.in_err-free_listed.ensures.faults (beside view below mid out) out listed)))
+
+pub returns-clause-limit : goal.returns-clause-limit
+returns-clause-limit g c = λ out sound.
+    let view = g.S.Storage.view in
+    let below = g.F.BackingDisk.backing in
+    let old = c.args.self.now in
+    let long = c.reach_entry.new.self in
+    let mid = c.own_l2.new.self in
+    let freed = c.free_listed.new.self in
+    let reached = c.in_ok-reach_entry.ensures.makes out sound in
+    let owned = c.in_ok-own_l2.ensures.owns (pending_in view below long out) out reached.sound in
+    let first = stays_kept view below out long mid reached.sound owned.0 in
+    let listed = subst (λ (x : Pending). ImageInvariant view below x mid out) (all_listed view below mid out) first.sound in
+    let second = tidy_stays view below mid out freed first.sound (c.in_ok-free_listed.ensures.frees (beside view below mid out) out listed) in
+    let at = ap (λ (v : HeaderView). l1_index_of v.fields c.args.offset) c.own_l2.ensures.keeps_rest.header in
+    let own = own_after view below out (pending_with_listed (pending_in view below long out) long mid) mid freed owned.0.sound c.args.offset (l1_index_of long.file.header.fields c.args.offset) at owned.1.own c.free_listed.ensures.table c.free_listed.ensures.keeps_rest.header in
+    unlimited_all c.ensure_l2-2.result (λ e. LacksTableFor view c.args.offset old c.ensure_l2-2.new.self) (c.ensure_l2-2.ensures.limited (pending_in view below freed out) out second.sound own)

@@ -9,9 +9,14 @@ use Rattle.qcow2_image.proofs.Formats.{lists_grow}
 use Rattle.qcow2_image.proofs.Prepare.Gaining.{takes_data}
 use Rattle.qcow2_image.proofs.Call.BehindHeader.{behind_allocated}
 use Rattle.std.specs.Prelude.{IfOk}
-use Rattle.qcow2_alloc.specs.LowestRuns.{IsLowestRun}
+use Rattle.qcow2_alloc.specs.LowestRuns.{IsLowestRun, IsUsed}
 use Rattle.qcow2_image.proofs.Prepare.InUse.{all_used}
 use Rattle.qcow2_image.proofs.Map.Loading.{if_ok}
+use Rattle.qcow2_image.proofs.Prepare.Lacked.{cluster_more, limits_untaken, stands_untaken}
+use Rattle.std.proofs.Common.{arith, ◌<◌}
+use Rattle.std.specs.Prelude.{IfErr}
+use Rattle.qcow2_alloc.specs.Limits.{HasNoPlace, IsFaultOr}
+use Rattle.qcow2_image.specs.LackedPlaces.{HasNoCluster, StandsInWay}
 use Rattle.qcow2_image.proofs.image.Qcow2.take_data.Goals as goal
 
 pub returns-clause-takes : goal.returns-clause-takes
@@ -42,4 +47,17 @@ returns-clause-lowest g c = λ p out sound.
     let one : c.new.result ≡ 1 = c.new.ensures in
     let own = subst (λ x. IfSome x (IsAllocatorOf view c.args.self.now.file)) c.in-Some.is sound.reftable in
     if_ok c.allocate_data.result (λ run low. all_used view c.allocate_data.new.file run.first_cluster low)
-    (subst (λ n. IfOk c.allocate_data.result (λ run. IsLowestRun view c.allocate_data.new.file run.first_cluster n)) one (c.allocate_data.ensures.lowest p (record { sound = record { sound = sound.file; reftable = own.reftable }; hint = own.hint })))
+    (subst (λ n. IfOk c.allocate_data.result (λ run. IsLowestRun (IsUsed view c.allocate_data.new.file) run.first_cluster n)) one (c.allocate_data.ensures.lowest p (record { sound = record { sound = sound.file; reftable = own.reftable }; hint = own.hint })))
+
+pub returns-clause-limit : goal.returns-clause-limit
+returns-clause-limit g c = λ p out sound.
+    let view = g.S.Storage.view in
+    let old = c.args.self.now in
+    let file = c.allocate_data.new.file in
+    let one : c.new.result ≡ 1 = c.new.ensures in
+    let own = subst (λ x. IfSome x (IsAllocatorOf view old.file)) c.in-Some.is sound.reftable in
+    let none = HasNoPlace (IsUsed view file) file.header.fields c.allocate_data.new.self 1 in
+    limits_untaken none (StandsInWay view HasNoCluster old.file.free_list old (record old { file = file; allocator = Some c.allocate_data.new.self })) c.allocate_data.result
+    (λ full. stands_untaken view HasNoCluster cluster_more old file c.in-Some.allocator c.allocate_data.new.self c.in-Some.is c.allocate_data.ensures.former full)
+    (subst (λ n. IfErr c.allocate_data.result (IsFaultOr (HasNoPlace (IsUsed view file) file.header.fields c.allocate_data.new.self n))) one
+    (c.allocate_data.ensures.limit p (record { sound = record { sound = sound.file; reftable = own.reftable }; hint = own.hint }) (omega (arith, one))))

@@ -7,6 +7,10 @@ use Rattle.qcow2_alloc.proofs.MadeClusters.{none_used}
 use Rattle.qcow2_image.proofs.Formats.{lists_grow}
 use Rattle.qcow2_image.proofs.Prepare.Gaining.{takes_data_at}
 use Rattle.qcow2_image.proofs.Call.BehindHeader.{behind_allocated}
+use Rattle.qcow2_image.proofs.Prepare.Lacked.{limits_kept}
+use Rattle.qcow2_image.specs.LackedPlaces.{CantTake}
+use Rattle.qcow2_alloc.specs.Limits.{CantCount}
+use Rattle.qcow2_alloc.specs.LowestRuns.{IsUsed, StaysUsed}
 use Rattle.qcow2_image.proofs.image.Qcow2.take_data_at.Goals as goal
 
 pub returns-clause-takes : goal.returns-clause-takes
@@ -33,3 +37,14 @@ pub returns-clause-uses : goal.returns-clause-uses
 returns-clause-uses g c = λ p out sound holds.
     let own = subst (λ x. IfSome x (IsAllocatorOf g.S.Storage.view c.args.self.now.file)) c.in-Some.is sound.reftable in
     c.allocate_data_at.ensures.uses p (record { sound = sound.file; reftable = own.reftable })
+
+pub returns-clause-limit : goal.returns-clause-limit
+returns-clause-limit g c = λ p out sound.
+    let view = g.S.Storage.view in
+    let old = c.args.self.now in
+    let file = c.allocate_data_at.new.file in
+    let own = subst (λ x. IfSome x (IsAllocatorOf view old.file)) c.in-Some.is sound.reftable in
+    limits_kept (CantCount (IsUsed view file) file.header.fields (λ k. 0) c.allocate_data_at.new.self c.args.cluster) (StaysUsed view old.file file) (CantTake view c.args.cluster old (record old { file = file; allocator = Some c.allocate_data_at.new.self })) c.allocate_data_at.result
+    (λ cant stays. record { former = record { before = c.in-Some.allocator; after = c.allocate_data_at.new.self; was = c.in-Some.is; is = refl; behind = c.allocate_data_at.ensures.former }; allocator = c.allocate_data_at.new.self; is = refl; uncounted = cant; uses = stays })
+    (c.allocate_data_at.ensures.limit p (record { sound = record { sound = sound.file; reftable = own.reftable }; hint = own.hint }))
+    (c.allocate_data_at.ensures.kept p (record { sound = sound.file; reftable = own.reftable }))
