@@ -67,12 +67,13 @@ stops_resting old mid new gs asked rests never m s = record {
 }
 
 -- a failed image on the same storage
-pub rests_none : (old new : AbstractImage) → new.setting ≡ old.setting → new.storage ≡ old.storage → IsTrue new.is_failed → EffectOnFailed old new
-rests_none old new setting same failed = record {
+pub rests_none : (old new : AbstractImage) → new.setting ≡ old.setting → new.storage ≡ old.storage → IsTrue new.is_failed → new.leaked ≡ old.leaked → EffectOnFailed old new
+rests_none old new setting same failed leaks = record {
   setting = setting;
   failed = failed;
   contents = ap (λ (v : StorageView). v.contents) same;
   moments = subst (λ (v : StorageView). EachMomentSince old.storage v (λ c. c ≡ old.storage.contents)) (sym same) (passes_none old.storage _);
+  leaks = leaks;
 }
 
 -- ---- calls
@@ -106,6 +107,7 @@ pub works_less : (old new : AbstractImage) (gs fewer : List GivenBytes) (asked :
 works_less old new gs fewer asked within w = record {
   setting = w.setting;
   surplus = w.surplus;
+  leaks = w.leaks;
   stops = λ m starts. stops_less old new gs fewer asked asked m (kept_less old gs fewer asked within m starts.1) (w.stops m starts);
 }
 
@@ -116,6 +118,7 @@ works_then old mid new gs asked there a b =
     record {
       setting = b.setting ∙ a.setting;
       surplus = λ h. b.surplus h ∙ a.surplus there;
+      leaks = b.leaks ∙ a.leaks;
       stops = λ m starts.
           let f = a.stops m starts in
           let l = b.stops (checkpoint_with gs asked m) (subst (λ k. StopOkEverywhere k (checkpoint_with gs asked m) (stored_bytes mid)) (sym same) f.contents, subst (λ k. StopOkEverywhere k (checkpoint_with gs asked m) mid.known) (sym same) (f.known there)) in
@@ -133,4 +136,5 @@ rests_then old mid new a b = record {
   failed = b.failed;
   contents = b.contents ∙ a.contents;
   moments = passes_on (λ c. c ≡ old.storage.contents) a.moments b.moments (λ c e. e ∙ a.contents);
+  leaks = b.leaks ∙ a.leaks;
 }

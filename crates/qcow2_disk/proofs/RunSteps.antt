@@ -64,6 +64,7 @@ module _ (x : Setting) (old new : AbstractImage) (s : State) (command : Command)
           told = λ e. absurd (not_ok e);
         };
         surplus = λ e. absurd (not_ok e);
+        leaks = rests.leaks;
         since = λ e. e;
       }
 
@@ -116,6 +117,7 @@ module _ (x : Setting) (old new : AbstractImage) (s : State) (command : Command)
           };
           interval = record { safe = safe_to (checkpoint_after x s command reply s.guest) at; own = λ _. own; sized = λ _. sized; told = λ e. absurd (cc) };
           surplus = λ e. absurd (cc);
+          leaks = acts.leaks;
           since = λ _. ok;
         }
 
@@ -148,6 +150,7 @@ module _ (x : Setting) (old new : AbstractImage) (s : State) (command : Command)
           };
           interval = record { safe = safe_to after at; own = λ _. own; sized = λ _. sized; told = λ _. subst (λ y. IsRightlyTold y old.known new command reply) (acts.setting ∙ stands.setting) finds };
           surplus = λ _. acts.surplus sound;
+          leaks = acts.leaks;
           since = λ _. ok;
         }
 
@@ -218,9 +221,10 @@ acts_none v given asked = record {
   works = λ _. record {
     setting = refl;
     surplus = λ _. refl;
+    leaks = refl;
     stops = stops_none v v given asked refl (λ _. refl);
   };
-  rests = λ failed. rests_none v v refl refl failed;
+  rests = λ failed. rests_none v v refl refl failed refl;
 }
 
 -- a flush that succeeded: what is on the storage is what the guest sees
@@ -313,14 +317,14 @@ Run-push x old mid new [] (r ∷ replies) command reply run step = absurd run
 Run-push x old mid new (c ∷ commands) [] command reply run step = absurd run
 
 -- an image that stands at a place of a run is as the run says
-said_at : {x : Setting} {v : AbstractImage} {s : State} (before : ℕ → ℕ) → RefinesState x v s → (s.is_failed ≡ false → v.surplus ≡ before) → RefinesGuest v s before
-said_at before stands same = record { works = stands.works; failed = stands.failed; guest = stands.guest; consistent = λ ok. (stands.known ok).consistent; surplus = same }
+said_at : {x : Setting} {v : AbstractImage} {s : State} (before : ℕ → ℕ) (leaked : ℕ) → RefinesState x v s → (s.is_failed ≡ false → v.surplus ≡ before) → v.leaked ≡ leaked → RefinesGuest v s before leaked
+said_at before leaked stands same leaks = record { works = stands.works; failed = stands.failed; guest = stands.guest; consistent = λ ok. (stands.known ok).consistent; surplus = same; leaks = leaks }
 
-module _ {D P : Type 0} (spec : Abstraction D P) (x : Setting) (before : ℕ → ℕ) where
+module _ {D P : Type 0} (spec : Abstraction D P) (x : Setting) (before : ℕ → ℕ) (leaked : ℕ) where
   -- so does the image along it
   along_push : (old mid new : D) (out : List (Option P)) (s t end : State) (commands : List Command) (replies : List Reply) (command : Command) (reply : Reply) (run : Run x s commands replies t) (step : CommandStep x t command reply end)
-      → RefinesAlong spec x before old mid s t commands replies run → RefinesGuest (abstract_image spec new out) end before → IsCommandInterval x (spec.storage mid) (spec.known mid) (abstract_image spec new out) t command reply end
-      → RefinesAlong spec x before old new s end (commands ++ command ∷ []) (replies ++ reply ∷ []) (Run-push x s t end commands replies command reply run step)
+      → RefinesAlong spec x before leaked old mid s t commands replies run → RefinesGuest (abstract_image spec new out) end before leaked → IsCommandInterval x (spec.storage mid) (spec.known mid) (abstract_image spec new out) t command reply end
+      → RefinesAlong spec x before leaked old new s end (commands ++ command ∷ []) (replies ++ reply ∷ []) (Run-push x s t end commands replies command reply run step)
   unfolding Run-push
   along_push old mid new out s t end [] [] command reply run step same said interval = (
     new,
@@ -336,7 +340,7 @@ module _ {D P : Type 0} (spec : Abstraction D P) (x : Setting) (before : ℕ →
   along_push old mid new out s t end (c ∷ commands) [] command reply run step so_far said interval = absurd run
 
   -- the moments of a run fall under its commands
-  within : (old new : D) (s end : State) (commands : List Command) (replies : List Reply) (run : Run x s commands replies end) → RefinesAlong spec x before old new s end commands replies run
+  within : (old new : D) (s end : State) (commands : List Command) (replies : List Reply) (run : Run x s commands replies end) → RefinesAlong spec x before leaked old new s end commands replies run
       → StopOk x.backing s.checkpoint (byte_at (spec.storage old).contents) → EachMomentSince (spec.storage old) (spec.storage new) (λ c. IsStopIn x s end commands replies run (byte_at c))
   within old new s end [] [] run same at = subst (λ (d : D). EachMomentSince (spec.storage old) (spec.storage d) (λ c. StopOk x.backing end.checkpoint (byte_at c))) (sym same) (passes_none (spec.storage old) (λ c. StopOk x.backing end.checkpoint (byte_at c)))
   within old new s end (command ∷ commands) (reply ∷ replies) run safe at =
@@ -355,7 +359,7 @@ module _ {D P : Type 0} (spec : Abstraction D P) (x : Setting) (before : ℕ →
   stop_at_end s end [] (reply ∷ replies) run b at = absurd run
   stop_at_end s end (command ∷ commands) [] run b at = absurd run
 
-  rest_at_end : (old new : D) (s end : State) (commands : List Command) (replies : List Reply) (run : Run x s commands replies end) → RefinesAlong spec x before old new s end commands replies run
+  rest_at_end : (old new : D) (s end : State) (commands : List Command) (replies : List Reply) (run : Run x s commands replies end) → RefinesAlong spec x before leaked old new s end commands replies run
       → StopOk x.backing s.checkpoint (byte_at (spec.storage old).contents) → StopOk x.backing end.checkpoint (byte_at (spec.storage new).contents)
   rest_at_end old new s end [] [] run same at = subst (λ (d : D). StopOk x.backing end.checkpoint (byte_at (spec.storage d).contents)) (sym same) (subst (λ (t : State). StopOk x.backing t.checkpoint (byte_at (spec.storage old).contents)) (sym run) at)
   rest_at_end old new s end (command ∷ commands) (reply ∷ replies) run safe at = rest_at_end safe.0 new run.0 end commands replies run.2 safe.4 safe.3.safe.at_return
@@ -363,7 +367,7 @@ module _ {D P : Type 0} (spec : Abstraction D P) (x : Setting) (before : ℕ →
   rest_at_end old new s end (command ∷ commands) [] run safe at = absurd run
 
   -- what stood at its start falls under the first, or the end
-  first_in : (old new : D) (s end : State) (commands : List Command) (replies : List Reply) (run : Run x s commands replies end) → RefinesAlong spec x before old new s end commands replies run
+  first_in : (old new : D) (s end : State) (commands : List Command) (replies : List Reply) (run : Run x s commands replies end) → RefinesAlong spec x before leaked old new s end commands replies run
       → StopOk x.backing s.checkpoint (byte_at (spec.storage old).contents) → IsStopIn x s end commands replies run (byte_at (spec.storage old).contents)
   first_in old new s end [] [] run same at = subst (λ (t : State). StopOk x.backing t.checkpoint (byte_at (spec.storage old).contents)) (sym run) at
   first_in old new s end (command ∷ commands) (reply ∷ replies) run safe at = inl (stop_more x.backing (given_by x s.guest command) (asked_by command) s.checkpoint (byte_at (spec.storage old).contents) at)
@@ -372,7 +376,7 @@ module _ {D P : Type 0} (spec : Abstraction D P) (x : Setting) (before : ℕ →
 
   -- and so do those while its mappings are let go
   pub whole_passes : (old last new : D) (s end : State) (commands : List Command) (replies : List Reply) (run : Run x s commands replies end)
-      → StopOk x.backing s.checkpoint (byte_at (spec.storage old).contents) → RefinesAlong spec x before old last s end commands replies run → IsSafeWhile x.backing (spec.storage last) (spec.storage new) end.is_failed end.checkpoint end.checkpoint
+      → StopOk x.backing s.checkpoint (byte_at (spec.storage old).contents) → RefinesAlong spec x before leaked old last s end commands replies run → IsSafeWhile x.backing (spec.storage last) (spec.storage new) end.is_failed end.checkpoint end.checkpoint
       → EachMomentSince (spec.storage old) (spec.storage new) (λ c. IsStopIn x s end commands replies run (byte_at c))
   whole_passes old last new s end commands replies run at stops leaves =
       let In = λ (k : List ℕ). IsStopIn x s end commands replies run (byte_at k) in
@@ -385,7 +389,7 @@ module _ {D P : Type 0} (spec : Abstraction D P) (x : Setting) (before : ℕ →
 
   -- and none but these since its start
   pub since_start : (old last new : D) (s end : State) (commands : List Command) (replies : List Reply) (run : Run x s commands replies end) → ((c : List ℕ) → (spec.storage old).had_since (spec.storage old).moment c → c ≡ (spec.storage old).contents)
-      → StopOk x.backing s.checkpoint (byte_at (spec.storage old).contents) → RefinesAlong spec x before old last s end commands replies run → IsSafeWhile x.backing (spec.storage last) (spec.storage new) end.is_failed end.checkpoint end.checkpoint
+      → StopOk x.backing s.checkpoint (byte_at (spec.storage old).contents) → RefinesAlong spec x before leaked old last s end commands replies run → IsSafeWhile x.backing (spec.storage last) (spec.storage new) end.is_failed end.checkpoint end.checkpoint
       → (c : List ℕ) → (spec.storage new).had_since (spec.storage old).moment c → IsStopIn x s end commands replies run (byte_at c)
   since_start old last new s end commands replies run only at stops leaves c had =
       let In = λ (k : List ℕ). IsStopIn x s end commands replies run (byte_at k) in
@@ -394,7 +398,7 @@ module _ {D P : Type 0} (spec : Abstraction D P) (x : Setting) (before : ℕ →
 
 module _ {D P : Type 0} (spec : Abstraction D P) where
   pub ran_none : (x : Setting) (d : D) (out : List (Option P)) (s : State) → RefinesState x (abstract_image spec d out) s → RefinesRun spec x d out d out s [] []
-  ran_none x d out s stands = record { end = s; run = refl; along = refl; stands = stands; surplus = λ _. refl }
+  ran_none x d out s stands = record { end = s; run = refl; along = refl; stands = stands; surplus = λ _. refl; leaks = refl }
 
   pub ran_more : (x : Setting) (old mid new : D) (before out out' : List (Option P)) (s : State) (commands : List Command) (replies : List Reply) (command : Command) (reply : Reply)
       → (ran : RefinesRun spec x old before mid out s commands replies) → RefinesCommand x (abstract_image spec mid out) (abstract_image spec new out') ran.end command reply
@@ -402,10 +406,11 @@ module _ {D P : Type 0} (spec : Abstraction D P) where
   ran_more x old mid new before out out' s commands replies command reply ran command_step = record {
     end = command_step.end;
     run = Run-push x s ran.end command_step.end commands replies command reply ran.run command_step.step;
-    along = along_push spec x (spec.surplus old before) old mid new out' s ran.end command_step.end commands replies command reply ran.run command_step.step ran.along
-        (said_at (spec.surplus old before) command_step.stands (λ e. command_step.surplus e ∙ ran.surplus (command_step.since e))) command_step.interval;
+    along = along_push spec x (spec.surplus old before) (spec.leaked old) old mid new out' s ran.end command_step.end commands replies command reply ran.run command_step.step ran.along
+        (said_at (spec.surplus old before) (spec.leaked old) command_step.stands (λ e. command_step.surplus e ∙ ran.surplus (command_step.since e)) (command_step.leaks ∙ ran.leaks)) command_step.interval;
     stands = command_step.stands;
     surplus = λ e. command_step.surplus e ∙ ran.surplus (command_step.since e);
+    leaks = command_step.leaks ∙ ran.leaks;
   }
 
   -- a run whose mappings are let go at its end
@@ -425,6 +430,12 @@ module _ {D P : Type 0} (spec : Abstraction D P) where
       | inr ok ↦ (does.acts.works (ran.stands.works ok)).setting ∙ ran.stands.setting
     ]
 
+    leaks_then : spec.leaked new ≡ spec.leaked last
+    leaks_then = elim (bool_cases ran.end.is_failed) [
+      | inl failed ↦ (does.acts.rests (ran.stands.failed failed)).leaks
+      | inr ok ↦ (does.acts.works (ran.stands.works ok)).leaks
+    ]
+
     kept_then : ran.end.is_failed ≡ false → StopOkEverywhere x.backing ran.end.checkpoint (byte_at (spec.storage new).contents)
     kept_then ok = subst (λ b. StopOkEverywhere b ran.end.checkpoint (byte_at (spec.storage new).contents)) backing_then (at_end ok).contents
 
@@ -439,7 +450,7 @@ module _ {D P : Type 0} (spec : Abstraction D P) where
       end = ran.end;
       run = ran.run;
       last = last;
-      along = subst (λ (k : ℕ → ℕ). RefinesAlong spec x k old last s ran.end commands replies ran.run) same ran.along;
+      along = subst (λ (k : ℕ → ℕ). RefinesAlong spec x k (spec.leaked old) old last s ran.end commands replies ran.run) same ran.along;
       leaves = record {
         moments = λ ok. passes_if (λ c. StopOk x.backing ran.end.checkpoint (byte_at c))
             (λ c k. stop_of_kept x.backing ran.end.checkpoint (byte_at c) (subst (λ b. StopOkEverywhere b ran.end.checkpoint (byte_at c)) backing_then k)) (at_end ok).moments;
@@ -459,6 +470,7 @@ module _ {D P : Type 0} (spec : Abstraction D P) where
         at_rest = resting;
       };
       surplus = λ ok. (does.acts.works (ran.stands.works ok)).surplus (does.answer (ran.stands.works ok)).0 ∙ ran.surplus ok ∙ same;
+      leaks = leaks_then ∙ ran.leaks;
     }
 
   -- a whole run of an image that was just opened
@@ -472,13 +484,13 @@ module _ {D P : Type 0} (spec : Abstraction D P) where
     last = all.last;
     along = all.along;
     leaves = all.leaves;
-    at_end = said_at (spec.surplus old []) all.stands all.surplus;
+    at_end = said_at (spec.surplus old []) (spec.leaked old) all.stands all.surplus all.leaks;
     setting = all.stands.setting;
-    since_start = since_start spec (spec.setting old) (spec.surplus old []) old all.last new (started (abstract_image spec old [])) all.end commands replies all.run only stands.at_rest all.along all.leaves;
+    since_start = since_start spec (spec.setting old) (spec.surplus old []) (spec.leaked old) old all.last new (started (abstract_image spec old [])) all.end commands replies all.run only stands.at_rest all.along all.leaves;
   }
 
   -- the moments of a whole run, with what is let go at its end
   pub passes_run : (old new : D) (commands : List Command) (replies : List Reply) (all : RefinesDisk spec old new commands replies)
       → EachMomentSince (spec.storage old) (spec.storage new) (λ c. IsStopIn (spec.setting old) (started (abstract_image spec old [])) all.end commands replies all.run (byte_at c))
   passes_run old new commands replies all =
-      whole_passes spec (spec.setting old) (spec.surplus old []) old all.last new (started (abstract_image spec old [])) all.end commands replies all.run all.at_start all.along all.leaves
+      whole_passes spec (spec.setting old) (spec.surplus old []) (spec.leaked old) old all.last new (started (abstract_image spec old [])) all.end commands replies all.run all.at_start all.along all.leaves

@@ -41,6 +41,8 @@ pub record Abstraction (D P : Type 0) : Type 1 where
   -- it is as the driver keeps it, and its storage is honest
   pub is_sound : D → List (Option P) → Type 0
   pub surplus : D → List (Option P) → ℕ → ℕ
+  -- how many clusters couldn't be freed, as the image counts them, up to the greatest u64
+  pub leaked : D → ℕ
   -- how often a cluster is still to be freed, of an image that may write
   pub to_be_freed : D → ℕ → ℕ
   pub means : D → P → PreparedMapping
@@ -64,6 +66,7 @@ pub record AbstractImage : Type 1 where
   pub data_bytes : Bytes
   pub is_sound : Type 0
   pub surplus : ℕ → ℕ
+  pub leaked : ℕ
   pub to_be_freed : ℕ → ℕ
   pub slots : ℕ → Option PreparedMapping
   pub hosts : ℕ → Option HostRange
@@ -84,6 +87,7 @@ abstract_image spec d out = record {
   data_bytes = spec.data_bytes d;
   is_sound = spec.is_sound d out;
   surplus = spec.surplus d out;
+  leaked = spec.leaked d;
   to_be_freed = spec.to_be_freed d;
   slots = λ k. meaning_at (spec.means d) (slice_get out k);
   hosts = λ k. meaning_at spec.host (slice_get out k);

@@ -38,10 +38,11 @@ pub record Stops (old new : AbstractImage) (given : List GivenBytes) (asked : Li
 abbrev pub StartsAt : AbstractImage → Checkpoint → Type 0
 StartsAt v m = StopOkEverywhere v.setting.backing m (stored_bytes v) × StopOkEverywhere v.setting.backing m v.known
 
--- what a call does to a sound image
+-- What a call does to a sound image. No cluster is leaked, even where the call was refused or broke off.
 pub record EffectOnSound (old new : AbstractImage) (given : List GivenBytes) (asked : List ℕ) : Type 0 where
   pub setting : new.setting ≡ old.setting
   pub surplus : new.is_sound → new.surplus ≡ old.surplus
+  pub leaks : new.leaked ≡ old.leaked
   pub stops : (m : Checkpoint) → StartsAt old m → Stops old new given asked m
 
 -- a failed image writes nothing more
@@ -50,6 +51,7 @@ pub record EffectOnFailed (old new : AbstractImage) : Type 0 where
   pub failed : IsTrue new.is_failed
   pub contents : new.storage.contents ≡ old.storage.contents
   pub moments : EachMomentSince old.storage new.storage (λ c. c ≡ old.storage.contents)
+  pub leaks : new.leaked ≡ old.leaked
 
 -- a call that gives these values and asks for these sizes
 pub record CallEffect (old new : AbstractImage) (given : List GivenBytes) (asked : List ℕ) : Type 0 where

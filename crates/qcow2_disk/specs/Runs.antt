@@ -222,13 +222,14 @@ pub record IsSafeWhile (backing : Bytes) (old new : StorageView) (failed : Bool)
   pub silent : IsTrue failed → EachMomentSince old new (λ c. c ≡ old.contents)
   pub unchanged : IsTrue failed → new.contents ≡ old.contents
 
--- An image at the return of a command, where it didn't fail: it is sound, and the guest sees what the run says. The known image is consistent, and no cluster was lost or gained since the start.
-pub record RefinesGuest (v : AbstractImage) (s : State) (before : ℕ → ℕ) : Type 0 where
+-- An image at the return of a command, where it didn't fail: it is sound, and the guest sees what the run says. The known image is consistent, and no cluster was lost or gained since the start. Whether it failed or not, no cluster was leaked since.
+pub record RefinesGuest (v : AbstractImage) (s : State) (before : ℕ → ℕ) (leaked : ℕ) : Type 0 where
   pub works : s.is_failed ≡ false → v.is_sound
   pub failed : IsTrue s.is_failed → IsTrue v.is_failed
   pub guest : s.is_failed ≡ false → guest_of v ≡ s.guest
   pub consistent : s.is_failed ≡ false → IsConsistent v.known
   pub surplus : s.is_failed ≡ false → v.surplus ≡ before
+  pub leaks : v.leaked ≡ leaked
 
 -- The moments on the way are the call's own. At whatever checkpoint a stop was safe as it began, each of them is safe with no more than it gives and asks.
 abbrev pub IsOwnInterval : Bytes → (old new : StorageView) → (known : Bytes) → List GivenBytes → List ℕ → Type 0
@@ -279,14 +280,14 @@ pub record IsCommandInterval (x : Setting) (old : StorageView) (known : Bytes) (
   pub told : end.is_failed ≡ false → IsRightlyTold x known new command reply
 
 -- Along a run: for each command there is the image at its return, with the mappings that are prepared then, and its stretch is as said.
-abbrev pub RefinesAlong : {D P : Type 0} (spec : Abstraction D P) (x : Setting) (before : ℕ → ℕ) (old new : D) (s end : State) (commands : List Command) (replies : List Reply) → Run x s commands replies end → Type 0
-RefinesAlong spec x before old new s end [] [] run = new ≡ old
-RefinesAlong {D = D} {P = P} spec x before old new s end (command ∷ commands) (reply ∷ replies) run =
-    (mid : D) × (out : List (Option P)) × RefinesGuest (abstract_image spec mid out) run.0 before
+abbrev pub RefinesAlong : {D P : Type 0} (spec : Abstraction D P) (x : Setting) (before : ℕ → ℕ) (leaked : ℕ) (old new : D) (s end : State) (commands : List Command) (replies : List Reply) → Run x s commands replies end → Type 0
+RefinesAlong spec x before leaked old new s end [] [] run = new ≡ old
+RefinesAlong {D = D} {P = P} spec x before leaked old new s end (command ∷ commands) (reply ∷ replies) run =
+    (mid : D) × (out : List (Option P)) × RefinesGuest (abstract_image spec mid out) run.0 before leaked
     × IsCommandInterval x (spec.storage old) (spec.known old) (abstract_image spec mid out) s command reply run.0
-    × RefinesAlong spec x before mid new run.0 end commands replies run.2
-RefinesAlong spec x before old new s end [] (reply ∷ replies) run = ⊥
-RefinesAlong spec x before old new s end (command ∷ commands) [] run = ⊥
+    × RefinesAlong spec x before leaked mid new run.0 end commands replies run.2
+RefinesAlong spec x before leaked old new s end [] (reply ∷ replies) run = ⊥
+RefinesAlong spec x before leaked old new s end (command ∷ commands) [] run = ⊥
 
 -- the bytes are what a stop may leave at the checkpoint of one of a run's commands, or at its end
 abbrev pub IsStopIn : (x : Setting) (s end : State) (commands : List Command) (replies : List Reply) → Run x s commands replies end → Bytes → Type 0
@@ -315,6 +316,7 @@ pub record RefinesCommand (x : Setting) (old new : AbstractImage) (s : State) (c
   pub stands : RefinesState x new end
   pub interval : IsCommandInterval x old.storage old.known new s command reply end
   pub surplus : end.is_failed ≡ false → new.surplus ≡ old.surplus
+  pub leaks : new.leaked ≡ old.leaked
   pub since : end.is_failed ≡ false → s.is_failed ≡ false
 
 module _ {D P : Type 0} (spec : Abstraction D P) where
@@ -322,9 +324,10 @@ module _ {D P : Type 0} (spec : Abstraction D P) where
   pub record RefinesRun (x : Setting) (old : D) (before : List (Option P)) (new : D) (out : List (Option P)) (s : State) (commands : List Command) (replies : List Reply) : Type 0 where
     pub end : State
     pub run : Run x s commands replies end
-    pub along : RefinesAlong spec x (spec.surplus old before) old new s end commands replies run
+    pub along : RefinesAlong spec x (spec.surplus old before) (spec.leaked old) old new s end commands replies run
     pub stands : RefinesState x (abstract_image spec new out) end
     pub surplus : end.is_failed ≡ false → spec.surplus new out ≡ spec.surplus old before
+    pub leaks : spec.leaked new ≡ spec.leaked old
 
   -- a whole run, and then the mappings that are left are let go
   pub record RefinesWholeRun (x : Setting) (old new : D) (s : State) (commands : List Command) (replies : List Reply) : Type 0 where
@@ -332,10 +335,11 @@ module _ {D P : Type 0} (spec : Abstraction D P) where
     pub run : Run x s commands replies end
     -- the image at the return of the last command
     pub last : D
-    pub along : RefinesAlong spec x (spec.surplus old []) old last s end commands replies run
+    pub along : RefinesAlong spec x (spec.surplus old []) (spec.leaked old) old last s end commands replies run
     pub leaves : IsSafeWhile x.backing (spec.storage last) (spec.storage new) end.is_failed end.checkpoint end.checkpoint
     pub stands : RefinesState x (abstract_image spec new []) (over end)
     pub surplus : end.is_failed ≡ false → spec.surplus new [] ≡ spec.surplus old []
+    pub leaks : spec.leaked new ≡ spec.leaked old
 
   -- what is said of any list of commands with its replies, of an image that was just opened
   pub record RefinesDisk (old new : D) (commands : List Command) (replies : List Reply) : Type 0 where
@@ -345,10 +349,10 @@ module _ {D P : Type 0} (spec : Abstraction D P) where
     -- Where it begins a stop is safe. Along it each moment is safe at the checkpoint of the command under way, and at each return the guest sees what the run says.
     pub at_start : StopOk (spec.setting old).backing (started (abstract_image spec old [])).checkpoint (byte_at (spec.storage old).contents)
     pub last : D
-    pub along : RefinesAlong spec (spec.setting old) (spec.surplus old []) old last (started (abstract_image spec old [])) end commands replies run
+    pub along : RefinesAlong spec (spec.setting old) (spec.surplus old []) (spec.leaked old) old last (started (abstract_image spec old [])) end commands replies run
     -- Then the mappings that are left are let go, as safely, and the guest still sees it.
     pub leaves : IsSafeWhile (spec.setting old).backing (spec.storage last) (spec.storage new) end.is_failed end.checkpoint end.checkpoint
-    pub at_end : RefinesGuest (abstract_image spec new []) (over end) (spec.surplus old [])
+    pub at_end : RefinesGuest (abstract_image spec new []) (over end) (spec.surplus old []) (spec.leaked old)
     pub setting : spec.setting new ≡ spec.setting old
     -- There is no other moment since it began.
     pub since_start : (c : List ℕ) → (spec.storage new).had_since (spec.storage old).moment c → IsStopIn (spec.setting old) (started (abstract_image spec old [])) end commands replies run (byte_at c)

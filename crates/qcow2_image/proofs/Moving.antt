@@ -9,6 +9,7 @@ use Rattle.qcow2_metadata.specs.Header.{cluster_size}
 use Rattle.qcow2_laws.specs.CrashInvariant.{Pending}
 use Rattle.qcow2_laws.specs.Unseen.{KeepsFormat}
 use Rattle.qcow2_laws.proofs.Formats.{l1_format}
+use Rattle.qcow2_alloc.specs.Allocation.{SameLeaks}
 use Rattle.qcow2_alloc.specs.CachePins.{l2_pins}
 use Rattle.qcow2_alloc.specs.declared.allocation.Allocator.{Allocator}
 use Rattle.qcow2_alloc.specs.declared.image_file.ImageFile.{ImageFile}
@@ -17,13 +18,18 @@ use Rattle.qcow2_alloc.proofs.FileSteps.{file_step_on}
 use Rattle.qcow2_alloc.specs.KeptAllocators.{IsAllocatorOf}
 use Rattle.qcow2_image.specs.declared.image.Qcow2.{Qcow2}
 use Rattle.qcow2_image.specs.declared.prepared.Prepared.{Prepared}
+use Rattle.qcow2_image.specs.Image.{leaked_by, leaked_in}
 use Rattle.qcow2_image.specs.UnseenSteps.{UnseenStep, ListGrows, UnseenFreeingStep}
 use Rattle.qcow2_image.specs.ImageInvariant.{cluster_of, HasL1Table, IsReadyWith, ImageInvariant}
 use Rattle.qcow2_image.proofs.Formats.{l1_shared, ready_format}
 use Rattle.qcow2_image.proofs.Ready.{still_ready}
 
+-- an allocator that leaked nothing leaves the number of its image
+pub leaked_still : {S F : Type 0} (image : Qcow2 S F) (before after : Allocator) → image.allocator ≡ Some before → SameLeaks before after → leaked_by (Some after) ≡ leaked_in image
+leaked_still image before after is same = same ∙ ap leaked_by (sym is)
+
 module _ {S F : Type 0} (view : S → StorageView) (backing : F → BackingView) (old : Qcow2 S F) (out : List (Option Prepared)) (p p' : Pending) (sound : ImageInvariant view backing p old out)
-    (file : ImageFile S) (allocator : Option Allocator) (file_step : UnseenFileGrowth view p p' old.file file) (reftable : IfSome allocator (IsAllocatorOf view file))
+    (file : ImageFile S) (allocator : Option Allocator) (file_step : UnseenFileGrowth view p p' old.file file) (reftable : IfSome allocator (IsAllocatorOf view file)) (leaks : leaked_by allocator ≡ leaked_in old)
     (pins : (table : ℕ) → l2_pins file.caches table ≡ l2_pins old.file.caches table) where
   abbrev h : HeaderFields
   h = old.file.header.fields
@@ -62,6 +68,7 @@ module _ {S F : Type 0} (view : S → StorageView) (backing : F → BackingView)
     unseen = file_step.unseen;
     copied = λ i copied. file_step.l1_table i;
     below = refl;
+    leaks = leaks;
   }
 
   pub file_moved_on : ListGrows old (record old { file = file; allocator = allocator }) → UnseenStep view backing p p' old (record old { file = file; allocator = allocator }) out
@@ -73,11 +80,12 @@ module _ {S F : Type 0} (view : S → StorageView) (backing : F → BackingView)
     copied = file_tidied.copied;
     below = file_tidied.below;
     list = list;
+    leaks = leaks;
   }
 
 -- the reftable stays, and so does the list
 module _ {S F : Type 0} (view : S → StorageView) (backing : F → BackingView) (old : Qcow2 S F) (out : List (Option Prepared)) (p p' : Pending) (sound : ImageInvariant view backing p old out)
-    (file : ImageFile S) (allocator : Option Allocator) (file_step : UnseenFileStep view p p' old.file file) (reftable : IfSome allocator (IsAllocatorOf view file))
+    (file : ImageFile S) (allocator : Option Allocator) (file_step : UnseenFileStep view p p' old.file file) (reftable : IfSome allocator (IsAllocatorOf view file)) (leaks : leaked_by allocator ≡ leaked_in old)
     (pins : (table : ℕ) → l2_pins file.caches table ≡ l2_pins old.file.caches table) where
   pub file_moved : file.free_list ≡ old.file.free_list → UnseenStep view backing p p' old (record old { file = file; allocator = allocator }) out
-  file_moved list = file_moved_on view backing old out p p' sound file allocator (file_step_on view p p' old.file file file_step) reftable pins (record { more = []; is = list ∙ sym (append-nil old.file.free_list) })
+  file_moved list = file_moved_on view backing old out p p' sound file allocator (file_step_on view p p' old.file file file_step) reftable leaks pins (record { more = []; is = list ∙ sym (append-nil old.file.free_list) })

@@ -1,11 +1,15 @@
 -- What a contract sees of an open image.
-use Rattle.std.specs.Prelude.{◌≡◌, ℕ, Bool, false, [], is_some}
+use Rattle.std.specs.Prelude.{◌≡◌, ℕ, Bool, false, [], Option, is_some}
 use Rattle.std.specs.Option.{option_map_or}
 use Rattle.qcow2_metadata.specs.Header.{has_data_file}
 use Rattle.qcow2_alloc.specs.declared.allocation.Allocator.{Allocator}
 use Rattle.qcow2_alloc.specs.ImageFile.{KeepsHeader, has_noted}
 use Rattle.qcow2_alloc.specs.ImageStorage.{changes_of, is_changed_of, storage_of}
 use Rattle.qcow2_image.specs.declared.image.Qcow2.{Qcow2}
+
+-- how many clusters an allocator couldn't free, where there is one
+abbrev pub leaked_by : Option Allocator → ℕ
+leaked_by allocator = option_map_or (λ (a : Allocator). a.leaked_clusters) allocator 0
 
 module _ {S F : Type 0} where
   -- the number that it was opened with
@@ -46,7 +50,7 @@ module _ {S F : Type 0} where
 
   -- how many of its clusters couldn't be freed
   abbrev pub leaked_in : Qcow2 S F → ℕ
-  leaked_in image = option_map_or (λ (a : Allocator). a.leaked_clusters) image.allocator 0
+  leaked_in image = leaked_by image.allocator
 
   -- it is the same image, with a disk of the same size
   pub record IsSameImage (old new : Qcow2 S F) : Type 0 where

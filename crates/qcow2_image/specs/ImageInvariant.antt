@@ -28,7 +28,7 @@ use Rattle.qcow2_image.specs.declared.image.Qcow2.{Qcow2}
 use Rattle.qcow2_image.specs.declared.prepared.Prepared.{Prepared}
 use Rattle.qcow2_image.specs.declared.prepared.Share.{Share}
 use Rattle.qcow2_image.specs.declared.prepared.Share.TheVariants.{InPlace, Kept, New}
-use Rattle.qcow2_image.specs.Image.{number_of, is_failed, is_writable}
+use Rattle.qcow2_image.specs.Image.{number_of, is_failed, is_writable, leaked_in}
 use Rattle.qcow2_image.specs.Prepared.{image_of, offset_of, length_of, table_of}
 
 -- ---- what is pending
@@ -226,6 +226,7 @@ module _ {S F : Type 0} (view : S → StorageView) (backing : F → BackingView)
     data_bytes = λ image. known_in view image.file;
     is_sound = λ image out. ImageInvariant (pending_in image out) image out;
     surplus = surplus_in;
+    leaked = leaked_in;
     to_be_freed = λ image k. if is_writable image then to_free of_tables image.file.free_list k + to_free of_data image.file.free_list k else 0;
     means = meaning;
     host = λ p. record { offset = offset_of p; length = length_of p; is_existing = is_none (table_of p) };

@@ -26,6 +26,7 @@ use Rattle.qcow2_alloc.specs.ImageFile.{view_in, contents_in, known_in, state_in
 use Rattle.qcow2_image.specs.declared.image.Qcow2.{Qcow2}
 use Rattle.qcow2_image.specs.declared.prepared.Prepared.{Prepared}
 use Rattle.qcow2_image.specs.CallParts.{RefusedCall, UnseenCall}
+use Rattle.qcow2_image.specs.Image.{leaked_in}
 use Rattle.qcow2_image.specs.ImageInvariant.{below_of, ImageInvariant}
 use Rattle.qcow2_image.specs.MovedTables.{MovesTables, CoversStay}
 use Rattle.qcow2_image.specs.UnseenSteps.{UnseenStep, ListGrows, pending_with_listed}
@@ -82,12 +83,14 @@ module _ {S F : Type 0} where
         pub shows : (disk_below : Bytes) → disk (known_in view new.file) disk_below ≡ disk (known_in view old.file) disk_below
         pub below : below_of view backing new.backing ≡ below_of view backing old.backing
         pub list : ListGrows old new
+        pub leaks : leaked_in new ≡ leaked_in old
 
       -- it broke off while the header was written
       pub record InterruptedMove (old new : Qcow2 S F) (e : ImageError) : Type 0 where
         pub interrupted : InterruptedFileStep view old.file new.file e
         pub header : MovesTables old.file.header.fields new.file.header.fields
         pub below : below_of view backing new.backing ≡ below_of view backing old.backing
+        pub leaks : leaked_in new ≡ leaked_in old
 
       -- a part that was refused: all is sound as before but for what is to be freed; or it broke off
       abbrev pub RefusedMove : Pending → Qcow2 S F → Qcow2 S F → List (Option Prepared) → ImageError → Type 0

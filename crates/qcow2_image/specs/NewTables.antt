@@ -17,13 +17,13 @@ use Rattle.qcow2_laws.specs.Guests.{table_at}
 use Rattle.qcow2_alloc.specs.Allocation.{StandAt}
 use Rattle.qcow2_alloc.specs.declared.error.ImageError.{ImageError}
 use Rattle.qcow2_alloc.specs.ImageError.{IsFault}
-use Rattle.qcow2_alloc.specs.ImageFile.{contents_in, InterruptedFileStep}
+use Rattle.qcow2_alloc.specs.ImageFile.{contents_in}
 use Rattle.qcow2_alloc.specs.MetadataCaches.{order_of, l2_tables, refblocks, l2_at}
 use Rattle.qcow2_alloc.specs.TableCaches.{IsTableOf}
 use Rattle.qcow2_image.specs.declared.image.Qcow2.{Qcow2}
 use Rattle.qcow2_image.specs.declared.prepared.Prepared.{Prepared}
 use Rattle.qcow2_image.specs.Found.{l1_index_of}
-use Rattle.qcow2_image.specs.UnseenSteps.{NamesOwn, UnseenStep, RefusedStep, pending_with_listed}
+use Rattle.qcow2_image.specs.UnseenSteps.{InterruptedPart, NamesOwn, UnseenStep, RefusedStep, pending_with_listed}
 
 -- a table of the image's format says what is known of the guest clusters of an L1 entry
 pub record SaysKnown (h : HeaderFields) (known : Bytes) (index : ℕ) (t : L2TableView) : Type 0 where
@@ -88,12 +88,12 @@ module _ {S F : Type 0} (view : S → StorageView) where
     -- an L1 entry is written that names a new table
     abbrev pub NamesNew : Pending → Qcow2 S F → Qcow2 S F → List (Option Prepared) → ℕ → ℕ → Result (Unit {0}) ImageError → Type 0
     NamesNew p old new out index cluster (Ok _) = UnseenStep view backing (with_new_tables p (one_at cluster)) (replacing p old index) old new out × NamesCopied new index cluster
-    NamesNew p old new out index cluster (Err e) = InterruptedFileStep view old.file new.file e
+    NamesNew p old new out index cluster (Err e) = InterruptedPart view backing old new e
 
     -- both; where it is refused, the cluster is still that of a new table, or it broke off
     abbrev pub WritesNew : Pending → Qcow2 S F → Qcow2 S F → List (Option Prepared) → ℕ → ℕ → Result (Unit {0}) ImageError → Type 0
     WritesNew p old new out index cluster (Ok _) = UnseenStep view backing (with_new_tables p (one_at cluster)) (replacing p old index) old new out × NamesCopied new index cluster
-    WritesNew p old new out index cluster (Err e) = UnseenStep view backing (with_new_tables p (one_at cluster)) (with_new_tables p (one_at cluster)) old new out ⊎ InterruptedFileStep view old.file new.file e
+    WritesNew p old new out index cluster (Err e) = UnseenStep view backing (with_new_tables p (one_at cluster)) (with_new_tables p (one_at cluster)) old new out ⊎ InterruptedPart view backing old new e
 
     -- a new table gets its cluster, and is named
     abbrev pub EntersTable : Pending → Qcow2 S F → Qcow2 S F → List (Option Prepared) → ℕ → Result ℕ ImageError → Type 0

@@ -124,10 +124,11 @@ module _ {S F : Type 0} (view : S → StorageView) (backing : F → BackingView)
     pub l1_table : HasL1Table view backing file table
     pub reftable : IfSome allocator (IsAllocatorOf view file)
 
-  -- An image is sound as it is opened, and nothing is modified. Each cluster is counted as much more often than named as these bytes have it.
+  -- An image is sound as it is opened, and nothing is modified. Each cluster is counted as much more often than named as these bytes have it, and none is leaked yet.
   pub record IsOpenedFrom (b : Bytes) (image : Qcow2 S F) : Type 0 where
     pub opened : IsOpened (abstract_of view backing image [])
     pub surplus : (abstract_of view backing image []).surplus ≡ surplus_of (header b) b
+    pub leaks : (abstract_of view backing image []).leaked ≡ 0
 
   -- so it is where a consistent image stands on an honest storage
   abbrev pub Opens : StorageView → Qcow2 S F → Type 0

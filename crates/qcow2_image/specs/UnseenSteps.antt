@@ -29,6 +29,7 @@ use Rattle.qcow2_metadata.specs.declared.l2_mapping.L2Mapping.{L2Mapping}
 use Rattle.qcow2_metadata.specs.declared.l2_mapping.L2Mapping.TheVariants.{Zero}
 use Rattle.qcow2_laws.specs.Changes.{with_new_data}
 use Rattle.qcow2_alloc.specs.declared.clusters_to_free.ClusterKind.TheVariants as Kind
+use Rattle.qcow2_image.specs.Image.{leaked_in}
 use Rattle.qcow2_image.specs.ImageInvariant.{run_of, new_data_by, is_entered, over_all, pins_of, share_of, below_of, disk_of, abstract_of, ImageInvariant}
 
 -- an L1 entry names a table and is marked copied
@@ -124,6 +125,7 @@ module _ {S F : Type 0} where
       pub copied : KeepsCopied (state_in view old.file p) (state_in view new.file p')
       pub below : below_of view backing new.backing ≡ below_of view backing old.backing
       pub list : ListGrows old new
+      pub leaks : leaked_in new ≡ leaked_in old
 
     -- The same, whatever becomes of the list of clusters that are to be freed.
     pub record UnseenFreeingStep (p p' : Pending) (old new : Qcow2 S F) (out : List (Option Prepared)) : Type 0 where
@@ -133,10 +135,16 @@ module _ {S F : Type 0} where
       pub unseen : IsUnseen (state_in view old.file p) (state_in view new.file p')
       pub copied : KeepsCopied (state_in view old.file p) (state_in view new.file p')
       pub below : below_of view backing new.backing ≡ below_of view backing old.backing
+      pub leaks : leaked_in new ≡ leaked_in old
+
+    -- a part of a call broke off: at each moment what was kept is kept, and no cluster is leaked
+    pub record InterruptedPart (old new : Qcow2 S F) (e : ImageError) : Type 0 where
+      pub interrupted : InterruptedFileStep view old.file new.file e
+      pub leaks : leaked_in new ≡ leaked_in old
 
     -- a part of a call that was refused: all is sound as before but for what is to be freed; or it broke off
     abbrev pub RefusedStep : Pending → Qcow2 S F → Qcow2 S F → List (Option Prepared) → ImageError → Type 0
-    RefusedStep p old new out e = UnseenStep p (pending_with_listed p old new) old new out ⊎ InterruptedFileStep view old.file new.file e
+    RefusedStep p old new out e = UnseenStep p (pending_with_listed p old new) old new out ⊎ InterruptedPart old new e
 
     -- the L2 table of an offset is held in this cluster, and named by an L1 entry that is marked copied
     pub record HoldsTable (image : Qcow2 S F) (offset table : ℕ) : Type 0 where
@@ -160,12 +168,14 @@ module _ {S F : Type 0} where
       pub below : below_of view backing new.backing ≡ below_of view backing old.backing
       pub list : ListGrows old new
       pub seen : guest_of (abstract_of view backing new out) ≡ guest_of (abstract_of view backing old out)
+      pub leaks : leaked_in new ≡ leaked_in old
 
-    -- it broke off: the image keeps its header, but perhaps for where the reftable stands, and its backing disk, and at each moment what was kept is kept
+    -- It broke off: the image keeps its header, but perhaps for where the reftable stands, and its backing disk, and at each moment what was kept is kept. No cluster is leaked.
     pub record InterruptedStep (old new : Qcow2 S F) (e : ImageError) : Type 0 where
       pub interrupted : InterruptedFileStep view old.file new.file e
       pub header : KeepsFormat old.file.header.fields new.file.header.fields
       pub below : below_of view backing new.backing ≡ below_of view backing old.backing
+      pub leaks : leaked_in new ≡ leaked_in old
 
     -- Clusters that are listed are freed. What is listed afterwards is pending still; or it broke off.
     abbrev pub FreesListed : Pending → Qcow2 S F → Qcow2 S F → List (Option Prepared) → Result (Unit {0}) ImageError → Type 0

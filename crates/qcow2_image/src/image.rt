@@ -79,7 +79,7 @@ impl<S: Storage, F: WrappedFormat<S>> Qcow2<S, F> {
     ghost use Rattle.qcow2_image.specs.CountedOpening.{OpeningCounts};
     ghost use Rattle.qcow2_image.specs.Readable.{IsReasonAgainstTables, OpensRightly, NeededTablesRead};
     ghost use Rattle.qcow2_image.specs.Faults.{CountsImageFaults, SameFaults};
-    ghost use Rattle.qcow2_image.specs.Image.{storage_of_image, HasNothingToFree, ImageStays, IsBegun, KeepsRest, IsSameImage, is_failed, is_writable, is_external, has_noted_change, leaked_in, number_of, size_of};
+    ghost use Rattle.qcow2_image.specs.Image.{storage_of_image, HasNothingToFree, ImageStays, IsBegun, KeepsRest, IsSameImage, is_failed, is_writable, is_external, has_noted_change, leaked_by, leaked_in, number_of, size_of};
     ghost use Rattle.std.specs.Prelude.{List, Option};
     ghost use Rattle.qcow2_disk.specs.AbstractImages.{guest_of};
     ghost use Rattle.qcow2_image.specs.declared.prepared.Prepared.{Prepared};
@@ -314,6 +314,7 @@ impl<S: Storage, F: WrappedFormat<S>> Qcow2<S, F> {
         ensures cause { IfErr result IsMet }
         ensures why { (view_in S.view file.old).is_honest → MatchResult result (λ allocator. ReftableReads file.old.header.fields (contents_in S.view file.old)) (IsReasonAgainstReftable file.old.header.fields (contents_in S.view file.old)) }
         ensures header_cluster { AreBehindHeader file.old.header.fields.cluster_bits file.old.caches → NamesTablesBehind file.new.header.fields → IfOk result (λ allocator. NamesTablesBehind file.old.header.fields × StandsBehindHeader file.new.header.fields.cluster_bits allocator.reftable file.new) }
+        ensures leaks { IfOk result (λ allocator. leaked_by (Some allocator) ≡ 0) }
     {
         let allocator = Allocator::new(file)?;
         file.storage.will_write(WriteKind::Other);
@@ -333,6 +334,7 @@ impl<S: Storage, F: WrappedFormat<S>> Qcow2<S, F> {
         ensures cause { IfErr result IsMet }
         ensures why { (view_in S.view file.old).is_honest → MatchResult result (λ tables. NeededTablesRead file.old.header.fields (contents_in S.view file.old) writable) (IsReasonAgainstTables file.old.header.fields (contents_in S.view file.old) writable) }
         ensures header_cluster { AreBehindHeader file.old.header.fields.cluster_bits file.old.caches → NamesTablesBehind file.new.header.fields → IfOk result (λ tables. TablesBehindHeader file.new.header.fields.cluster_bits file.new.header.fields.cluster_bits tables.l1_table file.new.caches tables.allocator) }
+        ensures leaks { IfOk result (λ tables. leaked_by tables.allocator ≡ 0) }
     {
         let l1_table = Self::load_l1_table(file)?;
         if !writable {

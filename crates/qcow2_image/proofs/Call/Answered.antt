@@ -42,7 +42,7 @@ same_setting a b sizes below = ap (λ n. record a { cluster_size = n }) sizes �
 
 -- where the list grows
 pub freeing_step_kept : {S F : Type 0} (view : S → StorageView) (backing : F → BackingView) (old new : Qcow2 S F) (out : List (Option Prepared)) (p p' : Pending) → UnseenStep view backing p p' old new out → UnseenFreeingStep view backing p p' old new out
-freeing_step_kept view backing old new out p p' keeps = record { sound = keeps.sound; safe_step = keeps.safe_step; since = keeps.since; unseen = keeps.unseen; copied = keeps.copied; below = keeps.below }
+freeing_step_kept view backing old new out p p' keeps = record { sound = keeps.sound; safe_step = keeps.safe_step; since = keeps.since; unseen = keeps.unseen; copied = keeps.copied; below = keeps.below; leaks = keeps.leaks }
 
 module _ {S F : Type 0} (view : S → StorageView) (backing : F → BackingView) (old new : Qcow2 S F) (out : List (Option Prepared)) where
   -- with the clusters that are to be freed since, all that is pending is known
@@ -128,5 +128,6 @@ module _ {S F : Type 0} (view : S → StorageView) (backing : F → BackingView)
     works_now = record {
       setting = same_setting _ _ (ap (λ (h : HeaderFields). cluster_size h) keeps.unseen.header) keeps.below;
       surplus = λ still. ap (λ (q : Pending). q.surplus) (sym pending_now);
+      leaks = keeps.leaks;
       stops = stops_of (abstract_of view backing old out) (abstract_of view backing new out) nothing_given [] keeps.since (λ still. keeps.safe_step.known);
     }

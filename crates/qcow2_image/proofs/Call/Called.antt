@@ -32,12 +32,13 @@ module _ (v : AbstractImage) where
   works_none sound = record {
     setting = refl;
     surplus = λ still. refl;
+    leaks = refl;
     stops = stops_none v v [] [] refl (λ still. refl);
   }
 
   pub refuses_early : (e : Refusal) → (e ≡ storage → ⊥) → RefusedEffect v v [] [] e (IsSame v v)
   refuses_early e none = record {
-    acts = record { number = refl; works = works_none; rests = λ failed. rests_none v v refl refl failed };
+    acts = record { number = refl; works = works_none; rests = λ failed. rests_none v v refl refl failed refl };
     answer = λ sound. inl (sound, refl);
     fault = λ is. absurd (none is);
   }
@@ -64,6 +65,7 @@ module _ {S F : Type 0} (view : S → StorageView) (backing : F → BackingView)
       copied = copied_then first.unseen.header first.copied then.copied;
       below = then.below ∙ first.below;
       list = record { more = first.list.more ++ then.list.more; is = then.list.is ∙ ap (λ l. l ++ then.list.more) first.list.is ∙ append_assoc a.file.free_list first.list.more then.list.more };
+      leaks = then.leaks ∙ first.leaks;
     }
 
   -- ---- a call that frees nothing and holds nothing: what was pending is pending

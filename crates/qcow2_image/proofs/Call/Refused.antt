@@ -18,7 +18,7 @@ use Rattle.qcow2_alloc.specs.ImageFile.{known_in, nothing_given, InterruptedFile
 use Rattle.qcow2_image.specs.declared.image.Qcow2.{Qcow2}
 use Rattle.qcow2_image.specs.declared.prepared.Prepared.{Prepared}
 use Rattle.qcow2_image.specs.Calls.{refusal_of}
-use Rattle.qcow2_image.specs.Image.{number_of, is_failed, KeepsRestOn, has_noted_change}
+use Rattle.qcow2_image.specs.Image.{number_of, is_failed, KeepsRestOn, has_noted_change, leaked_in}
 use Rattle.qcow2_image.proofs.Call.Marked.{MayMark}
 use Rattle.qcow2_image.specs.CallParts.{UnseenCall, InterruptedCall, RefusedCall, FindsTable, IsReadied, PreparesRange}
 use Rattle.qcow2_image.specs.UnseenSteps.{InterruptedStep, Ensures, UnseenFillingStep, RefusedFillingStep, UnseenStep, RefusedStep, pending_with_listed}
@@ -51,19 +51,20 @@ module _ {S F : Type 0} (view : S → StorageView) (backing : F → BackingView)
   stays_kept old new sound keeps = record { works = works_now view backing old new out sound keeps; sound = sound_now view backing old new out sound keeps; same = same_now view backing old new out sound keeps; header = format_file_step old.file.header.fields new.file.header.fields keeps.unseen.header; covers = format_stay old.file.header.fields new.file.header.fields (known_in view old.file) (known_in view new.file) keeps.unseen.header keeps.unseen.covers }
 
   -- it broke off
-  pub break_off_so : (old new : Qcow2 S F) (e : ImageError) → InterruptedFileStep view old.file new.file e → cluster_size new.file.header.fields ≡ cluster_size old.file.header.fields → below_of view backing new.backing ≡ below_of view backing old.backing → InterruptedCall view backing old new out e
-  break_off_so old new e interrupted size below = record {
+  pub break_off_so : (old new : Qcow2 S F) (e : ImageError) → InterruptedFileStep view old.file new.file e → cluster_size new.file.header.fields ≡ cluster_size old.file.header.fields → below_of view backing new.backing ≡ below_of view backing old.backing → leaked_in new ≡ leaked_in old → InterruptedCall view backing old new out e
+  break_off_so old new e interrupted size below leaks = record {
     fault = interrupted.fault;
     noted = interrupted.noted;
     works = record {
       setting = same_setting _ _ size below;
       surplus = λ now. absurd (let f : true ≡ false = now.works in cc);
+      leaks = leaks;
       stops = stops_of (abstract_of view backing old out) (abstract_of view backing (record new { is_failed = true }) out) nothing_given [] interrupted.since (λ now. absurd (let f : true ≡ false = now.works in cc));
     };
   }
 
   pub break_off : (old new : Qcow2 S F) (e : ImageError) → InterruptedStep view backing old new e → InterruptedCall view backing old new out e
-  break_off old new e interruption = break_off_so old new e interruption.interrupted (ap (λ (h : HeaderFields). cluster_size h) interruption.header) interruption.below
+  break_off old new e interruption = break_off_so old new e interruption.interrupted (ap (λ (h : HeaderFields). cluster_size h) interruption.header) interruption.below interruption.leaks
 
   -- ---- one part after another
   module _ (a b c : Qcow2 S F) (first : UnseenCall view backing a b out) where
@@ -107,7 +108,7 @@ module _ {S F : Type 0} (view : S → StorageView) (backing : F → BackingView)
   pub left_refused : (old new : Qcow2 S F) (e : ImageError) → ImageInvariant view backing (pending_in view backing old out) old out → KeepsRestOn old new → RefusedStep view backing (pending_in view backing old out) old new out e → RefusedCall view backing old new out e
   left_refused old new e sound rest left = elim left [
     | inl keeps ↦ inl (stays_kept old new sound keeps)
-    | inr interrupted ↦ inr (break_off old new e (record { interrupted = interrupted; header = ap (λ x. x.fields) rest.header; below = ap (below_of view backing) rest.backing }))
+    | inr interrupted ↦ inr (break_off old new e (record { interrupted = interrupted.interrupted; header = ap (λ x. x.fields) rest.header; below = ap (below_of view backing) rest.backing; leaks = interrupted.leaks }))
   ]
 
   -- the table of an offset is there
@@ -132,6 +133,7 @@ module _ {S F : Type 0} (view : S → StorageView) (backing : F → BackingView)
         header = image_step.header;
         below = image_step.below;
         surplus = refl;
+        leaks = image_step.leaks;
       }) image_step.seen image_step.covers
 
   -- a part that was refused is a call that was

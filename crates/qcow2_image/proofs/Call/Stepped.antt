@@ -17,6 +17,7 @@ use Rattle.qcow2_image.specs.declared.prepared.Prepared.{Prepared}
 use Rattle.qcow2_image.specs.ImageInvariant.{backing_bytes, below_of, ImageInvariant, pending_in, abstract_of}
 use Rattle.qcow2_image.proofs.Call.Answered.{same_setting}
 use Rattle.qcow2_image.proofs.Sound.{IsOnly, pending_is}
+use Rattle.qcow2_image.specs.Image.{leaked_in}
 use Rattle.qcow2_disk.proofs.Compose.{stops_of}
 
 module _ {S F : Type 0} (view : S → StorageView) (backing : F → BackingView) (old new : Qcow2 S F) (out out' : List (Option Prepared)) where
@@ -29,6 +30,7 @@ module _ {S F : Type 0} (view : S → StorageView) (backing : F → BackingView)
     pub header : KeepsFormat old.file.header.fields new.file.header.fields
     pub below : below_of view backing new.backing ≡ below_of view backing old.backing
     pub surplus : p.surplus ≡ (pending_in view backing old out).surplus
+    pub leaks : leaked_in new ≡ leaked_in old
 
   module _ (given : Bytes → List GivenBytes) (p : Pending) (steps : Steps given p) where
     pending_now : p ≡ pending_in view backing new out'
@@ -41,5 +43,6 @@ module _ {S F : Type 0} (view : S → StorageView) (backing : F → BackingView)
     stepped_works = record {
       setting = same_setting _ _ (ap (λ (h : HeaderFields). cluster_size h) steps.header) steps.below;
       surplus = λ still. ap (λ (q : Pending). q.surplus) (sym pending_now) ∙ steps.surplus;
+      leaks = steps.leaks;
       stops = stops_of (abstract_of view backing old out) (abstract_of view backing new out') given [] steps.since (λ still. steps.safe_step.known);
     }

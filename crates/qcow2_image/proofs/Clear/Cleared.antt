@@ -258,6 +258,7 @@ module _ {S F : Type 0} (view : S → StorageView) (backing : F → BackingView)
       header = refl;
       below = refl;
       surplus = all.surplus;
+      leaks = refl;
     }
 
     given_is : given (backing_bytes view backing a.backing) ≡ given_bytes_between view backing a how from to

@@ -186,6 +186,7 @@ module _ {S F : Type 0} (view : S → StorageView) (backing : F → BackingView)
           record {
             setting = both.setting;
             surplus = λ still. absurd (let no : true ≡ false = sym failed ∙ still.works in cc);
+            leaks = both.leaks;
             stops = λ c starts. stops_as v f v (abstract_of view backing freed (slice_set out k now)) given_bytes [] refl refl refl (λ still. absurd (let no : true ≡ false = sym failed ∙ still.works in cc)) c (both.stops c starts);
           }
 

@@ -418,6 +418,7 @@ module _ {S F : Type 0} (view : S → StorageView) (backing : F → BackingView)
       header = refl;
       below = refl;
       surplus = made.surplus;
+      leaks = refl;
     }
 
     -- ---- what it shows

@@ -126,6 +126,7 @@ module _ {S F : Type 0} (view : S → StorageView) (backing : F → BackingView)
         header = refl;
         below = refl;
         surplus = refl;
+        leaks = refl;
       }
 
     slots_left : guest_of (abstract_of view backing left (slice_set out k None)) ≡ with_slot (guest_of (abstract_of view backing old out)) k None
@@ -136,7 +137,7 @@ module _ {S F : Type 0} (view : S → StorageView) (backing : F → BackingView)
     acts = record {
       number = refl;
       works = λ sound. stepped_works view backing old left out (slice_set out k None) nothing_given (after out k at) (release_prepared_steps out k at sound);
-      rests = λ failed. rests_none (abstract_of view backing old out) (abstract_of view backing left (slice_set out k None)) refl refl failed;
+      rests = λ failed. rests_none (abstract_of view backing old out) (abstract_of view backing left (slice_set out k None)) refl refl failed refl;
     };
     answer = λ sound. (stepped_sound view backing old left out (slice_set out k None) nothing_given (after out k at) (release_prepared_steps out k at sound), slots_left out k at);
   }

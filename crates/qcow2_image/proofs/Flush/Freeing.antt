@@ -29,7 +29,7 @@ use Rattle.qcow2_image.specs.declared.prepared.Prepared.{Prepared}
 use Rattle.qcow2_image.specs.CallParts.{EndsFreeing, RefusedCall, UnseenCall}
 use Rattle.qcow2_image.specs.UnseenSteps.{UnseenStep, UnseenFreeingStep, FreesListed}
 use Rattle.qcow2_image.specs.Calls.{FlushesImage, refusal_of}
-use Rattle.qcow2_image.specs.Image.{number_of, is_failed, has_noted_change}
+use Rattle.qcow2_image.specs.Image.{number_of, is_failed, has_noted_change, leaked_by, leaked_in}
 use Rattle.qcow2_image.proofs.Call.Marked.{MayMarkBy}
 use Rattle.qcow2_image.specs.ImageInvariant.{ImageInvariant, pending_in, abstract_of}
 use Rattle.qcow2_image.proofs.Call.Answered.{freeing_step_kept, still_seen}
@@ -47,16 +47,17 @@ module _ {S F : Type 0} (view : S → StorageView) (backing : F → BackingView)
     unseen = unseen_then (state_in view a.file p) (state_in view b.file q) (state_in view c.file r) first.unseen then.unseen new_data;
     copied = copied_then view backing out a b c p q r first.unseen.header first.copied then.copied;
     below = then.below ∙ first.below;
+    leaks = then.leaks ∙ first.leaks;
   }
 
   -- the allocator worked off the list
   module _ (p : Pending) (old : Qcow2 S F) (sound : ImageInvariant view backing (with_listed p old.file.free_list) old out) (file : ImageFile S) (a : Allocator) (pins : (table : ℕ) → l2_pins file.caches table ≡ l2_pins old.file.caches table)
-      (header : file.header ≡ old.file.header) where
+      (header : file.header ≡ old.file.header) (leaks : leaked_by (Some a) ≡ leaked_in old) where
     pub frees_listed : (r : Result (Unit {0}) ImageError) → Frees view (with_listed p old.file.free_list) old.file a file (with_listed p file.free_list) r → KeepsNoFreeBelowHint view a file r → FreesListed view backing p old (record old { file = file; allocator = Some a }) out r
-    frees_listed (Ok _) frees hint = file_tidied view backing old out (with_listed p old.file.free_list) (with_listed p file.free_list) sound file (Some a) (file_step_on view (with_listed p old.file.free_list) (with_listed p file.free_list) old.file file frees.file_step) (record { reftable = frees.reftable; hint = hint }) pins
+    frees_listed (Ok _) frees hint = file_tidied view backing old out (with_listed p old.file.free_list) (with_listed p file.free_list) sound file (Some a) (file_step_on view (with_listed p old.file.free_list) (with_listed p file.free_list) old.file file frees.file_step) (record { reftable = frees.reftable; hint = hint }) leaks pins
     frees_listed (Err e) frees hint = elim (freed_kept view (with_listed p old.file.free_list) (with_listed p file.free_list) old.file file a e frees.1 hint) [
-      | inl left ↦ inl (file_tidied view backing old out (with_listed p old.file.free_list) (with_listed p file.free_list) sound file (Some a) left.0 left.1 pins)
-      | inr interrupted ↦ inr (record { interrupted = interrupted; header = format_same old.file.header.fields file.header.fields (ap (λ x. x.fields) header); below = refl })
+      | inl left ↦ inl (file_tidied view backing old out (with_listed p old.file.free_list) (with_listed p file.free_list) sound file (Some a) left.0 left.1 leaks pins)
+      | inr interrupted ↦ inr (record { interrupted = interrupted; header = format_same old.file.header.fields file.header.fields (ap (λ x. x.fields) header); below = refl; leaks = leaks })
     ]
 
   pub frees_fault : (p q : Pending) (old file : ImageFile S) (a : Allocator) (r : Result (Unit {0}) ImageError) → Frees view p old a file q r → IfErr r FaultOfTables
@@ -95,6 +96,7 @@ module _ {S F : Type 0} (view : S → StorageView) (backing : F → BackingView)
       };
       header = format_then a.file.header.fields b.file.header.fields c.file.header.fields first.unseen.header interruption.header;
       below = interruption.below ∙ first.below;
+      leaks = interruption.leaks ∙ first.leaks;
     })
   ]
 
@@ -119,6 +121,7 @@ module _ {S F : Type 0} (view : S → StorageView) (backing : F → BackingView)
           header = freeing_step.unseen.header;
           below = freeing_step.below;
           surplus = refl;
+          leaks = freeing_step.leaks;
         })
         (still_seen view backing old new out (with_listed beside old.file.free_list) (with_listed beside new.file.free_list) (subst (λ (p : Pending). ImageInvariant view backing p old out) all_listed sound) (λ k. omega arith) (λ k. omega arith) freeing_step) freeing_step.unseen.covers
 

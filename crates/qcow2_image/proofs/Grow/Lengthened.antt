@@ -48,6 +48,7 @@ use Rattle.qcow2_image.proofs.Call.Refused.{break_off_so, refused_then, stays_ke
 use Rattle.qcow2_image.proofs.Flush.Freeing.{beside, freed_refused, tidy_stays}
 use Rattle.qcow2_image.proofs.Formats.{lists_grow}
 use Rattle.qcow2_image.proofs.Moved.{file_step_then, format_file_step, stay_then, format_stay}
+use Rattle.qcow2_image.specs.Image.{leaked_by, leaked_in}
 use Rattle.qcow2_image.proofs.Moving.{file_moved_on}
 use Rattle.qcow2_image.proofs.Prepare.Entering.{as_listed_after, interrupted_on, keeps_listed, keeps_none, none_taken}
 use Rattle.qcow2_image.proofs.Prepare.Gaining.{listed_after_on}
@@ -82,6 +83,7 @@ module _ {S F : Type 0} (view : S → StorageView) (backing : F → BackingView)
       shows = unseen_disk (state_in view a.file p) (state_in view b.file q) sound.file.caches.kept.kept.crash_invariant keeps.sound.file.caches.kept.kept.crash_invariant keeps.unseen;
       below = keeps.below;
       list = keeps.list;
+      leaks = keeps.leaks;
     }
 
   pub move_then : (p q r : Pending) (a b c : Qcow2 S F) → UnseenMove view backing p q a b out → UnseenMove view backing q r b c out → UnseenMove view backing p r a c out
@@ -97,13 +99,15 @@ module _ {S F : Type 0} (view : S → StorageView) (backing : F → BackingView)
         shows = λ below. then.shows below ∙ first.shows below;
         below = then.below ∙ first.below;
         list = record { more = first.list.more ++ then.list.more; is = then.list.is ∙ ap (λ l. l ++ then.list.more) first.list.is ∙ append_assoc a.file.free_list first.list.more then.list.more };
+        leaks = then.leaks ∙ first.leaks;
       }
 
   pub interruption_then : (p q : Pending) (a b c : Qcow2 S F) (e : ImageError) → UnseenStep view backing p q a b out → InterruptedMove view backing b c e → InterruptedMove view backing a c e
   interruption_then p q a b c e first interruption = record {
-    interrupted = interrupted_on view backing out p q a b c e first interruption.interrupted;
+    interrupted = (interrupted_on view backing out p q a b c e first (record { interrupted = interruption.interrupted; leaks = interruption.leaks })).interrupted;
     header = file_step_then a.file.header.fields b.file.header.fields c.file.header.fields (format_file_step a.file.header.fields b.file.header.fields first.unseen.header) interruption.header;
     below = interruption.below ∙ first.below;
+    leaks = interruption.leaks ∙ first.leaks;
   }
 
   -- nothing was done
@@ -159,7 +163,7 @@ module _ {S F : Type 0} (view : S → StorageView) (backing : F → BackingView)
 
   -- ---- clusters are taken for it, or aren't
   module _ (p : Pending) (old : Qcow2 S F) (sound : ImageInvariant view backing p old out) (file : ImageFile S) (a : Allocator) (marks : KeepsPinsAndNotes old.file.caches file.caches) (lists : ListsTables old.file.free_list file.free_list)
-      (header : KeepsHeader old.file.header file.header) where
+      (header : KeepsHeader old.file.header file.header) (leaks : leaked_by (Some a) ≡ leaked_in old) where
     abbrev taken : Qcow2 S F
     taken = record old { file = file; allocator = Some a }
 
@@ -168,15 +172,15 @@ module _ {S F : Type 0} (view : S → StorageView) (backing : F → BackingView)
     since = pending_with_listed p old taken
 
     pub none_taken_for_table : (e : ImageError) → RefusedGrowth view p old.file a file since e → NoFreeBelowHint view a file ⊎ BrokeOff file e → RefusedMove view backing p old taken out e
-    none_taken_for_table e left hint = elim (none_taken view backing out p old sound file a marks lists e left hint) [
+    none_taken_for_table e left hint = elim (none_taken view backing out p old sound file a marks lists leaks e left hint) [
       | inl keeps ↦ inl keeps
-      | inr interrupted ↦ inr (record { interrupted = interrupted; header = format_file_step old.file.header.fields file.header.fields (header_format old.file.header file.header header); below = refl })
+      | inr interrupted ↦ inr (record { interrupted = interrupted.interrupted; header = format_file_step old.file.header.fields file.header.fields (header_format old.file.header file.header header); below = refl; leaks = leaks })
     ]
 
     module _ (t : EntryTableView) (cluster n : ℕ) (many : n ≡ clusters_of t) (allocator_step : UnseenAllocatorGrowth view p old.file a file (taken_as false since (run_at cluster n))) (hint : NoFreeBelowHint view a file) (longer : IsLongerL1 old t) where
       pub keeps_taken : UnseenStep view backing p (with_table since t cluster) old taken out
       keeps_taken = subst (λ m. UnseenStep view backing p (taken_as false since (run_at cluster m)) old taken out) many
-          (file_moved_on view backing old out p (taken_as false since (run_at cluster n)) sound file (Some a) allocator_step.file_step (record { reftable = allocator_step.reftable; hint = hint }) marks.pins (lists_grow old taken lists))
+          (file_moved_on view backing old out p (taken_as false since (run_at cluster n)) sound file (Some a) allocator_step.file_step (record { reftable = allocator_step.reftable; hint = hint }) leaks marks.pins (lists_grow old taken lists))
 
       pub longer_taken : IsLongerL1 taken t
       longer_taken = record {
@@ -210,7 +214,7 @@ module _ {S F : Type 0} (view : S → StorageView) (backing : F → BackingView)
                   (keeps_then view backing out old new (record new { file = record new.file { free_list = more } }) p q (run_given_up since t cluster) (λ k h. h) (keeps_then view backing out old taken new p q q (λ k h. h) keeps_taken keeps)
                   (abandoned_run since t cluster new more (run ∷ []) keeps.sound longer)))
               | inr interruption ↦ let on = interruption_then p q old taken new e keeps_taken interruption in
-                  inr (record { interrupted = record { fault = on.interrupted.fault; noted = on.interrupted.noted; since = on.interrupted.since }; header = on.header; below = on.below })
+                  inr (record { interrupted = record { fault = on.interrupted.fault; noted = on.interrupted.noted; since = on.interrupted.since }; header = on.header; below = on.below; leaks = on.leaks })
             ]
 
       -- so it is whatever is answered: what was taken stays the table's, or is to be freed
@@ -322,6 +326,7 @@ module _ {S F : Type 0} (view : S → StorageView) (backing : F → BackingView)
       works = record {
         setting = same_setting _ _ (ap (λ (h : HeaderFields). cluster_size h) file_step.header) file_step.below;
         surplus = λ still. ap (λ (q : Pending). q.surplus) (sym pending_now);
+        leaks = file_step.leaks;
         stops = stops_of (abstract_of view backing old out) (abstract_of view backing new out) nothing_given [] file_step.since (λ still. file_step.safe_step.known);
       };
       sound = subst (λ (q : Pending). ImageInvariant view backing q new out) pending_now file_step.sound;
@@ -333,7 +338,7 @@ module _ {S F : Type 0} (view : S → StorageView) (backing : F → BackingView)
   pub refused_moved : (e : ImageError) → RefusedMove view backing (pending_in view backing old out) old new out e → RefusedCall view backing old new out e
   refused_moved e left = elim left [
     | inl keeps ↦ inl (stays_kept view backing out old new sound keeps)
-    | inr interruption ↦ inr (break_off_so view backing out old new e interruption.interrupted (ap (λ (h : HeaderFields). cluster_size h) interruption.header) interruption.below)
+    | inr interruption ↦ inr (break_off_so view backing out old new e interruption.interrupted (ap (λ (h : HeaderFields). cluster_size h) interruption.header) interruption.below interruption.leaks)
   ]
 
 module _ {S F : Type 0} (view : S → StorageView) (backing : F → BackingView) (out : List (Option Prepared)) where

@@ -129,7 +129,7 @@ module _ {S F : Type 0} (view : S → StorageView) (backing : F → BackingView)
 
       pub keeps_placed : UnseenStep view backing q q image placed out
       keeps_placed = file_moved view backing image out q q sound placed.file image.allocator (file_step_written view q image.file storage sound.file (calls_now.honest sound.file.honest) each_now (calls_now.time sound.file.honest)) (reftable_now image.allocator sound.reftable)
-          (λ k. refl) refl
+          refl (λ k. refl) refl
 
       pub stands_whole : (t' : EntryTableView) → t' ≡ record t { cluster = Some cluster } → (x : Unit {0}) → result ≡ Ok x → StandsWhole view placed t' cluster
       stands_whole t' is x done =

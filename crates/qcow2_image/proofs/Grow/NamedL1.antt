@@ -194,6 +194,7 @@ module _ {S F : Type 0} (view : S → StorageView) (backing : F → BackingView)
       shows = guests_now.disk;
       below = refl;
       list = record { more = []; is = sym (append-nil old.file.free_list) };
+      leaks = refl;
     }
 
   -- as the calls say it
@@ -223,4 +224,5 @@ module _ {S F : Type 0} (view : S → StorageView) (backing : F → BackingView)
       interrupted = record { fault = fault_of_storage e; noted = λ is. or_right (is_changed_of storage) old.file.caches.is_changed noted; since = lasts_named result asked (storage_of storage) same (pointer_written_as result asked (storage_of storage) wrote) called };
       header = subst (λ (v : HeaderView). MovesTables old.file.header.fields v.fields) (sym header_now) refl;
       below = refl;
+      leaks = refl;
     })

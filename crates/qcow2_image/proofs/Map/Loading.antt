@@ -90,6 +90,7 @@ module _ {S F : Type 0} (view : S → StorageView) (backing : F → BackingView)
       copied = λ i is. l1_still i;
       below = refl;
       list = record { more = []; is = sym (append-nil old.file.free_list) };
+      leaks = refl;
     }
 
 -- where all tables are written, what is known is what stands on the storage

@@ -84,6 +84,7 @@ module _ {S F : Type 0} (view : S → StorageView) (backing : F → BackingView)
     works = record {
       setting = works.setting;
       surplus = λ now. absurd (let f : true ≡ false = now.works in cc);
+      leaks = works.leaks;
       stops = λ m starts.
           stops_as (abstract_of view backing old out) (abstract_of view backing new out) (abstract_of view backing old out) (abstract_of view backing (record new { is_failed = true }) out) given [] refl refl refl (λ now. (sound, refl)) m (works.stops m starts);
     };

@@ -32,10 +32,10 @@ module _ {D P : Type 0} (spec : Abstraction D P) (has : HasFreePlaces spec) (in_
 
   -- a free place more, or less
   pub enters : (d : D) (out : List (Option P)) → EffectOnSound (abstract_image spec d out) (at_place d None out) [] []
-  enters d out = record { setting = refl; surplus = λ _. has.surplus d [] out; stops = stops_none (abstract_image spec d out) (at_place d None out) [] [] refl (λ _. refl) }
+  enters d out = record { setting = refl; surplus = λ _. has.surplus d [] out; leaks = refl; stops = stops_none (abstract_image spec d out) (at_place d None out) [] [] refl (λ _. refl) }
 
   pub leaves : (d : D) (out : List (Option P)) → EffectOnSound (at_place d None out) (abstract_image spec d out) [] []
-  leaves d out = record { setting = refl; surplus = λ _. sym (has.surplus d [] out); stops = stops_none (at_place d None out) (abstract_image spec d out) [] [] refl (λ _. refl) }
+  leaves d out = record { setting = refl; surplus = λ _. sym (has.surplus d [] out); leaks = refl; stops = stops_none (at_place d None out) (abstract_image spec d out) [] [] refl (λ _. refl) }
 
   -- it is prepared
   module _ (d0 d1 : D) (p : P) (out : List (Option P)) (size offset n : ℕ) (sound0 : spec.is_sound d0 out) (sound1 : spec.is_sound d1 (Some p ∷ out)) (readies : EffectOnSound (at_place d0 None out) (at_place d1 (Some p) out) [] [])

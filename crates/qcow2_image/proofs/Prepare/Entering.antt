@@ -27,7 +27,7 @@ use Rattle.qcow2_alloc.specs.declared.clusters_to_free.ClusterKind.{ClusterKind}
 use Rattle.qcow2_alloc.specs.declared.clusters_to_free.ClusterKind.TheVariants as Kind
 use Rattle.qcow2_alloc.specs.declared.error.ImageError.{ImageError}
 use Rattle.qcow2_alloc.specs.FreeList.{ListsTables}
-use Rattle.qcow2_alloc.specs.ImageFile.{nothing_given, view_in, contents_in, known_in, state_in, InterruptedFileStep}
+use Rattle.qcow2_alloc.specs.ImageFile.{nothing_given, view_in, contents_in, known_in, state_in}
 use Rattle.qcow2_alloc.proofs.FileSteps.{safe_throughout_then, one_few, one_here, pending_same}
 use Rattle.qcow2_alloc.proofs.Runs.{run_before, run_after, run_last}
 use Rattle.qcow2_alloc.proofs.KeptAllocators.{refused_kept}
@@ -36,13 +36,14 @@ use Rattle.qcow2_image.proofs.Open.Reftables.{reftable_still}
 use Rattle.qcow2_image.specs.declared.image.Qcow2.{Qcow2}
 use Rattle.qcow2_image.specs.declared.prepared.Prepared.{Prepared}
 use Rattle.qcow2_image.specs.NewTables.{SaysKnown, MayName, replacing, NamesNew, WritesNew, EntersTable}
-use Rattle.qcow2_image.specs.UnseenSteps.{NamesOwn, UnseenStep, RefusedStep, ListGrows, pending_with_listed}
+use Rattle.qcow2_image.specs.UnseenSteps.{InterruptedPart, NamesOwn, UnseenStep, RefusedStep, ListGrows, pending_with_listed}
 use Rattle.qcow2_image.specs.ImageInvariant.{of_data, of_tables, to_free, ImageInvariant}
 use Rattle.qcow2_image.proofs.Call.Called.{keeps_then}
 use Rattle.qcow2_image.proofs.Formats.{lists_grow, says_format}
 use Rattle.qcow2_image.proofs.Prepare.Gaining.{listed_after_on, listed_after_same}
 use Rattle.qcow2_image.proofs.Commit.Released.{sound_while}
 use Rattle.qcow2_image.proofs.Map.Loading.{still_moved}
+use Rattle.qcow2_image.specs.Image.{leaked_by, leaked_in}
 use Rattle.qcow2_image.proofs.Moving.{file_moved_on}
 use Rattle.qcow2_image.proofs.Sound.{free_more}
 
@@ -69,8 +70,8 @@ module _ {S F : Type 0} (view : S → StorageView) (backing : F → BackingView)
   pub as_listed_after : (p : Pending) (old new : Qcow2 S F) → new.file.free_list ≡ old.file.free_list → UnseenStep view backing p p old new out → UnseenStep view backing p (pending_with_listed p old new) old new out
   as_listed_after p old new same keeps = subst (λ (q : Pending). UnseenStep view backing p q old new out) (unlisted p old new same) keeps
 
-  pub interrupted_on : (p q : Pending) (a b c : Qcow2 S F) (e : ImageError) → UnseenStep view backing p q a b out → InterruptedFileStep view b.file c.file e → InterruptedFileStep view a.file c.file e
-  interrupted_on p q a b c e first second = record { fault = second.fault; noted = second.noted; since = safe_throughout_then view a.file b.file c.file first.since first.safe_step.known second.since }
+  pub interrupted_on : (p q : Pending) (a b c : Qcow2 S F) (e : ImageError) → UnseenStep view backing p q a b out → InterruptedPart view backing b c e → InterruptedPart view backing a c e
+  interrupted_on p q a b c e first second = let on = second.interrupted in record { interrupted = record { fault = on.fault; noted = on.noted; since = safe_throughout_then view a.file b.file c.file first.since first.safe_step.known on.since }; leaks = second.leaks ∙ first.leaks }
 
   -- ---- images with the same L1 table
   module _ (p q : Pending) (a b : Qcow2 S F) (sound : ImageInvariant view backing p a out) (sound' : ImageInvariant view backing q b out) (same : b.l1_table ≡ a.l1_table) where
@@ -125,6 +126,7 @@ module _ {S F : Type 0} (view : S → StorageView) (backing : F → BackingView)
       copied = λ i own. refl;
       below = refl;
       list = record { more = more; is = is };
+      leaks = refl;
     }
 
   -- a cluster that was taken for a table isn't used
@@ -160,7 +162,7 @@ module _ {S F : Type 0} (view : S → StorageView) (backing : F → BackingView)
       (λ k. refl)
 
   -- ---- a cluster is taken for the table, or isn't
-  module _ (p : Pending) (old : Qcow2 S F) (sound : ImageInvariant view backing p old out) (file : ImageFile S) (a : Allocator) (marks : KeepsPinsAndNotes old.file.caches file.caches) (lists : ListsTables old.file.free_list file.free_list) where
+  module _ (p : Pending) (old : Qcow2 S F) (sound : ImageInvariant view backing p old out) (file : ImageFile S) (a : Allocator) (marks : KeepsPinsAndNotes old.file.caches file.caches) (lists : ListsTables old.file.free_list file.free_list) (leaks : leaked_by (Some a) ≡ leaked_in old) where
     abbrev taken : Qcow2 S F
     taken = record old { file = file; allocator = Some a }
 
@@ -170,14 +172,14 @@ module _ {S F : Type 0} (view : S → StorageView) (backing : F → BackingView)
 
     pub none_taken : (e : ImageError) → RefusedGrowth view p old.file a file since e → NoFreeBelowHint view a file ⊎ BrokeOff file e → RefusedStep view backing p old taken out e
     none_taken e left hint = elim (refused_kept view p since old.file file a e left hint) [
-      | inl kept ↦ inl (file_moved_on view backing old out p since sound file (Some a) kept.0 kept.1 marks.pins (lists_grow old taken lists))
-      | inr interrupted ↦ inr interrupted
+      | inl kept ↦ inl (file_moved_on view backing old out p since sound file (Some a) kept.0 kept.1 leaks marks.pins (lists_grow old taken lists))
+      | inr interrupted ↦ inr (record { interrupted = interrupted; leaks = leaks })
     ]
 
     module _ (first n : ℕ) (one : n ≡ 1) (allocator_step : UnseenAllocatorGrowth view p old.file a file (taken_as false since (run_at first n))) (hint : NoFreeBelowHint view a file) where
       pub keeps_taken : UnseenStep view backing p (with_new_tables since (one_at first)) old taken out
       keeps_taken = subst (λ (q : Pending). UnseenStep view backing p q old taken out) (ap (λ m. taken_as false since (run_at first m)) one ∙ one_taken since first)
-          (file_moved_on view backing old out p (taken_as false since (run_at first n)) sound file (Some a) allocator_step.file_step (record { reftable = allocator_step.reftable; hint = hint }) marks.pins (lists_grow old taken lists))
+          (file_moved_on view backing old out p (taken_as false since (run_at first n)) sound file (Some a) allocator_step.file_step (record { reftable = allocator_step.reftable; hint = hint }) leaks marks.pins (lists_grow old taken lists))
 
       may_taken : (index : ℕ) → MayName view old index → MayName view taken index
       may_taken = may_still p (with_new_tables since (one_at first)) old taken sound keeps_taken.sound refl
@@ -208,5 +210,5 @@ module _ {S F : Type 0} (view : S → StorageView) (backing : F → BackingView)
                   (freed_table p first old taken (record new { file = record new.file { free_list = more } }) run (lists_grow old taken lists) at single kind (longer ∙ ap (λ l. l ++ run ∷ []) listed))
                   (keeps_then view backing out old new (record new { file = record new.file { free_list = more } }) p q (given_up since first) (λ k h. h) (keeps_then view backing out old taken new p q q (λ k h. h) keeps_taken keeps)
                   (abandoned since first new more (run ∷ []) keeps.sound longer)))
-              | inr interrupted ↦ let on = interrupted_on p q old taken new e keeps_taken interrupted in inr (record { fault = on.fault; noted = on.noted; since = on.since })
+              | inr interrupted ↦ let on = interrupted_on p q old taken new e keeps_taken interrupted in inr (record { interrupted = record { fault = on.interrupted.fault; noted = on.interrupted.noted; since = on.interrupted.since }; leaks = on.leaks })
             ]

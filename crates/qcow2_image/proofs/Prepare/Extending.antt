@@ -182,6 +182,7 @@ module _ {S F : Type 0} (view : S → StorageView) (backing : F → BackingView)
     header = behind.image_step.header;
     below = behind.image_step.below;
     surplus = behind.surplus;
+    leaks = behind.image_step.leaks;
   }
 
   -- what a guest sees

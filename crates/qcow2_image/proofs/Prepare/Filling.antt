@@ -86,6 +86,7 @@ module _ {S F : Type 0} (view : S → StorageView) (backing : F → BackingView)
     below = keeps.below;
     list = keeps.list;
     seen = still_seen view backing a b out p p' sound holds still (freeing_step_kept view backing a b out p p' keeps);
+    leaks = keeps.leaks;
   }
 
   pub image_step_none : (a : Qcow2 S F) (p : Pending) → ImageInvariant view backing p a out → UnseenFillingStep view backing p p a a out
@@ -99,6 +100,7 @@ module _ {S F : Type 0} (view : S → StorageView) (backing : F → BackingView)
     below = refl;
     list = record { more = []; is = sym (append-nil a.file.free_list) };
     seen = refl;
+    leaks = refl;
   }
 
   pub image_step_then : (a b c : Qcow2 S F) (p q r : Pending) → UnseenFillingStep view backing p q a b out → UnseenFillingStep view backing q r b c out → UnseenFillingStep view backing p r a c out
@@ -112,6 +114,7 @@ module _ {S F : Type 0} (view : S → StorageView) (backing : F → BackingView)
     below = then.below ∙ first.below;
     list = record { more = first.list.more ++ then.list.more; is = then.list.is ∙ ap (λ l. l ++ then.list.more) first.list.is ∙ append_assoc a.file.free_list first.list.more then.list.more };
     seen = then.seen ∙ first.seen;
+    leaks = then.leaks ∙ first.leaks;
   }
 
   -- clusters that are held have the same bytes where no guest sees a change
@@ -184,6 +187,7 @@ module _ {S F : Type 0} (view : S → StorageView) (backing : F → BackingView)
       seen = same_guest _ _ (apart.shows (backing_bytes view backing old.backing))
           (fun_ext (λ k. same_slot view backing old new out refl
           (λ j q at_j o private. sym (alone.others (place_of h q o) (outside (place_of h q o) (elsewhere j q at_j o (private_stands view backing old out p sound j q at_j o private))))) k (slice_get out k) refl));
+      leaks = refl;
     }
 
   -- whether the write is there or isn't

@@ -37,6 +37,7 @@ use Rattle.qcow2_image.specs.ImageInvariant.{run_of, of_data, of_tables, to_free
 use Rattle.qcow2_image.proofs.Formats.{lists_grow}
 use Rattle.qcow2_image.proofs.Prepare.Filling.{image_step_kept, image_step_then}
 use Rattle.qcow2_image.proofs.Commit.Released.{run_few, sound_while}
+use Rattle.qcow2_image.specs.Image.{leaked_by, leaked_in}
 use Rattle.qcow2_image.proofs.Moving.{file_moved_on}
 use Rattle.qcow2_image.proofs.Open.Reftables.{reftable_still}
 use Rattle.qcow2_image.proofs.Sound.{free_more}
@@ -51,7 +52,7 @@ module _ {S F : Type 0} (view : S → StorageView) (backing : F → BackingView)
   listed_after_on p old mid new list = ap (λ l. since_listed p old.file.free_list l) (sym list)
 
   -- ---- by the allocator
-  module _ (old : Qcow2 S F) (p : Pending) (sound : ImageInvariant view backing p old out) (holds : HoldsAll view backing p out) (file : ImageFile S) (a : Allocator) (marks : KeepsPinsAndNotes old.file.caches file.caches) (lists : ListsTables old.file.free_list file.free_list) (header : KeepsHeader old.file.header file.header) where
+  module _ (old : Qcow2 S F) (p : Pending) (sound : ImageInvariant view backing p old out) (holds : HoldsAll view backing p out) (file : ImageFile S) (a : Allocator) (marks : KeepsPinsAndNotes old.file.caches file.caches) (lists : ListsTables old.file.free_list file.free_list) (header : KeepsHeader old.file.header file.header) (leaks : leaked_by (Some a) ≡ leaked_in old) where
     abbrev taken : Qcow2 S F
     taken = record old { file = file; allocator = Some a }
 
@@ -61,12 +62,12 @@ module _ {S F : Type 0} (view : S → StorageView) (backing : F → BackingView)
 
     -- from what is pending to what is
     image_step_moved : (q : Pending) → HoldsAll view backing q out → UnseenFileGrowth view p q old.file file → IsAllocatorOf view file a → UnseenFillingStep view backing p q old taken out
-    image_step_moved q still file_step reftable = image_step_kept view backing out old taken p q sound holds still (file_moved_on view backing old out p q sound file (Some a) file_step reftable marks.pins (lists_grow old taken lists))
+    image_step_moved q still file_step reftable = image_step_kept view backing out old taken p q sound holds still (file_moved_on view backing old out p q sound file (Some a) file_step reftable leaks marks.pins (lists_grow old taken lists))
 
     image_step_back : (e : ImageError) → RefusedGrowth view p old.file a file since e → NoFreeBelowHint view a file ⊎ BrokeOff file e → RefusedFillingStep view backing p old taken out e
     image_step_back e leaves hint = elim (refused_kept view p since old.file file a e leaves hint) [
       | inl kept ↦ inl (image_step_moved since holds kept.0 kept.1)
-      | inr broken ↦ inr (record { interrupted = broken; header = header_format old.file.header file.header header; below = refl })
+      | inr broken ↦ inr (record { interrupted = broken; header = header_format old.file.header file.header header; below = refl; leaks = leaks })
     ]
 
     pub takes_data : (r : Result ClustersToFreeEntry ImageError) → Allocates view p old.file a file since Kind.Data 1 r → KeepsNoFreeBelowHint view a file r → TakesData view backing p old taken out r
@@ -136,6 +137,7 @@ module _ {S F : Type 0} (view : S → StorageView) (backing : F → BackingView)
       below = refl;
       list = record { more = n ∷ []; is = refl };
       seen = refl;
+      leaks = refl;
     }
 
   -- what is pending then is what was before, with that

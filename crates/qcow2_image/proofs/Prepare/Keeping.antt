@@ -138,6 +138,7 @@ module _ {S F : Type 0} (view : S → StorageView) (backing : F → BackingView)
       list = record { more = []; is = sym (append-nil old.file.free_list) };
       seen = same_guest _ _ (run.shows (backing_bytes view backing old.backing))
           (fun_ext (λ k. same_slot view backing old new out refl (λ j q at_j o private. stays j q at_j o private) k (slice_get out k) refl));
+      leaks = refl;
     }
 
   -- whether the write is there or isn't

@@ -97,7 +97,7 @@ module _ {S F : Type 0} (view : S → StorageView) (backing : F → BackingView)
         | inl fault ↦ inl fault
         | inr same ↦ elim left [
           | inl keeps ↦ inr (subst (MayName view new) (sym (same_index old.file.header.fields new.file.header.fields offset keeps.unseen.header)) (may_still view backing out p (pending_with_listed p old new) old new sound keeps.sound same (l1_index_of old.file.header.fields offset) lacks))
-          | inr interrupted ↦ inl interrupted.fault
+          | inr interrupted ↦ inl interrupted.interrupted.fault
         ]
       ]
 

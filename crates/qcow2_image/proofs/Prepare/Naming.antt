@@ -349,6 +349,7 @@ module _ {S F : Type 0} (view : S → StorageView) (backing : F → BackingView)
       copied = own_stays;
       below = refl;
       list = record { more = []; is = sym (append-nil old.file.free_list) };
+      leaks = refl;
     }
 
     pub names_copied : NamesCopied view named index at

@@ -74,7 +74,7 @@ module _ {S F : Type 0} (view : S → StorageView) (backing : F → BackingView)
         (reftable_rewritten view p old.file storage at bytes result sound.file free_here full writes calls)
 
     pub keeps_placed : UnseenStep view backing p p old placed out
-    keeps_placed = file_moved view backing old out p p sound placed.file old.allocator (file_step_rewritten view p old.file storage at bytes result sound.file free_here full writes calls) (reftable old.allocator sound.reftable) (λ t. refl) refl
+    keeps_placed = file_moved view backing old out p p sound placed.file old.allocator (file_step_rewritten view p old.file storage at bytes result sound.file free_here full writes calls) (reftable old.allocator sound.reftable) refl (λ t. refl) refl
 
     pub stands_there : (x : Unit {0}) → result ≡ Ok x → StandAt (contents_in view placed.file) (at * cluster_size h) bytes
     stands_there x done i lt =

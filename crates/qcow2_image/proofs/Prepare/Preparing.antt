@@ -58,6 +58,7 @@ module _ {S F : Type 0} (view : S → StorageView) (backing : F → BackingView)
       header = refl;
       below = refl;
       surplus = refl;
+      leaks = refl;
     }
 
     never_private : (o : ℕ) → IsTrue (is_private view backing image p o) → ⊥

@@ -170,6 +170,7 @@ module _ {S F : Type 0} (view : S → StorageView) (backing : F → BackingView)
     header = image_step.header;
     below = image_step.below;
     surplus = is.surplus;
+    leaks = image_step.leaks;
   }
 
   seen_now : guest_of (abstract_of view backing new now) ≡ with_slot (guest_of (abstract_of view backing old out)) k (Some (meaning view backing new p))

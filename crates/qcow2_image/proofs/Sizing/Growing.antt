@@ -123,6 +123,7 @@ module _ {S F : Type 0} (view : S → StorageView) (backing : F → BackingView)
       flagged out sound works = record {
         setting = works.setting;
         surplus = λ now. works.surplus sound;
+        leaks = works.leaks;
         stops = λ m starts. stops_as (abstract_of view backing old out) (abstract_of view backing filled out) (abstract_of view backing old out) (abstract_of view backing final out) given_bytes [] refl refl refl (λ now. (sound, refl)) m (works.stops m starts);
       }
 
@@ -222,6 +223,7 @@ module _ {S F : Type 0} (view : S → StorageView) (backing : F → BackingView)
                       record {
                         setting = works.setting;
                         surplus = λ now. works.surplus stays.sound;
+                        leaks = works.leaks;
                         stops = λ k starts. stops_as v w v (abstract_of view backing (record new { is_failed = marked }) out) given_bytes (size ∷ []) refl refl refl (λ now. (stays.sound, refl)) k (works.stops k starts);
                       }
                   | inr stands ↦

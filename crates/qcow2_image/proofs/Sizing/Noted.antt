@@ -48,6 +48,7 @@ module _ {S F : Type 0} (view : S → StorageView) (backing : F → BackingView)
     works_noted works = record {
       setting = works.setting;
       surplus = λ sound. works.surplus (back sound);
+      leaks = works.leaks;
       stops = λ m starts. let t = works.stops m starts in record { moments = t.moments; contents = t.contents; known = λ sound. t.known (back sound) };
     }
 
@@ -55,7 +56,7 @@ module _ {S F : Type 0} (view : S → StorageView) (backing : F → BackingView)
     acts_noted acts = record {
       number = acts.number;
       works = λ sound. works_noted (acts.works sound);
-      rests = λ failed. let r = acts.rests failed in record { setting = r.setting; failed = r.failed; contents = r.contents; moments = r.moments };
+      rests = λ failed. let r = acts.rests failed in record { setting = r.setting; failed = r.failed; contents = r.contents; moments = r.moments; leaks = r.leaks };
     }
 
     pub does_noted : {done : Type 0} → AnsweredEffect v (abstract_of view backing image out) given asked done → AnsweredEffect v (abstract_of view backing (with_marks image noted (is_failed image)) out) given asked done

@@ -302,6 +302,7 @@ module _ {S F : Type 0} (view : S → StorageView) (backing : F → BackingView)
       left_works out (inl (works, still)) = record {
         setting = works.setting;
         surplus = λ now. works.surplus still.0;
+        leaks = works.leaks;
         stops = λ m starts. stops_as (abstract_of view backing old out) (abstract_of view backing new out) (abstract_of view backing old out) (abstract_of view backing final out) (all_given_by_shrink view backing old size) (size ∷ []) refl refl refl (λ now. (still.0, refl)) m (works.stops m starts);
       }
       left_works out (inr (so, works)) = subst (λ (f : Bool). EffectOnSound (abstract_of view backing old out) (abstract_of view backing (record new { is_failed = f }) out) (all_given_by_shrink view backing old size) (size ∷ [])) (sym so) works

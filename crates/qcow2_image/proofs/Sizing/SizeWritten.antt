@@ -244,6 +244,7 @@ module _ {S F : Type 0} (view : S → StorageView) (backing : F → BackingView)
           works = record {
             setting = refl;
             surplus = λ still. ap (λ (x : Pending). x.surplus) (sym pending_now);
+            leaks = refl;
             stops = stops_of (abstract_of view backing old out) (abstract_of view backing now out) nothing_given (size ∷ []) since (λ still. safe_step.known);
           };
           sound = subst (λ (x : Pending). ImageInvariant view backing x now out) pending_now (resized_sound view backing out q old sound size fits storage is honest);
@@ -262,6 +263,7 @@ module _ {S F : Type 0} (view : S → StorageView) (backing : F → BackingView)
       works = record {
         setting = refl;
         surplus = λ still. absurd (let no : true ≡ false = still.works in cc);
+        leaks = refl;
         stops = stops_of (abstract_of view backing old out) (abstract_of view backing (record unsized { is_failed = true }) out) nothing_given (size ∷ []) since (λ still. absurd (let no : true ≡ false = still.works in cc));
       };
     }

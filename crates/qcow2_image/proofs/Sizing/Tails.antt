@@ -249,6 +249,7 @@ pub works_asking : (old new : AbstractImage) (gs : List GivenBytes) (asked : Lis
 works_asking old new gs asked w = record {
   setting = w.setting;
   surplus = w.surplus;
+  leaks = w.leaks;
   stops = λ m starts. stops_less old new gs gs [] asked m (more m) (w.stops m starts);
 }
   where

@@ -142,4 +142,5 @@ steps_written view backing old out sound storage host bytes is free given honest
   header = refl;
   below = refl;
   surplus = refl;
+  leaks = refl;
 }

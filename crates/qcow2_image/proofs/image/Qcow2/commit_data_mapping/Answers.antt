@@ -24,7 +24,7 @@ use Rattle.qcow2_disk.proofs.Compose.{rests_none}
 pub returns-then-prepared-self-clause-sees : goal.returns-then-prepared-self-clause-sees
 returns-then-prepared-self-clause-sees g c = λ out k placed.
     let unsound : (abstract_of g.S.Storage.view g.F.BackingDisk.backing c.args.self.now out).is_sound → ⊥ = λ sound. c.if-prepared-self.true (sound.ready k c.args.prepared placed).own in
-    (unsound, refuses_unsound _ _ _ _ _ refl unsound (λ failed. rests_none _ _ refl refl failed) (λ never. absurd cc))
+    (unsound, refuses_unsound _ _ _ _ _ refl unsound (λ failed. rests_none _ _ refl refl failed refl) (λ never. absurd cc))
 
 pub returns-then-is_none-clause-sees : goal.returns-then-is_none-clause-sees
 returns-then-is_none-clause-sees g c = λ out k placed.

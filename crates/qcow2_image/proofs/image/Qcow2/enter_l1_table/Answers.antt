@@ -6,6 +6,7 @@ use Rattle.qcow2_alloc.specs.FreeList.{pending_then}
 use Rattle.qcow2_alloc.specs.KeptAllocators.{IsAllocatorOf}
 use Rattle.qcow2_alloc.proofs.AllocationSteps.{handed_on}
 use Rattle.qcow2_image.specs.LongerTables.{TakesTable}
+use Rattle.qcow2_image.proofs.Moving.{leaked_still}
 use Rattle.qcow2_image.proofs.Grow.Lengthened.{none_taken_for_table, refused_none, table_named_blocks}
 use Rattle.qcow2_alloc.proofs.KeptMarks.{notes_none, notes_then, notes_of_marks}
 use Rattle.qcow2_image.proofs.Call.BehindHeader.{behind_allocated, behind_none, behind_then}
@@ -31,7 +32,8 @@ returns-in_err-pending-clause-takes g c = λ p out sound longer.
     let own = subst (λ o. IfSome o (IsAllocatorOf g.S.Storage.view old.file)) c.in-Some.is sound.reftable in
     handed_on (TakesTable g.S.Storage.view g.F.BackingDisk.backing p old (record old { file = c.allocate_meta.new.file; allocator = Some c.allocate_meta.new.self }) out)
     c.from_residual.result c.in_err-pending.field-0.0 c.from_residual.ensures
-    (none_taken_for_table g.S.Storage.view g.F.BackingDisk.backing out p old sound c.allocate_meta.new.file c.allocate_meta.new.self c.allocate_meta.ensures.marks.pins c.allocate_meta.ensures.list c.allocate_meta.ensures.header c.in_err-pending.field-0.0
+    (none_taken_for_table g.S.Storage.view g.F.BackingDisk.backing out p old sound c.allocate_meta.new.file c.allocate_meta.new.self c.allocate_meta.ensures.marks.pins c.allocate_meta.ensures.list c.allocate_meta.ensures.header
+    (leaked_still old c.in-Some.allocator c.allocate_meta.new.self c.in-Some.is (c.allocate_meta.ensures.leaks p (record { sound = sound.file; reftable = own.reftable }))) c.in_err-pending.field-0.0
     (c.in_err-pending.ensures.sound p (record { sound = sound.file; reftable = own.reftable })) (c.in_err-pending.ensures.hint p (record { sound = record { sound = sound.file; reftable = own.reftable }; hint = own.hint })))
 
 pub returns-clause-takes : goal.returns-clause-takes
@@ -40,6 +42,7 @@ returns-clause-takes g c = λ p out sound longer.
     let own = subst (λ o. IfSome o (IsAllocatorOf g.S.Storage.view old.file)) c.in-Some.is sound.reftable in
     let took = c.in_ok-pending.ensures.sound p (record { sound = sound.file; reftable = own.reftable }) in
     table_named_blocks g.S.Storage.view g.F.BackingDisk.backing out p old sound c.allocate_meta.new.file c.allocate_meta.new.self c.allocate_meta.ensures.marks.pins c.allocate_meta.ensures.list c.allocate_meta.ensures.header
+    (leaked_still old c.in-Some.allocator c.allocate_meta.new.self c.in-Some.is (c.allocate_meta.ensures.leaks p (record { sound = sound.file; reftable = own.reftable })))
     c.args.table c.in_ok-pending.pending.first_cluster c.cluster_count.result c.cluster_count.ensures took.2
     (c.in_ok-pending.ensures.hint p (record { sound = record { sound = sound.file; reftable = own.reftable }; hint = own.hint })) longer c.in_ok-pending.pending c.write_taken.new.self c.write_taken.result refl (took.0 ∙ c.cluster_count.ensures) took.1
     (λ placed. c.write_taken.ensures.names (pending_then p old.file.free_list c.allocate_meta.new.file.free_list) out placed c.in_ok-pending.ensures.noted) c.write_taken.ensures.kept c.write_taken.ensures.listed

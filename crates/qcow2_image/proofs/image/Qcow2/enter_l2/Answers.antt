@@ -5,6 +5,7 @@ use Rattle.qcow2_alloc.specs.FreeList.{pending_then}
 use Rattle.qcow2_alloc.specs.KeptAllocators.{IsAllocatorOf}
 use Rattle.qcow2_alloc.proofs.AllocationSteps.{handed_on}
 use Rattle.qcow2_image.specs.NewTables.{EntersTable}
+use Rattle.qcow2_image.proofs.Moving.{leaked_still}
 use Rattle.qcow2_image.proofs.Prepare.Entering.{none_taken, table_entered, table_refused}
 use Rattle.qcow2_alloc.proofs.KeptMarks.{notes_then, notes_of_marks}
 use Rattle.qcow2_image.proofs.Call.BehindHeader.{behind_allocated, behind_then}
@@ -26,7 +27,8 @@ returns-in_err-pending-clause-enters g c = λ p out sound may says.
     let own = subst (λ o. IfSome o (IsAllocatorOf g.S.Storage.view old.file)) c.in-Some.is sound.reftable in
     handed_on (EntersTable g.S.Storage.view g.F.BackingDisk.backing p old (record old { file = c.allocate_meta.new.file; allocator = Some c.allocate_meta.new.self }) out c.args.index)
     c.from_residual.result c.in_err-pending.field-0.0 c.from_residual.ensures
-    (none_taken g.S.Storage.view g.F.BackingDisk.backing out p old sound c.allocate_meta.new.file c.allocate_meta.new.self c.allocate_meta.ensures.marks.pins c.allocate_meta.ensures.list c.in_err-pending.field-0.0
+    (none_taken g.S.Storage.view g.F.BackingDisk.backing out p old sound c.allocate_meta.new.file c.allocate_meta.new.self c.allocate_meta.ensures.marks.pins c.allocate_meta.ensures.list
+    (leaked_still old c.in-Some.allocator c.allocate_meta.new.self c.in-Some.is (c.allocate_meta.ensures.leaks p (record { sound = sound.file; reftable = own.reftable }))) c.in_err-pending.field-0.0
     (c.in_err-pending.ensures.sound p (record { sound = sound.file; reftable = own.reftable })) (c.in_err-pending.ensures.hint p (record { sound = record { sound = sound.file; reftable = own.reftable }; hint = own.hint })))
 
 pub returns-in-Ok-clause-enters : goal.returns-in-Ok-clause-enters
@@ -35,7 +37,8 @@ returns-in-Ok-clause-enters g c = λ p out sound may says.
     let own = subst (λ o. IfSome o (IsAllocatorOf g.S.Storage.view old.file)) c.in-Some.is sound.reftable in
     let took = c.in_ok-pending.ensures.sound p (record { sound = sound.file; reftable = own.reftable }) in
     let allocator_step = subst (λ n. UnseenAllocatorGrowth g.S.Storage.view p old.file c.allocate_meta.new.self c.allocate_meta.new.file (taken_as false (pending_then p old.file.free_list c.allocate_meta.new.file.free_list) (run_at n c.new.result))) (sym c.cluster-cluster.ensures) took.2 in
-    table_entered g.S.Storage.view g.F.BackingDisk.backing out p old sound c.allocate_meta.new.file c.allocate_meta.new.self c.allocate_meta.ensures.marks.pins c.allocate_meta.ensures.list c.cluster-cluster.result c.new.result c.new.ensures allocator_step
+    table_entered g.S.Storage.view g.F.BackingDisk.backing out p old sound c.allocate_meta.new.file c.allocate_meta.new.self c.allocate_meta.ensures.marks.pins c.allocate_meta.ensures.list
+    (leaked_still old c.in-Some.allocator c.allocate_meta.new.self c.in-Some.is (c.allocate_meta.ensures.leaks p (record { sound = sound.file; reftable = own.reftable }))) c.cluster-cluster.result c.new.result c.new.ensures allocator_step
     (c.in_ok-pending.ensures.hint p (record { sound = record { sound = sound.file; reftable = own.reftable }; hint = own.hint }))
     c.write_l2.new.self c.args.index c.args.table may says c.write_l2.ensures.list c.write_l2.result
     (λ sound may says. c.write_l2.ensures.writes (pending_then p old.file.free_list c.allocate_meta.new.file.free_list) out sound may c.in_ok-pending.ensures.noted says) c.in-Ok.field-0 c.in-Ok.is
@@ -46,7 +49,8 @@ returns-in-Err-clause-enters g c = λ p out sound may says.
     let own = subst (λ o. IfSome o (IsAllocatorOf g.S.Storage.view old.file)) c.in-Some.is sound.reftable in
     let took = c.in_ok-pending.ensures.sound p (record { sound = sound.file; reftable = own.reftable }) in
     let allocator_step = subst (λ n. UnseenAllocatorGrowth g.S.Storage.view p old.file c.allocate_meta.new.self c.allocate_meta.new.file (taken_as false (pending_then p old.file.free_list c.allocate_meta.new.file.free_list) (run_at n c.new.result))) (sym c.cluster-cluster.ensures) took.2 in
-    table_refused g.S.Storage.view g.F.BackingDisk.backing out p old sound c.allocate_meta.new.file c.allocate_meta.new.self c.allocate_meta.ensures.marks.pins c.allocate_meta.ensures.list c.cluster-cluster.result c.new.result c.new.ensures allocator_step
+    table_refused g.S.Storage.view g.F.BackingDisk.backing out p old sound c.allocate_meta.new.file c.allocate_meta.new.self c.allocate_meta.ensures.marks.pins c.allocate_meta.ensures.list
+    (leaked_still old c.in-Some.allocator c.allocate_meta.new.self c.in-Some.is (c.allocate_meta.ensures.leaks p (record { sound = sound.file; reftable = own.reftable }))) c.cluster-cluster.result c.new.result c.new.ensures allocator_step
     (c.in_ok-pending.ensures.hint p (record { sound = record { sound = sound.file; reftable = own.reftable }; hint = own.hint }))
     c.write_l2.new.self c.args.index c.args.table may says c.write_l2.ensures.list c.write_l2.result
     (λ sound may says. c.write_l2.ensures.writes (pending_then p old.file.free_list c.allocate_meta.new.file.free_list) out sound may c.in_ok-pending.ensures.noted says) c.in-Err.refusal c.in_ok-pending.pending c.hand_back.new.list c.in-Err.is (sym c.cluster-cluster.ensures) (took.0 ∙ c.new.ensures) took.1 c.hand_back.ensures

@@ -4,6 +4,7 @@ use Rattle.qcow2_alloc.specs.FreeList.{with_listed}
 use Rattle.qcow2_alloc.specs.KeptAllocators.{IsAllocatorOf}
 use Rattle.qcow2_image.proofs.Call.Answered.{freeing_step_kept}
 use Rattle.qcow2_image.proofs.Flush.Freeing.{frees_listed, frees_fault}
+use Rattle.qcow2_image.proofs.Moving.{leaked_still}
 use Rattle.qcow2_image.proofs.Prepare.Entering.{keeps_none}
 use Rattle.qcow2_alloc.proofs.KeptMarks.{notes_none, notes_of_both}
 use Rattle.qcow2_image.proofs.Call.BehindHeader.{behind_none, behind_freed}
@@ -24,7 +25,8 @@ pub returns-clause-frees : goal.returns-clause-frees
 returns-clause-frees g c = λ p out sound.
     let view = g.S.Storage.view in
     let own = subst (λ x. IfSome x (IsAllocatorOf view c.args.self.now.file)) c.in-Some.is sound.reftable in
-    frees_listed view g.F.BackingDisk.backing out p c.args.self.now sound c.free.new.file c.free.new.self c.free.ensures.marks.pins c.free.ensures.header c.free.result
+    frees_listed view g.F.BackingDisk.backing out p c.args.self.now sound c.free.new.file c.free.new.self c.free.ensures.marks.pins c.free.ensures.header
+    (leaked_still c.args.self.now c.in-Some.allocator c.free.new.self c.in-Some.is (c.free.ensures.leaks p (record { sound = sound.file; reftable = own.reftable }))) c.free.result
     (c.free.ensures.sound p (record { sound = sound.file; reftable = own.reftable }))
     (c.free.ensures.hint p (record { sound = record { sound = sound.file; reftable = own.reftable }; hint = own.hint }))
 

@@ -5,7 +5,7 @@ use Rattle.qcow2_alloc.proofs.AllocationSteps.{handed_on, fault_of_storage}
 use Rattle.qcow2_image.specs.NewTables.{NamesNew}
 use Rattle.qcow2_image.proofs.Prepare.Naming.{safe_throughout_named, named_so}
 use Rattle.qcow2_alloc.proofs.KeptMarks.{placed_kept, notes_of_storage}
-use Rattle.std.proofs.Common.{subst, sym, IsSome, ap, ◌+◌, ◌*◌, ◌^◌}
+use Rattle.std.proofs.Common.{refl, subst, sym, IsSome, ap, ◌+◌, ◌*◌, ◌^◌}
 use Rattle.qcow2_metadata.specs.EntryTable.{EntryTableView}
 use Rattle.qcow2_image.proofs.Call.BehindHeader.{behind_l1, behind_placed, behind_then, entry_behind, l1_entered}
 use Rattle.qcow2_image.proofs.image.Qcow2.name_l2.Goals as goal
@@ -15,11 +15,14 @@ returns-in_err-write_l1_entry-clause-names g c = λ p out table sound may noted 
     let old = c.args.self.now in
     handed_on (NamesNew g.S.Storage.view g.F.BackingDisk.backing p old (record old { file = record old.file { storage = c.write_l1_entry.new.self }; l1_table = c.enter_l2_table.new.self }) out c.args.index c.args.cluster)
     c.from_residual.result (of_storage c.in_err-write_l1_entry.field-0.0) c.from_residual.ensures (record {
-      fault = fault_of_storage c.in_err-write_l1_entry.field-0.0;
-      noted = λ is. or_right (is_changed_of c.write_l1_entry.new.self) old.file.caches.is_changed noted;
-      since = safe_throughout_named g.S.Storage.view g.F.BackingDisk.backing old out p c.args.index c.args.cluster c.enter_l2_table.new.self table sound may says whole ready c.requires.within c.requires.nameable c.enter_l2_table.ensures.rest
-          c.enter_l2_table.ensures.entry c.enter_l2_table.ensures.offset c.enter_l2_table.ensures.copied c.write_l1_entry.ensures.fits c.write_l1_entry.new.self (storage_of c.will_write.new.self) c.write_l1_entry.result c.will_write.ensures.storage
-          c.write_l1_entry.ensures.written c.write_l1_entry.ensures.calls;
+      interrupted = record {
+        fault = fault_of_storage c.in_err-write_l1_entry.field-0.0;
+        noted = λ is. or_right (is_changed_of c.write_l1_entry.new.self) old.file.caches.is_changed noted;
+        since = safe_throughout_named g.S.Storage.view g.F.BackingDisk.backing old out p c.args.index c.args.cluster c.enter_l2_table.new.self table sound may says whole ready c.requires.within c.requires.nameable c.enter_l2_table.ensures.rest
+            c.enter_l2_table.ensures.entry c.enter_l2_table.ensures.offset c.enter_l2_table.ensures.copied c.write_l1_entry.ensures.fits c.write_l1_entry.new.self (storage_of c.will_write.new.self) c.write_l1_entry.result c.will_write.ensures.storage
+            c.write_l1_entry.ensures.written c.write_l1_entry.ensures.calls;
+      };
+      leaks = refl;
     })
 
 pub returns-clause-names : goal.returns-clause-names

@@ -33,7 +33,7 @@ returns-in-Ok-load_tables-clause-opens g c =
     let is = opened view below image surplus refl tt (c.in-Ok-load_tables.ensures.loaded (nothing_pending surplus)
     (new_tables_new view below contents (record { alloc = c.args.alloc; storage = c.load.new.storage; header = c.in-Ok.header; caches = c.in-Ok-new.caches; free_list = c.new-2.result }) consistent
     (read.honest honest) (read.same honest) there new.sound new.known new.named_blocks (new.room (omega arith) (omega arith)) new.pins c.new-2.ensures)) in
-    record { opened = is.0; surplus = is.1 ∙ ap (λ h. surplus_of h (byte_at contents)) there.fields }
+    record { opened = is.0; surplus = is.1 ∙ ap (λ h. surplus_of h (byte_at contents)) there.fields; leaks = c.in-Ok-load_tables.ensures.leaks }
 
 pub returns-in-Err-clause-since : goal.returns-in-Err-clause-since
 returns-in-Err-clause-since g c = λ honest consistent.

@@ -6,6 +6,7 @@ use Rattle.qcow2_alloc.specs.KeptAllocators.{IsAllocatorOf}
 use Rattle.qcow2_alloc.specs.declared.clusters_to_free.ClusterKind.TheVariants as Kind
 use Rattle.qcow2_alloc.proofs.KeptMarks.{notes_of_both}
 use Rattle.qcow2_image.proofs.Formats.{lists_grow}
+use Rattle.qcow2_image.proofs.Moving.{leaked_still}
 use Rattle.qcow2_image.proofs.Prepare.Gaining.{takes_data}
 use Rattle.qcow2_image.proofs.Call.BehindHeader.{behind_allocated}
 use Rattle.std.specs.Prelude.{IfOk}
@@ -25,7 +26,8 @@ returns-clause-takes g c = λ p out sound holds.
     let one : c.new.result ≡ 1 = c.new.ensures in
     let own = subst (λ x. IfSome x (IsAllocatorOf view c.args.self.now.file)) c.in-Some.is sound.reftable in
     let answer = c.allocate_data.ensures.sound p (record { sound = sound.file; reftable = own.reftable }) in
-    takes_data view g.F.BackingDisk.backing out c.args.self.now p sound holds c.allocate_data.new.file c.allocate_data.new.self c.allocate_data.ensures.marks c.allocate_data.ensures.list c.allocate_data.ensures.header c.allocate_data.result
+    takes_data view g.F.BackingDisk.backing out c.args.self.now p sound holds c.allocate_data.new.file c.allocate_data.new.self c.allocate_data.ensures.marks c.allocate_data.ensures.list c.allocate_data.ensures.header
+    (leaked_still c.args.self.now c.in-Some.allocator c.allocate_data.new.self c.in-Some.is (c.allocate_data.ensures.leaks p (record { sound = sound.file; reftable = own.reftable }))) c.allocate_data.result
     (subst (λ n. Allocates view p c.args.self.now.file c.allocate_data.new.self c.allocate_data.new.file (pending_then p c.args.self.now.file.free_list c.allocate_data.new.file.free_list) Kind.Data n c.allocate_data.result) one answer)
     (c.allocate_data.ensures.hint p (record { sound = record { sound = sound.file; reftable = own.reftable }; hint = own.hint }))
 

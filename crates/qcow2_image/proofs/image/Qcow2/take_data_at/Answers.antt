@@ -5,6 +5,7 @@ use Rattle.qcow2_alloc.specs.KeptAllocators.{IsAllocatorOf}
 use Rattle.qcow2_alloc.proofs.KeptMarks.{notes_of_both}
 use Rattle.qcow2_alloc.proofs.MadeClusters.{none_used}
 use Rattle.qcow2_image.proofs.Formats.{lists_grow}
+use Rattle.qcow2_image.proofs.Moving.{leaked_still}
 use Rattle.qcow2_image.proofs.Prepare.Gaining.{takes_data_at}
 use Rattle.qcow2_image.proofs.Call.BehindHeader.{behind_allocated}
 use Rattle.qcow2_image.proofs.Prepare.Lacked.{limits_kept}
@@ -18,7 +19,8 @@ returns-clause-takes g c = λ p out sound holds.
     let view = g.S.Storage.view in
     let own = subst (λ x. IfSome x (IsAllocatorOf view c.args.self.now.file)) c.in-Some.is sound.reftable in
     let allocator : AllocatorInvariant view c.in-Some.allocator p c.args.self.now.file = record { sound = sound.file; reftable = own.reftable } in
-    takes_data_at view g.F.BackingDisk.backing out c.args.self.now p sound holds c.allocate_data_at.new.file c.allocate_data_at.new.self c.allocate_data_at.ensures.marks c.allocate_data_at.ensures.list c.allocate_data_at.ensures.header c.args.cluster c.allocate_data_at.result
+    takes_data_at view g.F.BackingDisk.backing out c.args.self.now p sound holds c.allocate_data_at.new.file c.allocate_data_at.new.self c.allocate_data_at.ensures.marks c.allocate_data_at.ensures.list c.allocate_data_at.ensures.header
+    (leaked_still c.args.self.now c.in-Some.allocator c.allocate_data_at.new.self c.in-Some.is (c.allocate_data_at.ensures.leaks p allocator)) c.args.cluster c.allocate_data_at.result
     (c.allocate_data_at.ensures.sound p allocator) (none_used view c.allocate_data_at.new.file c.args.self.now.file.header.fields c.args.cluster _ c.allocate_data_at.result (c.allocate_data_at.ensures.none p allocator)) (c.allocate_data_at.ensures.hint p (record { sound = allocator; hint = own.hint }))
 
 pub returns-clause-list : goal.returns-clause-list
