@@ -28,6 +28,7 @@ pub mod PuttingBlocks
 pub mod Ordering
 pub mod InOrder
 pub mod Quiet
+pub mod AllWritten
 pub mod OneChanged
 pub mod ApartOff
 pub mod ApartChanges

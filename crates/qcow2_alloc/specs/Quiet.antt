@@ -6,7 +6,7 @@ use Rattle.qcow2_metadata.specs.RefBlock.{RefBlockView}
 use Rattle.qcow2_laws.specs.Caches.{BlocksMayGo, TablesMayGo}
 use Rattle.qcow2_alloc.specs.AsyncLruCache.{Cache, oldest_free}
 use Rattle.qcow2_alloc.specs.ImageStorage.{storage_of}
-use Rattle.qcow2_alloc.specs.MetadataCaches.{order_of, l2_at, rb_at, l2_tables, refblocks}
+use Rattle.qcow2_alloc.specs.MetadataCaches.{order_of, l2_at, rb_at, l2_tables, refblocks, AreAllWritten}
 use Rattle.qcow2_alloc.specs.declared.async_lru_cache.slot.Slot.{Slot}
 use Rattle.qcow2_alloc.specs.declared.cache.MetadataCaches.{MetadataCaches}
 use Rattle.qcow2_alloc.specs.declared.image_storage.ImageStorage.{ImageStorage}
@@ -66,3 +66,8 @@ module _ {S : Type 0} where
   -- so are the other refblocks
   abbrev pub OtherBlocksStay : MetadataCaches S → MetadataCaches S → ℕ → Type 0
   OtherBlocksStay caches caches' cluster = (c : ℕ) → cluster == c ≡ false → IsSome (rb_at caches' c) → rb_at caches' c ≡ rb_at caches c
+
+  -- Where no table is modified, none is then, whatever the tables hold, and on an honest storage nothing is written.
+  pub record KeepAllWritten (view : S → StorageView) (old : ImageStorage S) (caches : MetadataCaches S) (new : ImageStorage S) (caches' : MetadataCaches S) : Type 0 where
+    pub tables : AreAllWritten caches → AreAllWritten caches'
+    pub quiet : AreAllWritten caches → WritesNothing view old new

@@ -17,7 +17,7 @@ ghost use Rattle.qcow2_metadata.specs.L2Mapping.{IsHostCluster};
 ghost use Rattle.qcow2_metadata.specs.L2Table.{entries_of, cover_at, copied_entry, zero_entry, copied_host};
 ghost use Rattle.qcow2_alloc.specs.UsedCounts.{TellsUsed, TellsFirstFree};
 ghost use Rattle.qcow2_alloc.specs.TableChanges.{CountsMore, CountsLess, SetsEntry};
-ghost use Rattle.qcow2_alloc.specs.Quiet.{WritesNothing, GetsTableQuietly, GetsBlockQuietly, PutsTableQuietly, PutsBlockQuietly, OtherTablesStay, OtherBlocksStay};
+ghost use Rattle.qcow2_alloc.specs.Quiet.{WritesNothing, GetsTableQuietly, GetsBlockQuietly, PutsTableQuietly, PutsBlockQuietly, OtherTablesStay, OtherBlocksStay, KeepAllWritten};
 ghost use Rattle.qcow2_alloc.specs.Faults.{CountsFaults};
 ghost use Rattle.qcow2_alloc.specs.SparedHeaders.{AreBehindHeader, KeepBehindHeader, CachesSpareHeader};
 ghost use Rattle.qcow2_alloc.specs.KeptNotes.{KeepsNotes};
@@ -73,6 +73,7 @@ impl<S: Storage> MetadataCaches<S> {
         ensures room { IfOk result (λ caches. 0 < l2_entries → 0 < rb_entries → CachesHaveRoom caches) }
         ensures pins { IfOk result (λ caches. (cluster : ℕ) → l2_pins caches cluster ≡ 0) }
         ensures unchanged { IfOk result (λ caches. IsFalse caches.is_changed) }
+        ensures all_written { IfOk result AreAllWritten }
         ensures header_cluster { IfOk result (AreBehindHeader header.now.fields.cluster_bits) }
     {
         let l2 = AsyncLruCache::new(alloc, L2CacheBackend::new(header), l2_entries)?;
@@ -101,6 +102,7 @@ impl<S: Storage> MetadataCaches<S> {
         ensures free { (size cluster : ℕ) → IsFreeOf size (l2_tables self.old) cluster → IsFreeOf size (l2_tables self.new) cluster }
         ensures ordered { TablesMayGo (order_of self.old) (refblocks self.old) → WritesInOrder S.view storage.old self.old storage.new }
         ensures quiet { AreClean (l2_tables self.old) → WritesNothing S.view storage.old storage.new }
+        ensures all_written { KeepAllWritten S.view storage.old self.old storage.new self.new }
         ensures header_cluster { CachesSpareHeader S.view storage.old self.old storage.new self.new }
     {
         storage.watch_faults();
@@ -125,6 +127,7 @@ impl<S: Storage> MetadataCaches<S> {
         ensures clean { AreClean (refblocks self.old) → AreClean (refblocks self.new) }
         ensures ordered { BlocksMayGo (order_of self.old) (l2_tables self.old) → WritesInOrder S.view storage.old self.old storage.new }
         ensures quiet { AreClean (refblocks self.old) → WritesNothing S.view storage.old storage.new }
+        ensures all_written { KeepAllWritten S.view storage.old self.old storage.new self.new }
         ensures header_cluster { CachesSpareHeader S.view storage.old self.old storage.new self.new }
     {
         storage.watch_faults();
@@ -205,6 +208,7 @@ impl<S: Storage> MetadataCaches<S> {
         ensures apart { KeepsKnownApart S.view storage.old self.old storage.new self.new }
         ensures ordered { WritesInOrder S.view storage.old self.old storage.new }
         ensures quiet { AreAllWritten self.old → WritesNothing S.view storage.old storage.new }
+        ensures all_written { KeepAllWritten S.view storage.old self.old storage.new self.new }
         ensures header_cluster { CachesSpareHeader S.view storage.old self.old storage.new self.new }
     {
         match self.direction {
@@ -262,6 +266,7 @@ impl<S: Storage> MetadataCaches<S> {
         ensures ordered { WritesInOrder S.view storage.old self.old storage.new }
         ensures quiet { TablesMayGo (order_of self.old) (refblocks self.old) → WritesNothing S.view storage.old storage.new }
         ensures blocks_stay { order_of self.old ≢ L2DependsOnRb → self.new.rb ≡ self.old.rb }
+        ensures all_written { KeepAllWritten S.view storage.old self.old storage.new self.new }
         ensures header_cluster { CachesSpareHeader S.view storage.old self.old storage.new self.new }
     {
         match self.direction {
@@ -315,6 +320,7 @@ impl<S: Storage> MetadataCaches<S> {
         ensures quiet { GetsTableQuietly self.old cluster → WritesNothing S.view storage.old storage.new }
         ensures tables_stay { OtherTablesStay self.old self.new cluster }
         ensures blocks_stay { order_of self.old ≢ L2DependsOnRb → self.new.rb ≡ self.old.rb }
+        ensures all_written { KeepAllWritten S.view storage.old self.old storage.new self.new }
         ensures header_cluster { 0 < cluster → CachesSpareHeader S.view storage.old self.old storage.new self.new }
     {
         if self.l2.get_or_insert(storage, cluster, false)? {

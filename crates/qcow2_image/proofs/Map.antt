@@ -4,3 +4,5 @@ pub mod Loading
 pub mod Reading
 pub mod Special
 pub mod Unmodified
+pub mod Quiet
+pub mod Held

@@ -24,7 +24,7 @@ use Rattle.qcow2_alloc.specs.declared.error.ImageError.{ImageError}
 use Rattle.qcow2_alloc.specs.declared.error.ImageError.TheVariants as I
 use Rattle.qcow2_disk.specs.HeaderRest.{KeepsHeaderRest}
 use Rattle.qcow2_image.specs.Opened.{NeedsAnother}
-use Rattle.qcow2_image.specs.Growing.{GrowsDisk, SameFormat, ReachesSize}
+use Rattle.qcow2_image.specs.Growing.{FitsSize, GrowsDisk, SameFormat, ReachesSize}
 use Rattle.qcow2_image.specs.declared.builder.Qcow2CreateBuilder.{Qcow2CreateBuilder}
 use Rattle.qcow2_image.specs.declared.image.Qcow2.{Qcow2}
 use Rattle.qcow2_image.specs.Image.{size_of}
@@ -107,6 +107,7 @@ module _ {S : Type 0} where
     pub counts : count_width (header (byte_at storage.contents)) ≡ builder.refcount_width
     -- as QEMU asks for
     pub reaches : ReachesSize (header (byte_at storage.contents))
+    pub l1_length : FitsSize (header (byte_at storage.contents))
     pub no_leaks : HasNoLeaks (byte_at storage.contents)
     pub no_backing_file : (header (byte_at storage.contents)).backing_offset ≡ 0
     pub no_autoclear : (header (byte_at storage.contents)).autoclear ≡ 0
@@ -148,6 +149,7 @@ pub record IsEnlarged (mode : PreallocateMode) (n : ℕ) (old new : StorageView)
   pub format : SameFormat (header (byte_at old.contents)) (header (byte_at new.contents))
   pub no_autoclear : (header (byte_at old.contents)).autoclear ≡ 0 → (header (byte_at new.contents)).autoclear ≡ 0
   pub reaches : ReachesSize (header (byte_at new.contents))
+  pub l1_length : (header (byte_at old.contents)).autoclear ≡ 0 → FitsSize (header (byte_at old.contents)) → FitsSize (header (byte_at new.contents))
   pub rest : KeepsHeaderRest (byte_at old.contents) (byte_at new.contents)
 
 -- it is opened, made larger and flushed, or a stop is as said above

@@ -1,5 +1,5 @@
 -- The disk is made larger, while no mapping is prepared: a longer L1 table takes the place of the former one, and then the size is written.
-use Rattle.std.specs.Prelude.{ℕ, ◌*◌, ◌≡◌, ◌≤◌, max, List, [], ◌∷◌, Result, Ok, Err}
+use Rattle.std.specs.Prelude.{ℕ, ◌+◌, ◌-◌, ◌*◌, ◌≡◌, ◌<◌, ◌≤◌, max, List, [], ◌∷◌, Result, Ok, Err}
 use Rattle.image_access.specs.Backing.{BackingView}
 use Rattle.image_access.specs.Moments.{StorageView}
 use Rattle.qcow2_metadata.specs.declared.header.HeaderFields.{HeaderFields}
@@ -14,6 +14,7 @@ use Rattle.qcow2_alloc.specs.FreeList.{with_listed}
 use Rattle.qcow2_alloc.specs.declared.error.ImageError.{ImageError}
 use Rattle.qcow2_alloc.specs.ImageFile.{view_in, known_in, state_in, nothing_given}
 use Rattle.qcow2_image.specs.declared.image.Qcow2.{Qcow2}
+use Rattle.qcow2_image.specs.Found.{l1_index_of}
 use Rattle.qcow2_image.specs.Image.{is_writable, size_of}
 use Rattle.qcow2_image.specs.MovedTables.{CoversStay}
 use Rattle.qcow2_image.specs.UnseenSteps.{pending_with_listed}
@@ -26,6 +27,10 @@ SameFormat h h' = h' ≡ with_places h (places_of h')
 -- the L1 table has an entry for each byte of the disk
 abbrev pub ReachesSize : HeaderFields → Type 0
 ReachesSize h = h.size ≤ guests h * cluster_size h
+
+-- It has those up to that of the last byte, and not one more. That of a disk of no bytes has none.
+abbrev pub FitsSize : HeaderFields → Type 0
+FitsSize h = (h.size ≡ 0 → h.l1_entries ≡ 0) × (0 < h.size → h.l1_entries ≡ l1_index_of h (h.size - 1) + 1)
 
 module _ {S F : Type 0} (view : S → StorageView) where
   -- at each moment what was kept is kept, but that these sizes are asked for
@@ -46,10 +51,10 @@ module _ {S F : Type 0} (view : S → StorageView) where
     Resizes p old new size (Ok _) = Extends p (pending_with_listed p old new) old new (size ∷ []) × (size_of new ≡ size)
     Resizes p old new size (Err e) = Lasts old new (size ∷ [])
 
-    -- The disk has this size then, unless it was larger. Where the L1 table reached its end it does so still.
+    -- The disk has this size then, unless it was larger. Where the L1 table reached its end it does so still, and where it had no more entries than that it has no more.
     abbrev pub GrowsDisk : Qcow2 S F → Qcow2 S F → ℕ → Result (Unit {0}) ImageError → Type 0
     GrowsDisk old new size (Ok _) = Extends (pending_in view backing old []) (pending_in view backing new []) old new (size ∷ []) × (size_of new ≡ max (size_of old) size)
-        × (ReachesSize old.file.header.fields → ReachesSize new.file.header.fields)
+        × (ReachesSize old.file.header.fields → ReachesSize new.file.header.fields) × (FitsSize old.file.header.fields → FitsSize new.file.header.fields)
     GrowsDisk old new size (Err e) = Lasts old new (size ∷ [])
 
     -- It is sound still, may be written as before, and counts no cluster more or less beyond what is named and pending.
@@ -67,5 +72,5 @@ module _ {S F : Type 0} (view : S → StorageView) where
     -- so they are of a disk that was made larger
     abbrev pub GrowsWhole : Qcow2 S F → Qcow2 S F → ℕ → Result (Unit {0}) ImageError → Type 0
     GrowsWhole old new size (Ok _) = (p : Pending) × Extends (pending_in view backing old []) p old new (size ∷ []) × (size_of new ≡ max (size_of old) size)
-        × (ReachesSize old.file.header.fields → ReachesSize new.file.header.fields)
+        × (ReachesSize old.file.header.fields → ReachesSize new.file.header.fields) × (FitsSize old.file.header.fields → FitsSize new.file.header.fields)
     GrowsWhole old new size (Err e) = Lasts old new (size ∷ [])

@@ -8,6 +8,7 @@ pub mod UnseenSteps
 pub mod NewTables
 pub mod Faults
 pub mod Found
+pub mod HeldMappings
 pub mod CallParts
 pub mod Opened
 pub mod Readable

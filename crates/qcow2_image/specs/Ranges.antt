@@ -20,6 +20,7 @@ use Rattle.qcow2_disk.specs.Found.{rest_of_table}
 use Rattle.qcow2_disk.specs.Mappings.{IsPrepared}
 use Rattle.qcow2_laws.specs.Unseen.{KeepsFormat}
 use Rattle.qcow2_alloc.specs.ImageFile.{contents_in, known_in}
+use Rattle.qcow2_alloc.specs.MetadataCaches.{AreAllWritten}
 use Rattle.qcow2_alloc.specs.declared.clusters_to_free.ClusterKind.TheVariants as Kind
 use Rattle.qcow2_alloc.specs.declared.clusters_to_free.ClustersToFreeEntry.{ClustersToFreeEntry}
 use Rattle.qcow2_alloc.specs.declared.error.ImageError.{ImageError}
@@ -87,12 +88,13 @@ module _ {S F : Type 0} (view : S → StorageView) where
   abbrev pub Ends : Qcow2 S F → Prepared → Type 0
   Ends image p = EndsAt image.file.header.fields (known_in view image.file) (p.guest + p.length) (p.offset + p.length)
 
-  -- A mapping was let go: of caches no table changed.
+  -- A mapping was let go: of caches no table changed, and none is modified that wasn't.
   pub record ReleasesOneMapping (old new : Qcow2 S F) : Type 0 where
     pub rest : new ≡ record old { file = record old.file { caches = new.file.caches; free_list = new.file.free_list } }
     pub known : known_in view new.file ≡ known_in view old.file
     pub changed : new.file.caches.is_changed ≡ old.file.caches.is_changed
     pub counted : new.file.caches.changes ≡ old.file.caches.changes
+    pub written : AreAllWritten old.file.caches → AreAllWritten new.file.caches
 
   -- A mapping of a range of n bytes: the rest of the first cluster at least, and at most that or the range. Where it is shorter than the range, it ends for a cause. It begins in the host cluster that the first guest cluster keeps.
   pub record Reaches (image : Qcow2 S F) (offset n : ℕ) (p : Prepared) : Type 0 where

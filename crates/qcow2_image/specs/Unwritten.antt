@@ -5,6 +5,8 @@ use Rattle.image_access.specs.Moments.{ContentsStay, StorageView, EachMomentSinc
 use Rattle.qcow2_metadata.specs.Bytes.{byte_at}
 use Rattle.qcow2_laws.specs.CrashInvariant.{Pending}
 use Rattle.qcow2_alloc.specs.ImageFile.{view_in, contents_in, known_in}
+use Rattle.qcow2_alloc.specs.MetadataCaches.{AreAllWritten}
+use Rattle.qcow2_alloc.specs.Quiet.{KeepAllWritten}
 use Rattle.qcow2_image.specs.declared.image.Qcow2.{Qcow2}
 use Rattle.qcow2_image.specs.declared.prepared.Prepared.{Prepared}
 use Rattle.qcow2_image.specs.ImageInvariant.{ImageInvariant}
@@ -31,3 +33,13 @@ module _ {S F : Type 0} (view : S → StorageView) where
   -- so it is of a sound image of which nothing is modified
   abbrev pub OnlyReadsImage : (F → BackingView) → Qcow2 S F → Qcow2 S F → Type 0
   OnlyReadsImage backing old new = (p : Pending) (out : List (Option Prepared)) → ImageInvariant view backing p old out → IsUnmodified old → IsOnlyRead old new
+
+  -- ---- an image in any state, whatever its contents are
+
+  -- Where no cached table is modified, none is then. On an honest storage nothing is written then: the contents are the same, now and at each moment since.
+  abbrev pub ReadsQuietly : Qcow2 S F → Qcow2 S F → Type 0
+  ReadsQuietly old new = KeepAllWritten view old.file.storage old.file.caches new.file.storage new.file.caches
+
+-- no cached table is modified, as none is where an image was just opened
+abbrev pub HoldsNothingModified : {S F : Type 0} → Qcow2 S F → Type 0
+HoldsNothingModified image = AreAllWritten image.file.caches

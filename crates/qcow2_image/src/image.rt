@@ -104,7 +104,7 @@ impl<S: Storage, F: WrappedFormat<S>> Qcow2<S, F> {
     ghost use Rattle.qcow2_image.specs.ImageInvariant.{HasL1Table};
     ghost use Rattle.qcow2_image.specs.Created.{begins_image};
     ghost use Rattle.qcow2_image.specs.Growing.{SameFormat, WritesBack};
-    ghost use Rattle.qcow2_image.specs.Unwritten.{ContentsStayThroughout, OnlyReadsImage};
+    ghost use Rattle.qcow2_image.specs.Unwritten.{ContentsStayThroughout, HoldsNothingModified, OnlyReadsImage, ReadsQuietly};
     ghost use Rattle.qcow2_image.specs.Opened.{IsFresh, StaysFresh, IsLoaded, IsKeptSince, SameNames, HasNamesIn, NeedsAnother, NeedsDataFile, NeedsMissing, IsRefusedAlone, LeavesFile, LeavesStorage, storage_after, Opens};
     ghost use Rattle.std.specs.Option.{is_some};
 
@@ -144,6 +144,7 @@ impl<S: Storage, F: WrappedFormat<S>> Qcow2<S, F> {
         ensures names { (S.view metadata).is_honest → IfOk result (λ image. HasNamesIn image.file.header (S.view metadata).contents) }
         ensures storage { LeavesStorage S.view writable (S.view metadata) result }
         ensures cause { OpensRightly (S.view metadata) writable Missing.Nothing result }
+        ensures unmodified { IfOk result HoldsNothingModified }
         ensures header_cluster { IfOk result (λ image. NamesTablesBehind image.file.header.fields → LiesBehindHeader image) }
     {
         Self::open(
@@ -175,6 +176,7 @@ impl<S: Storage, F: WrappedFormat<S>> Qcow2<S, F> {
         ensures storage { LeavesStorage S.view writable (S.view metadata) result }
         ensures another { (S.view metadata).is_honest → NeedsAnother (S.view metadata).contents → IsRefusedAlone result × ContentsStayThroughout (S.view metadata) (S.view (storage_after result)) }
         ensures cause { OpensRightly (S.view metadata) writable Missing.OtherFiles result }
+        ensures unmodified { IfOk result HoldsNothingModified }
         ensures header_cluster { IfOk result (λ image. NamesTablesBehind image.file.header.fields → LiesBehindHeader image) }
     {
         Self::open(
@@ -206,6 +208,7 @@ impl<S: Storage, F: WrappedFormat<S>> Qcow2<S, F> {
         ensures storage { LeavesStorage S.view writable (S.view metadata) result }
         ensures another { (S.view metadata).is_honest → NeedsDataFile (S.view metadata).contents → IsRefusedAlone result × ContentsStayThroughout (S.view metadata) (S.view (storage_after result)) }
         ensures cause { OpensRightly (S.view metadata) writable Missing.DataFile result }
+        ensures unmodified { IfOk result HoldsNothingModified }
         ensures header_cluster { IfOk result (λ image. NamesTablesBehind image.file.header.fields → LiesBehindHeader image) }
     {
         Self::open(
@@ -235,6 +238,7 @@ impl<S: Storage, F: WrappedFormat<S>> Qcow2<S, F> {
         ensures storage { LeavesStorage S.view writable (S.view (storage_of storage)) result }
         ensures another { (S.view (storage_of storage)).is_honest → NeedsMissing missing (S.view (storage_of storage)).contents → IsRefusedAlone result × ContentsStayThroughout (S.view (storage_of storage)) (S.view (storage_after result)) }
         ensures cause { OpensRightly (S.view (storage_of storage)) writable missing result }
+        ensures unmodified { IfOk result HoldsNothingModified }
         ensures header_cluster { IfOk result (λ image. NamesTablesBehind image.file.header.fields → LiesBehindHeader image) }
     {
         let header = match Header::load(alloc, &mut storage, writable) {
@@ -283,6 +287,7 @@ impl<S: Storage, F: WrappedFormat<S>> Qcow2<S, F> {
         ensures table { (view_in S.view file.old).is_honest → IfOk result (HasL1Table S.view F.backing file.new) }
         ensures cause { IfErr result IsMet }
         ensures why { (view_in S.view file.old).is_honest → MatchResult result (λ table. L1TableReads file.old.header.fields (contents_in S.view file.old)) (IsReasonAgainstL1Table file.old.header.fields (contents_in S.view file.old)) }
+        ensures caches { file.new.caches ≡ file.old.caches }
         ensures header_cluster { NamesTablesBehind file.old.header.fields → IfOk result (IsL1TableBehind file.old.header.fields.cluster_bits) }
     {
         let bits = file.header.cluster_bits();
@@ -313,6 +318,7 @@ impl<S: Storage, F: WrappedFormat<S>> Qcow2<S, F> {
         ensures loaded { (p : Pending) → IsFresh S.view F.backing p file.old → IfOk result (λ allocator. StaysFresh S.view F.backing p file.old file.new × IsAllocatorOf S.view file.new allocator) }
         ensures cause { IfErr result IsMet }
         ensures why { (view_in S.view file.old).is_honest → MatchResult result (λ allocator. ReftableReads file.old.header.fields (contents_in S.view file.old)) (IsReasonAgainstReftable file.old.header.fields (contents_in S.view file.old)) }
+        ensures caches { file.new.caches ≡ file.old.caches }
         ensures header_cluster { AreBehindHeader file.old.header.fields.cluster_bits file.old.caches → NamesTablesBehind file.new.header.fields → IfOk result (λ allocator. NamesTablesBehind file.old.header.fields × StandsBehindHeader file.new.header.fields.cluster_bits allocator.reftable file.new) }
         ensures leaks { IfOk result (λ allocator. leaked_by (Some allocator) ≡ 0) }
     {
@@ -333,6 +339,7 @@ impl<S: Storage, F: WrappedFormat<S>> Qcow2<S, F> {
         ensures loaded { (p : Pending) → IsFresh S.view F.backing p file.old → IfOk result (λ tables. IsLoaded S.view F.backing p file.new tables.l1_table tables.allocator) }
         ensures cause { IfErr result IsMet }
         ensures why { (view_in S.view file.old).is_honest → MatchResult result (λ tables. NeededTablesRead file.old.header.fields (contents_in S.view file.old) writable) (IsReasonAgainstTables file.old.header.fields (contents_in S.view file.old) writable) }
+        ensures caches { file.new.caches ≡ file.old.caches }
         ensures header_cluster { AreBehindHeader file.old.header.fields.cluster_bits file.old.caches → NamesTablesBehind file.new.header.fields → IfOk result (λ tables. TablesBehindHeader file.new.header.fields.cluster_bits file.new.header.fields.cluster_bits tables.l1_table file.new.caches tables.allocator) }
         ensures leaks { IfOk result (λ tables. leaked_by tables.allocator ≡ 0) }
     {
@@ -465,6 +472,7 @@ impl<S: Storage, F: WrappedFormat<S>> Qcow2<S, F> {
         ensures writes { (p : Pending) → ImageInvariant S.view F.backing (with_listed p self.old.file.free_list) self.old [] → WritesBack S.view F.backing p self.old self.new result }
         ensures unwritten { is_writable self.old ≡ false → OnlyReadsImage S.view F.backing self.old self.new }
         ensures once_written { FailsOnceWritten S.view self.old self.new result }
+        ensures quiet { is_writable self.old ≡ false → ReadsQuietly S.view self.old self.new }
         ensures header_cluster { StaysBehindHeader S.view self.old self.new }
         ensures faults { CountsImageFaults S.view F.backing self.old self.new result }
     {
@@ -484,6 +492,7 @@ impl<S: Storage, F: WrappedFormat<S>> Qcow2<S, F> {
         ensures emptied { IsTrue (is_writable self.old) → OnOk result (HasNothingToFree self.new) }
         ensures frees { (p : Pending) (out : List (Option Prepared)) → ImageInvariant S.view F.backing (with_listed p self.old.file.free_list) self.old out → FreesListed S.view F.backing p self.old self.new out result }
         ensures notes { KeepsFileNotes S.view self.old.file self.new.file }
+        ensures quiet { is_writable self.old ≡ false → ReadsQuietly S.view self.old self.new }
         ensures header_cluster { StaysBehindHeader S.view self.old self.new }
         ensures written { IfOk result (λ done. known_in S.view self.new.file ≡ contents_in S.view self.new.file) }
         ensures unwritten { is_writable self.old ≡ false → OnlyReadsImage S.view F.backing self.old self.new }

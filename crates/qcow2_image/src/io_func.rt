@@ -1,12 +1,13 @@
 //! Reading and writing what is mapped.
 ghost use Rattle.qcow2_image.specs.BehindHeader.{StaysBehindHeader};
-ghost use Rattle.std.specs.Prelude.{◌≡◌, ◌≢◌, ◌+◌, ◌^◌, ◌<◌, ◌≤◌, ℕ, List, [], Option, length, slice_get, ◌⊎◌, IfOk, IfErr, IfSome, OnOk, IsErr, IsSome, IsTrue, MatchOption, Ok, Err, Some, None, true, false};
+ghost use Rattle.std.specs.Prelude.{◌≡◌, ◌≢◌, ◌+◌, ◌^◌, ◌<◌, ◌≤◌, ℕ, List, [], Option, length, slice_get, ◌⊎◌, IfOk, IfErr, IfSome, OnOk, IsErr, IsSome, IsTrue, MatchOption, Ok, Err, Some, None, is_some, true, false};
 ghost use Rattle.qcow2_disk.specs.Calls.{Shows};
 ghost use Rattle.qcow2_laws.specs.CrashInvariant.{Pending};
 ghost use Rattle.qcow2_image.specs.Calls.{AnswersCall, Puts};
 ghost use Rattle.qcow2_image.specs.Faults.{CountsImageFaults, IsNotOfStorage};
 ghost use Rattle.qcow2_image.specs.Found.{AreBytesOf, IsFoundWhole, IsMappedAs, further_by};
 ghost use Rattle.qcow2_image.specs.CallParts.{PutsPart, WritesBytes};
+ghost use Rattle.qcow2_image.specs.HeldMappings.{HeedsHeld, KeepsHeld};
 ghost use Rattle.qcow2_image.specs.UnseenSteps.{UnseenStep};
 ghost use Rattle.qcow2_image.specs.ImageInvariant.{IsHonestBacking, ImageInvariant, pending_in, backing_bytes, disk_of, abstract_of};
 ghost use Rattle.qcow2_image.specs.declared.mapping.MappingKind.TheVariants.{Eof, Raw};
@@ -16,7 +17,7 @@ ghost use Rattle.qcow2_image.specs.Image.{ImageStays, IsSameImage, is_failed, is
 ghost use Rattle.qcow2_image.specs.Prepared.{image_of, table_of};
 ghost use Rattle.qcow2_image.specs.Refusals.{unusable, refuses_mapping, refuses_to_read, IsMet, IsUnlimited, MarksFailed};
 ghost use Rattle.qcow2_image.specs.SpecialReads.{TellsCompressed, TellsWhether};
-ghost use Rattle.qcow2_image.specs.Unwritten.{OnlyReadsImage};
+ghost use Rattle.qcow2_image.specs.Unwritten.{OnlyReadsImage, ReadsQuietly};
 ghost use Rattle.qcow2_alloc.specs.declared.error.ImageError.TheVariants.{NotCompressed, OutdatedMapping, ReadOnly};
 ghost use Rattle.qcow2_alloc.specs.KeptMarks.{KeepsFileNotes};
 ghost use Rattle.qcow2_image.specs.Noted.{FailsOnceWritten};
@@ -68,6 +69,8 @@ impl<S: Storage, F: WrappedFormat<S>> Qcow2<S, F> {
         ensures sees { AnswersCall S.view F.backing self.old self.new [] (λ done old new. (new ≡ old) × Shows old.disk (mapping.now.offset + at) bytes.new) result }
         ensures faults { CountsImageFaults S.view F.backing self.old self.new result }
         ensures once_written { FailsOnceWritten S.view self.old self.new result }
+        ensures quiet { ReadsQuietly S.view self.old self.new }
+        ensures held { refuses_mapping self.old mapping.now.image ≡ None → 0 < length bytes.old → HeedsHeld self.new (mapping.now.offset + at) (further_by at mapping.now.kind) (length bytes.old) result }
         ensures header_cluster { StaysBehindHeader S.view self.old self.new }
         ensures unwritten { OnlyReadsImage S.view F.backing self.old self.new }
     {
@@ -100,6 +103,8 @@ impl<S: Storage, F: WrappedFormat<S>> Qcow2<S, F> {
         ensures shows { 0 < length bytes.old → (p : Pending) (out : List (Option Prepared)) → ImageInvariant S.view F.backing p self.old out → IfOk result (λ done. Shows (disk_of S.view F.backing self.new) (mapping.now.offset + at) bytes.new) }
         ensures faults { CountsImageFaults S.view F.backing self.old self.new result }
         ensures notes { KeepsFileNotes S.view self.old.file self.new.file }
+        ensures quiet { ReadsQuietly S.view self.old self.new }
+        ensures held { 0 < length bytes.old → HeedsHeld self.new (mapping.now.offset + at) (further_by at mapping.now.kind) (length bytes.old) result }
         ensures header_cluster { StaysBehindHeader S.view self.old self.new }
         ensures unwritten { OnlyReadsImage S.view F.backing self.old self.new }
     {
@@ -141,6 +146,8 @@ impl<S: Storage, F: WrappedFormat<S>> Qcow2<S, F> {
         ensures found { (p : Pending) (out : List (Option Prepared)) → ImageInvariant S.view F.backing p self.old out → OnOk result (IsFoundWhole S.view self.old offset wanted.now length) }
         ensures faults { CountsImageFaults S.view F.backing self.old self.new result }
         ensures notes { KeepsFileNotes S.view self.old.file self.new.file }
+        ensures quiet { ReadsQuietly S.view self.old self.new }
+        ensures held { 0 < length → HeedsHeld self.new offset wanted.now length result }
         ensures header_cluster { StaysBehindHeader S.view self.old self.new }
         ensures unwritten { OnlyReadsImage S.view F.backing self.old self.new }
     {
@@ -172,6 +179,8 @@ impl<S: Storage, F: WrappedFormat<S>> Qcow2<S, F> {
             → IfOk result (λ done. Shows (disk_of S.view F.backing self.new) offset bytes.new) }
         ensures faults { CountsImageFaults S.view F.backing self.old self.new result }
         ensures notes { KeepsFileNotes S.view self.old.file self.new.file }
+        ensures quiet { ReadsQuietly S.view self.old self.new }
+        ensures tables { KeepsHeld self.old self.new }
         ensures header_cluster { StaysBehindHeader S.view self.old self.new }
         ensures unwritten { OnlyReadsImage S.view F.backing self.old self.new }
     {
@@ -207,6 +216,7 @@ impl<S: Storage, F: WrappedFormat<S>> Qcow2<S, F> {
         ensures reads { IsHonestBacking S.view F.backing self.old.backing → IfOk result (λ done. (length bytes.new ≡ length bytes.old) × AreBytesOf (backing_bytes S.view F.backing self.old.backing) offset bytes.new) }
         ensures faults { CountsImageFaults S.view F.backing self.old self.new result }
         ensures notes { KeepsFileNotes S.view self.old.file self.new.file }
+        ensures below { is_some self.new.backing ≡ is_some self.old.backing }
         ensures header_cluster { StaysBehindHeader S.view self.old self.new }
     {
         let Some(backing) = &mut self.backing else {
@@ -234,6 +244,7 @@ impl<S: Storage, F: WrappedFormat<S>> Qcow2<S, F> {
         ensures sees { AnswersCall S.view F.backing self.old self.new [] (λ done was is. is ≡ was) result }
         ensures faults { CountsImageFaults S.view F.backing self.old self.new result }
         ensures once_written { FailsOnceWritten S.view self.old self.new result }
+        ensures quiet { ReadsQuietly S.view self.old self.new }
         ensures header_cluster { StaysBehindHeader S.view self.old self.new }
         ensures unwritten { OnlyReadsImage S.view F.backing self.old self.new }
     {
@@ -263,6 +274,7 @@ impl<S: Storage, F: WrappedFormat<S>> Qcow2<S, F> {
         ensures sees { AnswersCall S.view F.backing self.old self.new [] (λ at was is. is ≡ was) result }
         ensures faults { CountsImageFaults S.view F.backing self.old self.new result }
         ensures once_written { FailsOnceWritten S.view self.old self.new result }
+        ensures quiet { ReadsQuietly S.view self.old self.new }
         ensures header_cluster { StaysBehindHeader S.view self.old self.new }
         ensures unwritten { OnlyReadsImage S.view F.backing self.old self.new }
     {
@@ -286,6 +298,7 @@ impl<S: Storage, F: WrappedFormat<S>> Qcow2<S, F> {
         ensures tells { (p : Pending) (out : List (Option Prepared)) → ImageInvariant S.view F.backing p self.old out → TellsWhether (known_in S.view self.old.file) offset result }
         ensures faults { CountsImageFaults S.view F.backing self.old self.new result }
         ensures notes { KeepsFileNotes S.view self.old.file self.new.file }
+        ensures quiet { ReadsQuietly S.view self.old self.new }
         ensures header_cluster { StaysBehindHeader S.view self.old self.new }
         ensures unwritten { OnlyReadsImage S.view F.backing self.old self.new }
     {
@@ -321,6 +334,7 @@ impl<S: Storage, F: WrappedFormat<S>> Qcow2<S, F> {
         ensures sees { Puts S.view F.backing self.old self.new prepared.now at bytes.now result }
         ensures faults { CountsImageFaults S.view F.backing self.old self.new result }
         ensures once_written { FailsOnceWritten S.view self.old self.new result }
+        ensures held { refuses_mapping self.old (image_of prepared.now) ≡ None → table_of prepared.now ≡ None → 0 < length bytes.now → HeedsHeld self.new (prepared.now.guest + at) (Raw Image (prepared.now.offset + at) true) (length bytes.now) result }
         ensures header_cluster { StaysBehindHeader S.view self.old self.new }
     {
         self.check_usable()?;
@@ -355,6 +369,7 @@ impl<S: Storage, F: WrappedFormat<S>> Qcow2<S, F> {
             → ImageInvariant S.view F.backing (pending_in S.view F.backing self.old out) self.old out → PutsPart S.view F.backing self.old self.new out k prepared.now at bytes.now result }
         ensures faults { CountsImageFaults S.view F.backing self.old self.new result }
         ensures notes { KeepsFileNotes S.view self.old.file self.new.file }
+        ensures held { table_of prepared.now ≡ None → 0 < length bytes.now → HeedsHeld self.new (prepared.now.guest + at) (Raw Image (prepared.now.offset + at) true) (length bytes.now) result }
         ensures header_cluster { StaysBehindHeader S.view self.old self.new }
     {
         let Some(host) = prepared.offset.checked_add(at) else {
@@ -383,6 +398,7 @@ impl<S: Storage, F: WrappedFormat<S>> Qcow2<S, F> {
         ensures private { IsSome (table_of prepared.now) → result ≡ Ok tt }
         ensures faults { CountsImageFaults S.view F.backing self.old self.new result }
         ensures notes { KeepsFileNotes S.view self.old.file self.new.file }
+        ensures held { table_of prepared.now ≡ None → 0 < length → HeedsHeld self.new (prepared.now.guest + at) (Raw Image host true) length result }
         ensures header_cluster { StaysBehindHeader S.view self.old self.new }
     {
         if prepared.table.is_some() {

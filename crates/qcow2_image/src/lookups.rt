@@ -1,10 +1,10 @@
 //! What stands at a guest offset, and for how many bytes all is mapped alike.
 ghost use Rattle.qcow2_disk.specs.Alike.{IsAlike};
 ghost use Rattle.qcow2_image.specs.BehindHeader.{StaysBehindHeader};
-ghost use Rattle.std.specs.Prelude.{◌↔◌, List, Option, is_some, ◌≡◌, ◌+◌, ◌*◌, ◌-◌, ◌/◌, ◌%◌, true, Some, ◌^◌, ◌<◌, ◌≤◌, [], length, IfOk, IfErr, IfSome, IsOk, IsSome, IsTrue, Ok, Err, None, false};
+ghost use Rattle.std.specs.Prelude.{◌↔◌, List, Option, is_some, ◌≡◌, ◌+◌, ◌*◌, ◌-◌, ◌/◌, ◌%◌, true, Some, ◌^◌, ◌<◌, ◌≤◌, [], length, IfOk, IfErr, IfSome, IsOk, IsSome, IsTrue, Ok, Err, None, false, MatchOption, min, ℕ};
 ghost use Rattle.qcow2_metadata.specs.L2Mapping.{IsInReach};
 ghost use Rattle.qcow2_image.specs.Image.{ImageStays, IsSameImage, number_of, size_of};
-ghost use Rattle.qcow2_image.specs.Unwritten.{OnlyReadsImage};
+ghost use Rattle.qcow2_image.specs.Unwritten.{OnlyReadsImage, ReadsQuietly};
 ghost use Rattle.qcow2_laws.specs.CrashInvariant.{Pending};
 ghost use Rattle.qcow2_alloc.specs.MetadataCaches.{IsEntryAt, l2_at};
 ghost use Rattle.qcow2_alloc.specs.KeptMarks.{KeepsFileNotes};
@@ -16,6 +16,8 @@ ghost use Rattle.qcow2_alloc.specs.ImageError.{IsOfTables};
 ghost use Rattle.qcow2_disk.specs.Found.{IsFoundIn, kind_at, rest_of_table};
 ghost use Rattle.qcow2_image.specs.Faults.{CountsImageFaults, IsNotOfStorage};
 ghost use Rattle.qcow2_image.specs.Found.{found_kind, mapping_of, IsRunBehind, NamesL2Table, IsRunFrom, IsFoundInImage, l1_index_of, l2_index_of};
+ghost use Rattle.qcow2_image.specs.HeldMappings.{IsHeldRun, named_place};
+ghost use Rattle.qcow2_image.specs.PinnedTables.{own_table};
 ghost use Rattle.qcow2_image.specs.UnseenSteps.{UnseenStep};
 ghost use Rattle.qcow2_image.specs.ImageInvariant.{HasL1Table, ImageInvariant, abstract_of};
 ghost use Rattle.qcow2_metadata.specs.Header.{cluster_size};
@@ -77,6 +79,8 @@ impl<S: Storage, F: WrappedFormat<S>> Qcow2<S, F> {
         ensures run { (out : List (Option Prepared)) → (abstract_of S.view F.backing self.old out).is_sound → IfOk result (λ (mapping, n). IsFoundIn (known_in S.view self.new.file) (is_some self.new.backing) offset max (found_kind mapping.kind) n) }
         ensures faults { CountsImageFaults S.view F.backing self.old self.new result }
         ensures once_written { FailsOnceWritten S.view self.old self.new result }
+        ensures quiet { ReadsQuietly S.view self.old self.new }
+        ensures held { offset < size_of self.old → IfOk result (λ (mapping, n). IsHeldRun self.new offset max mapping.kind n) }
         ensures header_cluster { StaysBehindHeader S.view self.old self.new }
         ensures unwritten { OnlyReadsImage S.view F.backing self.old self.new }
     {
@@ -110,6 +114,8 @@ impl<S: Storage, F: WrappedFormat<S>> Qcow2<S, F> {
         ensures found { (p : Pending) (out : List (Option Prepared)) → ImageInvariant S.view F.backing p self.old out → IfOk result (λ (kind, n). IsFoundInImage S.view self.new offset max kind n) }
         ensures faults { CountsImageFaults S.view F.backing self.old self.new result }
         ensures notes { KeepsFileNotes S.view self.old.file self.new.file }
+        ensures quiet { ReadsQuietly S.view self.old self.new }
+        ensures held { offset < size_of self.old → IfOk result (λ (kind, n). IsHeldRun self.new offset max kind n) }
         ensures header_cluster { StaysBehindHeader S.view self.old self.new }
         ensures unwritten { OnlyReadsImage S.view F.backing self.old self.new }
     {
@@ -146,6 +152,7 @@ impl<S: Storage, F: WrappedFormat<S>> Qcow2<S, F> {
         ensures names { HasL1Table S.view F.backing self.now.file self.now.l1_table → IfOk result (NamesL2Table S.view self.now offset) }
         ensures elsewhere { IfOk result (λ table. IfSome table (λ cluster. 0 < cluster)) }
         ensures faults { IfErr result IsNotOfStorage }
+        ensures own { IfOk result (λ table. MatchOption table (named_place self.now.file.header.fields self.now.l1_table offset ≡ 0) (λ cluster. (cluster ≡ own_table self.now offset) × ¬ (named_place self.now.file.header.fields self.now.l1_table offset ≡ 0))) }
     {
         let bits = self.file.header.cluster_bits();
         let Some(entry) = self.l1_table.get(GuestOffset::new(offset).l1_index(bits)) else {
@@ -184,6 +191,8 @@ impl<S: Storage, F: WrappedFormat<S>> Qcow2<S, F> {
             → IsEntryAt self.now.file.header.fields (known_in S.view self.now.file) (l1_index_of self.now.file.header.fields offset) table (l2_index_of self.now.file.header.fields offset)
             → max ≤ rest_of_table self.now.file.header.fields offset → IfOk result (λ (kind, n). IsRunFrom S.view self.now offset max kind n) }
         ensures faults { IfErr result IsNotOfStorage }
+        ensures held { (limit : ℕ) → max ≡ min (min limit (size_of self.now - offset)) (rest_of_table self.now.file.header.fields offset) → offset < size_of self.now → table ≡ own_table self.now offset
+            → ¬ (named_place self.now.file.header.fields self.now.l1_table offset ≡ 0) → IfOk result (λ (kind, n). IsHeldRun self.now offset limit kind n) }
     {
         let bits = self.file.header.cluster_bits();
         let Some(table) = self.file.caches.l2_peek(table) else {

@@ -1,11 +1,12 @@
 //! A larger disk.
-ghost use Rattle.std.specs.Prelude.{◌≡◌, ◌<◌, [], false, IfErr, IsTrue, OnOk};
+ghost use Rattle.std.specs.Prelude.{◌≡◌, ◌-◌, ◌<◌, [], false, IfErr, IsTrue, OnOk};
 ghost use Rattle.qcow2_alloc.specs.ImageFile.{view_in};
 ghost use Rattle.qcow2_image.specs.Faults.{CountsImageFaults};
 ghost use Rattle.qcow2_image.specs.Image.{is_failed, is_writable};
 ghost use Rattle.qcow2_image.specs.Refusals.{IsMet, MarksFailed};
 ghost use Rattle.qcow2_laws.specs.CrashInvariant.{Pending};
 ghost use Rattle.qcow2_image.specs.Growing.{Resizes, GrowsDisk, KeepsSurplus, ReachesSize};
+ghost use Rattle.qcow2_image.specs.L1Entries.{ReachesOffset};
 ghost use Rattle.qcow2_image.specs.UnseenSteps.{ListGrows};
 ghost use Rattle.qcow2_image.specs.ImageInvariant.{ImageInvariant, abstract_of};
 
@@ -39,6 +40,7 @@ impl<S: Storage, F: WrappedFormat<S>> Qcow2<S, F> {
         ensures resizes { (p : Pending) → ImageInvariant S.view F.backing p self.old [] → Resizes S.view F.backing p self.old self.new size result }
         ensures list { OnOk result (ListGrows self.old self.new) }
         ensures reaches { (p : Pending) → ImageInvariant S.view F.backing p self.old [] → OnOk result (ReachesSize self.new.file.header.fields) }
+        ensures length { (p : Pending) → ImageInvariant S.view F.backing p self.old [] → OnOk result (ReachesOffset (size - 1) self.old.file.header.fields self.new.file.header.fields) }
         ensures cause { IsTrue (is_writable self.old) → IfErr result IsMet }
         ensures failed { is_failed self.new ≡ is_failed self.old }
         ensures writable { is_writable self.new ≡ is_writable self.old }

@@ -1,14 +1,15 @@
 -- Where no table of a cache is modified, none is after an unmodified one was put in, or after a flush.
-use Rattle.std.proofs.Common.{◌≡◌, inl, inr, ℕ, Bool, true, false, cond, eqb, List, [], ◌∷◌, Option, Some, None, Result, Ok, Err, refl, sym, ap, ◌∙◌, subst}
-use Rattle.std.specs.Option.{IfSome, IsNone}
+use Rattle.std.proofs.Common.{◌≡◌, inl, inr, ℕ, Bool, true, false, cond, eqb, List, [], ◌∷◌, Option, Some, None, Result, Ok, Err, IsSome, refl, sym, ap, ◌∙◌, subst}
+use Rattle.std.specs.Option.{IfSome, IsNone, option_map_or, option_or}
 use Rattle.std.specs.Map.{lookup, lookup_entry, remove_entry}
+use Rattle.lru.specs.LruCache.{promoted}
 use Rattle.image_access.specs.Moments.{StorageView}
 use Rattle.qcow2_metadata.specs.declared.error.MetadataError.{MetadataError}
 use Rattle.qcow2_metadata.specs.L2Table.{L2TableView}
 use Rattle.qcow2_metadata.specs.RefBlock.{RefBlockView}
 use Rattle.qcow2_metadata.specs.Tables.{CachedTable, overlays}
 use Rattle.qcow2_laws.specs.Clusters.{Direction, Neither, L2DependsOnRb, RbDependsOnL2}
-use Rattle.qcow2_laws.specs.Caches.{IsFreeAt, AreClean, BlocksMayGo}
+use Rattle.qcow2_laws.specs.Caches.{IsFreeAt, AreClean, BlocksMayGo, TablesMayGo}
 use Rattle.qcow2_laws.proofs.Lists.{unmodified_over}
 use Rattle.qcow2_alloc.specs.declared.async_lru_cache.slot.Slot.{Slot}
 use Rattle.qcow2_alloc.specs.declared.async_lru_cache.error.CacheError.{CacheError}
@@ -17,13 +18,15 @@ use Rattle.qcow2_alloc.specs.declared.cache.backends.L2CacheBackend.{L2CacheBack
 use Rattle.qcow2_alloc.specs.declared.cache.backends.RefBlockCacheBackend.{RefBlockCacheBackend}
 use Rattle.qcow2_alloc.specs.declared.cache.MetadataCaches.{MetadataCaches}
 use Rattle.qcow2_alloc.specs.declared.image_storage.ImageStorage.{ImageStorage}
-use Rattle.qcow2_alloc.specs.AsyncLruCache.{Cache}
+use Rattle.qcow2_alloc.specs.AsyncLruCache.{Cache, is_pinned, oldest_free}
 use Rattle.qcow2_alloc.specs.AsyncLruCacheBackend.{Steps}
-use Rattle.qcow2_alloc.specs.CacheAnswers.{Unit₀, HasRoomForEntry, InsertsNew, Replaces, FlushesEntry, FlushesAll, Flushes}
+use Rattle.qcow2_alloc.specs.CacheAnswers.{Unit₀, HasRoomForEntry, GetsNew, InsertsNew, Replaces, FlushesEntry, FlushesAll, Flushes}
 use Rattle.qcow2_alloc.specs.ImageStorage.{storage_of}
 use Rattle.qcow2_alloc.specs.TableCaches.{l2_steps}
 use Rattle.qcow2_alloc.specs.KeptTables.{cached_table, cached_tables}
 use Rattle.qcow2_alloc.specs.MetadataCaches.{l2_tables, refblocks}
+use Rattle.qcow2_alloc.specs.Quiet.{NextIsClean}
+use Rattle.qcow2_alloc.proofs.KeptTables.Fetching.{none_or_some}
 use Rattle.qcow2_alloc.proofs.KeptTables.Inserting.{found_or_not, lookup_none}
 
 some_is : {A : Type 0} {a b : A} → Some a ≡ Some b → a ≡ b
@@ -80,6 +83,38 @@ module _ {S V E : Type 0} (steps : Steps S ℕ V E) (bits : ℕ) (bytes : V → 
         found_or_not (lookup_entry (eqb key) es)
         (λ none. new_clean answer (rw is at (missing (rw (lookup_none (eqb key) es none) refl))))
         (λ e some. place_clean answer e some (rw is at (rw some at there)))
+
+  -- ---- a load leaves none modified that wasn't
+  clean_promoted : (test : ℕ → Bool) (es : List (ℕ × Slot V)) → Clean es → Clean (promoted test es)
+  clean_promoted test es all =
+      found_or_not (lookup_entry test es)
+      (λ none. subst (λ (o : Option (ℕ × Slot V)). Clean (option_map_or (λ e. e ∷ remove_entry test es) o es)) (sym none) all)
+      (λ e some. subst (λ (o : Option (ℕ × Slot V)). Clean (option_map_or (λ e. e ∷ remove_entry test es) o es)) (sym some) (clean_found test es e some all, clean_removed test es all))
+
+  module _ (loads : (s t : S) (k : ℕ) (v : V) → steps.loaded s k v t → is_modified v ≡ false) (size : ℕ) (may_flush : Bool) (key : ℕ) (s t : S) (es fs : List (ℕ × Slot V)) (all : Clean es) where
+    place_left : (r : S) (gs : List (ℕ × Slot V)) → HasRoomForEntry steps eqb size may_flush s es r gs → Clean gs
+    place_left r gs room = elim room [
+      | inl there ↦ subst Clean (sym there.2) all
+      | inr evicts ↦ subst Clean (sym evicts.rest) (clean_removed (eqb evicts.entry.0) es all)
+    ]
+
+    got_clean : (answer : Result Bool (CacheError ℕ E)) → GetsNew steps eqb size may_flush key s es answer t fs → Clean fs
+    got_clean (Ok true) h = subst Clean (sym h.5) (loads h.0 t key h.2 h.4, place_left h.0 h.1 h.3)
+    got_clean (Ok false) h = subst Clean (sym h.3) all
+    got_clean (Err Memory) h = place_left h.0 fs h.2
+    got_clean (Err InUse) h = subst Clean (sym h.3) all
+    got_clean (Err (Backend x)) h = elim h [
+      | inl none ↦ subst Clean (sym none.same) all
+      | inr failed ↦ place_left failed.0 fs failed.1
+    ]
+    got_clean (Err (StillInUse keys)) h = absurd h
+
+    pub get_clean : (answer : Result Bool (CacheError ℕ E)) → (IsSome (lookup (eqb key) es) → (answer ≡ Ok true) × (fs ≡ promoted (eqb key) es) × (t ≡ s))
+        → (IsNone (lookup (eqb key) es) → GetsNew steps eqb size may_flush key s es answer t fs) → Clean fs
+    get_clean answer hit miss = elim (none_or_some (lookup (eqb key) es)) [
+      | inl there ↦ subst Clean (sym (hit there).1) (clean_promoted (eqb key) es all)
+      | inr missing ↦ got_clean answer (miss missing)
+    ]
 
   -- ---- a flush leaves none modified that wasn't
   module _ (cleans : (s t : S) (k : ℕ) (v w : V) → steps.flushed s k v w t → is_modified w ≡ false) where
@@ -145,3 +180,20 @@ tables_as {S} a b same clean =
 pub blocks_as : {S : Type 0} (a b : MetadataCaches S) → b.rb ≡ a.rb → AreClean (refblocks a) → AreClean (refblocks b)
 blocks_as {S} a b same clean =
     subst (λ (rb : Cache (RefBlockCacheBackend S) ℕ RefBlockView). AreClean (cached_tables rb.backend.header.fields.cluster_bits (λ (b : RefBlockView). b.bytes) (λ b. b.is_modified) rb.entries)) (sym same) clean
+
+-- where no table is modified, L2 tables may be written
+pub tables_go : (d : Direction) (ts : List CachedTable) → AreClean ts → TablesMayGo d ts
+tables_go Neither ts clean = tt
+tables_go L2DependsOnRb ts clean = clean
+tables_go RbDependsOnL2 ts clean = tt
+
+-- and the entry that goes next isn't
+either_clean : {V : Type 0} (is_modified : V → Bool) (a b : Option (ℕ × Slot V)) → IfSome a (λ e. is_modified e.1.value ≡ false) → IfSome b (λ e. is_modified e.1.value ≡ false) → IfSome (option_or a b) (λ e. is_modified e.1.value ≡ false)
+either_clean is_modified None b first then = then
+either_clean is_modified (Some e) b first then = first
+
+pub clean_next : {V : Type 0} (bits : ℕ) (bytes : V → List ℕ) (is_modified : V → Bool) (es : List (ℕ × Slot V)) → AreClean (cached_tables bits bytes is_modified es) → NextIsClean is_modified es
+clean_next bits bytes is_modified [] all = tt
+clean_next bits bytes is_modified (e ∷ es) all =
+    either_clean is_modified (oldest_free es) (cond (is_pinned e.1) None (Some e)) (clean_next bits bytes is_modified es all.1)
+    (elim (is_pinned e.1) as (λ b. IfSome (cond b None (Some e)) (λ (x : ℕ × Slot _). is_modified x.1.value ≡ false)) [ true ↦ tt | false ↦ all.0 ])

@@ -50,7 +50,7 @@ quiet_call a b r calls keeps honest = record {
   moments = passes_if _ (λ c is. is ∙ keeps honest) (calls.time honest);
 }
 
-quiet_read : {T : Type 0} (a b : StorageView) (r : Result T StorageError) → QuietCalls a b r → ContentsStay a b → a.is_honest → IsQuiet a b
+pub quiet_read : {T : Type 0} (a b : StorageView) (r : Result T StorageError) → QuietCalls a b r → ContentsStay a b → a.is_honest → IsQuiet a b
 quiet_read a b r calls keeps honest = record {
   honest = calls.honest honest;
   contents = keeps honest;

@@ -27,7 +27,7 @@ use Rattle.qcow2_image.specs.declared.builder.Qcow2CreateBuilder.{Qcow2CreateBui
 use Rattle.qcow2_image.specs.declared.image.Missing.TheVariants as N
 use Rattle.qcow2_image.specs.declared.image.Qcow2.{Qcow2}
 use Rattle.qcow2_image.specs.Created.{IsNewDisk, IsPreallocated, IsUnwritten, ShowsZeros, IsStopOfCreating, StopsCreating, StaysCreating, IsNewHeader, IsCreated, Enlarges}
-use Rattle.qcow2_image.specs.Growing.{SameFormat, GrowsWhole, ReachesSize}
+use Rattle.qcow2_image.specs.Growing.{FitsSize, SameFormat, GrowsWhole, ReachesSize}
 use Rattle.qcow2_image.specs.Image.{size_of, storage_of_image}
 use Rattle.qcow2_image.specs.Opened.{IsKeptSince, LeavesStorage, Opens, storage_after, NeedsAnother, needs_another}
 use Rattle.qcow2_image.specs.ImageInvariant.{abstract_of}
@@ -125,6 +125,7 @@ module _ {S F : Type 0} (view : S → StorageView) (backing : F → BackingView)
         format = format_stored _ _ old.file.header.fields new.file.header.fields old_is new_is extends.format;
         no_autoclear = λ none. ap (λ (h : HeaderFields). h.autoclear) new_is ∙ extends.autoclear ∙ ap (λ (h : HeaderFields). h.autoclear) (sym old_is) ∙ none;
         reaches = subst ReachesSize (sym new_is) (grows.3 (omega (arith, none)));
+        l1_length = λ _ fits. subst FitsSize (sym new_is) (grows.4 (subst FitsSize old_is fits));
         rest = grown_rest size (view_in view old.file) (view_in view new.file) _ unwritten opened.clean extends.since;
       }
   enlarged (Err e) lasts = growing_stops size (view_in view old.file) (view_in view new.file) _ unwritten opened.clean lasts
@@ -154,6 +155,7 @@ module _ {S F : Type 0} (view : S → StorageView) (backing : F → BackingView)
         format = done.format ∙ ap (λ h. with_places h (places_of (header (byte_at new.contents)))) (mid_is ∙ format);
         no_autoclear = λ none. done.no_autoclear (ap (λ (l : List ℕ). (header (byte_at l)).autoclear) (uncleared none) ∙ none);
         reaches = done.reaches;
+        l1_length = λ none fits. done.l1_length (ap (λ (l : List ℕ). (header (byte_at l)).autoclear) (uncleared none) ∙ none) (subst (λ (l : List ℕ). FitsSize (header (byte_at l))) (sym (uncleared none)) fits);
         rest = header_rest_then (byte_at (view start).contents) (byte_at (view_in view mid.file).contents) (byte_at new.contents) opening_rest done.rest;
       }
   opened_first new (Err e) stops = all_stops new stops
@@ -200,6 +202,9 @@ module _ {S : Type 0} (view : S → StorageView) (builder : Qcow2CreateBuilder S
     clusters = ap (λ (k : HeaderFields). 2 ^ k.cluster_bits) h ∙ sym clusters;
     counts = ap (λ (k : HeaderFields). 2 ^ k.refcount_order) h ∙ sym counts;
     reaches = done.reaches;
+    l1_length =
+        let new_is = three.1.header_is ∙ ap (λ (w : HeaderView). w.fields) is in
+        done.l1_length (ap (λ (k : HeaderFields). k.autoclear) new_is) (subst FitsSize (sym new_is) (λ _. refl, λ some. absurd (omega (arith, some))));
     no_leaks = exact;
     no_backing_file = ap (λ (k : HeaderFields). k.backing_offset) h;
     no_autoclear = done.no_autoclear (ap (λ (k : HeaderFields). k.autoclear) (three.1.header_is ∙ ap (λ (w : HeaderView). w.fields) is));
@@ -235,6 +240,7 @@ created_still builder old new made honest same =
       clusters = still (λ b. cluster_size (header b) ≡ builder.cluster_size) made.clusters;
       counts = still (λ b. count_width (header b) ≡ builder.refcount_width) made.counts;
       reaches = still (λ b. ReachesSize (header b)) made.reaches;
+      l1_length = still (λ b. FitsSize (header b)) made.l1_length;
       no_leaks = still HasNoLeaks made.no_leaks;
       no_backing_file = still (λ b. (header b).backing_offset ≡ 0) made.no_backing_file;
       no_autoclear = still (λ b. (header b).autoclear ≡ 0) made.no_autoclear;

@@ -29,7 +29,9 @@ use Rattle.qcow2_image.specs.Calls.{FlushesImage}
 use Rattle.qcow2_image.specs.Clearing.{setting_of}
 use Rattle.qcow2_image.specs.Created.{Enlarges, GrowsBy, IsPreallocated, IsStopOfCreating, IsUnwritten, ShowsZeros, StopsCreating, TakesPlace}
 use Rattle.qcow2_image.specs.declared.image.Qcow2.{Qcow2}
-use Rattle.qcow2_image.specs.Growing.{Extends, Lasts, ReachesSize, SameFormat, WritesBack}
+use Rattle.qcow2_laws.specs.Unseen.{KeepsFormat}
+use Rattle.qcow2_image.proofs.Grow.Lengths.{fits_grown}
+use Rattle.qcow2_image.specs.Growing.{FitsSize, Extends, Lasts, ReachesSize, SameFormat, WritesBack}
 use Rattle.qcow2_image.specs.Image.{is_writable, size_of}
 use Rattle.qcow2_image.specs.ImageInvariant.{ImageInvariant, abstract_of, backing_bytes, disk_of}
 use Rattle.qcow2_image.specs.MovedTables.{CoversStay}
@@ -132,6 +134,12 @@ module _ {S F : Type 0} (view : S → StorageView) (backing : F → BackingView)
       reaches_mid : ReachesSize mid.file.header.fields
       reaches_mid = elim (cases_lt 0 size) [ inl lt ↦ (leaves lt).reaches | inr le ↦ subst (λ (i : Qcow2 S F). ReachesSize i.file.header.fields) (sym (same_none le)) (omega (arith, no_bytes)) ]
 
+      fits_mid : FitsSize old.file.header.fields → FitsSize mid.file.header.fields
+      fits_mid fits = elim (cases_lt 0 size) [
+        | inl lt ↦ fits_grown old.file.header.fields mid.file.header.fields size fits (larger lt) (ap (λ (h : HeaderFields). h.cluster_bits) format_mid) size_mid (leaves lt).length
+        | inr le ↦ subst (λ (i : Qcow2 S F). FitsSize i.file.header.fields) (sym (same_none le)) fits
+      ]
+
       covers_then : (b : Bytes) → cluster_size (header b) ≡ cluster_size old.file.header.fields → CoversStay mid.file.header.fields (known_in view mid.file) (header b) b → IsPreallocated mode size b
       covers_then b same stay = elim (cases_lt 0 size) [
         | inl lt ↦
@@ -144,7 +152,7 @@ module _ {S F : Type 0} (view : S → StorageView) (backing : F → BackingView)
             subst (λ n. IsPreallocated mode n b) (sym none) (preallocated_none mode b at)
       ]
 
-      module _ (new : Qcow2 S F) (p q : Pending) (written : Extends view backing p q mid new [] × (ReachesSize mid.file.header.fields → ReachesSize new.file.header.fields) × CoversStay mid.file.header.fields (known_in view mid.file) new.file.header.fields (known_in view new.file))
+      module _ (new : Qcow2 S F) (p q : Pending) (written : Extends view backing p q mid new [] × KeepsFormat mid.file.header.fields new.file.header.fields × CoversStay mid.file.header.fields (known_in view mid.file) new.file.header.fields (known_in view new.file))
           (size_stays : size_of new ≡ size_of mid) (clean : known_in view new.file ≡ byte_at (view_in view new.file).contents) where
         abbrev after : Bytes
         after = byte_at (view_in view new.file).contents
@@ -172,7 +180,8 @@ module _ {S F : Type 0} (view : S → StorageView) (backing : F → BackingView)
               covers = covers_then after clusters_same stay_stored;
               no_autoclear = λ none. ap (λ (h : HeaderFields). h.autoclear) new_is ∙ written.0.autoclear ∙ autoclear_mid ∙ ap (λ (h : HeaderFields). h.autoclear) (sym header_is) ∙ none;
               format = format_stored (header before) (header after) old.file.header.fields new.file.header.fields header_is new_is format_new;
-              reaches = subst ReachesSize (sym new_is) (written.1 reaches_mid);
+              reaches = subst ReachesSize (sym new_is) (subst ReachesSize (sym written.1) reaches_mid);
+              l1_length = λ _ fits. subst FitsSize (sym new_is) (subst FitsSize (sym written.1) (fits_mid (subst FitsSize header_is fits)));
               rest = taken_rest works sound.0 new written.0.since;
             }
 
@@ -183,7 +192,7 @@ module _ {S F : Type 0} (view : S → StorageView) (backing : F → BackingView)
           let sound = (takes.sees []).answer opened.sound in
           let rest : Pending = beside view backing mid [] in
           let written = writes rest (subst (λ (p : Pending). ImageInvariant view backing p mid []) (all_listed view backing mid []) sound.0) in
-          taken new (with_listed rest mid.file.free_list) (with_listed rest new.file.free_list) (written.0, λ reaches. subst ReachesSize (sym written.1) reaches, written.2) stays ((flushes []).answer sound.0).1.0
+          taken new (with_listed rest mid.file.free_list) (with_listed rest new.file.free_list) written stays ((flushes []).answer sound.0).1.0
       taken_so new (Err e) stays flushes writes =
           let sound = (takes.sees []).answer opened.sound in
           let works = (takes.sees []).acts.works opened.sound in

@@ -1,5 +1,5 @@
 -- Parts of growing after one another, and the L1 table in the place of the former one.
-use Rattle.std.proofs.Common.{◌≡◌, inl, inr, ⊎_elim, ℕ, ◌-◌, ◌*◌, ◌/◌, ◌^◌, ◌<◌, ◌≤◌, List, [], ◌∷◌, ◌++◌, Result, Ok, Err, Bool, refl, sym, ap, ◌∙◌, subst, arith}
+use Rattle.std.proofs.Common.{◌≡◌, inl, inr, ⊎_elim, ℕ, ◌+◌, ◌-◌, ◌*◌, ◌/◌, ◌^◌, ◌<◌, ◌≤◌, List, [], ◌∷◌, ◌++◌, Result, Ok, Err, Bool, max, refl, sym, ap, ◌∙◌, subst, arith}
 use Rattle.std.specs.Prelude.{OnOk}
 use Rattle.std.proofs.Math.Nat.{div-lt_iff_lt-mul}
 use Rattle.image_access.specs.Backing.{BackingView}
@@ -18,7 +18,9 @@ use Rattle.qcow2_alloc.proofs.FileSteps.{pending_same}
 use Rattle.qcow2_alloc.proofs.PlacedBlocks.{file_sizes}
 use Rattle.qcow2_image.specs.declared.image.Qcow2.{Qcow2}
 use Rattle.qcow2_image.specs.LongerTables.{RefusedMove, UnseenMove}
-use Rattle.qcow2_image.specs.Growing.{Lasts, Extends, Resizes, GrowsDisk, KeepsSurplus, WritesBack, ReachesSize, GrowsWhole}
+use Rattle.qcow2_image.proofs.Grow.Lengths.{fits_grown, reaches_begun, reaches_told}
+use Rattle.qcow2_image.specs.L1Entries.{ReachesOffset}
+use Rattle.qcow2_image.specs.Growing.{FitsSize, Lasts, Extends, Resizes, GrowsDisk, KeepsSurplus, WritesBack, ReachesSize, GrowsWhole}
 use Rattle.qcow2_image.specs.Image.{size_of, is_failed, is_writable}
 use Rattle.qcow2_image.proofs.Call.Marked.{MayMarkBy}
 use Rattle.qcow2_alloc.specs.FreeList.{with_listed}
@@ -100,6 +102,14 @@ module _ {S F : Type 0} (view : S → StorageView) (backing : F → BackingView)
       let reach = reaches_so h' size i (file_sizes view _ c.file sound.file) is' (subst (λ n. i < n) count lt) in
       subst (λ n. n ≤ guests h' * cluster_size h') (sym resizes.1) reach
 
+  -- and it has no more entries than that asks for
+  pub resized_length : (p : Pending) (a b c : Qcow2 S F) (size i : ℕ) (r : Result (Unit {0}) ImageError) → ImageInvariant view backing p a [] → Resizes view backing p a c size r
+      → i ≡ (size - 1) / cluster_size a.file.header.fields / entries_per_cluster a.file.header.fields → entry_count b.l1_table ≡ max (entry_count a.l1_table) (i + 1) → c.l1_table ≡ b.l1_table
+      → OnOk r (ReachesOffset (size - 1) a.file.header.fields c.file.header.fields)
+  resized_length p a b c size i (Err e) sound lasts is long same = tt
+  resized_length p a b c size i (Ok x) sound resizes is long same =
+      reaches_told view backing [] p (pending_with_listed p a c) a c (size - 1) sound resizes.0.sound (ap entry_count same ∙ long ∙ ap (λ n. max (entry_count a.l1_table) (n + 1)) is)
+
   -- ---- the call
   module _ (old mid big : Qcow2 S F) (sound : ImageInvariant view backing (pending_in view backing old []) old []) (begun : UnseenStep view backing (pending_in view backing old []) (pending_in view backing old []) old mid [])
       (same : mid.file.free_list ≡ old.file.free_list) (size : ℕ) (larger : size_of old < size) where
@@ -114,20 +124,21 @@ module _ {S F : Type 0} (view : S → StorageView) (backing : F → BackingView)
       old_data = λ k. let more = ap (λ l. to_free of_data l k) grows.is ∙ free_more of_data mid.file.free_list grows.more k in let e = ap (λ l. to_free of_data l k) same in omega (arith, more, e);
     }
 
-    grown : (r : Result (Unit {0}) ImageError) (failed : Bool) → Resizes view backing p mid big size r → OnOk r (ListGrows mid big) → OnOk r (ReachesSize big.file.header.fields) → MayMarkBy r (is_failed big) failed
+    grown : (r : Result (Unit {0}) ImageError) (failed : Bool) → Resizes view backing p mid big size r → OnOk r (ListGrows mid big) → OnOk r (ReachesSize big.file.header.fields) → OnOk r (ReachesOffset (size - 1) mid.file.header.fields big.file.header.fields) → MayMarkBy r (is_failed big) failed
         → GrowsDisk view backing old (record big { is_failed = failed }) size r
-    grown (Ok x) failed resizes grows reaches marks =
+    grown (Ok x) failed resizes grows reaches long marks =
         let q = pending_with_listed p mid big in
         let all = extends_then p p q old mid big [] (size ∷ []) (extends_keeping p p old mid begun) resizes.0 in
         subst (λ (f : Bool). GrowsDisk view backing old (record big { is_failed = f }) size (Ok x)) (sym marks)
-        (subst (λ (r : Pending). Extends view backing p r old big (size ∷ [])) (pending_is view backing big [] q all.safe_step.sound (nothing_else grows)) all, resizes.1 ∙ sym (omega (arith, larger)), λ _. reaches)
-    grown (Err e) failed lasts grows reaches marks = lasts_then p p old mid big [] (size ∷ []) (extends_keeping p p old mid begun) lasts
+        (subst (λ (r : Pending). Extends view backing p r old big (size ∷ [])) (pending_is view backing big [] q all.safe_step.sound (nothing_else grows)) all, resizes.1 ∙ sym (omega (arith, larger)), λ _. reaches, λ fits. fits_grown old.file.header.fields big.file.header.fields size fits larger (ap (λ (k : HeaderFields). k.cluster_bits) all.format) resizes.1
+        (reaches_begun old.file.header.fields mid.file.header.fields big.file.header.fields (size - 1) begun.unseen.header long))
+    grown (Err e) failed lasts grows reaches long marks = lasts_then p p old mid big [] (size ∷ []) (extends_keeping p p old mid begun) lasts
 
     pub grown_so : (new : Qcow2 S F) (done r : Result (Unit {0}) ImageError) → r ≡ done → new ≡ record big { is_failed = is_failed new } → MayMarkBy done (is_failed big) (is_failed new) → Resizes view backing p mid big size done → OnOk done (ListGrows mid big)
-        → OnOk done (ReachesSize big.file.header.fields) → GrowsDisk view backing old new size r
-    grown_so new done r answer rest marks resizes grows reaches =
+        → OnOk done (ReachesSize big.file.header.fields) → OnOk done (ReachesOffset (size - 1) mid.file.header.fields big.file.header.fields) → GrowsDisk view backing old new size r
+    grown_so new done r answer rest marks resizes grows reaches long =
         subst (λ (s : Result (Unit {0}) ImageError). GrowsDisk view backing old new size s) (sym answer)
-        (subst (λ (i : Qcow2 S F). GrowsDisk view backing old i size done) (sym rest) (grown done (is_failed new) resizes grows reaches marks))
+        (subst (λ (i : Qcow2 S F). GrowsDisk view backing old i size done) (sym rest) (grown done (is_failed new) resizes grows reaches long marks))
 
     kept : (r : Result (Unit {0}) ImageError) (failed : Bool) → is_writable big ≡ is_writable old → Resizes view backing p mid big size r → OnOk r (ListGrows mid big) → MayMarkBy r (is_failed big) failed
         → OnOk r (KeepsSurplus view backing old (record big { is_failed = failed }))
@@ -176,7 +187,8 @@ module _ {S F : Type 0} (view : S → StorageView) (backing : F → BackingView)
       let one = subst (λ (x : Pending). Extends view backing p x old mid (size ∷ [])) (all_listed view backing mid []) grown.0 in
       let written = writes rest one.sound in
       let kept : ReachesSize mid.file.header.fields → ReachesSize new.file.header.fields = λ reaches. subst ReachesSize (sym written.1) reaches in
-      (with_listed rest new.file.free_list, extends_then p q (with_listed rest new.file.free_list) old mid new (size ∷ []) [] one written.0, same ∙ grown.1, λ reached. kept (grown.2 reached))
+      let fits : FitsSize mid.file.header.fields → FitsSize new.file.header.fields = λ is. subst FitsSize (sym written.1) is in
+      (with_listed rest new.file.free_list, extends_then p q (with_listed rest new.file.free_list) old mid new (size ∷ []) [] one written.0, same ∙ grown.1, λ reached. kept (grown.2 reached), λ is. fits (grown.3 is))
   grown_whole old mid new size (Err e) grown same writes =
       let p = pending_in view backing old [] in
       let rest : Pending = beside view backing mid [] in

@@ -1,5 +1,5 @@
 -- How many entries the L1 table has behind the parts of a call.
-use Rattle.std.proofs.Common.{◌≡◌, inl, inr, ℕ, ◌+◌, ◌-◌, ◌*◌, ◌/◌, ◌%◌, ◌<◌, ◌≤◌, List, Option, max, sym, ap, ◌∙◌, subst, arith}
+use Rattle.std.proofs.Common.{◌≡◌, inl, inr, ℕ, ◌+◌, ◌-◌, ◌*◌, ◌/◌, ◌%◌, ◌^◌, ◌<◌, ◌≤◌, List, Option, max, sym, ap, ◌∙◌, subst, arith}
 use Rattle.std.specs.Prelude.{OnOk, Result, Ok, Err}
 use Rattle.std.proofs.Math.Nat.{div-zero}
 use Rattle.std.proofs.lemmas.Bool.{cases_lt}
@@ -19,6 +19,7 @@ use Rattle.qcow2_alloc.specs.declared.error.ImageError.{ImageError}
 use Rattle.qcow2_image.specs.declared.image.Qcow2.{Qcow2}
 use Rattle.qcow2_image.specs.declared.prepared.Prepared.{Prepared}
 use Rattle.qcow2_image.specs.Found.{l1_index_of}
+use Rattle.qcow2_image.specs.Growing.{FitsSize}
 use Rattle.qcow2_image.specs.ImageInvariant.{ImageInvariant}
 use Rattle.qcow2_image.specs.L1Entries.{ReachesOffset, StaysAsLong, HasOwnTable}
 use Rattle.qcow2_image.specs.MovedTables.{MovesTables}
@@ -48,6 +49,19 @@ index_rising h a b le = elim (cases_lt 0 (entries_per_cluster h)) [
       let first : l1_index_of h a ≡ 0 = ap (λ n. a / cluster_size h / n) no_rows ∙ div-zero (a / cluster_size h) in
       omega (arith, first)
 ]
+
+-- a table that is made as long as a larger size asks for has no more entries than that
+pub fits_grown : (h h' : HeaderFields) (size : ℕ) → FitsSize h → h.size < size → h'.cluster_bits ≡ h.cluster_bits → h'.size ≡ size → ReachesOffset (size - 1) h h' → FitsSize h'
+fits_grown h h' size fits larger bits size_is reaches = (
+  λ none. absurd (omega (arith, larger, size_is, none)),
+  λ some.
+      let index : l1_index_of h' (h'.size - 1) ≡ l1_index_of h (size - 1) = ap (λ n. l1_index_of h' (n - 1)) size_is ∙ ap (λ b. (size - 1) / 2 ^ b / (2 ^ b / 8)) bits in
+      let few : h.l1_entries ≤ l1_index_of h (size - 1) + 1 = elim (cases_lt 0 h.size) [
+        | inl any ↦ let is = fits.1 any in let rising = index_rising h (h.size - 1) (size - 1) (omega (arith, larger)) in omega (arith, is, rising)
+        | inr le ↦ let is = fits.0 (omega (arith, le)) in omega (arith, is)
+      ] in
+      omega (arith, reaches, index, few),
+)
 
 -- the last bytes of a size and of its last cluster lie in one cluster
 last_cluster : (cs n : ℕ) → 0 < cs → 0 < n → (rounded_up cs n - 1) / cs ≡ (n - 1) / cs

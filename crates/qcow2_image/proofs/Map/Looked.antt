@@ -187,7 +187,7 @@ found_whole view image offset n kind wanted found is whole = ⊎_elim
     (λ past. (same_kind wanted kind ((whole.past past).0 ∙ sym (is.past past).0), let none = (whole.past past).1 in omega arith)) (cases_lt offset (size_of image))
 
 -- no cluster is mapped as what lies past the end
-kind_within : (h : HeaderFields) (backed : Bool) (offset : ℕ) (m : L2Mapping) → eof ≡ kind_at h backed offset m → ⊥
+pub kind_within : (h : HeaderFields) (backed : Bool) (offset : ℕ) (m : L2Mapping) → eof ≡ kind_at h backed offset m → ⊥
 kind_within h backed offset (Data host copied) is = absurd cc
 kind_within h backed offset (Zero kept) is = absurd cc
 kind_within h backed offset (Compressed host sectors) is = absurd cc

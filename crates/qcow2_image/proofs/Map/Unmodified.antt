@@ -14,6 +14,7 @@ use Rattle.qcow2_alloc.specs.ImageFile.{view_in, contents_in, known_in}
 use Rattle.qcow2_alloc.specs.ImageStorage.{storage_of}
 use Rattle.qcow2_alloc.specs.MetadataCaches.{known_of, order_of, UnseenCacheStep}
 use Rattle.qcow2_alloc.specs.KeptTables.{IsInOrderSince}
+use Rattle.qcow2_alloc.specs.Quiet.{IsQuiet}
 use Rattle.qcow2_image.specs.declared.image.Qcow2.{Qcow2}
 use Rattle.qcow2_image.specs.declared.prepared.Prepared.{Prepared}
 use Rattle.qcow2_image.specs.ImageInvariant.{ImageInvariant}
@@ -41,6 +42,10 @@ holds_still old new time same = record { moments = passes_if (λ c. byte_at c �
 -- a storage that was read
 pub holds_read : (old new : StorageView) → EachMomentSince old new (λ c. c ≡ new.contents) → new.contents ≡ old.contents → HoldsSame old new
 holds_read old new time same = holds_still old new (passes_if (λ c. c ≡ old.contents) (λ c is. is ∙ same) time) same
+
+-- calls that keep the contents of an honest storage
+pub quiet_still : (old new : StorageView) → new.is_honest → EachMomentSince old new (λ c. c ≡ old.contents) → new.contents ≡ old.contents → IsQuiet old new
+quiet_still old new honest time same = record { honest = honest; contents = same; moments = time }
 
 module _ {S F : Type 0} (view : S → StorageView) where
   pub read_then : {old mid new : Qcow2 S F} → IsOnlyRead view old mid → IsOnlyRead view mid new → IsOnlyRead view old new

@@ -13,6 +13,7 @@ use Rattle.qcow2_alloc.proofs.Faults.{told_on, told_since}
 use Rattle.qcow2_alloc.proofs.KeptTables.BehindHeader.{caches_then}
 use Rattle.qcow2_alloc.specs.KeptNotes.{kept_then}
 use Rattle.qcow2_alloc.proofs.KeptTables.ApartCalls.{apart_then}
+use Rattle.qcow2_alloc.proofs.KeptTables.AllWritten.{written_then}
 use Rattle.qcow2_alloc.proofs.cache.MetadataCaches.flush_all.Goals as goal
 
 pub returns-in_err-write_blocks-in-L2DependsOnRb-clause-keeps : goal.returns-in_err-write_blocks-in-L2DependsOnRb-clause-keeps
@@ -31,6 +32,7 @@ returns-in_err-write_tables-in-None g c = record {
   apart = c.write_tables.ensures.apart (tables_free c.args.self.now c.in-None.is);
   ordered = c.write_tables.ensures.ordered (tables_free c.args.self.now c.in-None.is);
   quiet = λ written. c.write_tables.ensures.quiet written.0;
+  all_written = c.write_tables.ensures.all_written;
   header_cluster = c.write_tables.ensures.header_cluster;
 }
 
@@ -66,6 +68,7 @@ returns-in_ok-write_tables-in-None g c = record {
       let one = c.write_tables.ensures.quiet written.0 honest in
       quiet_then (g.S.Storage.view (storage_of c.args.storage.now)) (g.S.Storage.view (storage_of c.write_tables.new.storage)) (g.S.Storage.view (storage_of c.write_blocks.new.storage)) one
       (c.write_blocks.ensures.quiet (blocks_as c.args.self.now c.write_tables.new.self c.write_tables.ensures.refblocks written.1) one.honest);
+  all_written = written_then g.S.Storage.view c.write_tables.ensures.all_written c.write_blocks.ensures.all_written;
   header_cluster = caches_then c.write_tables.ensures.header_cluster c.write_blocks.ensures.header_cluster;
 }
 
@@ -108,3 +111,9 @@ pub returns-in_ok-write_blocks-in-L2DependsOnRb-clause-apart : goal.returns-in_o
 returns-in_ok-write_blocks-in-L2DependsOnRb-clause-apart g c =
     apart_then (ap order c.write_blocks-in-L2DependsOnRb.ensures.direction) (c.write_blocks-in-L2DependsOnRb.ensures.apart (blocks_free c.args.self.now (inr c.in-L2DependsOnRb.is)))
     (c.write_tables-in-L2DependsOnRb.ensures.apart (tables_clean c.write_blocks-in-L2DependsOnRb.new.self (c.write_blocks-in-L2DependsOnRb.ensures.direction ∙ c.in-L2DependsOnRb.is) c.in_ok-write_blocks-in-L2DependsOnRb.ensures.written))
+
+pub returns-in_err-write_blocks-in-L2DependsOnRb-clause-all_written : goal.returns-in_err-write_blocks-in-L2DependsOnRb-clause-all_written
+returns-in_err-write_blocks-in-L2DependsOnRb-clause-all_written g c = c.write_blocks-in-L2DependsOnRb.ensures.all_written
+
+pub returns-in_ok-write_blocks-in-L2DependsOnRb-clause-all_written : goal.returns-in_ok-write_blocks-in-L2DependsOnRb-clause-all_written
+returns-in_ok-write_blocks-in-L2DependsOnRb-clause-all_written g c = written_then g.S.Storage.view c.write_blocks-in-L2DependsOnRb.ensures.all_written c.write_tables-in-L2DependsOnRb.ensures.all_written

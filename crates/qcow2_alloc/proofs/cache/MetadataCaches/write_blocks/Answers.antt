@@ -14,6 +14,7 @@ use Rattle.qcow2_alloc.proofs.Faults.{flush_refused, told_as, told_ok, rb_flush_
 use Rattle.qcow2_alloc.proofs.TableErrors.{cache_of_tables}
 use Rattle.qcow2_alloc.proofs.KeptTables.BehindHeader.{blocks_flushed_behind}
 use Rattle.qcow2_alloc.proofs.KeptTables.ApartCalls.{blocks_flushed_apart}
+use Rattle.qcow2_alloc.proofs.KeptTables.AllWritten.{blocks_flushed_written}
 use Rattle.qcow2_alloc.proofs.cache.MetadataCaches.write_blocks.Goals as goal
 
 pub returns-in-Err-clause-keeps : goal.returns-in-Err-clause-keeps
@@ -83,3 +84,9 @@ returns-in-Err-clause-apart g c = λ may. let kept = blocks_flushed_apart g.S.St
 
 pub returns-clause-apart : goal.returns-clause-apart
 returns-clause-apart g c = λ may. let kept = blocks_flushed_apart g.S.Storage.view (record c.args.storage.now { met_fault = false }) c.flush.new.store c.args.self.now c.flush.new.self c.flush.ensures.others c.flush.ensures.distinct c.flush.result (rw c.watch_faults.ensures at c.flush.ensures.flushed) may in record { stays = kept.stays }
+
+pub returns-in-Err-clause-all_written : goal.returns-in-Err-clause-all_written
+returns-in-Err-clause-all_written g c = let kept = blocks_flushed_written g.S.Storage.view (record c.args.storage.now { met_fault = false }) c.flush.new.store c.args.self.now c.flush.new.self c.flush.result (rw c.watch_faults.ensures at c.flush.ensures.flushed) in record { tables = kept.tables; quiet = kept.quiet }
+
+pub returns-clause-all_written : goal.returns-clause-all_written
+returns-clause-all_written g c = let kept = blocks_flushed_written g.S.Storage.view (record c.args.storage.now { met_fault = false }) c.flush.new.store c.args.self.now c.flush.new.self c.flush.result (rw c.watch_faults.ensures at c.flush.ensures.flushed) in record { tables = kept.tables; quiet = kept.quiet }

@@ -4,6 +4,10 @@ use Rattle.qcow2_image.specs.declared.mapping.Place.TheVariants.{Image}
 use Rattle.qcow2_image.specs.Found.{IsFoundWhole, IsMappedAs}
 use Rattle.qcow2_image.proofs.Grow.Lengths.{on_ok}
 use Rattle.qcow2_image.proofs.Map.Loading.{if_ok}
+use Rattle.std.specs.Prelude.{Result}
+use Rattle.qcow2_alloc.proofs.AllocationSteps.{handed_on}
+use Rattle.qcow2_image.specs.HeldMappings.{HeedsHeld}
+use Rattle.std.proofs.Common.{◌+◌}
 use Rattle.qcow2_image.proofs.image.Qcow2.check_in_place.Goals as goal
 
 pub returns-in_err-guest-clause-outdated : goal.returns-in_err-guest-clause-outdated
@@ -21,3 +25,11 @@ returns-clause-mapped g c = λ none some p out sound.
 pub returns-clause-found : goal.returns-clause-found
 returns-clause-found g c = λ none p out sound.
     on_ok c.check_mapped.result (λ is. subst (λ o. IsFoundWhole g.S.Storage.view c.args.self.now o (Raw Image c.args.host true) c.args.length) c.in_ok-guest.ensures.place is) (c.check_mapped.ensures.found p out sound)
+
+pub returns-in_err-guest-clause-held : goal.returns-in_err-guest-clause-held
+returns-in_err-guest-clause-held g c = λ none some.
+    handed_on (λ (r : Result _ _). HeedsHeld c.args.self.now (c.args.prepared.now.guest + c.args.at) (Raw Image c.args.host true) c.args.length r) c.from_residual.result c.in_err-guest.field-0.0 c.from_residual.ensures
+    (λ outdated whole. absurd (let b = whole.below in let p = c.in_err-guest.ensures.past in omega (arith, b, p, some)))
+
+pub returns-clause-held : goal.returns-clause-held
+returns-clause-held g c = λ none some. subst (λ o. HeedsHeld c.check_mapped.new.self o (Raw Image c.args.host true) c.args.length c.check_mapped.result) c.in_ok-guest.ensures.place (c.check_mapped.ensures.held some)

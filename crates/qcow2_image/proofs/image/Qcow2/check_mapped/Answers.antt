@@ -5,6 +5,13 @@ use Rattle.qcow2_image.proofs.image.Qcow2.check_mapped.Goals.{else-found-length-
 use Rattle.qcow2_alloc.proofs.AllocationSteps.{handed_on}
 use Rattle.qcow2_image.specs.Refusals.{IsUnlimited}
 use Rattle.std.specs.Prelude.{IfErr, Result}
+use Rattle.qcow2_image.proofs.Map.Held.{held_whole, heeds_else, same_found}
+use Rattle.std.proofs.Common.{◌<◌, ⊎_elim, ap, ◌∙◌}
+use Rattle.std.proofs.lemmas.Bool.{cases_lt}
+use Rattle.std.specs.Prelude.{is_some}
+use Rattle.qcow2_alloc.specs.ImageError.{IsOfTables}
+use Rattle.qcow2_image.specs.HeldMappings.{HeedsHeld, IsHeldAs}
+use Rattle.qcow2_image.specs.Image.{size_of}
 use Rattle.qcow2_image.proofs.image.Qcow2.check_mapped.Goals as goal
 
 pub returns-then-is-clause-mapped : goal.returns-then-is-clause-mapped
@@ -35,3 +42,27 @@ returns-then-is-clause-found g c = λ p out sound.
 pub returns-in_err-kind-clause-limited : goal.returns-in_err-kind-clause-limited
 returns-in_err-kind-clause-limited g c = λ p out sound.
     handed_on (λ (r : Result _ _). IfErr r IsUnlimited) c.from_residual.result c.in_err-kind.field-0.0 c.from_residual.ensures (c.in_err-kind.ensures.limited p out sound)
+
+pub returns-then-is-clause-held : goal.returns-then-is-clause-held
+returns-then-is-clause-held g c = λ some.
+    let new = c.look_up.new.self in
+    let same : c.args.wanted.now ≡ c.in_ok-kind.kind = c.is.ensures.0 c.if-is.true in
+    let least = c.if-found-length.true in
+    let whole : c.in_ok-kind.found ≡ c.args.length = let most : c.in_ok-kind.found ≤ c.args.length = c.in_ok-kind.ensures.within in omega (arith, least, most) in
+    ⊎_elim (λ lt. subst (λ k. IsHeldAs new c.args.offset k c.args.length) (sym same) (subst (λ n. IsHeldAs new c.args.offset c.in_ok-kind.kind n) whole (c.in_ok-kind.ensures.held lt).mapped))
+    (λ past. absurd (let none = same_found _ _ _ _ (c.in_ok-kind.ensures.past past) in omega (arith, least, some, none))) (cases_lt c.args.offset (size_of c.args.self.now))
+
+pub returns-clause-held : goal.returns-clause-held
+returns-clause-held g c = λ some outdated whole.
+    let new = c.look_up.new.self in
+    let below : c.args.offset < size_of c.args.self.now = let b = whole.below in let s = c.look_up.ensures.stays.image.size in omega (arith, b, s, some) in
+    let both = held_whole new.file.header.fields (is_some new.backing) new.l1_table new.file.caches c.args.offset c.args.length c.in_ok-kind.found c.in_ok-kind.kind c.args.wanted.now (c.in_ok-kind.ensures.held below) whole in
+    elim c.else-found-length.branch [
+      | else-found-length-via-then-found-length+else-is w ↦ absurd (let no : false ≡ true = subst IsTrue w.if-is.false (w.is.ensures.1 both.0) in cc)
+      | else-found-length-via-else-found-length w ↦ absurd (let short = w.if-found-length.false in omega (arith, both.1))
+    ]
+
+pub returns-in_err-kind-clause-held : goal.returns-in_err-kind-clause-held
+returns-in_err-kind-clause-held g c = λ some.
+    handed_on (λ (r : Result _ _). HeedsHeld c.look_up.new.self c.args.offset c.args.wanted.now c.args.length r) c.from_residual.result c.in_err-kind.field-0.0 c.from_residual.ensures
+    (heeds_else c.look_up.new.self c.args.offset c.args.wanted.now c.args.length IsOfTables c.in_err-kind.field-0.0 (λ no. no) c.in_err-kind.ensures.cause)

@@ -16,6 +16,7 @@ use Rattle.qcow2_image.proofs.Call.BehindHeader.{behind_call}
 use Rattle.std.specs.Prelude.{IfErr}
 use Rattle.qcow2_alloc.specs.ImageError.{IsFault}
 use Rattle.qcow2_image.proofs.Call.Called.{quiet_sound}
+use Rattle.qcow2_image.proofs.Map.Quiet.{reads_call}
 use Rattle.qcow2_image.proofs.image.Qcow2.flush.Goals as goal
 
 pub returns-clause-sees : goal.returns-clause-sees
@@ -75,3 +76,7 @@ returns-clause-fault g c = λ out sound.
 
 pub returns-then-self-clause-fault : goal.returns-then-self-clause-fault
 returns-then-self-clause-fault g c = λ out sound. absurd (let no : true ≡ false = sym c.if-self.true ∙ sound.works in cc)
+
+pub returns-clause-quiet : goal.returns-clause-quiet
+returns-clause-quiet g c = λ reading.
+    reads_call g.S.Storage.view c.args.self.now c.begin.new.self c.write_back-done.new.self c.mark_failure.new.self _ c.begin.ensures.begun (c.write_back-done.ensures.quiet (c.begin.ensures.stays.image.writable ∙ reading)) c.mark_failure.ensures.rest

@@ -25,6 +25,10 @@ use Rattle.qcow2_image.proofs.Sizes.{sound_is_usable}
 use Rattle.qcow2_image.proofs.Clear.ClearCalls.{refused_for}
 use Rattle.qcow2_image.specs.Refusals.{unusable}
 use Rattle.std.specs.Prelude.{None, Some}
+use Rattle.qcow2_image.proofs.Map.Quiet.{reads_call}
+use Rattle.qcow2_image.specs.HeldMappings.{IsHeldRun}
+use Rattle.qcow2_image.specs.Image.{size_of}
+use Rattle.std.proofs.Common.{◌<◌}
 use Rattle.qcow2_image.proofs.image.Qcow2.get_mapping.Goals as goal
 
 pub returns-in_err-kind-clause-sees : goal.returns-in_err-kind-clause-sees
@@ -113,3 +117,16 @@ returns-in_err-check_usable-clause-limited g c = λ out sound.
     let e = c.in_err-check_usable.field-0.0 in
     let refused = refused_for c.check_usable.result tt (unusable old) e c.check_usable.ensures c.in_err-check_usable.was in
     absurd (let no : None ≡ Some c.in_err-check_usable.field-0.0 = sym (sound_is_usable g.S.Storage.view g.F.BackingDisk.backing old out sound) ∙ refused in cc)
+
+pub returns-in_err-kind-clause-quiet : goal.returns-in_err-kind-clause-quiet
+returns-in_err-kind-clause-quiet g c = reads_call g.S.Storage.view c.args.self.now c.begin.new.self c.look_up-found.new.self c.mark_failure.new.self _ c.begin.ensures.begun c.look_up-found.ensures.quiet c.mark_failure.ensures.rest
+
+pub returns-clause-quiet : goal.returns-clause-quiet
+returns-clause-quiet g c = reads_call g.S.Storage.view c.args.self.now c.begin.new.self c.look_up-found.new.self c.mark_failure.new.self _ c.begin.ensures.begun c.look_up-found.ensures.quiet c.mark_failure.ensures.rest
+
+pub returns-clause-held : goal.returns-clause-held
+returns-clause-held g c = λ lt.
+    let below : c.args.offset < size_of c.begin.new.self = subst (λ n. c.args.offset < n) (sym c.begin.ensures.stays.image.size) lt in
+    let held : IsHeldRun c.look_up-found.new.self c.args.offset c.args.max c.in_ok-kind.kind c.in_ok-kind.length =
+    rw (sym c.mark_failure.ensures.answer ∙ c.in_ok-kind.was) at (c.look_up-found.ensures.held below) in
+    subst (λ (image : Qcow2 _ _). IsHeldRun image c.args.offset c.args.max c.in_ok-kind.kind c.in_ok-kind.length) (sym c.mark_failure.ensures.rest) held

@@ -15,7 +15,7 @@ returns-clause-grows g c = λ sound.
     let larger : size_of old < c.args.size = omega (arith, c.if-size.false, c.size.ensures) in
     grown_so g.S.Storage.view g.F.BackingDisk.backing old c.begin.new.self c.grow_to-done.new.self sound begun c.begin.ensures.list c.args.size larger c.mark_failure.new.self c.grow_to-done.result c.mark_failure.result c.mark_failure.ensures.answer
     c.mark_failure.ensures.rest (may_mark c.grow_to-done.new.self c.mark_failure.new.self c.grow_to-done.result c.mark_failure.ensures.marks) (c.grow_to-done.ensures.resizes (pending_in g.S.Storage.view g.F.BackingDisk.backing old []) begun.sound) c.grow_to-done.ensures.list
-    (c.grow_to-done.ensures.reaches (pending_in g.S.Storage.view g.F.BackingDisk.backing old []) begun.sound)
+    (c.grow_to-done.ensures.reaches (pending_in g.S.Storage.view g.F.BackingDisk.backing old []) begun.sound) (c.grow_to-done.ensures.length (pending_in g.S.Storage.view g.F.BackingDisk.backing old []) begun.sound)
 
 pub returns-clause-faults : goal.returns-clause-faults
 returns-clause-faults g c =

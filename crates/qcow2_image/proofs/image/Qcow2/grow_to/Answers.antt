@@ -6,7 +6,7 @@ use Rattle.std.proofs.Common.{arith, [], refl, ap, ◌∙◌, ◌-◌, ◌/◌, 
 use Rattle.qcow2_image.specs.Image.{is_failed, is_writable}
 use Rattle.qcow2_image.proofs.Call.FaultCounts.{counted_on, counted_since, untouched}
 use Rattle.qcow2_image.proofs.Create.Causes.{faults_met}
-use Rattle.qcow2_image.proofs.Grow.Grown.{extends_moving, lasts_more, lasts_refused, resized_then, resized_reaches}
+use Rattle.qcow2_image.proofs.Grow.Grown.{extends_moving, lasts_more, lasts_refused, resized_length, resized_then, resized_reaches}
 use Rattle.qcow2_image.proofs.image.Qcow2.grow_to.Goals as goal
 
 pub returns-in_err-grow_l1_table-clause-resizes : goal.returns-in_err-grow_l1_table-clause-resizes
@@ -48,3 +48,12 @@ returns-clause-failed g c = ap is_failed c.write_size.ensures.rest ∙ c.grow_l1
 
 pub returns-clause-writable : goal.returns-clause-writable
 returns-clause-writable g c = ap is_writable c.write_size.ensures.rest ∙ c.grow_l1_table.ensures.stays.image.writable
+
+pub returns-clause-length : goal.returns-clause-length
+returns-clause-length g c = λ p sound.
+    let old = c.args.self.now in
+    let mid = c.grow_l1_table.new.self in
+    let first = extends_moving g.S.Storage.view g.F.BackingDisk.backing p (pending_with_listed p old mid) old mid (c.in_ok-grow_l1_table.ensures.lengthens p [] sound) in
+    resized_length g.S.Storage.view g.F.BackingDisk.backing p old mid c.write_size.new.self c.args.size c.l1_index.result c.write_size.result sound
+    (resized_then g.S.Storage.view g.F.BackingDisk.backing p old mid c.write_size.new.self c.args.size c.write_size.result first (ap (λ (i : Qcow2 _ _). i.file.free_list) c.write_size.ensures.rest) (c.write_size.ensures.resizes (pending_with_listed p old mid) first.sound))
+    (c.l1_index.ensures ∙ ap (λ m. m / 2 ^ c.cluster_bits-bits.result / (2 ^ c.cluster_bits-bits.result / 8)) c.new.ensures ∙ ap (λ n. (c.args.size - 1) / 2 ^ n / (2 ^ n / 8)) c.cluster_bits-bits.ensures.value) c.in_ok-grow_l1_table.ensures.length (ap (λ (i : Qcow2 _ _). i.l1_table) c.write_size.ensures.rest)

@@ -19,6 +19,11 @@ use Rattle.qcow2_alloc.proofs.AllocationSteps.{handed_on}
 use Rattle.qcow2_image.specs.Refusals.{IsUnlimited}
 use Rattle.qcow2_image.proofs.Call.Unlimited.{in_use_unlimited}
 use Rattle.qcow2_image.proofs.Prepare.Lacking.{named_place}
+use Rattle.qcow2_image.proofs.Map.Quiet.{reads_none}
+use Rattle.qcow2_image.proofs.Map.Held.{uncovered_held}
+use Rattle.std.specs.Prelude.{MatchOption}
+use Rattle.qcow2_image.specs.HeldMappings.{named_place as place_named}
+use Rattle.qcow2_image.specs.PinnedTables.{own_table}
 use Rattle.qcow2_image.proofs.image.Qcow2.look_up.Goals as goal
 
 pub returns-in_err-l2_get_or_insert-in-Some-clause-keeps :
@@ -115,3 +120,36 @@ returns-in_err-l2_get_or_insert-in-Some-clause-limited g c = λ p out sound.
     handed_on (λ r. IfErr r IsUnlimited) c.from_residual-in_err-l2_get_or_insert-in-Some.result e c.from_residual-in_err-l2_get_or_insert-in-Some.ensures
     (in_use_unlimited c.args.self.now.file.caches e
     (c.in_err-l2_get_or_insert-in-Some.ensures.refusals h (named_place h (contents_in view c.args.self.now.file) (l1_index_of h c.args.offset) c.in-Some.table names.0) p sound.file.honest sound.file.caches sound.file.named_blocks))
+
+pub returns-in_err-l2_get_or_insert-in-Some-clause-quiet : goal.returns-in_err-l2_get_or_insert-in-Some-clause-quiet
+returns-in_err-l2_get_or_insert-in-Some-clause-quiet g c = c.l2_get_or_insert.ensures.all_written
+
+pub returns-in_ok-l2_get_or_insert-in-Some-clause-quiet : goal.returns-in_ok-l2_get_or_insert-in-Some-clause-quiet
+returns-in_ok-l2_get_or_insert-in-Some-clause-quiet g c = c.l2_get_or_insert.ensures.all_written
+
+pub returns-in-None-clause-quiet : goal.returns-in-None-clause-quiet
+returns-in-None-clause-quiet g c = reads_none g.S.Storage.view c.args.self.now
+
+pub returns-in-None-clause-held : goal.returns-in-None-clause-held
+returns-in-None-clause-held g c = λ lt.
+    let h = c.args.self.now.file.header.fields in
+    let limit : c.min-max.result ≡ min (min c.args.max (h.size - c.args.offset)) (rest_of_table h c.args.offset) =
+    let a = c.min-max.ensures in let b = c.min.ensures in let s = c.size-size.ensures in let r = c.rest_of_table.ensures.value in omega arith in
+    let image = c.args.self.now in
+    let none = subst (λ t. MatchOption t (place_named h image.l1_table c.args.offset ≡ 0) (λ cluster. (cluster ≡ own_table image c.args.offset) × ¬ (place_named h image.l1_table c.args.offset ≡ 0))) c.in-None.is c.in_ok-l2_cluster.ensures.own in
+    uncovered_held h (is_some image.backing) image.l1_table image.file.caches c.args.offset c.min-max.result c.args.max limit lt c.uncovered.result none c.uncovered.ensures.value
+
+pub returns-in_ok-l2_get_or_insert-in-Some-clause-held : goal.returns-in_ok-l2_get_or_insert-in-Some-clause-held
+returns-in_ok-l2_get_or_insert-in-Some-clause-held g c = λ lt.
+    let h = c.args.self.now.file.header.fields in
+    let limit : c.min-max.result ≡ min (min c.args.max (h.size - c.args.offset)) (rest_of_table h c.args.offset) =
+    let a = c.min-max.ensures in let b = c.min.ensures in let s = c.size-size.ensures in let r = c.rest_of_table.ensures.value in omega arith in
+    let image = c.args.self.now in
+    let own = subst (λ t. MatchOption t (place_named h image.l1_table c.args.offset ≡ 0) (λ cluster. (cluster ≡ own_table image c.args.offset) × ¬ (place_named h image.l1_table c.args.offset ≡ 0))) c.in-Some.is c.in_ok-l2_cluster.ensures.own in
+    c.run_in_table.ensures.held c.args.max limit lt own.0 own.1
+
+pub returns-in_err-l2_cluster-clause-unwritten : goal.returns-in_err-l2_cluster-clause-unwritten
+returns-in_err-l2_cluster-clause-unwritten g c = λ p out sound clean. read_none g.S.Storage.view c.args.self.now clean
+
+pub returns-in_err-l2_cluster-clause-quiet : goal.returns-in_err-l2_cluster-clause-quiet
+returns-in_err-l2_cluster-clause-quiet g c = reads_none g.S.Storage.view c.args.self.now

@@ -17,6 +17,7 @@ use Rattle.qcow2_image.proofs.Map.Reading.{raw_shown, zero_shown, indirect_shown
 use Rattle.qcow2_image.proofs.Map.Unmodified.{read_bytes, read_same}
 use Rattle.qcow2_alloc.proofs.KeptNotes.{read_kept}
 use Rattle.qcow2_image.proofs.Call.BehindHeader.{behind_read}
+use Rattle.qcow2_image.proofs.Map.Quiet.{reads_bytes, reads_same}
 use Rattle.qcow2_image.proofs.image.Qcow2.read_as.Goals as goal
 
 pub returns-in_err-read-in-Raw-clause-keeps : goal.returns-in_err-read-in-Raw-clause-keeps
@@ -87,3 +88,12 @@ returns-in_err-read-in-Raw-clause-header_cluster g c = behind_read c.read.result
 
 pub returns-in_ok-read-in-Raw-clause-header_cluster : goal.returns-in_ok-read-in-Raw-clause-header_cluster
 returns-in_ok-read-in-Raw-clause-header_cluster g c = behind_read c.read.result c.read.ensures.calls c.read.ensures.same
+
+pub returns-in_err-read-in-Raw-clause-quiet : goal.returns-in_err-read-in-Raw-clause-quiet
+returns-in_err-read-in-Raw-clause-quiet g c = reads_bytes g.S.Storage.view c.args.self.now c.read.new.self c.read.result c.read.ensures.calls c.read.ensures.same
+
+pub returns-in_ok-read-in-Raw-clause-quiet : goal.returns-in_ok-read-in-Raw-clause-quiet
+returns-in_ok-read-in-Raw-clause-quiet g c = reads_bytes g.S.Storage.view c.args.self.now c.read.new.self c.read.result c.read.ensures.calls c.read.ensures.same
+
+pub returns-in-Indirect-clause-quiet : goal.returns-in-Indirect-clause-quiet
+returns-in-Indirect-clause-quiet g c = reads_same g.S.Storage.view c.args.self.now c.read_backing.new.self c.read_backing.ensures.file

@@ -12,6 +12,10 @@ use Rattle.qcow2_alloc.proofs.KeptMarks.{notes_then}
 use Rattle.qcow2_image.proofs.Call.BehindHeader.{behind_then}
 use Rattle.qcow2_image.specs.Refusals.{IsUnlimited}
 use Rattle.std.specs.Prelude.{IfErr, Result}
+use Rattle.qcow2_alloc.proofs.KeptTables.AllWritten.{written_then}
+use Rattle.qcow2_image.proofs.Map.Held.{heeds_then, held_as, none_eof}
+use Rattle.qcow2_image.specs.HeldMappings.{HeedsHeld, IsHeldAs}
+use Rattle.std.specs.Prelude.{is_some}
 use Rattle.qcow2_image.proofs.image.Qcow2.read_current.Goals as goal
 
 pub returns-clause-keeps : goal.returns-clause-keeps
@@ -66,3 +70,32 @@ returns-in_err-check_mapped-clause-limited g c = λ p out sound.
 
 pub returns-clause-limited : goal.returns-clause-limited
 returns-clause-limited g c = λ p out sound. c.read_as.ensures.limited
+
+pub returns-clause-quiet : goal.returns-clause-quiet
+returns-clause-quiet g c = written_then g.S.Storage.view c.in_ok-check_mapped.ensures.quiet c.read_as.ensures.quiet
+
+pub returns-in_err-offset-clause-held : goal.returns-in_err-offset-clause-held
+returns-in_err-offset-clause-held g c = λ some.
+    handed_on (λ (r : Result _ _). HeedsHeld c.args.self.now (c.args.mapping.now.offset + c.args.at) (further_by c.args.at c.args.mapping.now.kind) (length c.args.bytes.now) r) c.from_residual.result c.in_err-offset.field-0.0 c.from_residual.ensures
+    (λ outdated whole. absurd (let b = whole.below in let p = c.in_err-offset.ensures.past in omega (arith, b, p, some)))
+
+pub returns-in_err-check_mapped-clause-held : goal.returns-in_err-check_mapped-clause-held
+returns-in_err-check_mapped-clause-held g c = λ some.
+    let n = length c.args.bytes.now in
+    let new = c.check_mapped.new.self in
+    let e = c.in_err-check_mapped.field-0.0 in
+    handed_on (λ (r : Result _ _). HeedsHeld new (c.args.mapping.now.offset + c.args.at) (further_by c.args.at c.args.mapping.now.kind) n r) c.from_residual-in_err-check_mapped.result e c.from_residual-in_err-check_mapped.ensures
+    (subst (λ k. HeedsHeld new (c.args.mapping.now.offset + c.args.at) {A = Unit {0}} k n (Err e)) c.further-kind.ensures
+    (subst (λ o. HeedsHeld new o {A = Unit {0}} c.further-kind.result n (Err e)) c.in_ok-offset.ensures.place (c.in_err-check_mapped.ensures.held some)))
+
+pub returns-clause-held : goal.returns-clause-held
+returns-clause-held g c = λ some.
+    let n = length c.args.bytes.now in
+    let mid = c.check_mapped.new.self in
+    let new = c.read_as.new.self in
+    let at = c.args.mapping.now.offset + c.args.at in
+    let kind = further_by c.args.at c.args.mapping.now.kind in
+    let held : IsHeldAs mid at kind n = subst (λ k. IsHeldAs mid at k n) c.further-kind.ensures (subst (λ o. IsHeldAs mid o c.further-kind.result n) c.in_ok-offset.ensures.place (c.in_ok-check_mapped.ensures.held some)) in
+    heeds_then at kind n new c.read_as.result
+    (λ outdated. none_eof mid.file.header.fields (is_some mid.backing) mid.l1_table mid.file.caches at n (subst (λ k. IsHeldAs mid at k n) (sym c.further-kind.ensures ∙ (c.read_as.ensures.outdated outdated).0) held))
+    (held_as mid new at kind n c.read_as.ensures.tables held)

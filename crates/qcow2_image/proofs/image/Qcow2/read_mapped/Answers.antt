@@ -24,6 +24,12 @@ use Rattle.qcow2_image.proofs.Sizes.{sound_is_usable}
 use Rattle.qcow2_image.proofs.Clear.ClearCalls.{refused_for}
 use Rattle.qcow2_image.specs.Refusals.{unusable}
 use Rattle.std.specs.Prelude.{None, Some}
+use Rattle.qcow2_image.proofs.Map.Quiet.{reads_call}
+use Rattle.qcow2_image.proofs.Map.Held.{heeds_on, keeps_marked}
+use Rattle.std.proofs.Common.{◌+◌, sym, subst}
+use Rattle.std.specs.Prelude.{Result}
+use Rattle.qcow2_image.specs.Found.{further_by}
+use Rattle.qcow2_image.specs.HeldMappings.{HeedsHeld}
 use Rattle.qcow2_image.proofs.image.Qcow2.read_mapped.Goals as goal
 
 pub returns-clause-sees : goal.returns-clause-sees
@@ -95,3 +101,17 @@ returns-in_err-check_usable-clause-limited g c = λ out sound.
     let e = c.in_err-check_usable.field-0.0 in
     let refused = refused_for c.check_usable.result tt (unusable old) e c.check_usable.ensures c.in_err-check_usable.was in
     absurd (let no : None ≡ Some c.in_err-check_usable.field-0.0 = sym (sound_is_usable g.S.Storage.view g.F.BackingDisk.backing old out sound) ∙ refused in cc)
+
+pub returns-clause-quiet : goal.returns-clause-quiet
+returns-clause-quiet g c = reads_call g.S.Storage.view c.args.self.now c.begin.new.self c.read_current-done.new.self c.mark_failure.new.self _ c.begin.ensures.begun c.read_current-done.ensures.quiet c.mark_failure.ensures.rest
+
+pub returns-clause-held : goal.returns-clause-held
+returns-clause-held g c = λ usable some.
+    let n = length c.args.bytes.now in
+    let at = c.args.mapping.now.offset + c.args.at in
+    let kind = further_by c.args.at c.args.mapping.now.kind in
+    subst (λ (r : Result _ _). HeedsHeld c.mark_failure.new.self at kind n r) (sym c.mark_failure.ensures.answer)
+    (heeds_on at kind n c.read_current-done.new.self c.mark_failure.new.self c.read_current-done.result (keeps_marked c.read_current-done.new.self c.mark_failure.new.self _ c.mark_failure.ensures.rest) (c.read_current-done.ensures.held some))
+
+pub returns-then-is_empty-clause-held : goal.returns-then-is_empty-clause-held
+returns-then-is_empty-clause-held g c = λ usable some. absurd (let none : length c.args.bytes.now ≡ 0 = search rules in omega (arith, none, some))

@@ -9,6 +9,7 @@ use Rattle.qcow2_image.specs.ImageInvariant.{pins_of}
 use Rattle.qcow2_image.proofs.Commit.Released.{discards}
 use Rattle.qcow2_image.proofs.Call.FaultCounts.{untouched}
 use Rattle.qcow2_image.proofs.Call.BehindHeader.{behind_by, behind_none, behind_tables, behind_then}
+use Rattle.qcow2_laws.specs.Caches.{AreClean}
 use Rattle.qcow2_image.proofs.image.Qcow2.release_prepared.Goals as goal
 
 pub returns-clause-sees : goal.returns-clause-sees
@@ -37,7 +38,7 @@ returns-clause-rest g c =
     let tables : SameTables old.file.caches caches = subst (λ (m : Qcow2 _ _). SameTables m.file.caches caches) freed un.tables in
     let changed : caches.is_changed ≡ old.file.caches.is_changed = un.changed ∙ ap (λ (m : Qcow2 _ _). m.file.caches.is_changed) freed in
     let counted : caches.changes ≡ old.file.caches.changes = un.counted ∙ ap (λ (m : Qcow2 _ _). m.file.caches.changes) freed in
-    subst (λ (image : Qcow2 _ _). ReleasesOneMapping view old image) (sym same) (record { rest = refl; known = tables.known old.file.header.fields (contents_in view old.file); changed = changed; counted = counted })
+    subst (λ (image : Qcow2 _ _). ReleasesOneMapping view old image) (sym same) (record { rest = refl; known = tables.known old.file.header.fields (contents_in view old.file); changed = changed; counted = counted; written = λ all. (subst AreClean (sym tables.l2_tables) all.0, subst AreClean (sym tables.refblocks) all.1) })
 
 pub returns-clause-faults : goal.returns-clause-faults
 returns-clause-faults g c =

@@ -8,6 +8,10 @@ use Rattle.qcow2_alloc.specs.ImageFile.{contents_in, known_in}
 use Rattle.qcow2_disk.specs.Found.{kind_at}
 use Rattle.qcow2_image.specs.Found.{mapping_of, l1_index_of, IsRunBehind}
 use Rattle.qcow2_image.proofs.Map.Looked.{cluster_near, says_known, run_found}
+use Rattle.qcow2_image.proofs.Map.Held.{run_held}
+use Rattle.qcow2_alloc.specs.MetadataCaches.{l2_at}
+use Rattle.qcow2_image.specs.HeldMappings.{IsLongestSo, named_place}
+use Rattle.std.proofs.Common.{Some}
 use Rattle.qcow2_image.proofs.image.Qcow2.run_in_table.Goals as goal
 
 pub alike_behind-requires-clause-near : goal.alike_behind-requires-clause-near
@@ -40,3 +44,24 @@ returns-clause-run g c = λ p sound at le.
       kind_is = c.kind_of.ensures.value ∙ ap (kind_at h (is_some c.args.self.now.backing) c.args.offset) first;
       longest = subst (IsLongestRun h known c.args.offset c.args.max) (sym is) (run_found h c.args.offset sizes known t format.bits says c.args.max le c.in_ok-behind.behind behind);
     }
+
+pub returns-clause-held : goal.returns-clause-held
+returns-clause-held g c = λ limit short below own_is named.
+    let image = c.args.self.now in
+    let h = image.file.header.fields in
+    let t = c.in-Some.table.now in
+    let bits = c.cluster_bits-bits.ensures.value in
+    let held : l2_at image.file.caches (named_place h image.l1_table c.args.offset / cluster_size h) ≡ Some t = ap (l2_at image.file.caches) (sym own_is) ∙ sym c.in-Some.ensures.value in
+    let own : c.cluster.result ≡ c.args.offset / cluster_size h = c.cluster.ensures ∙ ap (λ o. o / 2 ^ c.cluster_bits-bits.result) c.new-guest.ensures ∙ ap (λ b. c.args.offset / 2 ^ b) bits in
+    let own2 : c.cluster-2.result ≡ c.args.offset / cluster_size h = c.cluster-2.ensures ∙ ap (λ o. o / 2 ^ c.cluster_bits-bits.result) c.new-guest.ensures ∙ ap (λ b. c.args.offset / 2 ^ b) bits in
+    let rest : c.remaining_in_cluster-rest.result ≡ cluster_size h - c.args.offset % cluster_size h =
+    let e = c.remaining_in_cluster-rest.ensures in
+    let f : c.new-guest.result % 2 ^ c.cluster_bits-bits.result ≡ c.args.offset % cluster_size h = ap (λ o. o % 2 ^ c.cluster_bits-bits.result) c.new-guest.ensures ∙ ap (λ b. c.args.offset % 2 ^ b) bits in
+    let k : 2 ^ c.cluster_bits-bits.result ≡ cluster_size h = ap (λ b. 2 ^ b) bits in omega arith in
+    let more : c.saturating_sub.result ≡ c.args.max - (cluster_size h - c.args.offset % cluster_size h) = c.saturating_sub.ensures ∙ ap (λ n. c.args.max - n) rest in
+    let behind : IsRunBehind t (c.args.offset / cluster_size h) (c.args.max - (cluster_size h - c.args.offset % cluster_size h)) c.in_ok-behind.behind =
+    subst (λ n. IsRunBehind t (c.args.offset / cluster_size h) n c.in_ok-behind.behind) more (subst (λ n. IsRunBehind t n c.saturating_sub.result c.in_ok-behind.behind) own2 c.in_ok-behind.ensures.run) in
+    let is : c.min.result ≡ min (cluster_size h - c.args.offset % cluster_size h + c.in_ok-behind.behind) c.args.max = c.min.ensures ∙ ap (λ n. min (n + c.in_ok-behind.behind) c.args.max) rest in
+    let first = c.kind_of.ensures.value ∙ ap (λ n. kind_at h (is_some image.backing) c.args.offset n) (c.in_ok-first.ensures.ok ∙ ap (mapping_of t) own) in
+    subst (IsLongestSo h (is_some image.backing) image.l1_table image.file.caches c.args.offset limit c.kind_of.result) (sym is)
+    (run_held h (is_some image.backing) image.l1_table image.file.caches c.args.offset c.args.max limit short below t named held c.kind_of.result first c.in_ok-behind.behind behind)

@@ -21,6 +21,7 @@ use Rattle.qcow2_image.proofs.Sizes.{sound_is_usable}
 use Rattle.qcow2_image.proofs.Clear.ClearCalls.{refused_for}
 use Rattle.qcow2_image.specs.Refusals.{unusable}
 use Rattle.std.specs.Prelude.{None, Some}
+use Rattle.qcow2_image.proofs.Map.Quiet.{reads_call}
 use Rattle.qcow2_image.proofs.image.Qcow2.try_readv_special.Goals as goal
 
 pub returns-clause-sees : goal.returns-clause-sees
@@ -67,3 +68,6 @@ returns-in_err-check_usable-clause-limited g c = λ out sound.
     let e = c.in_err-check_usable.field-0.0 in
     let refused = refused_for c.check_usable.result tt (unusable old) e c.check_usable.ensures c.in_err-check_usable.was in
     absurd (let no : None ≡ Some c.in_err-check_usable.field-0.0 = sym (sound_is_usable g.S.Storage.view g.F.BackingDisk.backing old out sound) ∙ refused in cc)
+
+pub returns-clause-quiet : goal.returns-clause-quiet
+returns-clause-quiet g c = reads_call g.S.Storage.view c.args.self.now c.begin.new.self c.plain_at-plain.new.self c.mark_failure.new.self _ c.begin.ensures.begun c.plain_at-plain.ensures.quiet c.mark_failure.ensures.rest

@@ -17,6 +17,9 @@ use Rattle.qcow2_image.proofs.Call.BehindHeader.{behind_caches, behind_then, beh
 use Rattle.std.specs.Prelude.{IfErr, Result}
 use Rattle.qcow2_alloc.specs.ImageError.{IsFault, of_storage}
 use Rattle.qcow2_image.proofs.Call.Unlimited.{storage_fault}
+use Rattle.qcow2_image.proofs.Map.Quiet.{reads_bytes, reads_same}
+use Rattle.qcow2_alloc.proofs.KeptTables.AllWritten.{written_then}
+use Rattle.qcow2_image.specs.Unwritten.{ReadsQuietly}
 use Rattle.qcow2_image.proofs.image.Qcow2.write_back.Goals as goal
 
 pub returns-in_err-free_listed-clause-frees : goal.returns-in_err-free_listed-clause-frees
@@ -148,3 +151,26 @@ returns-in_err-flush-clause-fault g c = λ p out sound. handed_on (λ (r : Resul
 
 pub returns-in_err-free_listed-clause-fault : goal.returns-in_err-free_listed-clause-fault
 returns-in_err-free_listed-clause-fault g c = λ p out sound. handed_on (λ r. IfErr r IsFault) c.from_residual.result c.in_err-free_listed.field-0.0 c.from_residual.ensures (c.in_err-free_listed.ensures.faults p out sound)
+
+pub returns-in_err-free_listed-clause-quiet : goal.returns-in_err-free_listed-clause-quiet
+returns-in_err-free_listed-clause-quiet g c = λ reading. reads_same g.S.Storage.view c.args.self.now c.free_listed.new.self (ap (λ (o : Qcow2 _ _). o.file) (c.free_listed.ensures.untouched reading))
+
+pub returns-in_err-flush_all-clause-quiet : goal.returns-in_err-flush_all-clause-quiet
+returns-in_err-flush_all-clause-quiet g c = λ reading.
+    let freed = c.free_listed.new.self in
+    let first : ReadsQuietly g.S.Storage.view c.args.self.now freed = reads_same g.S.Storage.view c.args.self.now freed (ap (λ (o : Qcow2 _ _). o.file) (c.free_listed.ensures.untouched reading)) in
+    written_then g.S.Storage.view first c.flush_all.ensures.all_written
+
+pub returns-in_err-flush-clause-quiet : goal.returns-in_err-flush-clause-quiet
+returns-in_err-flush-clause-quiet g c = λ reading.
+    let freed = c.free_listed.new.self in
+    let first : ReadsQuietly g.S.Storage.view c.args.self.now freed = reads_same g.S.Storage.view c.args.self.now freed (ap (λ (o : Qcow2 _ _). o.file) (c.free_listed.ensures.untouched reading)) in
+    let mid : Qcow2 _ _ = record freed { file = record freed.file { storage = c.flush_all.new.storage; caches = c.flush_all.new.self } } in
+    written_then g.S.Storage.view (written_then g.S.Storage.view first c.flush_all.ensures.all_written) (reads_bytes g.S.Storage.view mid c.flush.new.self c.flush.result c.flush.ensures.calls c.flush.ensures.same)
+
+pub returns-clause-quiet : goal.returns-clause-quiet
+returns-clause-quiet g c = λ reading.
+    let freed = c.free_listed.new.self in
+    let first : ReadsQuietly g.S.Storage.view c.args.self.now freed = reads_same g.S.Storage.view c.args.self.now freed (ap (λ (o : Qcow2 _ _). o.file) (c.free_listed.ensures.untouched reading)) in
+    let mid : Qcow2 _ _ = record freed { file = record freed.file { storage = c.flush_all.new.storage; caches = c.flush_all.new.self } } in
+    written_then g.S.Storage.view (written_then g.S.Storage.view first c.flush_all.ensures.all_written) (reads_bytes g.S.Storage.view mid c.flush.new.self c.flush.result c.flush.ensures.calls c.flush.ensures.same)

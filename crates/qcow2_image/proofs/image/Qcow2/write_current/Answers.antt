@@ -14,6 +14,9 @@ use Rattle.qcow2_image.proofs.Write.PutParts.{mapped_in_place, puts_nothing, put
 use Rattle.qcow2_image.proofs.Call.Called.{Quietly, quiet_sound}
 use Rattle.qcow2_alloc.proofs.KeptMarks.{notes_then}
 use Rattle.qcow2_image.proofs.Call.BehindHeader.{behind_then}
+use Rattle.qcow2_image.proofs.Map.Held.{heeds_then, held_as, keeps_storage}
+use Rattle.qcow2_image.specs.HeldMappings.{HeedsHeld, IsHeldAs}
+use Rattle.std.specs.Prelude.{Result}
 use Rattle.qcow2_image.proofs.image.Qcow2.write_current.Goals as goal
 
 pub returns-in_err-check_in_place-clause-puts : goal.returns-in_err-check_in_place-clause-puts
@@ -73,3 +76,21 @@ returns-clause-mapped g c = λ none p out sound.
 
 pub returns-clause-header_cluster : goal.returns-clause-header_cluster
 returns-clause-header_cluster g c = behind_then c.check_in_place.ensures.header_cluster c.write_data.ensures.header_cluster
+
+pub returns-in_err-check_in_place-clause-held : goal.returns-in_err-check_in_place-clause-held
+returns-in_err-check_in_place-clause-held g c = λ none some.
+    let n = length c.args.bytes.now in
+    let new = c.check_in_place.new.self in
+    let e = c.in_err-check_in_place.field-0.0 in
+    handed_on (λ (r : Result _ _). HeedsHeld new (c.args.prepared.now.guest + c.args.at) (Raw Image (c.args.prepared.now.offset + c.args.at) true) n r) c.from_residual.result e c.from_residual.ensures
+    (subst (λ o. HeedsHeld new (c.args.prepared.now.guest + c.args.at) {A = Unit {0}} (Raw Image o true) n (Err e)) c.in-Some.ensures.1 (c.in_err-check_in_place.ensures.held none some))
+
+pub returns-clause-held : goal.returns-clause-held
+returns-clause-held g c = λ none some.
+    let n = length c.args.bytes.now in
+    let mid = c.check_in_place.new.self in
+    let new = c.write_data.new.self in
+    let at = c.args.prepared.now.guest + c.args.at in
+    let kind = Raw Image (c.args.prepared.now.offset + c.args.at) true in
+    let held = subst (λ o. IsHeldAs mid at (Raw Image o true) n) c.in-Some.ensures.1 (c.in_ok-check_in_place.ensures.held none some) in
+    heeds_then at kind n new c.write_data.result c.write_data.ensures.current (held_as mid new at kind n (keeps_storage mid new new.file.storage c.write_data.ensures.written.rest) held)

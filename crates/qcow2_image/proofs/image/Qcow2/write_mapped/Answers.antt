@@ -18,6 +18,9 @@ use Rattle.qcow2_image.proofs.Write.PutParts.{puts_early, puts_none, puts_then, 
 use Rattle.qcow2_image.proofs.Call.FaultCounts.{counted_marked}
 use Rattle.qcow2_image.proofs.Call.OnceWritten.{once_written}
 use Rattle.qcow2_image.proofs.Call.BehindHeader.{behind_call}
+use Rattle.qcow2_image.proofs.Map.Held.{heeds_on, keeps_marked}
+use Rattle.std.specs.Prelude.{Result}
+use Rattle.qcow2_image.specs.HeldMappings.{HeedsHeld}
 use Rattle.qcow2_image.proofs.image.Qcow2.write_mapped.Goals as goal
 
 pub returns-then-is_empty-clause-sees : goal.returns-then-is_empty-clause-sees
@@ -87,3 +90,14 @@ returns-clause-mapped g c = λ none some out sound.
 
 pub returns-clause-header_cluster : goal.returns-clause-header_cluster
 returns-clause-header_cluster g c = behind_call g.S.Storage.view c.begin.ensures.begun c.write_current-done.ensures.header_cluster c.mark_failure.ensures.rest
+
+pub returns-clause-held : goal.returns-clause-held
+returns-clause-held g c = λ usable none some.
+    let n = length c.args.bytes.now in
+    let at = c.args.prepared.now.guest + c.args.at in
+    let kind = Raw Image (c.args.prepared.now.offset + c.args.at) true in
+    subst (λ (r : Result _ _). HeedsHeld c.mark_failure.new.self at kind n r) (sym c.mark_failure.ensures.answer)
+    (heeds_on at kind n c.write_current-done.new.self c.mark_failure.new.self c.write_current-done.result (keeps_marked c.write_current-done.new.self c.mark_failure.new.self _ c.mark_failure.ensures.rest) (c.write_current-done.ensures.held none some))
+
+pub returns-then-is_empty-clause-held : goal.returns-then-is_empty-clause-held
+returns-then-is_empty-clause-held g c = λ usable none some. absurd (let no : length c.args.bytes.now ≡ 0 = search rules in omega (arith, no, some))

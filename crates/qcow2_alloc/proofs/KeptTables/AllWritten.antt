@@ -1,0 +1,72 @@
+-- Caches of which no table is modified stay so, and nothing is written, whatever the tables hold.
+use Rattle.std.proofs.Common.{◌≡◌, ℕ, Bool, true, eqb, List, Result, Ok, IsSome, ap, refl}
+use Rattle.std.specs.Option.{IsNone}
+use Rattle.std.specs.Map.{lookup}
+use Rattle.lru.specs.LruCache.{promoted}
+use Rattle.image_access.specs.Moments.{StorageView}
+use Rattle.qcow2_metadata.specs.declared.error.MetadataError.{MetadataError}
+use Rattle.qcow2_metadata.specs.L2Table.{L2TableView}
+use Rattle.qcow2_metadata.specs.RefBlock.{RefBlockView}
+use Rattle.qcow2_alloc.specs.declared.async_lru_cache.error.CacheError.{CacheError}
+use Rattle.qcow2_alloc.specs.declared.cache.backends.L2CacheBackend.{L2CacheBackend}
+use Rattle.qcow2_alloc.specs.declared.cache.backends.RefBlockCacheBackend.{RefBlockCacheBackend}
+use Rattle.qcow2_alloc.specs.declared.cache.MetadataCaches.{MetadataCaches}
+use Rattle.qcow2_alloc.specs.declared.image_storage.ImageStorage.{ImageStorage}
+use Rattle.qcow2_alloc.specs.AsyncLruCache.{Cache}
+use Rattle.qcow2_alloc.specs.CacheAnswers.{Unit₀, Flushes, GetsNew}
+use Rattle.qcow2_alloc.specs.ImageStorage.{storage_of}
+use Rattle.qcow2_alloc.specs.TableCaches.{l2_steps, rb_steps}
+use Rattle.qcow2_alloc.specs.Quiet.{KeepAllWritten}
+use Rattle.qcow2_alloc.proofs.KeptTables.Clean.{clean_as, clean_next, flush_clean, get_clean}
+use Rattle.qcow2_alloc.proofs.KeptTables.Quiet.{quiet_none, quiet_then, tables_quiet, blocks_quiet, table_got_quietly}
+
+module _ {S : Type 0} (view : S → StorageView) where
+  -- no call at all, and one call after another
+  pub written_none : (s : ImageStorage S) (caches : MetadataCaches S) → KeepAllWritten view s caches s caches
+  written_none s caches = record { tables = λ all. all; quiet = λ all honest. quiet_none (view (storage_of s)) honest }
+
+  pub written_then : {a b c : ImageStorage S} {x y z : MetadataCaches S} → KeepAllWritten view a x b y → KeepAllWritten view b y c z → KeepAllWritten view a x c z
+  written_then {a = a} {b = b} {c = c} first then = record {
+    tables = λ all. then.tables (first.tables all);
+    quiet = λ all honest.
+        let one = first.quiet all honest in
+        quiet_then (view (storage_of a)) (view (storage_of b)) (view (storage_of c)) one (then.quiet (first.tables all) one.honest);
+  }
+
+  module _ (old new : ImageStorage S) (caches : MetadataCaches S) where
+    -- a flush of the L2 tables, and of the refblocks
+    pub tables_flushed_written : (l2 : Cache (L2CacheBackend S) ℕ L2TableView) (answer : Result Unit₀ (CacheError ℕ MetadataError))
+        → Flushes (l2_steps (λ s. view (storage_of s)) caches.l2.backend.header.fields) old caches.l2.entries answer new l2.entries → KeepAllWritten view old caches new (record caches { l2 = l2 })
+    tables_flushed_written l2 answer flushes = record {
+      tables = λ all. (
+        flush_clean (l2_steps (λ s. view (storage_of s)) caches.l2.backend.header.fields) l2.backend.header.fields.cluster_bits (λ (t : L2TableView). t.bytes) (λ t. t.is_modified) (λ s t k v w h. ap (λ (t : L2TableView). t.is_modified) h.clean) old new
+        caches.l2.entries l2.entries answer flushes (clean_as _ _ (λ (t : L2TableView). t.bytes) (λ t. t.is_modified) caches.l2.entries all.0),
+        all.1,
+      );
+      quiet = λ all. tables_quiet view old new caches l2 answer flushes all.0;
+    }
+
+    pub blocks_flushed_written : (rb : Cache (RefBlockCacheBackend S) ℕ RefBlockView) (answer : Result Unit₀ (CacheError ℕ MetadataError))
+        → Flushes (rb_steps (λ s. view (storage_of s)) caches.rb.backend.header.fields) old caches.rb.entries answer new rb.entries → KeepAllWritten view old caches new (record caches { rb = rb })
+    blocks_flushed_written rb answer flushes = record {
+      tables = λ all. (
+        all.0,
+        flush_clean (rb_steps (λ s. view (storage_of s)) caches.rb.backend.header.fields) rb.backend.header.fields.cluster_bits (λ (b : RefBlockView). b.bytes) (λ b. b.is_modified) (λ s t k v w h. ap (λ (b : RefBlockView). b.is_modified) h.clean) old new
+        caches.rb.entries rb.entries answer flushes (clean_as _ _ (λ (b : RefBlockView). b.bytes) (λ b. b.is_modified) caches.rb.entries all.1),
+      );
+      quiet = λ all. blocks_quiet view old new caches rb answer flushes all.1;
+    }
+
+    -- a load of an L2 table
+    pub table_got_written : (may_flush : Bool) (key : ℕ) (l2 : Cache (L2CacheBackend S) ℕ L2TableView) (answer : Result Bool (CacheError ℕ MetadataError))
+        → (IsSome (lookup (eqb key) caches.l2.entries) → (answer ≡ Ok true) × (l2.entries ≡ promoted (eqb key) caches.l2.entries) × (new ≡ old))
+        → (IsNone (lookup (eqb key) caches.l2.entries) → GetsNew (l2_steps (λ s. view (storage_of s)) caches.l2.backend.header.fields) eqb caches.l2.size may_flush key old caches.l2.entries answer new l2.entries)
+        → KeepAllWritten view old caches new (record caches { l2 = l2 })
+    table_got_written may_flush key l2 answer hit miss = record {
+      tables = λ all. (
+        get_clean (l2_steps (λ s. view (storage_of s)) caches.l2.backend.header.fields) l2.backend.header.fields.cluster_bits (λ (t : L2TableView). t.bytes) (λ t. t.is_modified) (λ s t k v h. h.unmodified) caches.l2.size may_flush key old new
+        caches.l2.entries l2.entries (clean_as _ _ (λ (t : L2TableView). t.bytes) (λ t. t.is_modified) caches.l2.entries all.0) answer hit miss,
+        all.1,
+      );
+      quiet = λ all. table_got_quietly view old new caches may_flush key l2 answer hit miss (λ may. clean_next _ (λ (t : L2TableView). t.bytes) (λ t. t.is_modified) caches.l2.entries all.0);
+    }

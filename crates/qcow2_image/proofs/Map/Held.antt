@@ -1,0 +1,165 @@
+-- What a lookup finds in the tables in memory, of an image in any state.
+use Rattle.std.proofs.Common.{◌≡◌, ◌⊎◌, ⊎_elim, inl, inr, ℕ, ◌+◌, ◌-◌, ◌*◌, ◌/◌, ◌%◌, ◌^◌, ◌<◌, ◌≤◌, Bool, Option, Some, None, Result, Ok, Err, IfOk, is_some, min, refl, sym, ap, ◌∙◌, subst, arith}
+use Rattle.std.proofs.lemmas.Bool.{cases_lt}
+use Rattle.qcow2_metadata.specs.EntryTable.{EntryTableView}
+use Rattle.qcow2_metadata.specs.Header.{HeaderView, cluster_size}
+use Rattle.qcow2_metadata.specs.L2Table.{L2TableView}
+use Rattle.qcow2_metadata.specs.declared.header.HeaderFields.{HeaderFields}
+use Rattle.qcow2_metadata.specs.declared.l2_mapping.L2Mapping.TheVariants.{Uncovered}
+use Rattle.qcow2_disk.specs.Found.{eof, kind_at, rest_of_table}
+use Rattle.qcow2_alloc.specs.MetadataCaches.{l2_at}
+use Rattle.qcow2_alloc.specs.declared.cache.MetadataCaches.{MetadataCaches}
+use Rattle.qcow2_alloc.specs.declared.error.ImageError.{ImageError}
+use Rattle.qcow2_alloc.specs.declared.error.ImageError.TheVariants.{OutdatedMapping}
+use Rattle.qcow2_alloc.specs.declared.image_storage.ImageStorage.{ImageStorage}
+use Rattle.qcow2_image.specs.declared.image.Qcow2.{Qcow2}
+use Rattle.qcow2_image.specs.declared.mapping.MappingKind.{MappingKind}
+use Rattle.qcow2_image.specs.declared.mapping.MappingKind.TheVariants as M
+use Rattle.qcow2_image.specs.Found.{found_kind, mapping_of, IsAlikeTo, IsRunBehind}
+use Rattle.qcow2_image.specs.HeldMappings.{HeedsHeld, IsHeldAs, IsHeldRun, IsLongestSo, IsMappedBy, IsMappedByNamed, IsMappedSo, IsUncovered, KeepsHeld, named_place}
+use Rattle.qcow2_image.proofs.Map.Looked.{kind_within, product_le, same_kind}
+
+below_count : (k count size : ℕ) → k * size < count * size → k < count
+below_count k count size lt = ⊎_elim (λ (less : k < count). less) (λ (le : count ≤ k). absurd (let p = product_le count k size le in omega (arith, lt, p))) (cases_lt k count)
+
+module _ {S : Type 0} (h : HeaderFields) (is_backed : Bool) (l1_table : EntryTableView) (caches : MetadataCaches S) (offset : ℕ) where
+  -- a shorter range is mapped so
+  pub mapped_less : (kind : MappingKind) (m n : ℕ) → m ≤ n → IsMappedSo h is_backed l1_table caches offset kind n → IsMappedSo h is_backed l1_table caches offset kind m
+  mapped_less kind m n le is = record {
+    below = let b = is.below in omega (arith, b, le);
+    within = let w = is.within in omega (arith, w, le);
+    mapped = ⊎_elim (λ none. inl none) (λ by. inr (record {
+      named = by.named;
+      table = by.table;
+      held = by.held;
+      mapped = record { first = by.mapped.first; alike = λ k lt. by.mapped.alike k (omega (arith, lt, le)) };
+    })) is.mapped;
+  }
+
+  -- the same held table maps it
+  the_same : (a b : L2TableView) (cluster : ℕ) → l2_at caches cluster ≡ Some a → l2_at caches cluster ≡ Some b → a ≡ b
+  the_same a b cluster one other = let both : Some a ≡ Some b = sym one ∙ other in cc
+
+  -- ranges that are mapped at one offset are so by the same kind
+  pub one_kind : (a b : MappingKind) (m n : ℕ) → IsMappedSo h is_backed l1_table caches offset a m → IsMappedSo h is_backed l1_table caches offset b n → a ≡ b
+  one_kind a b m n one other =
+      ⊎_elim
+      (λ none. ⊎_elim (λ also. same_kind a b (none.kind_is ∙ sym also.kind_is)) (λ by. absurd (by.named none.none)) other.mapped)
+      (λ by. ⊎_elim (λ none. absurd (by.named none.none))
+      (λ also.
+      let same = the_same by.table also.table (named_place h l1_table offset / cluster_size h) by.held also.held in
+      same_kind a b (by.mapped.first ∙ ap (λ (t : L2TableView). kind_at h is_backed offset (mapping_of t (offset / cluster_size h))) same ∙ sym also.mapped.first)) other.mapped)
+      one.mapped
+
+  -- nothing lies past the end among what is mapped
+  pub none_eof : (n : ℕ) → IsMappedSo h is_backed l1_table caches offset M.Eof n → ⊥
+  none_eof n is = ⊎_elim (λ none. kind_within h is_backed offset Uncovered none.kind_is) (λ by. kind_within h is_backed offset (mapping_of by.table (offset / cluster_size h)) by.mapped.first) is.mapped
+
+  module _ (max limit : ℕ) (short : max ≡ min (min limit (h.size - offset)) (rest_of_table h offset)) (below : offset < h.size) where
+    -- where the L1 table names none
+    pub uncovered_held : (kind : MappingKind) → named_place h l1_table offset ≡ 0 → found_kind kind ≡ kind_at h is_backed offset Uncovered → IsLongestSo h is_backed l1_table caches offset limit kind max
+    uncovered_held kind none is = record {
+      mapped = record { below = omega (arith, short, below); within = omega (arith, short); mapped = inl (record { none = none; kind_is = is }) };
+      at_most = omega (arith, short);
+      longest = λ lt more. let b = more.below in let w = more.within in omega (arith, short, lt, b, w);
+    }
+
+    -- where it names a held one
+    module _ (t : L2TableView) (named : ¬ (named_place h l1_table offset ≡ 0)) (held : l2_at caches (named_place h l1_table offset / cluster_size h) ≡ Some t) (kind : MappingKind)
+        (first : found_kind kind ≡ kind_at h is_backed offset (mapping_of t (offset / cluster_size h))) (n : ℕ) (run : IsRunBehind t (offset / cluster_size h) (max - (cluster_size h - offset % cluster_size h)) n) where
+      abbrev whole_run : ℕ
+      whole_run = min (cluster_size h - offset % cluster_size h + n) max
+
+      run_mapped : IsMappedSo h is_backed l1_table caches offset kind whole_run
+      run_mapped = record {
+        below = omega (arith, short, below);
+        within = omega (arith, short);
+        mapped = inr (record {
+          named = named;
+          table = t;
+          held = held;
+          mapped = record {
+            first = first;
+            alike = λ k lt.
+                let is = run.whole in
+                let less = below_count k run.count (2 ^ t.cluster_bits) (omega (arith, lt, is)) in
+                run.alike (k + 1) (omega arith) (omega (arith, less));
+          };
+        });
+      }
+
+      not_longer : whole_run < max → ¬ IsMappedSo h is_backed l1_table caches offset kind (whole_run + 1)
+      not_longer lt more =
+          ⊎_elim (λ none. named none.none) (λ by.
+          let same = the_same by.table t (named_place h l1_table offset / cluster_size h) by.held held in
+          let there : IsMappedBy h is_backed l1_table caches offset t kind (whole_run + 1) = subst (λ (x : L2TableView). IsMappedBy h is_backed l1_table caches offset x kind (whole_run + 1)) same by.mapped in
+          let is = run.whole in
+          run.longest (omega (arith, lt)) (there.alike run.count (omega (arith, lt, is)))) more.mapped
+
+      pub run_held : IsLongestSo h is_backed l1_table caches offset limit kind whole_run
+      run_held = record {
+        mapped = run_mapped;
+        at_most = omega (arith, short);
+        longest = λ lt more. ⊎_elim (λ (less : whole_run < max). not_longer less more) (λ (le : max ≤ whole_run). let b = more.below in let w = more.within in omega (arith, short, lt, le, b, w)) (cases_lt whole_run max);
+      }
+
+  -- a whole range that is mapped as it is wanted is what a lookup finds
+  pub held_whole : (max n : ℕ) (kind wanted : MappingKind) → IsLongestSo h is_backed l1_table caches offset max kind n → IsMappedSo h is_backed l1_table caches offset wanted max → (wanted ≡ kind) × (max ≤ n)
+  held_whole max n kind wanted run whole =
+      let same = one_kind wanted kind max n whole run.mapped in (
+        same,
+        ⊎_elim (λ (lt : n < max). absurd (run.longest lt (mapped_less kind (n + 1) max (omega (arith, lt)) (subst (λ k. IsMappedSo h is_backed l1_table caches offset k max) same whole)))) (λ le. le) (cases_lt n max),
+      )
+
+-- the tables in memory stay, and so does what they map
+pub held_as : {S F : Type 0} (old new : Qcow2 S F) (offset : ℕ) (kind : MappingKind) (n : ℕ) → KeepsHeld old new → IsHeldAs old offset kind n → IsHeldAs new offset kind n
+held_as old new offset kind n keeps is =
+    subst (λ (h : HeaderFields). IsMappedSo h (is_some new.backing) new.l1_table new.file.caches offset kind n) (sym (ap (λ (v : HeaderView). v.fields) keeps.header))
+    (subst (λ (b : Bool). IsMappedSo old.file.header.fields b new.l1_table new.file.caches offset kind n) (sym keeps.backed)
+    (subst (λ (t : EntryTableView). IsMappedSo old.file.header.fields (is_some old.backing) t new.file.caches offset kind n) (sym keeps.l1_table)
+    (subst (λ (c : MetadataCaches _). IsMappedSo old.file.header.fields (is_some old.backing) old.l1_table c offset kind n) (sym keeps.caches) is)))
+
+module _ {S F : Type 0} where
+  pub keeps_back : {old new : Qcow2 S F} → KeepsHeld old new → KeepsHeld new old
+  keeps_back keeps = record { header = sym keeps.header; backed = sym keeps.backed; l1_table = sym keeps.l1_table; caches = sym keeps.caches }
+
+  -- bytes are read or written
+  pub keeps_storage : (old new : Qcow2 S F) (storage : ImageStorage S) → new ≡ record old { file = record old.file { storage = storage } } → KeepsHeld old new
+  keeps_storage old new storage rest = record {
+    header = ap (λ (i : Qcow2 S F). i.file.header) rest;
+    backed = ap (λ (i : Qcow2 S F). is_some i.backing) rest;
+    l1_table = ap (λ (i : Qcow2 S F). i.l1_table) rest;
+    caches = ap (λ (i : Qcow2 S F). i.file.caches) rest;
+  }
+
+  -- a failure is marked
+  pub keeps_marked : (old new : Qcow2 S F) (failed : Bool) → new ≡ record old { is_failed = failed } → KeepsHeld old new
+  keeps_marked old new failed rest = record {
+    header = ap (λ (i : Qcow2 S F). i.file.header) rest;
+    backed = ap (λ (i : Qcow2 S F). is_some i.backing) rest;
+    l1_table = ap (λ (i : Qcow2 S F). i.l1_table) rest;
+    caches = ap (λ (i : Qcow2 S F). i.file.caches) rest;
+  }
+
+  module _ {A : Type 0} (offset : ℕ) (kind : MappingKind) (n : ℕ) where
+    -- so a part that isn't refused 10 heeds them
+    pub heeds_then : (image : Qcow2 S F) (result : Result A ImageError) → (result ≡ Err OutdatedMapping → ⊥) → IsHeldAs image offset kind n → HeedsHeld image offset kind n result
+    heeds_then image (Ok done) current is = is
+    heeds_then image (Err e) current is = λ outdated. absurd (current (ap Err outdated))
+
+    -- as it does behind calls that leave the tables in memory
+    pub heeds_on : (old new : Qcow2 S F) (result : Result A ImageError) → KeepsHeld old new → HeedsHeld old offset kind n result → HeedsHeld new offset kind n result
+    heeds_on old new (Ok done) keeps is = held_as old new offset kind n keeps is
+    heeds_on old new (Err e) keeps isnt = λ outdated is. isnt outdated (held_as new old offset kind n (keeps_back keeps) is)
+
+  -- a refusal by another number says nothing of them
+  pub heeds_else : (image : Qcow2 S F) (offset : ℕ) (kind : MappingKind) (n : ℕ) (P : ImageError → Type 0) (e : ImageError) → (P OutdatedMapping → ⊥) → P e → e ≡ OutdatedMapping → ¬ IsHeldAs image offset kind n
+  heeds_else image offset kind n P e none is outdated = absurd (none (subst P outdated is))
+
+-- how much was found, of what was answered
+abbrev found_of : {A E : Type 0} → Result (A × ℕ) E → ℕ
+found_of (Ok x) = x.1
+found_of (Err e) = 0
+
+pub same_found : {A E : Type 0} (a b : A) (m n : ℕ) → ◌≡◌ {A = Result (A × ℕ) E} (Ok (a, m)) (Ok (b, n)) → m ≡ n
+same_found a b m n same = ap found_of same

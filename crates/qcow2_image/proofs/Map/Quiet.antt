@@ -1,0 +1,44 @@
+-- Tables are loaded and evicted, and bytes are read, of an image of which no cached table is modified: nothing is written, whatever it holds.
+use Rattle.std.proofs.Common.{◌≡◌, Bool, Result, sym, ap, subst}
+use Rattle.image_access.specs.Moments.{StorageView, ContentsStay, QuietCalls}
+use Rattle.image_access.specs.declared.error.StorageError.{StorageError}
+use Rattle.qcow2_alloc.specs.declared.image_file.ImageFile.{ImageFile}
+use Rattle.qcow2_alloc.specs.declared.image_storage.ImageStorage.{ImageStorage}
+use Rattle.qcow2_alloc.specs.ImageStorage.{storage_of}
+use Rattle.qcow2_alloc.specs.MetadataCaches.{AreAllWritten}
+use Rattle.qcow2_alloc.specs.Quiet.{IsQuiet, KeepAllWritten}
+use Rattle.qcow2_alloc.proofs.KeptTables.AllWritten.{written_none, written_then}
+use Rattle.qcow2_alloc.proofs.KeptTables.Quiet.{quiet_none, quiet_read}
+use Rattle.qcow2_image.specs.declared.image.Qcow2.{Qcow2}
+use Rattle.qcow2_image.specs.Image.{IsBegun}
+use Rattle.qcow2_image.specs.Unwritten.{ReadsQuietly}
+
+module _ {S F : Type 0} (view : S → StorageView) where
+  -- no call at all
+  pub reads_none : (image : Qcow2 S F) → ReadsQuietly view image image
+  reads_none image = written_none view image.file.storage image.file.caches
+
+  -- the file stays as it is
+  pub reads_same : (old new : Qcow2 S F) → new.file ≡ old.file → ReadsQuietly view old new
+  reads_same old new same = subst (λ (f : ImageFile S). KeepAllWritten view old.file.storage old.file.caches f.storage f.caches) (sym same) (reads_none old)
+
+  -- its storage is the same one, and its caches hold as little that is modified
+  pub reads_aside : (old new : Qcow2 S F) → storage_of new.file.storage ≡ storage_of old.file.storage → (AreAllWritten old.file.caches → AreAllWritten new.file.caches) → ReadsQuietly view old new
+  reads_aside old new same tables = record {
+    tables = tables;
+    quiet = λ all honest. subst (λ s. IsQuiet (view (storage_of old.file.storage)) (view s)) (sym same) (quiet_none (view (storage_of old.file.storage)) honest);
+  }
+
+  -- bytes are read
+  pub reads_bytes : {T : Type 0} (old : Qcow2 S F) (storage : ImageStorage S) (result : Result T StorageError) → QuietCalls (view (storage_of old.file.storage)) (view (storage_of storage)) result
+      → ContentsStay (view (storage_of old.file.storage)) (view (storage_of storage)) → ReadsQuietly view old (record old { file = record old.file { storage = storage } })
+  reads_bytes old storage result calls same = record {
+    tables = λ all. all;
+    quiet = λ all honest. quiet_read (view (storage_of old.file.storage)) (view (storage_of storage)) result calls same honest;
+  }
+
+  -- a call that begins, does a part, and marks a failure
+  pub reads_call : (old begun new last : Qcow2 S F) (flag : Bool) → IsBegun old begun → ReadsQuietly view begun new → last ≡ record new { is_failed = flag } → ReadsQuietly view old last
+  reads_call old begun new last flag is reads rest =
+      let first : ReadsQuietly view old begun = reads_aside old begun is.storage (λ all. subst AreAllWritten (sym is.caches) all) in
+      written_then view (written_then view first reads) (reads_same new last (ap (λ (image : Qcow2 S F). image.file) rest))
