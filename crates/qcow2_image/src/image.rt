@@ -105,6 +105,7 @@ impl<S: Storage, F: WrappedFormat<S>> Qcow2<S, F> {
     ghost use Rattle.qcow2_image.specs.Created.{begins_image};
     ghost use Rattle.qcow2_image.specs.Growing.{SameFormat, WritesBack};
     ghost use Rattle.qcow2_image.specs.Unwritten.{ContentsStayThroughout, HoldsNothingModified, OnlyReadsImage, ReadsQuietly};
+    ghost use Rattle.qcow2_image.specs.PinnedTables.{HasPinnedTable};
     ghost use Rattle.qcow2_image.specs.Opened.{IsFresh, StaysFresh, IsLoaded, IsKeptSince, SameNames, HasNamesIn, NeedsAnother, NeedsDataFile, NeedsMissing, IsRefusedAlone, LeavesFile, LeavesStorage, storage_after, Opens};
     ghost use Rattle.std.specs.Option.{is_some};
 
@@ -140,6 +141,7 @@ impl<S: Storage, F: WrappedFormat<S>> Qcow2<S, F> {
         ensures format { (S.view metadata).is_honest → IfOk result (λ image. SameFormat (header (byte_at (S.view metadata).contents)) image.file.header.fields) }
         ensures ok { IfOk result (λ image. (number_of image ≡ number) × (is_failed image ≡ false) × (is_writable image ≡ writable)) }
         ensures faults { OpeningCounts S.view (S.view metadata).faults result }
+        ensures unpinned { IfOk result (λ image. ¬ HasPinnedTable image) }
         ensures below { IfOk result (λ image. is_some image.backing ≡ false) }
         ensures names { (S.view metadata).is_honest → IfOk result (λ image. HasNamesIn image.file.header (S.view metadata).contents) }
         ensures storage { LeavesStorage S.view writable (S.view metadata) result }
@@ -171,6 +173,7 @@ impl<S: Storage, F: WrappedFormat<S>> Qcow2<S, F> {
         ensures format { (S.view metadata).is_honest → IfOk result (λ image. SameFormat (header (byte_at (S.view metadata).contents)) image.file.header.fields) }
         ensures ok { IfOk result (λ image. (number_of image ≡ number) × (is_failed image ≡ false) × (is_writable image ≡ writable)) }
         ensures faults { OpeningCounts S.view (S.view metadata).faults result }
+        ensures unpinned { IfOk result (λ image. ¬ HasPinnedTable image) }
         ensures below { IfOk result (λ image. is_some image.backing ≡ false) }
         ensures names { (S.view metadata).is_honest → IfOk result (λ image. HasNamesIn image.file.header (S.view metadata).contents) }
         ensures storage { LeavesStorage S.view writable (S.view metadata) result }
@@ -203,6 +206,7 @@ impl<S: Storage, F: WrappedFormat<S>> Qcow2<S, F> {
         ensures format { (S.view metadata).is_honest → IfOk result (λ image. SameFormat (header (byte_at (S.view metadata).contents)) image.file.header.fields) }
         ensures ok { IfOk result (λ image. (number_of image ≡ number) × (is_failed image ≡ false) × (is_writable image ≡ writable)) }
         ensures faults { OpeningCounts S.view (S.view metadata).faults result }
+        ensures unpinned { IfOk result (λ image. ¬ HasPinnedTable image) }
         ensures below { IfOk result (λ image. is_some image.backing ≡ false) }
         ensures names { (S.view metadata).is_honest → IfOk result (λ image. HasNamesIn image.file.header (S.view metadata).contents) }
         ensures storage { LeavesStorage S.view writable (S.view metadata) result }
@@ -233,6 +237,7 @@ impl<S: Storage, F: WrappedFormat<S>> Qcow2<S, F> {
         ensures format { (S.view (storage_of storage)).is_honest → IfOk result (λ image. SameFormat (header (byte_at (S.view (storage_of storage)).contents)) image.file.header.fields) }
         ensures ok { IfOk result (λ image. (number_of image ≡ number) × (is_failed image ≡ false) × (is_writable image ≡ writable)) }
         ensures faults { OpeningCounts S.view (S.view (storage_of storage)).faults result }
+        ensures unpinned { IfOk result (λ image. ¬ HasPinnedTable image) }
         ensures below { IfOk result (λ image. is_some image.backing ≡ false) }
         ensures names { (S.view (storage_of storage)).is_honest → IfOk result (λ image. HasNamesIn image.file.header (S.view (storage_of storage)).contents) }
         ensures storage { LeavesStorage S.view writable (S.view (storage_of storage)) result }
@@ -314,6 +319,7 @@ impl<S: Storage, F: WrappedFormat<S>> Qcow2<S, F> {
         ensures names { OnOk result (SameNames file.old.header file.new.header) }
         ensures storage { LeavesFile S.view true file.old file.new result }
         ensures faults { FaultsTold (view_in S.view file.old).faults (view_in S.view file.new).faults result }
+        ensures caches { file.new.caches ≡ file.old.caches }
         ensures since { (p : Pending) → IsFresh S.view F.backing p file.old → IsKeptSince (view_in S.view file.old) (view_in S.view file.new) }
         ensures loaded { (p : Pending) → IsFresh S.view F.backing p file.old → IfOk result (λ allocator. StaysFresh S.view F.backing p file.old file.new × IsAllocatorOf S.view file.new allocator) }
         ensures cause { IfErr result IsMet }
@@ -335,6 +341,7 @@ impl<S: Storage, F: WrappedFormat<S>> Qcow2<S, F> {
         ensures format { OnOk result (SameFormat file.old.header.fields file.new.header.fields) }
         ensures names { OnOk result (SameNames file.old.header file.new.header) }
         ensures faults { FaultsTold (view_in S.view file.old).faults (view_in S.view file.new).faults result }
+        ensures caches { file.new.caches ≡ file.old.caches }
         ensures since { (p : Pending) → IsFresh S.view F.backing p file.old → IsKeptSince (view_in S.view file.old) (view_in S.view file.new) }
         ensures loaded { (p : Pending) → IsFresh S.view F.backing p file.old → IfOk result (λ tables. IsLoaded S.view F.backing p file.new tables.l1_table tables.allocator) }
         ensures cause { IfErr result IsMet }

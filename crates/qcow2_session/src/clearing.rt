@@ -1,5 +1,6 @@
 //! The commands that zero and discard ranges.
 ghost use Rattle.std.specs.Prelude.{ℕ, ◌≡◌, false, List, Option};
+ghost use Rattle.qcow2_image.specs.BehindHeader.{StaysBehindHeader};
 ghost use Rattle.qcow2_image.specs.declared.mapping.Mapping.{Mapping};
 ghost use Rattle.qcow2_image.specs.Image.{number_of, IsSameImage, is_failed, is_writable};
 ghost use Rattle.qcow2_image.specs.declared.prepared.Prepared.{Prepared};
@@ -24,6 +25,7 @@ pub(crate) fn ensure_zero<S: Storage, F: WrappedFormat<S>>(
     ensures image { IsSameImage image.old image.new }
     ensures reading { is_writable image.old ≡ false → image.new ≡ image.old }
     ensures faults { CommandCounts S.view F.backing image.old image.new result }
+    ensures header_cluster { StaysBehindHeader S.view image.old image.new }
     ensures marks { FailsBy (refusal_in result) (is_failed image.old) (is_failed image.new) }
     ensures tells { (before : List (Option Prepared)) → TellsOfImage S.view F.backing image.old image.new before before (EnsureZeroMapping offset length) result }
     ensures causes { (before : List (Option Prepared)) (found : ℕ → Option Mapping) → IsRightlyRefused S.view F.backing image.old image.new before found (EnsureZeroMapping offset length) result }
@@ -42,6 +44,7 @@ pub(crate) fn discard_to_zero<S: Storage, F: WrappedFormat<S>>(
     ensures image { IsSameImage image.old image.new }
     ensures reading { is_writable image.old ≡ false → image.new ≡ image.old }
     ensures faults { CommandCounts S.view F.backing image.old image.new result }
+    ensures header_cluster { StaysBehindHeader S.view image.old image.new }
     ensures marks { FailsBy (refusal_in result) (is_failed image.old) (is_failed image.new) }
     ensures tells { (before : List (Option Prepared)) → TellsOfImage S.view F.backing image.old image.new before before (DiscardToZero offset length) result }
     ensures causes { (before : List (Option Prepared)) (found : ℕ → Option Mapping) → IsRightlyRefused S.view F.backing image.old image.new before found (DiscardToZero offset length) result }
@@ -60,6 +63,7 @@ pub(crate) fn discard_to_any<S: Storage, F: WrappedFormat<S>>(
     ensures image { IsSameImage image.old image.new }
     ensures reading { is_writable image.old ≡ false → image.new ≡ image.old }
     ensures faults { CommandCounts S.view F.backing image.old image.new result }
+    ensures header_cluster { StaysBehindHeader S.view image.old image.new }
     ensures marks { FailsBy (refusal_in result) (is_failed image.old) (is_failed image.new) }
     ensures tells { (before : List (Option Prepared)) → TellsOfImage S.view F.backing image.old image.new before before (DiscardToAny offset length) result }
     ensures causes { (before : List (Option Prepared)) (found : ℕ → Option Mapping) → IsRightlyRefused S.view F.backing image.old image.new before found (DiscardToAny offset length) result }
@@ -78,6 +82,7 @@ pub(crate) fn discard_to_backing<S: Storage, F: WrappedFormat<S>>(
     ensures image { IsSameImage image.old image.new }
     ensures reading { is_writable image.old ≡ false → image.new ≡ image.old }
     ensures faults { CommandCounts S.view F.backing image.old image.new result }
+    ensures header_cluster { StaysBehindHeader S.view image.old image.new }
     ensures marks { FailsBy (refusal_in result) (is_failed image.old) (is_failed image.new) }
     ensures tells { (before : List (Option Prepared)) → TellsOfImage S.view F.backing image.old image.new before before (DiscardToBacking offset length) result }
     ensures causes { (before : List (Option Prepared)) (found : ℕ → Option Mapping) → IsRightlyRefused S.view F.backing image.old image.new before found (DiscardToBacking offset length) result }

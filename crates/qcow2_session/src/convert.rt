@@ -1,6 +1,7 @@
 //! Images of raw disks, and raw disks of images.
 ghost use Rattle.std.specs.Prelude.{◌≡◌, ◌≢◌, ◌⊎◌, ◌↔◌, ◌+◌, ◌<◌, List, Option, None, Err, length, replicate, IfSome, IfErr, IfOk, OnOk, IsTrue};
 ghost use Rattle.image_access.specs.Contents.{bytes_at};
+ghost use Rattle.qcow2_image.specs.BehindHeader.{StaysBehindHeader};
 ghost use Rattle.qcow2_image.specs.Image.{HasNothingToFree, IsSameImage, is_writable, size_of};
 ghost use Rattle.qcow2_image.specs.ImageInvariant.{abstract_of};
 ghost use Rattle.qcow2_image.specs.declared.prepared.Prepared.{Prepared};
@@ -39,6 +40,7 @@ pub fn to_qcow2<R: Storage, S: Storage, F: WrappedFormat<S>>(
         → IfErr result (λ e. (e ≡ InvalidOption) ⊎ IsReasonNotToWrite image.old 0 (size_of image.old) out e) }
     ensures emptied { IsTrue (is_writable image.old) → IfOk result (λ n. HasNothingToFree image.new) }
     ensures faults { ConversionCounts S.view F.backing image.old image.new (R.view raw.old).faults (R.view raw.new).faults result }
+    ensures header_cluster { StaysBehindHeader S.view image.old image.new }
     ensures differs { (R.view raw.old).is_honest → IfErr result (DiffersWhereKept S.view F.backing image.old 0 (R.view raw.old).contents) }
 {
     image.check_read(0, 0)?;
@@ -72,6 +74,7 @@ fn import_all<R: Storage, S: Storage, F: WrappedFormat<S>>(
     ensures any { ImportsAnyOf S.view F.backing image.old image.new size result }
     ensures late { refuses_to_read image.old 0 0 ≡ None → size ≡ size_of image.old → (out : List (Option Prepared)) → (abstract_of S.view F.backing image.old out).is_sound → IfErr result (IsReasonNotToWrite image.old 0 size out) }
     ensures faults { ConversionCounts S.view F.backing image.old image.new (R.view raw.old).faults (R.view raw.new).faults result }
+    ensures header_cluster { StaysBehindHeader S.view image.old image.new }
     ensures differs { (R.view raw.old).is_honest → size ≡ length (R.view raw.old).contents → IfErr result (DiffersWhereKept S.view F.backing image.old 0 (R.view raw.old).contents) }
 {
     let mut at = 0;
@@ -99,6 +102,7 @@ fn import_at<R: Storage, S: Storage, F: WrappedFormat<S>>(
     ensures any { ImportsAnyAt S.view F.backing image.old image.new at (length wanted.old) result }
     ensures late { refuses_to_read image.old at (length wanted.old) ≡ None → (out : List (Option Prepared)) → (abstract_of S.view F.backing image.old out).is_sound → IfErr result (IsReasonNotToWrite image.old at (at + length wanted.old) out) }
     ensures faults { ConversionCounts S.view F.backing image.old image.new (R.view raw.old).faults (R.view raw.new).faults result }
+    ensures header_cluster { StaysBehindHeader S.view image.old image.new }
     ensures differs { (R.view raw.old).is_honest → IfErr result (DiffersWhereKept S.view F.backing image.old at (bytes_at (R.view raw.old).contents at (length wanted.old))) }
 {
     raw.read(at, wanted)?;
@@ -131,6 +135,7 @@ pub fn to_raw<S: Storage, F: WrappedFormat<S>, R: Storage>(
     ensures cause { IfErr result IsOfReading }
     ensures late { refuses_to_read image.old 0 0 ≡ None → (out : List (Option Prepared)) → (abstract_of S.view F.backing image.old out).is_sound → IfErr result IsMet }
     ensures faults { ConversionCounts S.view F.backing image.old image.new (R.view raw.old).faults (R.view raw.new).faults result }
+    ensures header_cluster { StaysBehindHeader S.view image.old image.new }
 {
     image.check_read(0, 0)?;
     let size = image.size();
@@ -161,6 +166,7 @@ fn export_all<S: Storage, F: WrappedFormat<S>, R: Storage>(
     ensures cause { IfErr result IsOfReading }
     ensures late { refuses_to_read image.old 0 0 ≡ None → size ≡ size_of image.old → (out : List (Option Prepared)) → (abstract_of S.view F.backing image.old out).is_sound → IfErr result IsMet }
     ensures faults { ConversionCounts S.view F.backing image.old image.new (R.view raw.old).faults (R.view raw.new).faults result }
+    ensures header_cluster { StaysBehindHeader S.view image.old image.new }
 {
     let mut at = 0;
     while at < size {
@@ -188,6 +194,7 @@ fn export_at<S: Storage, F: WrappedFormat<S>, R: Storage>(
     ensures cause { IfErr result IsOfReading }
     ensures late { refuses_to_read image.old at (length bytes.old) ≡ None → IfErr result IsMet }
     ensures faults { ConversionCounts S.view F.backing image.old image.new (R.view raw.old).faults (R.view raw.new).faults result }
+    ensures header_cluster { StaysBehindHeader S.view image.old image.new }
 {
     read_into(image, at, bytes)?;
     if is_same(bytes, zeros) {

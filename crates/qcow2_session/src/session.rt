@@ -1,6 +1,7 @@
 //! Commands, one after the other, on one image.
 ghost use Rattle.std.specs.Prelude.{◌≡◌, ◌+◌, ◌^◌, ◌≤◌, ◌⊎◌, ◌<◌, ◌++◌, ◌∷◌, ℕ, List, [], length, vec_len, IfSome, IfErr, IfOk, IsTrue, MatchResult, OnOk, Option, None, Some, Err, false};
 ghost use Rattle.qcow2_alloc.specs.declared.error.ImageError.TheVariants.{Memory, OutdatedMapping, TablePrepared};
+ghost use Rattle.qcow2_image.specs.BehindHeader.{StaysBehindHeader};
 ghost use Rattle.qcow2_image.specs.Clearing.{IsUnderMapping};
 ghost use Rattle.qcow2_image.specs.Found.{IsFoundWhole, further_by};
 ghost use Rattle.qcow2_image.specs.Preallocation.{IsUnderMappingIn};
@@ -166,6 +167,7 @@ pub fn read<S: Storage, F: WrappedFormat<S>>(
     ensures image { IsSameImage image.old image.new }
     ensures unwritten { StaysUnwritten S.view F.backing image.old image.new }
     ensures faults { CountsImageFaults S.view F.backing image.old image.new result }
+    ensures header_cluster { StaysBehindHeader S.view image.old image.new }
     ensures marks { FailsAs result (is_failed image.old) (is_failed image.new) }
     ensures early { IfSome (refuses_to_read image.old offset length) (λ e. (result ≡ Err e) × (image.new ≡ image.old)) }
     ensures late { refuses_to_read image.old offset length ≡ None → IfErr result (λ e. IsMet e × (0 < length)) }
@@ -205,6 +207,7 @@ pub fn read_into<S: Storage, F: WrappedFormat<S>>(
     ensures image { IsSameImage image.old image.new }
     ensures unwritten { StaysUnwritten S.view F.backing image.old image.new }
     ensures faults { CountsImageFaults S.view F.backing image.old image.new result }
+    ensures header_cluster { StaysBehindHeader S.view image.old image.new }
     ensures marks { FailsAs result (is_failed image.old) (is_failed image.new) }
     ensures early { IfSome (refuses_to_read image.old offset (length bytes.old)) (λ e. (result ≡ Err e) × (image.new ≡ image.old)) }
     ensures late { refuses_to_read image.old offset (length bytes.old) ≡ None → IfErr result (λ e. IsMet e × (0 < length bytes.old)) }
@@ -232,6 +235,7 @@ fn read_some<S: Storage, F: WrappedFormat<S>>(
     ensures image { IsSameImage image.old image.new }
     ensures unwritten { StaysUnwritten S.view F.backing image.old image.new }
     ensures faults { CountsImageFaults S.view F.backing image.old image.new result }
+    ensures header_cluster { StaysBehindHeader S.view image.old image.new }
     ensures marks { FailsAs result (is_failed image.old) (is_failed image.new) }
     ensures some { IfOk result (λ n. 0 < n) }
     ensures within { IfOk result (λ n. n ≤ length bytes.old) }
@@ -263,6 +267,7 @@ pub fn write<S: Storage, F: WrappedFormat<S>>(
     ensures image { IsSameImage image.old image.new }
     ensures unwritten { StaysUnwritten S.view F.backing image.old image.new }
     ensures faults { NoFewerFaults S.view F.backing image.old image.new × IfErr result (λ (e, n). TellsFault S.view F.backing image.old image.new e) × TellsEachBy S.view F.backing (λ refused. refused.0) image.old image.new result }
+    ensures header_cluster { StaysBehindHeader S.view image.old image.new }
     ensures marks { MatchResult result (λ done. FailsBy None (is_failed image.old) (is_failed image.new)) (λ (e, n). FailsBy (Some e) (is_failed image.old) (is_failed image.new)) }
     ensures early { IfSome (refuses_to_prepare image.old offset (length bytes.now)) (λ e. (result ≡ Err (e, 0)) × (image.new ≡ image.old)) }
     ensures late { refuses_to_prepare image.old offset (length bytes.now) ≡ None → IfErr result (λ (e, n). IsMetPreparing e × (0 < length bytes.now)) }
@@ -299,6 +304,7 @@ fn write_some<S: Storage, F: WrappedFormat<S>>(
     ensures image { IsSameImage image.old image.new }
     ensures unwritten { StaysUnwritten S.view F.backing image.old image.new }
     ensures faults { CountsImageFaults S.view F.backing image.old image.new result }
+    ensures header_cluster { StaysBehindHeader S.view image.old image.new }
     ensures marks { FailsAs result (is_failed image.old) (is_failed image.new) }
     ensures early { IfSome (refuses_to_prepare image.old offset (length bytes.now)) (λ e. (result ≡ Err e) × (image.new ≡ image.old)) }
     ensures late { refuses_to_prepare image.old offset (length bytes.now) ≡ None → IfErr result (λ e. IsMetPreparing e × (0 < length bytes.now)) }
@@ -334,6 +340,7 @@ fn release<S: Storage, F: WrappedFormat<S>>(image: &mut Qcow2<S, F>, prepared: P
     ensures image { IsSameImage image.old image.new }
     ensures rest { ReleasesOneMapping S.view image.old image.new }
     ensures faults { SameFaults S.view F.backing image.old image.new }
+    ensures header_cluster { StaysBehindHeader S.view image.old image.new }
     ensures marks { is_failed image.new ≡ is_failed image.old }
     ensures sees { Discards S.view F.backing image.old image.new prepared }
 {
@@ -352,6 +359,7 @@ pub fn run<S: Storage, F: WrappedFormat<S>>(
 ) -> Vec<Reply>
     ensures number { number_of image.new ≡ number_of image.old }
     ensures faults { RunCounts S.view F.backing image.old image.new result.items }
+    ensures header_cluster { StaysBehindHeader S.view image.old image.new }
     ensures count { (result.items ≡ []) ⊎ (vec_len result ≡ length commands.now) }
     ensures runs { RunsThrough S.view F.backing image.old image.new commands.now result.items }
     ensures means { RunRefinesDisk S.view F.backing image.old image.new commands.now result.items }
@@ -383,6 +391,7 @@ fn step<S: Storage, F: WrappedFormat<S>>(
     requires { slots.old.image ≡ number_of image.old }
     ensures keeps { KeepsItself image.old image.new }
     ensures faults { CommandCounts S.view F.backing image.old image.new result }
+    ensures header_cluster { StaysBehindHeader S.view image.old image.new }
     ensures marks { FailsBy (refusal_in result) (is_failed image.old) (is_failed image.new) }
     ensures slots { slots.new.image ≡ slots.old.image }
     ensures command_step { CommandSteps S.view F.backing image.old image.new slots.old slots.new command.now result }
@@ -442,6 +451,7 @@ fn get_mapping<S: Storage, F: WrappedFormat<S>>(
     requires { slots.old.image ≡ number_of image.old }
     ensures image { IsSameImage image.old image.new }
     ensures faults { CommandCounts S.view F.backing image.old image.new result }
+    ensures header_cluster { StaysBehindHeader S.view image.old image.new }
     ensures marks { FailsBy (refusal_in result) (is_failed image.old) (is_failed image.new) }
     ensures causes { IsRightlyRefused S.view F.backing image.old image.new slots.old.prepared.items (mappings_in slots.old.mappings.items) (Command.GetMapping slot offset max) result }
     ensures slots { slots.new.image ≡ slots.old.image }
@@ -472,6 +482,7 @@ fn read_mapped<S: Storage, F: WrappedFormat<S>>(
     ensures image { IsSameImage image.old image.new }
     ensures unwritten { StaysUnwritten S.view F.backing image.old image.new }
     ensures faults { CommandCounts S.view F.backing image.old image.new result }
+    ensures header_cluster { StaysBehindHeader S.view image.old image.new }
     ensures marks { FailsBy (refusal_in result) (is_failed image.old) (is_failed image.new) }
     ensures causes { IsRightlyRefused S.view F.backing image.old image.new slots.now.prepared.items (mappings_in slots.now.mappings.items) (Command.ReadMapped slot at length) result }
     ensures command_step { CommandSteps S.view F.backing image.old image.new slots.now slots.now (Command.ReadMapped slot at length) result }
@@ -501,6 +512,7 @@ fn read_range<S: Storage, F: WrappedFormat<S>>(
     ensures image { IsSameImage image.old image.new }
     ensures unwritten { StaysUnwritten S.view F.backing image.old image.new }
     ensures faults { CountsImageFaults S.view F.backing image.old image.new result }
+    ensures header_cluster { StaysBehindHeader S.view image.old image.new }
     ensures marks { FailsAs result (is_failed image.old) (is_failed image.new) }
     ensures early { IfSome (unusable image.old) (λ e. (result ≡ Err e) × (image.new ≡ image.old)) }
     ensures late { refuses_mapping image.old mapping.now.image ≡ None → IfErr result (λ e. IsMet e × (0 < length)) }
@@ -526,6 +538,7 @@ fn prepare<S: Storage, F: WrappedFormat<S>>(
     requires { slots.old.image ≡ number_of image.old }
     ensures image { IsSameImage image.old image.new }
     ensures faults { CommandCounts S.view F.backing image.old image.new result }
+    ensures header_cluster { StaysBehindHeader S.view image.old image.new }
     ensures marks { FailsBy (refusal_in result) (is_failed image.old) (is_failed image.new) }
     ensures causes { IsRightlyRefused S.view F.backing image.old image.new slots.old.prepared.items (mappings_in slots.old.mappings.items) (Command.PrepareDataMapping slot offset length overwrite) result }
     ensures slots { slots.new.image ≡ slots.old.image }
@@ -563,6 +576,7 @@ fn write_mapped<S: Storage, F: WrappedFormat<S>>(
     ensures image { IsSameImage image.old image.new }
     ensures reading { is_writable image.old ≡ false → image.new ≡ image.old }
     ensures faults { CommandCounts S.view F.backing image.old image.new result }
+    ensures header_cluster { StaysBehindHeader S.view image.old image.new }
     ensures marks { FailsBy (refusal_in result) (is_failed image.old) (is_failed image.new) }
     ensures causes { IsRightlyRefused S.view F.backing image.old image.new slots.now.prepared.items (mappings_in slots.now.mappings.items) (Command.WriteMapped slot at bytes.now) result }
     ensures command_step { CommandSteps S.view F.backing image.old image.new slots.now slots.now (Command.WriteMapped slot at bytes.now) result }
@@ -589,6 +603,7 @@ fn commit<S: Storage, F: WrappedFormat<S>>(
     requires { slots.old.image ≡ number_of image.old }
     ensures image { IsSameImage image.old image.new }
     ensures faults { CommandCounts S.view F.backing image.old image.new result }
+    ensures header_cluster { StaysBehindHeader S.view image.old image.new }
     ensures marks { FailsBy (refusal_in result) (is_failed image.old) (is_failed image.new) }
     ensures causes { IsRightlyRefused S.view F.backing image.old image.new slots.old.prepared.items (mappings_in slots.old.mappings.items) (Command.CommitDataMapping slot) result }
     ensures slots { slots.new.image ≡ slots.old.image }
@@ -618,6 +633,7 @@ fn discard<S: Storage, F: WrappedFormat<S>>(
     requires { slots.old.image ≡ number_of image.old }
     ensures image { IsSameImage image.old image.new }
     ensures faults { CommandCounts S.view F.backing image.old image.new result }
+    ensures header_cluster { StaysBehindHeader S.view image.old image.new }
     ensures marks { FailsBy (refusal_in result) (is_failed image.old) (is_failed image.new) }
     ensures causes { IsRightlyRefused S.view F.backing image.old image.new slots.old.prepared.items (mappings_in slots.old.mappings.items) (Command.DiscardDataMapping slot) result }
     ensures slots { slots.new.image ≡ slots.old.image }
@@ -639,6 +655,7 @@ fn flush<S: Storage, F: WrappedFormat<S>>(image: &mut Qcow2<S, F>) -> Reply
     ensures image { IsSameImage image.old image.new }
     ensures unwritten { StaysUnwritten S.view F.backing image.old image.new }
     ensures faults { CommandCounts S.view F.backing image.old image.new result }
+    ensures header_cluster { StaysBehindHeader S.view image.old image.new }
     ensures marks { FailsBy (refusal_in result) (is_failed image.old) (is_failed image.new) }
     ensures causes { (before : List (Option Prepared)) (found : ℕ → Option Mapping) → IsRightlyRefused S.view F.backing image.old image.new before found Command.Flush result }
     ensures command_step { (slots : Slots) → CommandSteps S.view F.backing image.old image.new slots slots Command.Flush result }
@@ -656,6 +673,7 @@ fn release_slot<S: Storage, F: WrappedFormat<S>>(image: &mut Qcow2<S, F>, slot: 
     ensures image { IsSameImage image.old image.new }
     ensures unwritten { IsUnmodified S.view image.old → IsOnlyRead S.view image.old image.new }
     ensures faults { SameFaults S.view F.backing image.old image.new }
+    ensures header_cluster { StaysBehindHeader S.view image.old image.new }
     ensures marks { is_failed image.new ≡ is_failed image.old }
     ensures sees { (out : List (Option Prepared)) → ReleasesMappings S.view F.backing image.old image.new (out ++ slot ∷ []) out }
 {
@@ -671,6 +689,7 @@ fn discard_all<S: Storage, F: WrappedFormat<S>>(image: &mut Qcow2<S, F>, slots: 
     ensures sees { ReleasesMappings S.view F.backing image.old image.new slots.prepared.items [] }
     ensures unwritten { IsUnmodified S.view image.old → IsOnlyRead S.view image.old image.new }
     ensures faults { SameFaults S.view F.backing image.old image.new }
+    ensures header_cluster { StaysBehindHeader S.view image.old image.new }
     ensures marks { is_failed image.new ≡ is_failed image.old }
 {
     let Slots {

@@ -1,6 +1,7 @@
 //! The commands that read what isn't mapped plainly.
 ghost use Rattle.std.specs.Prelude.{ℕ, ◌≡◌, ◌<◌, ◌⊎◌, [], List, Option, None, IfErr, IfOk, IfSome, MatchOption, Err};
 ghost use Rattle.qcow2_alloc.specs.ImageFile.{known_in};
+ghost use Rattle.qcow2_image.specs.BehindHeader.{StaysBehindHeader};
 ghost use Rattle.qcow2_image.specs.declared.mapping.Mapping.{Mapping};
 ghost use Rattle.qcow2_image.specs.Calls.{AnswersCall};
 ghost use Rattle.qcow2_image.specs.Image.{IsSameImage, is_failed};
@@ -32,6 +33,7 @@ pub(crate) fn readv_special<S: Storage, F: WrappedFormat<S>>(
     ensures image { IsSameImage image.old image.new }
     ensures unwritten { StaysUnwritten S.view F.backing image.old image.new }
     ensures faults { CommandCounts S.view F.backing image.old image.new result }
+    ensures header_cluster { StaysBehindHeader S.view image.old image.new }
     ensures marks { FailsBy (refusal_in result) (is_failed image.old) (is_failed image.new) }
     ensures causes { (before : List (Option Prepared)) (found : ℕ → Option Mapping) → IsRightlyRefused S.view F.backing image.old image.new before found (ReadvSpecial offset length) result }
     ensures command_step { (slots : Slots) → CommandSteps S.view F.backing image.old image.new slots slots (ReadvSpecial offset length) result }
@@ -53,6 +55,7 @@ pub(crate) fn try_readv_special<S: Storage, F: WrappedFormat<S>>(
     ensures image { IsSameImage image.old image.new }
     ensures unwritten { StaysUnwritten S.view F.backing image.old image.new }
     ensures faults { CommandCounts S.view F.backing image.old image.new result }
+    ensures header_cluster { StaysBehindHeader S.view image.old image.new }
     ensures marks { FailsBy (refusal_in result) (is_failed image.old) (is_failed image.new) }
     ensures tells { (before : List (Option Prepared)) → TellsOfImage S.view F.backing image.old image.new before before (TryReadvSpecial offset length) result }
     ensures causes { (before : List (Option Prepared)) (found : ℕ → Option Mapping) → IsRightlyRefused S.view F.backing image.old image.new before found (TryReadvSpecial offset length) result }
@@ -74,6 +77,7 @@ fn read_range<S: Storage, F: WrappedFormat<S>>(
     ensures image { IsSameImage image.old image.new }
     ensures unwritten { StaysUnwritten S.view F.backing image.old image.new }
     ensures faults { CountsImageFaults S.view F.backing image.old image.new result }
+    ensures header_cluster { StaysBehindHeader S.view image.old image.new }
     ensures marks { FailsAs result (is_failed image.old) (is_failed image.new) }
     ensures early { IfSome (unusable image.old) (λ e. (result ≡ Err e) × (image.new ≡ image.old)) }
     ensures late { unusable image.old ≡ None → IfErr result (λ e. (IsMet e ⊎ (e ≡ NotCompressed offset)) × (0 < length)) }
@@ -96,6 +100,7 @@ fn try_range<S: Storage, F: WrappedFormat<S>>(
     ensures image { IsSameImage image.old image.new }
     ensures unwritten { StaysUnwritten S.view F.backing image.old image.new }
     ensures faults { CountsImageFaults S.view F.backing image.old image.new result }
+    ensures header_cluster { StaysBehindHeader S.view image.old image.new }
     ensures marks { FailsAs result (is_failed image.old) (is_failed image.new) }
     ensures early { IfSome (unusable image.old) (λ e. (result ≡ Err e) × (image.new ≡ image.old)) }
     ensures late { unusable image.old ≡ None → IfErr result (λ e. IsMet e × (0 < length)) }

@@ -13,6 +13,7 @@ use Rattle.qcow2_image.proofs.Call.FaultCounts.{faults_then}
 use Rattle.qcow2_image.proofs.Map.Unmodified.{read_none, read_then}
 use Rattle.qcow2_session.proofs.Told.{same_then}
 use Rattle.qcow2_session.proofs.Turns.{refused_is, none_within, does_if, does_then}
+use Rattle.qcow2_image.proofs.Call.BehindHeader.{behind_none, behind_then}
 use Rattle.qcow2_session.proofs.convert.export_all.Goals as goal
 
 pub returns-in_err-export_at-clause-same : goal.returns-in_err-export_at-clause-same
@@ -29,6 +30,7 @@ returns-in_err-export_at-clause-unwritten g c = λ reading out sound clean.
 
 pub loop-at-init : goal.loop-at-init
 loop-at-init g c = record {
+  behind = behind_none;
   faults = none_counted g.S.Storage.view g.F.BackingDisk.backing c.args.image.now;
   counted = refl;
   within = omega arith;
@@ -44,6 +46,7 @@ loop-at-preserved g c =
     let view = g.S.Storage.view in
     let below = g.F.BackingDisk.backing in
     record {
+      behind = behind_then c.loop-at.invariant.behind c.export_at.ensures.header_cluster;
       faults = faults_then g.S.Storage.view g.F.BackingDisk.backing c.args.image.now c.loop-at.image c.export_at.new.image c.loop-at.invariant.faults c.in_ok-export_at.ensures.faults.told.0;
       counted = c.in_ok-export_at.ensures.faults.told.1 ∙ c.loop-at.invariant.counted;
       within = grind (arith, common_steps);
@@ -78,3 +81,6 @@ returns-in_err-export_at-clause-faults g c =
 
 pub returns-clause-faults : goal.returns-clause-faults
 returns-clause-faults g c = converted _ _ _ _ _ _ _ (c.loop-at.invariant.faults) (c.loop-at.invariant.counted)
+
+pub returns-in_err-export_at-clause-header_cluster : goal.returns-in_err-export_at-clause-header_cluster
+returns-in_err-export_at-clause-header_cluster g c = behind_then c.loop-at.invariant.behind c.export_at.ensures.header_cluster

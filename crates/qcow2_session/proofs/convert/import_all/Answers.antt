@@ -17,10 +17,12 @@ use Rattle.qcow2_session.proofs.Reasons.{reason_within}
 use Rattle.qcow2_session.proofs.Converting.{any_more, any_none, any_refused, imports_none, all_more, all_refused, same_range}
 use Rattle.qcow2_session.proofs.Told.{same_then}
 use Rattle.qcow2_session.proofs.Turns.{refused_is, does_if}
+use Rattle.qcow2_image.proofs.Call.BehindHeader.{behind_none, behind_then}
 use Rattle.qcow2_session.proofs.convert.import_all.Goals as goal
 
 pub loop-at-init : goal.loop-at-init
 loop-at-init g c = record {
+  behind = behind_none;
   faults = none_counted g.S.Storage.view g.F.BackingDisk.backing c.args.image.now;
   counted = refl;
   within = omega arith;
@@ -42,6 +44,7 @@ loop-at-preserved g c =
     let kept : length c.import_at.new.wanted ≡ c.min-count.result = grind (arith, common_steps) in
     let whole : length c.loop-at.wanted ≡ length (c.import_at.new.wanted ++ drop c.min-count.result c.loop-at.wanted) = grind (arith, common_steps) in
     record {
+      behind = behind_then c.loop-at.invariant.behind c.import_at.ensures.header_cluster;
       faults = faults_then g.S.Storage.view g.F.BackingDisk.backing c.args.image.now c.loop-at.image c.import_at.new.image c.loop-at.invariant.faults c.in_ok-import_at.ensures.faults.told.0;
       counted = c.in_ok-import_at.ensures.faults.told.1 ∙ c.loop-at.invariant.counted;
       within = grind (arith, common_steps);
@@ -121,3 +124,6 @@ returns-in_err-import_at-clause-differs g c = λ honest size.
     (bytes_at (g.R.Storage.view c.loop-at.raw).contents c.loop-at.at (length (take c.min-count.result c.loop-at.wanted)))
     (same_range (g.R.Storage.view c.loop-at.raw).contents (g.R.Storage.view c.args.raw.now).contents c.loop-at.at (length (take c.min-count.result c.loop-at.wanted)) c.min-count.result before.1 long)
     (c.loop-at.invariant.written honest size) c.in_err-import_at.field-0.0 _ (refused_is _ c.in_err-import_at.field-0.0 c.from_residual.ensures) (c.in_err-import_at.ensures.differs before.0)
+
+pub returns-in_err-import_at-clause-header_cluster : goal.returns-in_err-import_at-clause-header_cluster
+returns-in_err-import_at-clause-header_cluster g c = behind_then c.loop-at.invariant.behind c.import_at.ensures.header_cluster

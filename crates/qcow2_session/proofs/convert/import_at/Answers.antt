@@ -15,6 +15,7 @@ use Rattle.qcow2_session.proofs.Counting.{converted, converting_image, convertin
 use Rattle.qcow2_session.proofs.Differing.{other_bytes, reading_differs}
 use Rattle.qcow2_session.proofs.Converting.{does_nothing, interrupted, interrupted_here, at_refused, at_shown, at_written, at_unwritten}
 use Rattle.qcow2_session.proofs.Turns.{refused_is}
+use Rattle.qcow2_image.proofs.Call.BehindHeader.{behind_none, behind_then}
 use Rattle.qcow2_session.proofs.convert.import_at.Goals as goal
 
 pub returns-in_err-read-clause-sees : goal.returns-in_err-read-clause-sees
@@ -138,3 +139,12 @@ returns-in-Err-clause-differs g c = λ honest.
     let present : length c.read_into.new.bytes ≡ length c.args.present.now = grind (arith, common_steps) in
     other_bytes g.S.Storage.view g.F.BackingDisk.backing c.args.image.now c.args.at (bytes_at (g.R.Storage.view c.args.raw.now).contents c.args.at (length c.args.wanted.now)) c.read_into.new.image c.read_into.new.bytes c.read.new.buf c.in_ok-read_into.ensures.sees (wanted ∙ sym c.requires ∙ sym present) (c.in_ok-read.ensures.read honest)
     (λ same. let no : true ≡ false = sym (c.is_same.ensures.1 same) ∙ c.if-is_same.false in cc) c.in-Err.refusal
+
+pub returns-in_err-read-clause-header_cluster : goal.returns-in_err-read-clause-header_cluster
+returns-in_err-read-clause-header_cluster g c = behind_none
+
+pub returns-in-Ok-clause-header_cluster : goal.returns-in-Ok-clause-header_cluster
+returns-in-Ok-clause-header_cluster g c = behind_then c.read_into.ensures.header_cluster c.write.ensures.header_cluster
+
+pub returns-in-Err-clause-header_cluster : goal.returns-in-Err-clause-header_cluster
+returns-in-Err-clause-header_cluster g c = behind_then c.read_into.ensures.header_cluster c.write.ensures.header_cluster

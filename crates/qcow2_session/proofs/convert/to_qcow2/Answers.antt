@@ -14,6 +14,7 @@ use Rattle.qcow2_session.proofs.Counting.{converted, converting_else, converting
 use Rattle.qcow2_session.proofs.Differing.{early_reading, option_other, reading_differs, reading_other, size_untold}
 use Rattle.qcow2_session.proofs.Converting.{any_nothing, imports_nothing, imports_unflushed, imports_flushed}
 use Rattle.qcow2_session.proofs.Turns.{refused_is}
+use Rattle.qcow2_image.proofs.Call.BehindHeader.{behind_none, behind_then}
 use Rattle.qcow2_session.proofs.convert.to_qcow2.Goals as goal
 
 pub returns-in_err-size-clause-sees : goal.returns-in_err-size-clause-sees
@@ -205,3 +206,24 @@ returns-in_err-flush-clause-differs g c = λ honest.
     (λ out sound kept shows.
     let now = ((c.in_ok-import_all.ensures.any.2 out).answer sound).0 in
     reading_other e (inl (tables_met e (c.in_err-flush.ensures.late now.works))) kept)
+
+pub returns-clause-header_cluster : goal.returns-clause-header_cluster
+returns-clause-header_cluster g c = behind_then c.import_all.ensures.header_cluster c.flush.ensures.header_cluster
+
+pub returns-in_err-flush-clause-header_cluster : goal.returns-in_err-flush-clause-header_cluster
+returns-in_err-flush-clause-header_cluster g c = behind_then c.import_all.ensures.header_cluster c.flush.ensures.header_cluster
+
+pub returns-in_err-check_read-clause-header_cluster : goal.returns-in_err-check_read-clause-header_cluster
+returns-in_err-check_read-clause-header_cluster g c = behind_none
+
+pub returns-in_err-present-clause-header_cluster : goal.returns-in_err-present-clause-header_cluster
+returns-in_err-present-clause-header_cluster g c = behind_none
+
+pub returns-in_err-size-clause-header_cluster : goal.returns-in_err-size-clause-header_cluster
+returns-in_err-size-clause-header_cluster g c = behind_none
+
+pub returns-in_err-wanted-clause-header_cluster : goal.returns-in_err-wanted-clause-header_cluster
+returns-in_err-wanted-clause-header_cluster g c = behind_none
+
+pub returns-then-size-clause-header_cluster : goal.returns-then-size-clause-header_cluster
+returns-then-size-clause-header_cluster g c = behind_none

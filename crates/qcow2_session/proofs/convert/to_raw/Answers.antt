@@ -10,6 +10,7 @@ use Rattle.qcow2_image.specs.Refusals.{IsMet}
 use Rattle.qcow2_session.proofs.Counting.{converted, converting_else, converting_part, converting_raw, none_counted}
 use Rattle.qcow2_session.proofs.Exporting.{unchanged_refused, filled_first, filled_all}
 use Rattle.qcow2_session.proofs.Turns.{refused_is}
+use Rattle.qcow2_image.proofs.Call.BehindHeader.{behind_none}
 use Rattle.qcow2_session.proofs.convert.to_raw.Goals as goal
 
 pub returns-in_err-export_all-clause-same : goal.returns-in_err-export_all-clause-same
@@ -63,3 +64,18 @@ returns-in_err-export_all-clause-faults g c =
 
 pub returns-clause-faults : goal.returns-clause-faults
 returns-clause-faults g c = converted _ _ _ _ _ _ _ (c.in_ok-export_all.ensures.faults.told.0) (c.in_ok-export_all.ensures.faults.told.1 ∙ (c.in_ok-resize-2.ensures.calls.cause.told ∙ c.in_ok-resize.ensures.calls.cause.told))
+
+pub returns-in_err-check_read-clause-header_cluster : goal.returns-in_err-check_read-clause-header_cluster
+returns-in_err-check_read-clause-header_cluster g c = behind_none
+
+pub returns-in_err-bytes-clause-header_cluster : goal.returns-in_err-bytes-clause-header_cluster
+returns-in_err-bytes-clause-header_cluster g c = behind_none
+
+pub returns-in_err-zeros-clause-header_cluster : goal.returns-in_err-zeros-clause-header_cluster
+returns-in_err-zeros-clause-header_cluster g c = behind_none
+
+pub returns-in_err-resize-clause-header_cluster : goal.returns-in_err-resize-clause-header_cluster
+returns-in_err-resize-clause-header_cluster g c = behind_none
+
+pub returns-in_err-resize-2-clause-header_cluster : goal.returns-in_err-resize-2-clause-header_cluster
+returns-in_err-resize-2-clause-header_cluster g c = behind_none

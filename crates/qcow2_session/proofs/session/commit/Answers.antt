@@ -23,6 +23,7 @@ use Rattle.std.specs.Prelude.{IsNone}
 use Rattle.qcow2_session.proofs.Causing.{is_done, is_misused, is_refused, kept_error, kept_same, not_failed, not_free, same_mapping, where_failed, where_works}
 use Rattle.qcow2_image.specs.Refusals.{MarksRefused}
 use Rattle.qcow2_session.proofs.Marking.{refused_marks}
+use Rattle.qcow2_image.proofs.Call.BehindHeader.{behind_none}
 use Rattle.qcow2_session.proofs.session.commit.Goals as goal
 
 pub returns-in_default-clause-command_step : goal.returns-in_default-clause-command_step
@@ -132,3 +133,6 @@ returns-in-Err-Spent-clause-marks g c = refused_marks c.in-Err-Spent.refusal _ _
 
 pub returns-in-Err-Kept-clause-marks : goal.returns-in-Err-Kept-clause-marks
 returns-in-Err-Kept-clause-marks g c = refused_marks c.in-Err-Kept.refusal _ _ _ (subst (λ r. MarksRefused c.args.image.now c.commit_data_mapping.new.self (reason_of r)) c.in-Err-Kept.field-0-is c.in-Err-Kept.ensures.marks)
+
+pub returns-in_default-clause-header_cluster : goal.returns-in_default-clause-header_cluster
+returns-in_default-clause-header_cluster g c = behind_none

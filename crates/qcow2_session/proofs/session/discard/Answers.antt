@@ -12,6 +12,7 @@ use Rattle.qcow2_session.specs.Told.{AreExisting}
 use Rattle.qcow2_session.specs.declared.session.Command.TheVariants as C
 use Rattle.qcow2_session.specs.declared.session.Reply.TheVariants as R
 use Rattle.qcow2_session.proofs.Causing.{is_done, is_misused, not_free}
+use Rattle.qcow2_image.proofs.Call.BehindHeader.{behind_none}
 use Rattle.qcow2_session.proofs.session.discard.Goals as goal
 
 pub returns-in-None-clause-command_step : goal.returns-in-None-clause-command_step
@@ -51,3 +52,6 @@ returns-in-None-clause-after g c = c.put.ensures.is ∙ set_found c.args.slots.n
 
 pub returns-in-Some-clause-after : goal.returns-in-Some-clause-after
 returns-in-Some-clause-after g c = (c.in-Some.prepared, c.in-Some.ensures.was, c.put.ensures.is)
+
+pub returns-in-None-clause-header_cluster : goal.returns-in-None-clause-header_cluster
+returns-in-None-clause-header_cluster g c = behind_none

@@ -1,12 +1,15 @@
-use Rattle.std.proofs.Common.{◌≡◌, ◌∙◌, sym, subst, [], ◌∷◌, ◌++◌, Some}
+use Rattle.std.proofs.Common.{◌≡◌, ◌∙◌, refl, rules, sym, subst, [], ◌∷◌, ◌++◌, Some}
 use Rattle.std.specs.Prelude.{slice_get}
 use Rattle.qcow2_image.specs.ImageInvariant.{abstract_of}
 use Rattle.qcow2_session.specs.Sessions.{ReleasesMappings}
 use Rattle.qcow2_session.proofs.Places.{get_front}
 use Rattle.qcow2_session.proofs.Told.{same_then}
 use Rattle.qcow2_session.proofs.Turns.{none_within, does_if, does_then}
-use Rattle.qcow2_image.proofs.Map.Unmodified.{read_then}
+use Rattle.qcow2_image.proofs.Map.Unmodified.{read_none, read_then}
 use Rattle.qcow2_image.proofs.Call.FaultCounts.{faults_then}
+use Rattle.qcow2_image.proofs.Call.BehindHeader.{behind_none, behind_then}
+use Rattle.qcow2_session.proofs.Counting.{none_counted}
+use Rattle.qcow2_session.proofs.Converting.{does_nothing}
 use Rattle.qcow2_session.proofs.session.discard_all.Goals as goal
 
 pub loop-slot-preserved : goal.loop-slot-preserved
@@ -15,6 +18,7 @@ loop-slot-preserved g c =
     let below = g.F.BackingDisk.backing in
     let rest = c.pop.new.self.items in
     record {
+      behind = behind_then c.loop-slot.invariant.behind c.release_slot.ensures.header_cluster;
       faults = faults_then g.S.Storage.view g.F.BackingDisk.backing c.args.image.now c.loop-slot.image c.release_slot.new.image c.loop-slot.invariant.faults c.release_slot.ensures.faults;
       own = λ k p e. c.loop-slot.invariant.own k p (subst (λ o. slice_get o k ≡ Some (Some p)) (sym c.in-Some.ensures.items) (get_front rest (c.in-Some.slot ∷ []) k (Some p) e)) ∙ sym c.release_slot.ensures.image.number;
       image = same_then c.loop-slot.invariant.image c.release_slot.ensures.image;
@@ -24,3 +28,14 @@ loop-slot-preserved g c =
           (does_then (λ _. none_within (abstract_of view below c.loop-slot.image (rest ++ c.in-Some.slot ∷ [])) [])
           (subst (λ o. ReleasesMappings view below c.args.image.now c.loop-slot.image c.args.slots.prepared.items o) c.in-Some.ensures.items c.loop-slot.invariant.gone) (c.release_slot.ensures.sees rest));
     }
+
+pub loop-slot-init : goal.loop-slot-init
+loop-slot-init g c = record {
+  faults = none_counted g.S.Storage.view g.F.BackingDisk.backing c.args.image.now;
+  behind = behind_none;
+  own = search rules;
+  image = record { number = refl; size = refl; writable = refl; external = refl };
+  works = refl;
+  unwritten = λ clean. read_none g.S.Storage.view c.args.image.now clean;
+  gone = does_if (λ same. refl) (does_nothing (abstract_of g.S.Storage.view g.F.BackingDisk.backing c.args.image.now c.args.slots.prepared.items));
+}

@@ -27,6 +27,7 @@ use Rattle.qcow2_image.specs.ImageInvariant.{meaning}
 use Rattle.qcow2_session.proofs.Untaken.{prepared_untaken}
 use Rattle.qcow2_session.proofs.Causing.{begun_with, holds, is_answered, is_misused, is_refused, not_free, some_error}
 use Rattle.qcow2_session.proofs.Marking.{refused_marks}
+use Rattle.qcow2_image.proofs.Call.BehindHeader.{behind_none}
 use Rattle.qcow2_session.proofs.session.prepare.Goals as goal
 
 pub returns-then-is_some-clause-command_step : goal.returns-then-is_some-clause-command_step
@@ -135,3 +136,6 @@ returns-in-Ok-clause-after g c =
 
 pub returns-in-Err-clause-marks : goal.returns-in-Err-clause-marks
 returns-in-Err-clause-marks g c = refused_marks c.in-Err.refusal _ _ _ c.in-Err.ensures.marks
+
+pub returns-then-is_some-clause-header_cluster : goal.returns-then-is_some-clause-header_cluster
+returns-then-is_some-clause-header_cluster g c = behind_none

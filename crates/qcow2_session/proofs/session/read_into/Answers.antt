@@ -9,12 +9,15 @@ use Rattle.qcow2_session.proofs.Beyond.{part_refused}
 use Rattle.qcow2_session.proofs.Reading.{reads_refused}
 use Rattle.qcow2_session.proofs.Turns.{refused_is, refuses_here, none_within, does_if, refuses_if, does_then, refuses_then}
 use Rattle.qcow2_session.proofs.Told.{same_then}
-use Rattle.qcow2_image.proofs.Map.Unmodified.{read_then}
+use Rattle.qcow2_image.proofs.Map.Unmodified.{read_none, read_then}
+use Rattle.qcow2_image.proofs.Call.BehindHeader.{behind_none, behind_then}
 use Rattle.qcow2_image.proofs.Call.FaultCounts.{counted_on, faults_then}
 use Rattle.qcow2_image.specs.Refusals.{IsMet}
 use Rattle.qcow2_session.proofs.Parts.{part_reads}
 use Rattle.std.proofs.Common.{Some}
 use Rattle.qcow2_session.proofs.Marking.{fails_behind, hands_on, unmarked}
+use Rattle.qcow2_session.proofs.Counting.{none_counted}
+use Rattle.qcow2_session.proofs.Converting.{does_nothing}
 use Rattle.qcow2_session.proofs.session.read_into.Goals as goal
 
 pub returns-in_default-clause-sees : goal.returns-in_default-clause-sees
@@ -29,6 +32,7 @@ returns-in_err-done-clause-sees g c =
 
 pub loop-done-preserved : goal.loop-done-preserved
 loop-done-preserved g c = record {
+  behind = behind_then c.loop-done.invariant.behind c.read_some.ensures.header_cluster;
   faults = faults_then g.S.Storage.view g.F.BackingDisk.backing c.args.image.now c.loop-done.image c.read_some.new.image c.loop-done.invariant.faults c.in_ok-done.ensures.faults.told;
   within = grind (arith, common_steps);
   end = grind (arith, common_steps);
@@ -103,3 +107,21 @@ pub returns-in_err-done-clause-faults : goal.returns-in_err-done-clause-faults
 returns-in_err-done-clause-faults g c =
     counted_on g.S.Storage.view g.F.BackingDisk.backing c.args.image.now c.loop-done.image c.read_some.new.image c.read_some.result c.in_err-done.field-0.0 c.from_residual-in_err-done.result c.loop-done.invariant.faults c.read_some.ensures.faults c.in_err-done.was
     c.from_residual-in_err-done.ensures
+
+pub returns-in_err-done-clause-header_cluster : goal.returns-in_err-done-clause-header_cluster
+returns-in_err-done-clause-header_cluster g c = behind_then c.loop-done.invariant.behind c.read_some.ensures.header_cluster
+
+pub returns-in_err-check_read-clause-header_cluster : goal.returns-in_err-check_read-clause-header_cluster
+returns-in_err-check_read-clause-header_cluster g c = behind_none
+
+pub loop-done-init : goal.loop-done-init
+loop-done-init g c = record {
+  faults = none_counted g.S.Storage.view g.F.BackingDisk.backing c.args.image.now;
+  behind = behind_none;
+  within = omega arith;
+  end = grind (arith, common_steps);
+  image = record { number = refl; size = refl; writable = refl; external = refl };
+  works = refl;
+  unwritten = λ reading out sound clean. read_none g.S.Storage.view c.args.image.now clean;
+  shown = λ out. does_if (λ same. (λ i lt. absurd (let none : i < length (take 0 c.args.bytes.now) = lt in grind (arith, common_steps)), same)) (does_nothing (abstract_of g.S.Storage.view g.F.BackingDisk.backing c.args.image.now out));
+}

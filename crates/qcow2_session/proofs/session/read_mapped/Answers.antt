@@ -16,6 +16,7 @@ use Rattle.std.proofs.lemmas.Option.{slice_get_read}
 use Rattle.qcow2_image.proofs.Sizes.{disk_size}
 use Rattle.qcow2_image.specs.Refusals.{IsMet, unusable}
 use Rattle.qcow2_session.proofs.Causing.{begun_with, is_answered, is_misused, is_refused, own_mapping, some_error}
+use Rattle.qcow2_image.proofs.Call.BehindHeader.{behind_none}
 use Rattle.qcow2_session.proofs.session.read_mapped.Goals as goal
 
 pub returns-in_default-clause-command_step : goal.returns-in_default-clause-command_step
@@ -88,3 +89,9 @@ returns-in-Err-clause-causes g c =
     (λ is. absurd cc, λ is. absurd (isnt_beyond c.in-Some.mapping c.args.at c.args.length (ap mapping_at (there ∙ ap Some c.in-Some.is)) within is)) refl
     (begun_with _ _ _ (unusable c.args.image.now) c.in-Err.ensures.early) (λ none. (late none).0) (λ none empty. let some = (late none).1 in omega (arith, some, empty))
     (λ _ sound is. (c.in-Some.mapping, ap mapping_at (there ∙ ap Some c.in-Some.is), c.in-Err.ensures.outdated c.args.slots.now.prepared.items sound (ap Err (some_error is))))
+
+pub returns-in_default-clause-header_cluster : goal.returns-in_default-clause-header_cluster
+returns-in_default-clause-header_cluster g c = behind_none
+
+pub returns-then-at-mapping-clause-header_cluster : goal.returns-then-at-mapping-clause-header_cluster
+returns-then-at-mapping-clause-header_cluster g c = behind_none

@@ -13,6 +13,7 @@ use Rattle.qcow2_alloc.specs.declared.error.ImageError.TheVariants.{Memory, Outd
 use Rattle.qcow2_image.proofs.Sizes.{sound_is_usable}
 use Rattle.qcow2_image.specs.Refusals.{unusable}
 use Rattle.qcow2_session.proofs.Causing.{same_error}
+use Rattle.qcow2_image.proofs.Call.BehindHeader.{behind_none}
 use Rattle.qcow2_session.proofs.session.read_range.Goals as goal
 
 pub returns-in_err-read_mapped-clause-sees : goal.returns-in_err-read_mapped-clause-sees
@@ -78,3 +79,9 @@ returns-in_err-bytes-clause-mapped g c = λ some out sound. none_answered _ c.in
 
 pub returns-in_err-read_mapped-clause-mapped : goal.returns-in_err-read_mapped-clause-mapped
 returns-in_err-read_mapped-clause-mapped g c = λ some out sound. none_answered _ c.in_err-read_mapped.field-0.0 (IsFoundWhole g.S.Storage.view c.args.image.now (c.args.mapping.now.offset + c.args.at) (further_by c.args.at c.args.mapping.now.kind) c.args.length) (refused_is _ c.in_err-read_mapped.field-0.0 c.from_residual-in_err-read_mapped.ensures)
+
+pub returns-in_err-bytes-clause-header_cluster : goal.returns-in_err-bytes-clause-header_cluster
+returns-in_err-bytes-clause-header_cluster g c = behind_none
+
+pub returns-in_err-check_read-clause-header_cluster : goal.returns-in_err-check_read-clause-header_cluster
+returns-in_err-check_read-clause-header_cluster g c = behind_none

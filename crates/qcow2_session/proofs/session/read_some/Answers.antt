@@ -15,6 +15,7 @@ use Rattle.qcow2_session.proofs.Causing.{mapping_reading, fits_below, then_none}
 use Rattle.qcow2_session.proofs.Parts.{mapping_usable}
 use Rattle.qcow2_image.proofs.Call.MetErrors.{tables_met}
 use Rattle.qcow2_session.proofs.Marking.{fails_behind, hands_on, refused_marks}
+use Rattle.qcow2_image.proofs.Call.BehindHeader.{behind_then}
 use Rattle.qcow2_session.proofs.session.read_some.Goals as goal
 
 pub returns-in_err-mapping-clause-sees : goal.returns-in_err-mapping-clause-sees
@@ -91,3 +92,9 @@ returns-then-count-eq0-clause-marks g c = c.in_ok-mapping.ensures.marks
 pub returns-in_err-read_mapped-clause-marks : goal.returns-in_err-read_mapped-clause-marks
 returns-in_err-read_mapped-clause-marks g c = hands_on _ c.in_err-read_mapped.field-0.0 _ _ (refused_is _ c.in_err-read_mapped.field-0.0 c.from_residual-in_err-read_mapped.ensures)
     (fails_behind (Some c.in_err-read_mapped.field-0.0) _ _ _ c.in_ok-mapping.ensures.marks (refused_marks c.in_err-read_mapped.field-0.0 _ _ _ c.in_err-read_mapped.ensures.marks))
+
+pub returns-clause-header_cluster : goal.returns-clause-header_cluster
+returns-clause-header_cluster g c = behind_then c.get_mapping.ensures.header_cluster c.read_mapped.ensures.header_cluster
+
+pub returns-in_err-read_mapped-clause-header_cluster : goal.returns-in_err-read_mapped-clause-header_cluster
+returns-in_err-read_mapped-clause-header_cluster g c = behind_then c.get_mapping.ensures.header_cluster c.read_mapped.ensures.header_cluster

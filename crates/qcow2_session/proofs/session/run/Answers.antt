@@ -19,10 +19,12 @@ use Rattle.qcow2_image.proofs.Map.Unmodified.{holds_none}
 use Rattle.qcow2_session.proofs.Unwritten.{existing_none, never_written}
 use Rattle.qcow2_session.specs.CountedFaults.{RunCounts}
 use Rattle.qcow2_session.proofs.Counting.{none_counted, run_counts_more, run_counts_still}
+use Rattle.qcow2_image.proofs.Call.BehindHeader.{behind_none, behind_then}
 use Rattle.qcow2_session.proofs.session.run.Goals as goal
 
 pub loop-command-init : goal.loop-command-init
 loop-command-init g c = record {
+  behind = behind_none;
   faults = subst (λ l. RunCounts g.S.Storage.view g.F.BackingDisk.backing c.args.image.now c.args.image.now l) (sym c.in-Ok.ensures.items) (none_counted g.S.Storage.view g.F.BackingDisk.backing c.args.image.now);
   own = grind (arith, common_steps);
   keeps = same_itself refl;
@@ -36,6 +38,7 @@ loop-command-init g c = record {
 
 pub loop-command-preserved : goal.loop-command-preserved
 loop-command-preserved g c = record {
+  behind = behind_then c.loop-command.invariant.behind c.step-reply.ensures.header_cluster;
   faults = subst (λ l. RunCounts g.S.Storage.view g.F.BackingDisk.backing c.args.image.now c.step-reply.new.image l) (sym c.push_reserved.ensures.items)
       (run_counts_more g.S.Storage.view g.F.BackingDisk.backing c.args.image.now c.loop-command.image c.step-reply.new.image c.loop-command.replies.items c.step-reply.result c.loop-command.invariant.faults c.step-reply.ensures.faults);
   own = c.step-reply.ensures.slots ∙ c.loop-command.invariant.own ∙ sym c.step-reply.ensures.keeps.number;
@@ -163,3 +166,12 @@ returns-in_default-clause-unwritten g c = λ reading opened. holds_none (view_in
 
 pub returns-in_default-new-clause-unwritten : goal.returns-in_default-new-clause-unwritten
 returns-in_default-new-clause-unwritten g c = λ reading opened. holds_none (view_in g.S.Storage.view c.args.image.now.file)
+
+pub returns-clause-header_cluster : goal.returns-clause-header_cluster
+returns-clause-header_cluster g c = behind_then c.loop-command.invariant.behind c.discard_all.ensures.header_cluster
+
+pub returns-in_default-clause-header_cluster : goal.returns-in_default-clause-header_cluster
+returns-in_default-clause-header_cluster g c = behind_none
+
+pub returns-in_default-new-clause-header_cluster : goal.returns-in_default-new-clause-header_cluster
+returns-in_default-new-clause-header_cluster g c = behind_none

@@ -9,6 +9,7 @@ use Rattle.qcow2_image.proofs.Map.Unmodified.{read_none}
 use Rattle.qcow2_session.proofs.Unwritten.{left_same}
 use Rattle.qcow2_session.specs.Causes.{IsRightlyRefused}
 use Rattle.qcow2_session.proofs.Causing.{read_answered, read_refused, size_answered, write_answered, write_refused_for}
+use Rattle.qcow2_image.proofs.Call.BehindHeader.{behind_none}
 use Rattle.qcow2_session.proofs.session.step.Goals as goal
 
 pub returns-in-Ok-clause-command_step : goal.returns-in-Ok-clause-command_step
@@ -311,3 +312,6 @@ returns-in-ResizeGrow-clause-after g c = subst (λ q. SlotsAfter c.args.slots.no
 
 pub returns-in-ResizeShrink-clause-after : goal.returns-in-ResizeShrink-clause-after
 returns-in-ResizeShrink-clause-after g c = subst (λ q. SlotsAfter c.args.slots.now.prepared.items q c.shrink.result c.args.slots.now.prepared.items) (sym c.in-ResizeShrink.is) refl
+
+pub returns-in-Size-clause-header_cluster : goal.returns-in-Size-clause-header_cluster
+returns-in-Size-clause-header_cluster g c = behind_none

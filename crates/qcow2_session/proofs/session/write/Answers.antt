@@ -17,6 +17,7 @@ use Rattle.qcow2_image.proofs.Call.FaultCounts.{faults_then}
 use Rattle.std.proofs.Common.{◌+◌, refl}
 use Rattle.qcow2_session.proofs.Parts.{not_failed_yet, part_prepares, part_under, prepares_usable}
 use Rattle.qcow2_session.proofs.Marking.{fails_behind}
+use Rattle.qcow2_image.proofs.Call.BehindHeader.{behind_then}
 use Rattle.qcow2_session.proofs.session.write.Goals as goal
 
 pub returns-in_default-clause-sees : goal.returns-in_default-clause-sees
@@ -24,6 +25,7 @@ returns-in_default-clause-sees g c = λ out. refuses_if (λ same. (c.loop-done.i
 
 pub loop-done-preserved : goal.loop-done-preserved
 loop-done-preserved g c = record {
+  behind = behind_then c.loop-done.invariant.behind c.write_some-in-loop-done.ensures.header_cluster;
   faults = faults_then g.S.Storage.view g.F.BackingDisk.backing c.args.image.now c.loop-done.image c.write_some-in-loop-done.new.image c.loop-done.invariant.faults c.in-Ok-write_some.ensures.faults.told;
   works = c.in-Ok-write_some.ensures.end.0 ∙ c.loop-done.invariant.works;
   within = grind (arith, common_steps);
@@ -132,3 +134,6 @@ returns-clause-marks g c = c.loop-done.invariant.works
 
 pub returns-in-Err-clause-marks : goal.returns-in-Err-clause-marks
 returns-in-Err-clause-marks g c = c.in-Err.ensures.marks
+
+pub returns-in-Err-write_some-clause-header_cluster : goal.returns-in-Err-write_some-clause-header_cluster
+returns-in-Err-write_some-clause-header_cluster g c = behind_then c.loop-done.invariant.behind c.write_some-in-loop-done.ensures.header_cluster

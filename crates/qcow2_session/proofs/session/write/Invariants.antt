@@ -4,6 +4,7 @@ use Rattle.qcow2_disk.specs.Calls.{AnsweredEffect, with_disk}
 use Rattle.qcow2_disk.specs.Disk.{with_bytes}
 use Rattle.qcow2_disk.specs.Mappings.{given_of}
 use Rattle.qcow2_disk.specs.AbstractImages.{guest_of}
+use Rattle.qcow2_image.specs.BehindHeader.{StaysBehindHeader}
 use Rattle.qcow2_image.specs.Image.{IsSameImage, is_failed}
 use Rattle.qcow2_image.specs.ImageInvariant.{abstract_of}
 use Rattle.qcow2_image.specs.declared.prepared.Prepared.{Prepared}
@@ -15,6 +16,7 @@ use Rattle.qcow2_session.proofs.session.write.Given as goal
 abbrev pub invariant-loop-done : goal.invariant-loop-done
 invariant-loop-done g l = record {
   faults : SameFaults g.S.Storage.view g.F.BackingDisk.backing l.fn.image l.image;
+  behind : StaysBehindHeader g.S.Storage.view l.fn.image l.image;
   works : is_failed l.image ≡ is_failed l.fn.image;
   within : l.done ≤ length l.bytes;
   image : IsSameImage l.fn.image l.image;

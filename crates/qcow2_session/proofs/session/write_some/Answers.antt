@@ -31,6 +31,7 @@ use Rattle.qcow2_alloc.specs.ImageError.{IsOfTables}
 use Rattle.qcow2_image.proofs.Call.MetErrors.{tables_met}
 use Rattle.qcow2_image.specs.Refusals.{MarksRefused}
 use Rattle.qcow2_session.proofs.Marking.{fails_before, fails_behind, hands_on, refused_marks}
+use Rattle.qcow2_image.proofs.Call.BehindHeader.{behind_then}
 use Rattle.qcow2_session.proofs.session.write_some.Goals as goal
 
 -- what refused a call that begins another one before any work refused that one
@@ -294,3 +295,15 @@ pub returns-in-Err-Kept-clause-marks : goal.returns-in-Err-Kept-clause-marks
 returns-in-Err-Kept-clause-marks g c =
     let marks = subst (λ r. MarksRefused c.write_mapped.new.self c.commit_data_mapping.new.self (reason_of r)) c.in-Err-Kept.field-0-is c.in-Err-Kept.ensures.marks in
     fails_before (Some c.in-Err-Kept.refusal) _ _ _ c.release-in-Err-Kept.ensures.marks (fails_behind (Some c.in-Err-Kept.refusal) _ _ _ (c.in_default.ensures.marks ∙ c.in_ok-prepared.ensures.marks) (refused_marks c.in-Err-Kept.refusal _ _ _ marks))
+
+pub returns-in-Err-clause-header_cluster : goal.returns-in-Err-clause-header_cluster
+returns-in-Err-clause-header_cluster g c = behind_then (behind_then c.prepare_data_mapping.ensures.header_cluster c.write_mapped.ensures.header_cluster) c.release.ensures.header_cluster
+
+pub returns-in-Ok-clause-header_cluster : goal.returns-in-Ok-clause-header_cluster
+returns-in-Ok-clause-header_cluster g c = behind_then (behind_then c.prepare_data_mapping.ensures.header_cluster c.write_mapped.ensures.header_cluster) c.commit_data_mapping.ensures.header_cluster
+
+pub returns-in-Err-Spent-clause-header_cluster : goal.returns-in-Err-Spent-clause-header_cluster
+returns-in-Err-Spent-clause-header_cluster g c = behind_then (behind_then c.prepare_data_mapping.ensures.header_cluster c.write_mapped.ensures.header_cluster) c.commit_data_mapping.ensures.header_cluster
+
+pub returns-in-Err-Kept-clause-header_cluster : goal.returns-in-Err-Kept-clause-header_cluster
+returns-in-Err-Kept-clause-header_cluster g c = behind_then (behind_then (behind_then c.prepare_data_mapping.ensures.header_cluster c.write_mapped.ensures.header_cluster) c.commit_data_mapping.ensures.header_cluster) c.release-in-Err-Kept.ensures.header_cluster

@@ -6,6 +6,7 @@ use Rattle.qcow2_image.specs.Refusals.{IsMet}
 use Rattle.qcow2_session.proofs.Turns.{refused_is, refused_some}
 use Rattle.qcow2_session.proofs.SpecialReads.{told_plainly}
 use Rattle.qcow2_session.proofs.Marking.{call_marks, hands_on, memory_marks, unmarked}
+use Rattle.qcow2_image.proofs.Call.BehindHeader.{behind_none}
 use Rattle.qcow2_session.proofs.special.try_range.Goals as goal
 
 pub returns-clause-tells : goal.returns-clause-tells
@@ -32,3 +33,9 @@ returns-in_err-check_read-clause-marks g c = hands_on _ c.in_err-check_read.fiel
 
 pub returns-in_err-bytes-clause-marks : goal.returns-in_err-bytes-clause-marks
 returns-in_err-bytes-clause-marks g c = hands_on _ c.in_err-bytes.field-0.0 _ _ (refused_is _ c.in_err-bytes.field-0.0 c.from_residual-in_err-bytes.ensures) (memory_marks c.in_err-bytes.field-0.0 _ c.in_err-bytes.ensures.cause.0)
+
+pub returns-in_err-bytes-clause-header_cluster : goal.returns-in_err-bytes-clause-header_cluster
+returns-in_err-bytes-clause-header_cluster g c = behind_none
+
+pub returns-in_err-check_read-clause-header_cluster : goal.returns-in_err-check_read-clause-header_cluster
+returns-in_err-check_read-clause-header_cluster g c = behind_none

@@ -111,3 +111,12 @@ returns-clause-header_cluster g c = λ are names.
     let fields : c.clear_autoclear.new.header.fields ≡ without_autoclear c.args.file.now.header.fields = ap (λ (v : HeaderView). v.fields) cleared ∙ ap (λ (f : ImageFile _). without_autoclear f.header.fields) c.new.ensures.rest in
     let before = named_before c.args.file.now.header.fields c.clear_autoclear.new.header.fields fields names in
     (before, stands_still refl (ap (λ (v : HeaderView). v.fields.cluster_bits) cleared) (c.in_ok-allocator.ensures.header_cluster before.reftable are))
+
+pub returns-clause-caches : goal.returns-clause-caches
+returns-clause-caches g c = ap (λ (f : ImageFile _). f.caches) c.new.ensures.rest
+
+pub returns-in_err-allocator-clause-caches : goal.returns-in_err-allocator-clause-caches
+returns-in_err-allocator-clause-caches g c = ap (λ (f : ImageFile _). f.caches) c.new.ensures.rest
+
+pub returns-in_err-clear_autoclear-clause-caches : goal.returns-in_err-clear_autoclear-clause-caches
+returns-in_err-clear_autoclear-clause-caches g c = ap (λ (f : ImageFile _). f.caches) c.new.ensures.rest

@@ -138,3 +138,15 @@ returns-clause-header_cluster g c = λ are names.
     let as_wide : c.load_allocator.new.file.header.fields.cluster_bits ≡ c.args.file.now.header.fields.cluster_bits =
     ap (λ (h : HeaderFields). h.cluster_bits) c.in_ok-allocator.ensures.format ∙ ap (λ (f : ImageFile _). f.header.fields.cluster_bits) same in
     behind_loaded loaded.1 (subst (λ n. IsL1TableBehind n c.in_ok-l1_table.l1_table) (sym as_wide) l1)
+
+pub returns-then-not-writable-clause-caches : goal.returns-then-not-writable-clause-caches
+returns-then-not-writable-clause-caches g c = ap (λ (f : ImageFile _). f.caches) c.load_l1_table.ensures.rest
+
+pub returns-in_err-l1_table-clause-caches : goal.returns-in_err-l1_table-clause-caches
+returns-in_err-l1_table-clause-caches g c = ap (λ (f : ImageFile _). f.caches) c.load_l1_table.ensures.rest
+
+pub returns-clause-caches : goal.returns-clause-caches
+returns-clause-caches g c = c.load_allocator.ensures.caches ∙ ap (λ (f : ImageFile _). f.caches) c.load_l1_table.ensures.rest
+
+pub returns-in_err-allocator-clause-caches : goal.returns-in_err-allocator-clause-caches
+returns-in_err-allocator-clause-caches g c = c.load_allocator.ensures.caches ∙ ap (λ (f : ImageFile _). f.caches) c.load_l1_table.ensures.rest

@@ -17,6 +17,7 @@ use Rattle.qcow2_image.specs.Readable.{IsRefusedRightly}
 use Rattle.qcow2_image.proofs.Open.Reading.{header_refused, needs_so, opened_rightly, refused_rightly}
 use Rattle.qcow2_image.proofs.Open.SameHeaders.{not_missing, not_needed, refused_before, some_missing, stays_so}
 use Rattle.qcow2_alloc.specs.MetadataCaches.{AreAllWritten}
+use Rattle.qcow2_alloc.specs.ImageFile.{l2_pins}
 use Rattle.qcow2_image.proofs.image.Qcow2.open.Goals as goal
 
 pub returns-in-Ok-load_tables-clause-opens : goal.returns-in-Ok-load_tables-clause-opens
@@ -172,3 +173,10 @@ returns-in-Ok-load_tables-clause-header_cluster g c = c.in-Ok-load_tables.ensure
 
 pub returns-in-Ok-load_tables-clause-unmodified : goal.returns-in-Ok-load_tables-clause-unmodified
 returns-in-Ok-load_tables-clause-unmodified g c = subst AreAllWritten (sym c.load_tables.ensures.caches) c.in-Ok-new.ensures.all_written
+
+pub returns-in-Ok-load_tables-clause-unpinned : goal.returns-in-Ok-load_tables-clause-unpinned
+returns-in-Ok-load_tables-clause-unpinned g c = λ has.
+    let none : l2_pins c.in-Ok-new.caches has.cluster ≡ 0 = c.in-Ok-new.ensures.pins has.cluster in
+    let same : l2_pins c.load_tables.new.file.caches has.cluster ≡ l2_pins c.in-Ok-new.caches has.cluster = ap (λ caches. l2_pins caches has.cluster) c.load_tables.ensures.caches in
+    let some = has.pins in
+    omega (arith, none, same, some)
