@@ -324,7 +324,6 @@ impl<S: Storage, F: WrappedFormat<S>> Qcow2<S, F> {
         ensures loaded { (p : Pending) → IsFresh S.view F.backing p file.old → IfOk result (λ allocator. StaysFresh S.view F.backing p file.old file.new × IsAllocatorOf S.view file.new allocator) }
         ensures cause { IfErr result IsMet }
         ensures why { (view_in S.view file.old).is_honest → MatchResult result (λ allocator. ReftableReads file.old.header.fields (contents_in S.view file.old)) (IsReasonAgainstReftable file.old.header.fields (contents_in S.view file.old)) }
-        ensures caches { file.new.caches ≡ file.old.caches }
         ensures header_cluster { AreBehindHeader file.old.header.fields.cluster_bits file.old.caches → NamesTablesBehind file.new.header.fields → IfOk result (λ allocator. NamesTablesBehind file.old.header.fields × StandsBehindHeader file.new.header.fields.cluster_bits allocator.reftable file.new) }
         ensures leaks { IfOk result (λ allocator. leaked_by (Some allocator) ≡ 0) }
     {
@@ -346,7 +345,6 @@ impl<S: Storage, F: WrappedFormat<S>> Qcow2<S, F> {
         ensures loaded { (p : Pending) → IsFresh S.view F.backing p file.old → IfOk result (λ tables. IsLoaded S.view F.backing p file.new tables.l1_table tables.allocator) }
         ensures cause { IfErr result IsMet }
         ensures why { (view_in S.view file.old).is_honest → MatchResult result (λ tables. NeededTablesRead file.old.header.fields (contents_in S.view file.old) writable) (IsReasonAgainstTables file.old.header.fields (contents_in S.view file.old) writable) }
-        ensures caches { file.new.caches ≡ file.old.caches }
         ensures header_cluster { AreBehindHeader file.old.header.fields.cluster_bits file.old.caches → NamesTablesBehind file.new.header.fields → IfOk result (λ tables. TablesBehindHeader file.new.header.fields.cluster_bits file.new.header.fields.cluster_bits tables.l1_table file.new.caches tables.allocator) }
         ensures leaks { IfOk result (λ tables. leaked_by tables.allocator ≡ 0) }
     {
