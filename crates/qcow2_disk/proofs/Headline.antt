@@ -1,5 +1,5 @@
 -- A run of an image that was opened from bytes.
-use Rattle.std.proofs.Common.{◌≡◌, ⊎_elim, inl, ℕ, List, [], ◌∷◌, refl, sym, ap, ◌∙◌, subst, arith}
+use Rattle.std.proofs.Common.{◌≡◌, ⊎_elim, inl, ℕ, List, [], ◌∷◌, Option, refl, sym, ap, ◌∙◌, subst, arith}
 use mathlib.Core.Path.{fun_ext}
 use Rattle.image_access.specs.Moments.{StorageView, EachMomentSince}
 use Rattle.image_access.proofs.EachMomentSince.{passes_if, passes_on}
@@ -10,7 +10,7 @@ use Rattle.qcow2_disk.specs.HeaderRest.{KeepsHeaderRest}
 use Rattle.qcow2_disk.specs.Stops.{checkpoint_at, StopOkEverywhere, StopOk, SafeThroughout}
 use Rattle.qcow2_disk.specs.AbstractImages.{Setting, Guest, Abstraction, abstract_image, guest_of}
 use Rattle.qcow2_disk.specs.Runs.{Command, Reply, State, Run, RefinesDisk, IsStopIn, started, given_by, asked_by}
-use Rattle.qcow2_disk.specs.Headline.{nothing_below, setting_in, guest_in, IsHeadline}
+use Rattle.qcow2_disk.specs.Headline.{shown_below, setting_in, guest_in, IsHeadline}
 use Rattle.qcow2_disk.proofs.HeaderRest.{header_rest_same, header_rest_then, header_rest_back}
 use Rattle.qcow2_disk.proofs.Stops.{stop_of_kept, stop_more}
 use Rattle.qcow2_disk.proofs.RunSteps.{passes_run}
@@ -32,34 +32,37 @@ first_stop x s end (command ∷ commands) (reply ∷ replies) run b at = inl (st
 first_stop x s end [] (reply ∷ replies) run b at = absurd run
 first_stop x s end (command ∷ commands) [] run b at = absurd run
 
-module _ {D P : Type 0} (spec : Abstraction D P) (before : StorageView) (opened new : D) (commands : List Command) (replies : List Reply)
+module _ {D P : Type 0} (spec : Abstraction D P) (before : StorageView) (below : Option Bytes) (opened new : D) (commands : List Command) (replies : List Reply)
     (consistent : IsConsistent (byte_at before.contents)) (nothing_before : (c : List ℕ) → before.had_since before.moment c → c ≡ before.contents)
     (since : SafeThroughout before (spec.storage opened) (byte_at before.contents) (λ _. []) []) (clean : spec.known opened ≡ byte_at (spec.storage opened).contents) (in_image : spec.data_bytes opened ≡ spec.known opened)
-    (setting : spec.setting opened ≡ setting_in (byte_at before.contents)) (refines : RefinesDisk spec opened new commands replies) where
+    (setting : spec.setting opened ≡ setting_in below (byte_at before.contents)) (refines : RefinesDisk spec opened new commands replies) where
   abbrev b : Bytes
   b = byte_at before.contents
 
-  start : StopOkEverywhere nothing_below (checkpoint_at (disk b nothing_below) b) b
-  start = at_once nothing_below b consistent
+  abbrev shown : Bytes
+  shown = shown_below below
 
-  backing-is : (spec.setting opened).backing ≡ nothing_below
+  start : StopOkEverywhere shown (checkpoint_at (disk b shown) b) b
+  start = at_once shown b consistent
+
+  backing-is : (spec.setting opened).backing ≡ shown
   backing-is = ap (λ (x : Setting). x.backing) setting
 
-  shows : guest_of (abstract_image spec opened []) ≡ guest_in b
+  shows : guest_of (abstract_image spec opened []) ≡ guest_in below b
   shows =
-      let known : disk_with (spec.known opened) (spec.data_bytes opened) (spec.setting opened).backing ≡ disk (byte_at (spec.storage opened).contents) nothing_below =
+      let known : disk_with (spec.known opened) (spec.data_bytes opened) (spec.setting opened).backing ≡ disk (byte_at (spec.storage opened).contents) shown =
       ap (λ (k : Bytes). disk_with (spec.known opened) k (spec.setting opened).backing) in_image
       ∙ ap (λ (k : Bytes). disk k (spec.setting opened).backing) clean ∙ ap (λ (k : Bytes). disk (byte_at (spec.storage opened).contents) k) backing-is in
-      ap (λ (d : Disk). record (guest_in b) { disk = d }) (known ∙ same_disk nothing_below b (disk b nothing_below) (byte_at (spec.storage opened).contents) (since.contents nothing_below (checkpoint_at (disk b nothing_below) b) start start))
+      ap (λ (d : Disk). record (guest_in below b) { disk = d }) (known ∙ same_disk shown b (disk b shown) (byte_at (spec.storage opened).contents) (since.contents shown (checkpoint_at (disk b shown) b) start start))
 
   abbrev In : List ℕ → Type 0
   In c = IsStopIn (spec.setting opened) (started (abstract_image spec opened [])) refines.end commands replies refines.run (byte_at c)
 
   rest : KeepsHeaderRest b (byte_at (spec.storage opened).contents)
-  rest = (since.contents nothing_below (checkpoint_at (disk b nothing_below) b) start start).rest
+  rest = (since.contents shown (checkpoint_at (disk b shown) b) start start).rest
 
   -- what kept the rest of the header before keeps that of the opened image
-  since_opened : (c : List ℕ) → StopOk nothing_below (checkpoint_at (disk b nothing_below) b) (byte_at c) → StopOk nothing_below (checkpoint_at (disk b nothing_below) (byte_at (spec.storage opened).contents)) (byte_at c)
+  since_opened : (c : List ℕ) → StopOk shown (checkpoint_at (disk b shown) b) (byte_at c) → StopOk shown (checkpoint_at (disk b shown) (byte_at (spec.storage opened).contents)) (byte_at c)
   since_opened c stop = record {
     consistent = stop.consistent;
     rest = header_rest_then (byte_at (spec.storage opened).contents) b (byte_at c) (header_rest_back b (byte_at (spec.storage opened).contents) rest) stop.rest;
@@ -67,18 +70,18 @@ module _ {D P : Type 0} (spec : Abstraction D P) (before : StorageView) (opened 
     values = stop.values;
   }
 
-  kept_in : (c : List ℕ) → StopOkEverywhere nothing_below (checkpoint_at (disk b nothing_below) b) (byte_at c) → In c
+  kept_in : (c : List ℕ) → StopOkEverywhere shown (checkpoint_at (disk b shown) b) (byte_at c) → In c
   kept_in c kept = first_stop (spec.setting opened) (started (abstract_image spec opened [])) refines.end commands replies refines.run (byte_at c)
       (subst (λ (g : Guest). StopOk (spec.setting opened).backing (checkpoint_at g.disk (byte_at (spec.storage opened).contents)) (byte_at c)) (sym shows)
-      (subst (λ (k : Bytes). StopOk k (checkpoint_at (disk b nothing_below) (byte_at (spec.storage opened).contents)) (byte_at c)) (sym backing-is) (since_opened c (stop_of_kept nothing_below (checkpoint_at (disk b nothing_below) b) (byte_at c) kept))))
+      (subst (λ (k : Bytes). StopOk k (checkpoint_at (disk b shown) (byte_at (spec.storage opened).contents)) (byte_at c)) (sym backing-is) (since_opened c (stop_of_kept shown (checkpoint_at (disk b shown) b) (byte_at c) kept))))
 
   opening : EachMomentSince before (spec.storage opened) In
-  opening = passes_if In (λ c kept. kept_in c (kept nothing_below (checkpoint_at (disk b nothing_below) b) start start)) since.moments
+  opening = passes_if In (λ c kept. kept_in c (kept shown (checkpoint_at (disk b shown) b) start start)) since.moments
 
   whole : EachMomentSince before (spec.storage new) In
   whole = passes_on In opening (passes_run spec opened new commands replies refines) (λ c h. h)
 
-  pub from_bytes : IsHeadline spec before new commands replies
+  pub from_bytes : IsHeadline spec before below new commands replies
   from_bytes = record {
     opened = opened;
     setting = setting;

@@ -1,5 +1,5 @@
--- The headline, of the bytes on a storage and of nothing that stands in memory.
-use Rattle.std.specs.Prelude.{ℕ, ◌≡◌, false, List, [], None}
+-- The headline, of the bytes on a storage and of a disk below, and of nothing that stands in memory.
+use Rattle.std.specs.Prelude.{ℕ, ◌≡◌, List, [], Option, Some, None, is_some}
 use Rattle.image_access.specs.Moments.{StorageView}
 use Rattle.qcow2_metadata.specs.Bytes.{Bytes, byte_at}
 use Rattle.qcow2_metadata.specs.Header.{header, cluster_size}
@@ -12,20 +12,25 @@ use Rattle.qcow2_disk.specs.Runs.{Command, Reply, RefinesDisk, IsStopIn, started
 abbrev pub nothing_below : Bytes
 nothing_below o = 0
 
--- the setting of an image that stands in these bytes, with nothing below
-abbrev pub setting_in : Bytes → Setting
-setting_in b = record { cluster_size = cluster_size (header b); is_backed = false; backing = nothing_below }
+-- the bytes that show where an image has nothing: those of the disk below, where there is one
+abbrev pub shown_below : Option Bytes → Bytes
+shown_below (Some below) = below
+shown_below None = nothing_below
+
+-- the setting of an image that stands in these bytes, over that disk
+abbrev pub setting_in : Option Bytes → Bytes → Setting
+setting_in below b = record { cluster_size = cluster_size (header b); is_backed = is_some below; backing = shown_below below }
 
 -- what a guest sees of it: its disk, and no prepared mapping
-abbrev pub guest_in : Bytes → Guest
-guest_in b = record { disk = disk b nothing_below; slots = λ _. None }
+abbrev pub guest_in : Option Bytes → Bytes → Guest
+guest_in below b = record { disk = disk b (shown_below below); slots = λ _. None }
 
--- An image was opened from these contents and answered these commands. It shows the disk that they hold, its header has their extensions and names, and the replies are a run of that disk.
+-- An image was opened from these contents, over the bytes of a disk below where there is one, and answered these commands. It shows the disk that they hold over these bytes, its header has their extensions and names, and the replies are a run of that disk.
 -- At each return the disk is the run's, the known bytes are consistent, and each surplus is as at the start. Whatever the storage held since before the opening may be left by a stop.
-pub record IsHeadline {D P : Type 0} (spec : Abstraction D P) (before : StorageView) (new : D) (commands : List Command) (replies : List Reply) : Type 0 where
+pub record IsHeadline {D P : Type 0} (spec : Abstraction D P) (before : StorageView) (below : Option Bytes) (new : D) (commands : List Command) (replies : List Reply) : Type 0 where
   pub opened : D
-  pub setting : spec.setting opened ≡ setting_in (byte_at before.contents)
-  pub shows : guest_of (abstract_image spec opened []) ≡ guest_in (byte_at before.contents)
+  pub setting : spec.setting opened ≡ setting_in below (byte_at before.contents)
+  pub shows : guest_of (abstract_image spec opened []) ≡ guest_in below (byte_at before.contents)
   pub rest : KeepsHeaderRest (byte_at before.contents) (stored_bytes (abstract_image spec opened []))
   pub refines : RefinesDisk spec opened new commands replies
   pub stops : (c : List ℕ) → (spec.storage new).had_since before.moment c

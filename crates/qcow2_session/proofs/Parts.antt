@@ -1,6 +1,6 @@
 -- A part of a range is refused for what the work meets, where nothing refuses the whole at once.
-use Rattle.std.proofs.Common.{◌≡◌, ◌⊎◌, ◌+◌, ◌<◌, ◌≤◌, ◌∙◌, inl, inr, ℕ, Bool, true, false, not, IsTrue, List, Option, Some, None, refl, sym, ap, subst, arith}
-use Rattle.std.specs.Prelude.{◌&&◌, nat_lt, IfSome, Result, Err}
+use Rattle.std.proofs.Common.{◌≡◌, ◌+◌, ◌<◌, ◌≤◌, ◌∙◌, inl, inr, ℕ, Bool, true, false, not, IsTrue, List, Option, Some, None, refl, sym, ap, arith}
+use Rattle.std.specs.Prelude.{◌&&◌, nat_lt}
 use Rattle.std.specs.Option.{option_or}
 use Rattle.std.proofs.lemmas.Bool.{cases_Bool, cases_lt}
 use Rattle.qcow2_metadata.specs.Bytes.{Bytes}
@@ -12,11 +12,11 @@ use Rattle.qcow2_image.specs.Clearing.{IsUnderMapping}
 use Rattle.qcow2_image.specs.Image.{IsSameImage, is_external, is_failed, is_writable, number_of, size_of}
 use Rattle.qcow2_image.specs.Preallocation.{IsUnderMappingIn}
 use Rattle.qcow2_image.specs.Preparing.{IsTaken}
-use Rattle.qcow2_image.specs.Refusals.{IsMet, IsMetPreparing, passes, refuse_if, refuses_mapping, refuses_to_prepare, refuses_to_read, unusable}
+use Rattle.qcow2_image.specs.Refusals.{IsMet, passes, refuse_if, refuses_mapping, refuses_to_prepare, refuses_to_read, unusable}
 use Rattle.qcow2_image.specs.declared.image.Qcow2.{Qcow2}
 use Rattle.qcow2_image.specs.declared.prepared.Prepared.{Prepared}
 use Rattle.qcow2_session.proofs.Beyond.{part_passes}
-use Rattle.qcow2_session.proofs.Causing.{own_mapping, put_writes, same_error, then_none}
+use Rattle.qcow2_session.proofs.Causing.{own_mapping, put_writes, then_none}
 use Rattle.qcow2_session.proofs.Untaken.{row_as}
 
 both_none : (a b : Bool) → option_or (refuse_if a I.Failed) (refuse_if b I.Dependency) ≡ None → (a ≡ false) × (b ≡ false)

@@ -1,19 +1,21 @@
--- The headline, of an image that is opened from the bytes of a storage.
-use Rattle.std.specs.Prelude.{ℕ, ◌≡◌, ◌⊎◌, IsTrue, true, false, List, [], map, Vec, Result, Ok, Err}
+-- The headline, of an image that is opened from the bytes of a storage, over a disk below where one is given.
+use Rattle.std.specs.Prelude.{ℕ, ◌≡◌, ◌⊎◌, IsTrue, true, false, List, [], map, Vec, Option, Some, None, Result, Ok, Err}
 use Rattle.std.specs.Global.{Global}
 use Rattle.image_access.specs.Backing.{BackingView}
 use Rattle.image_access.specs.Moments.{StorageView}
-use Rattle.qcow2_metadata.specs.Bytes.{byte_at}
+use Rattle.qcow2_metadata.specs.Bytes.{Bytes, byte_at}
 use Rattle.qcow2_metadata.specs.Consistent.{IsConsistent}
 use Rattle.qcow2_disk.specs.Headline.{IsHeadline}
 use Rattle.qcow2_disk.specs.Runs.{RefinesState, started}
 use Rattle.qcow2_alloc.specs.declared.error.ImageError.{ImageError}
+use Rattle.qcow2_image.specs.BehindHeader.{LiesBehindHeader, NamesTablesBehind, StaysBehindHeader}
 use Rattle.qcow2_image.specs.CountedOpening.{OpeningCounts}
+use Rattle.qcow2_image.specs.declared.image.Missing.{Missing}
 use Rattle.qcow2_image.specs.declared.image.Missing.TheVariants as M
 use Rattle.qcow2_image.specs.declared.image.Qcow2.{Qcow2}
 use Rattle.qcow2_image.specs.Image.{is_failed, is_writable, number_of, storage_of_image}
 use Rattle.qcow2_image.specs.Opened.{IsKeptSince, IsOpenedFrom, LeavesStorage}
-use Rattle.qcow2_image.specs.ImageInvariant.{abstract_of, image_abstraction}
+use Rattle.qcow2_image.specs.ImageInvariant.{IsHonestBacking, abstract_of, image_abstraction}
 use Rattle.qcow2_image.specs.Readable.{OpensRightly}
 use Rattle.qcow2_image.specs.Unwritten.{ContentsStayThroughout}
 use Rattle.qcow2_session.specs.Commands.{command_of, reply_of}
@@ -27,36 +29,50 @@ abbrev pub IsLeftAlone : {S R : Type 0} → StorageView → (S → StorageView) 
 IsLeftAlone before view (Ok run) = ⊥
 IsLeftAlone before view (Err refused) = ContentsStayThroughout before (view refused.0)
 
-module _ {S F : Type 0} (view : S → StorageView) (backing : F → BackingView) (before : StorageView) where
+-- the files that are missing as an image is opened: where a disk below is given, that of its data alone
+abbrev pub missing_beside : {F : Type 0} → Option F → Missing
+missing_beside None = M.OtherFiles
+missing_beside (Some disk) = M.DataFile
+
+-- the bytes of the disk below, where one is given
+abbrev pub bytes_below : {F : Type 0} → (F → BackingView) → Option F → Option Bytes
+bytes_below backing None = None
+bytes_below backing (Some disk) = Some (byte_at (backing disk).bytes)
+
+module _ {S F : Type 0} (view : S → StorageView) (backing : F → BackingView) (before : StorageView) (below : Option F) where
   -- there was no room for the replies, and nothing was called
   abbrev pub HadNoRoom : Qcow2 S F → List Reply → Type 0
   HadNoRoom image replies = (replies ≡ []) × IsKeptSince before (view (storage_of_image image))
 
-  -- Where a consistent image stands on an honest storage, it opens and runs as the headline says. Where opening is refused, each moment has a consistent image with the same disk.
+  -- Where a consistent image stands on an honest storage, and the disk below is honest, it opens and runs as the headline says. Where opening is refused, each moment has a consistent image with the same disk.
   abbrev pub Headline : List Command → Result (Qcow2 S F × Vec Reply Global) (S × ImageError) → Type 0
-  Headline commands (Ok run) = before.is_honest → IsConsistent (byte_at before.contents)
-      → HadNoRoom run.0 run.1.items ⊎ IsHeadline (image_abstraction view backing) before run.0 (map command_of commands) (map reply_of run.1.items)
+  Headline commands (Ok run) = before.is_honest → IsConsistent (byte_at before.contents) → IsHonestBacking view backing below
+      → HadNoRoom run.0 run.1.items ⊎ IsHeadline (image_abstraction view backing) before (bytes_below backing below) run.0 (map command_of commands) (map reply_of run.1.items)
   Headline commands (Err refused) = before.is_honest → IsConsistent (byte_at before.contents) → IsKeptSince before (view refused.0)
 
-  -- The image that was opened, whatever the contents were, has its number, is to be written and works. Opening changed the autoclear field alone, and the replies tell of it.
-  -- From consistent contents it is sound, has each surplus as they had it, and stands at the begin of a run from the disk that it showed.
+  -- The image that was opened, whatever the contents were, is over the disk below, has its number, is to be written and works. Opening changed the autoclear field alone, and the replies tell of it.
+  -- Where the header names its tables behind cluster 0, none stands there as it is opened. Then the run leaves the bytes there alone, but for the header's numbers.
+  -- From consistent contents, over an honest disk, it is sound, has each surplus as they had it, and stands at the begin of a run from the disk that it showed.
   pub record IsToldOfOpened (number : ℕ) (commands : List Command) (image : Qcow2 S F) (replies : List Reply) : Type 0 where
     pub opened : Qcow2 S F
+    pub over : opened.backing ≡ below
     pub number_is : number_of opened ≡ number
     pub writable : IsTrue (is_writable opened)
     pub works : is_failed opened ≡ false
     pub counts : OpeningCounts view before.faults (Ok opened)
     pub leaves : LeavesStorage view true before (Ok opened)
     pub run : TellsThrough view backing opened image commands replies
-    pub is : before.is_honest → IsConsistent (byte_at before.contents) → IsOpenedFrom view backing (byte_at before.contents) opened
-    pub begins : before.is_honest → IsConsistent (byte_at before.contents) → let v = abstract_of view backing opened [] in RefinesState v.setting v (started v)
+    pub behind : NamesTablesBehind opened.file.header.fields → LiesBehindHeader opened
+    pub header_cluster : StaysBehindHeader view opened image
+    pub is : before.is_honest → IsConsistent (byte_at before.contents) → IsHonestBacking view backing below → IsOpenedFrom view backing (byte_at before.contents) opened
+    pub begins : before.is_honest → IsConsistent (byte_at before.contents) → IsHonestBacking view backing below → let v = abstract_of view backing opened [] in RefinesState v.setting v (started v)
 
-  -- So it is where it opens. Where it doesn't, it is refused as opening alone for writing is: for one of the reasons of these contents, which stay unless the storage failed.
+  -- So it is where it opens. Where it doesn't, it is refused as opening for writing is where these files are missing: for one of the reasons of these contents, which stay unless the storage failed.
   abbrev pub TellsOfOpened : ℕ → List Command → Result (Qcow2 S F × Vec Reply Global) (S × ImageError) → Type 0
   TellsOfOpened number commands (Ok run) = IsToldOfOpened number commands run.0 run.1.items
-  TellsOfOpened number commands (Err refused) = OpensRightly {S = S} {F = F} before true M.OtherFiles (Err refused) × LeavesStorage {F = F} view true before (Err refused)
+  TellsOfOpened number commands (Err refused) = OpensRightly {S = S} {F = F} before true (missing_beside below) (Err refused) × LeavesStorage {F = F} view true before (Err refused)
 
-  -- Opening counts the faults of the storage, refused or not, and each command those since.
+  -- Opening counts the faults of the storage, refused or not, and each command those since. The disk below is the one that was given, so what it counts is told by commands too.
   abbrev pub CountsSinceBefore : Result (Qcow2 S F × Vec Reply Global) (S × ImageError) → Type 0
-  CountsSinceBefore (Ok run) = (opened : Qcow2 S F) × OpeningCounts view before.faults (Ok opened) × RunCounts view backing opened run.0 run.1.items
+  CountsSinceBefore (Ok run) = (opened : Qcow2 S F) × (opened.backing ≡ below) × OpeningCounts view before.faults (Ok opened) × RunCounts view backing opened run.0 run.1.items
   CountsSinceBefore (Err refused) = OpeningCounts {F = F} view before.faults (Err refused)

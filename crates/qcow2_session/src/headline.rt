@@ -1,35 +1,77 @@
 //! The headline: commands on an image that is opened from the bytes of a storage.
-ghost use Rattle.std.specs.Prelude.{◌≡◌, IfOk};
-ghost use Rattle.qcow2_image.specs.Image.{number_of};
-ghost use Rattle.qcow2_session.specs.Opening.{CountsSinceBefore, Headline, IsLeftAlone, TellsOfOpened};
-ghost use Rattle.qcow2_image.specs.Opened.{NeedsAnother};
+ghost use Rattle.std.specs.Prelude.{◌≡◌, IfOk, false, true};
+ghost use Rattle.qcow2_metadata.specs.Bytes.{byte_at};
+ghost use Rattle.qcow2_metadata.specs.Consistent.{IsConsistent};
+ghost use Rattle.qcow2_metadata.specs.Header.{header};
+ghost use Rattle.qcow2_image.specs.BehindHeader.{LiesBehindHeader, NamesTablesBehind};
+ghost use Rattle.qcow2_image.specs.CountedOpening.{OpeningCounts};
+ghost use Rattle.qcow2_image.specs.Growing.{SameFormat};
+ghost use Rattle.qcow2_image.specs.Image.{is_failed, is_writable, number_of};
+ghost use Rattle.qcow2_image.specs.ImageInvariant.{IsHonestBacking};
+ghost use Rattle.qcow2_image.specs.Opened.{IsKeptSince, IsRefusedAlone, LeavesStorage, NeedsMissing, Opens, storage_after};
+ghost use Rattle.qcow2_image.specs.Readable.{OpensRightly};
+ghost use Rattle.qcow2_image.specs.Unwritten.{ContentsStayThroughout};
+ghost use Rattle.qcow2_session.specs.Opening.{CountsSinceBefore, Headline, IsLeftAlone, TellsOfOpened, missing_beside};
 
 use crate::session::{Command, Reply, run};
 use image_access::{Storage, WrappedFormat};
 use qcow2_image::{ImageError, Qcow2};
 use std::alloc::Global;
 
-/// Opens an image that needs no other file, for writing, and answers each command as `run` does. Tables that are still modified then stay
-/// in memory until a `flush`. A refused opening hands the storage back; images that are open together have different numbers.
-/// Refused as `open_alone` is. For the header 19 (metadata), 13 (limit), 4 (unaligned table), in this order. Then 12 (dependency) for an
-/// image that needs another file, which stays as it is. For its tables 13 (limit), 19 (metadata), and where the work meets them
-/// 14 (memory), 15 (storage).
+/// Opens an image for writing, over the disk below where one is given, and answers each command as `run` does. With none the image is
+/// to need no other file; with one, no file but that disk. Tables that are still modified stay in memory until a `flush`. A refused
+/// opening hands the storage back; images that are open together have different numbers.
+/// Refused for the header 19 (metadata), 13 (limit), 4 (unaligned table), in this order. Then 12 (dependency) for an image that needs
+/// a file which is missing: it stays as it is. For its tables 13 (limit), 19 (metadata), and where the work meets them 14 (memory),
+/// 15 (storage).
 pub fn open_and_run<S: Storage, F: WrappedFormat<S>>(
     alloc: Global,
     storage: S,
+    below: Option<F>,
     number: u64,
     commands: &[Command],
 ) -> Result<(Qcow2<S, F>, Vec<Reply>), (S, ImageError)>
     ensures number { IfOk result (λ (image, replies). number_of image ≡ number) }
-    ensures another { (S.view storage).is_honest → NeedsAnother (S.view storage).contents → IsLeftAlone (S.view storage) S.view result }
-    ensures faults { CountsSinceBefore S.view F.backing (S.view storage) result }
-    ensures tells { TellsOfOpened S.view F.backing (S.view storage) number commands.now result }
-    ensures headline { Headline S.view F.backing (S.view storage) commands.now result }
+    ensures another { (S.view storage).is_honest → NeedsMissing (missing_beside below) (S.view storage).contents → IsLeftAlone (S.view storage) S.view result }
+    ensures faults { CountsSinceBefore S.view F.backing (S.view storage) below result }
+    ensures tells { TellsOfOpened S.view F.backing (S.view storage) below number commands.now result }
+    ensures headline { Headline S.view F.backing (S.view storage) below commands.now result }
 {
-    let mut image = match Qcow2::open_alone(alloc, storage, true, number) {
+    let mut image = match open_over(alloc, storage, below, number) {
         Ok(image) => image,
         Err(refused) => return Err(refused),
     };
     let replies = run(alloc, &mut image, commands);
     Ok((image, replies))
+}
+
+// Opens an image for writing over this disk, or alone where there is none.
+fn open_over<S: Storage, F: WrappedFormat<S>>(
+    alloc: Global,
+    storage: S,
+    below: Option<F>,
+    number: u64,
+) -> Result<Qcow2<S, F>, (S, ImageError)>
+    ensures opens { IfOk result (λ image. IsHonestBacking S.view F.backing below → Opens S.view F.backing (S.view storage) image) }
+    ensures since { (S.view storage).is_honest → IsConsistent (byte_at (S.view storage).contents) → IsKeptSince (S.view storage) (S.view (storage_after result)) }
+    ensures format { (S.view storage).is_honest → IfOk result (λ image. SameFormat (header (byte_at (S.view storage).contents)) image.file.header.fields) }
+    ensures ok { IfOk result (λ image. (number_of image ≡ number) × (is_failed image ≡ false) × (is_writable image ≡ true)) }
+    ensures faults { OpeningCounts S.view (S.view storage).faults result }
+    ensures header_cluster { IfOk result (λ image. NamesTablesBehind image.file.header.fields → LiesBehindHeader image) }
+    ensures over { IfOk result (λ image. image.backing ≡ below) }
+    ensures storage { LeavesStorage S.view true (S.view storage) result }
+    ensures another { (S.view storage).is_honest → NeedsMissing (missing_beside below) (S.view storage).contents → IsRefusedAlone result × ContentsStayThroughout (S.view storage) (S.view (storage_after result)) }
+    ensures cause { OpensRightly (S.view storage) true (missing_beside below) result }
+{
+    let Some(disk) = below else {
+        return Qcow2::open_alone(alloc, storage, true, number);
+    };
+    let mut image = match Qcow2::open_with_own_data(alloc, storage, true, number) {
+        Ok(image) => image,
+        Err((storage, refusal)) => return Err((storage, refusal)),
+    };
+    if let Err((_disk, refusal)) = image.set_backing(Some(disk)) {
+        return Err((image.into_storage(), refusal));
+    }
+    Ok(image)
 }

@@ -76,7 +76,7 @@ accepted_replies count replies old new is printed =
     record { one_each = eqb-true (length replies) count lines.0; accepted = lines.1; printed = lines.2 }
 
 module _ {S F : Type 0} (view : S → StorageView) (backing : F → BackingView) (start end : S) where
-  has_run : (commands : List Command) (run : Result (Qcow2 S F × Vec Reply Global) (S × ImageError)) (flush : Result (Unit {0}) ImageError) (old new : Option (List ℕ)) → Headline view backing (view start) commands run → IsClosed view backing start end run flush → is_accepted (length commands) run flush ≡ true → IfSome (option_append (run_text (length commands) run flush) (Some [])) (Appends old new) → HasRun view backing start end commands old new
+  has_run : (commands : List Command) (run : Result (Qcow2 S F × Vec Reply Global) (S × ImageError)) (flush : Result (Unit {0}) ImageError) (old new : Option (List ℕ)) → Headline view backing (view start) None commands run → IsClosed view backing start end run flush → is_accepted (length commands) run flush ≡ true → IfSome (option_append (run_text (length commands) run flush) (Some [])) (Appends old new) → HasRun view backing start end commands old new
   has_run commands (Err refused) flush old new headline closed is printed = absurd cc
   has_run commands (Ok run) (Err e) old new headline closed is printed = absurd cc
   has_run commands (Ok run) (Ok done) old new headline closed is printed = record {

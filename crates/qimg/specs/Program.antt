@@ -1,5 +1,5 @@
 -- What a run has done and printed, however it ended, and one that ended well.
-use Rattle.std.specs.Prelude.{◌≡◌, ◌⊎◌, ℕ, Bool, false, List, [], length, map, Vec, Option, Some, IfSome, Result, Ok, Err, is_ok, IfOk, OnOk}
+use Rattle.std.specs.Prelude.{◌≡◌, ◌⊎◌, ℕ, Bool, false, List, [], length, map, Vec, Option, Some, None, IfSome, Result, Ok, Err, is_ok, IfOk, OnOk}
 use Rattle.std.specs.Fmt.{option_append}
 use Rattle.std.specs.Global.{Global}
 use Rattle.std.specs.Io.KnownBytes.{Appends}
@@ -31,7 +31,7 @@ module _ {S F : Type 0} (view : S → StorageView) (backing : F → BackingView)
   -- Commands were run on an image that was opened from a storage, as the headline says, and it was flushed and closed. What was printed are the replies of that run.
   pub record HasRun (commands : List Command) (old new : Option (List ℕ)) : Type 0 where
     pub run : Qcow2 S F × Vec Reply Global
-    pub headline : Headline view backing (view start) commands (Ok run)
+    pub headline : Headline view backing (view start) None commands (Ok run)
     pub answers : ArePrinted (length commands) run.1.items old new
     pub flushed : Qcow2 S F
     pub flush : FlushesImage view backing run.0 flushed (Ok tt)
@@ -51,9 +51,9 @@ module _ {S F : Type 0} (view : S → StorageView) (backing : F → BackingView)
   -- However it ended, these commands were run: on an image that was opened from a storage, or on none, where opening it was refused. It was refused as a fault only where one was counted.
   pub record EndsRun (commands : List Command) : Type 0 where
     pub run : Result (Qcow2 S F × Vec Reply Global) (S × ImageError)
-    pub headline : Headline view backing (view start) commands run
-    pub told : TellsOfOpened view backing (view start) 1 commands run
-    pub counts : CountsSinceBefore view backing (view start) run
+    pub headline : Headline view backing (view start) None commands run
+    pub told : TellsOfOpened view backing (view start) None 1 commands run
+    pub counts : CountsSinceBefore view backing (view start) None run
     pub flush : Result (Unit {0}) ImageError
     pub closed : IsClosed run flush
 

@@ -163,7 +163,7 @@ fn run_commands<S: Storage, F: WrappedFormat<S>, W: Write, M: Write>(
     ensures ends { PrintsRun S.view F.backing storage result.1 commands.now result.0 (W.contents output.old) (W.contents output.new) }
     ensures another { (S.view storage).is_honest → NeedsAnother (S.view storage).contents → ContentsStay (S.view storage) (S.view result.1) }
 {
-    match open_and_run::<S, F>(alloc, storage, 1, commands) {
+    match open_and_run::<S, F>(alloc, storage, None, 1, commands) {
         Ok((mut image, replies)) => {
             report_refused(messages, &replies);
             let answered = print_answers(output, commands.len(), &replies);

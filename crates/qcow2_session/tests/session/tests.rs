@@ -4,6 +4,7 @@ mod creating;
 mod flushes;
 mod images;
 mod mappings;
+mod overlays;
 mod sizes;
 mod writes;
 

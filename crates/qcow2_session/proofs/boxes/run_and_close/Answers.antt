@@ -1,4 +1,4 @@
-use Rattle.std.proofs.Common.{◌≡◌, ◌∙◌, inr, ap, refl, sym, subst, [], None, Option, Some, Err}
+use Rattle.std.proofs.Common.{◌≡◌, ◌∙◌, inr, ap, refl, sym, subst, [], None, Option, Some}
 use Rattle.std.specs.Prelude.{IsErr, Result}
 use Rattle.qcow2_alloc.specs.declared.error.ImageError.{ImageError}
 use Rattle.qcow2_image.specs.Backings.{IsOver}

@@ -1,5 +1,5 @@
 use Rattle.std.proofs.Common.{sym, ◌≡◌, ◌+◌, ◌-◌, ◌%◌, ◌<◌, ◌++◌, drop, length, take, refl, ap, ◌∙◌, subst, arith, min, ℕ}
-use Rattle.std.proofs.Math.Nat.{zero-mod, add-mod_right, le_refl, le_trans}
+use Rattle.std.proofs.Math.Nat.{zero-mod, add-mod_right}
 use Rattle.std.proofs.lemmas.Grind.{common_steps}
 use Rattle.image_access.specs.Contents.{bytes_at}
 use Rattle.qcow2_disk.specs.Calls.{with_disk}

@@ -1,5 +1,4 @@
 use Rattle.std.proofs.Common.{◌≡◌, ◌+◌, ◌∙◌, inl, length, None, true, false, refl, sym, ap, subst, arith}
-use Rattle.std.proofs.Math.Nat.{le_refl}
 use Rattle.std.specs.Prelude.{IfErr}
 use Rattle.image_access.specs.Contents.{bytes_at}
 use Rattle.qcow2_disk.specs.AbstractImages.{Setting}

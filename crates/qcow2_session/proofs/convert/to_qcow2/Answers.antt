@@ -1,5 +1,4 @@
 use Rattle.std.specs.Prelude.{IfErr}
-use Rattle.std.proofs.Math.Nat.{le_refl, le_trans}
 use Rattle.image_access.specs.Moments.{HasCause}
 use Rattle.qcow2_image.specs.Image.{size_of}
 use Rattle.qcow2_image.specs.Refusals.{refuses_to_read}

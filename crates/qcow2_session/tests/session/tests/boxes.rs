@@ -37,7 +37,7 @@ fn ran<S: Storage>(
     storage: S,
     commands: &[Command],
 ) -> Result<(S, Vec<Reply>), ImageError> {
-    match open_and_run::<S, Box<dyn BackingDisk>>(alloc, storage, 1, commands) {
+    match open_and_run::<S, Box<dyn BackingDisk>>(alloc, storage, None, 1, commands) {
         Ok((image, replies)) => Ok((image.into_storage(), replies)),
         Err((_storage, refusal)) => Err(refusal),
     }

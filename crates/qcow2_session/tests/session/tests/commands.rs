@@ -363,7 +363,7 @@ fn a_used_cluster_is_zeroed_whole_before_a_part_is_written(rt: HostRuntime) -> R
 
 // Opens an image for writing and answers the commands: the storage then, and the number of a refused opening.
 fn opened_and_run<S: Storage>(alloc: Global, storage: S, commands: &[Command]) -> (S, u8) {
-    match open_and_run::<S, Box<dyn BackingDisk>>(alloc, storage, 1, commands) {
+    match open_and_run::<S, Box<dyn BackingDisk>>(alloc, storage, None, 1, commands) {
         Ok((image, _replies)) => (image.into_storage(), 0),
         Err((storage, refusal)) => (storage, refusal.number()),
     }
