@@ -38,9 +38,10 @@ does_nothing v = record {
     works = λ h. record {
       setting = refl;
       surplus = λ _. refl;
+      leaks = refl;
       stops = stops_none v v [] [] refl (λ _. refl);
     };
-    rests = λ failed. rests_none v v refl refl failed;
+    rests = λ failed. rests_none v v refl refl failed refl;
   };
   answer = λ h. (h, refl);
 }

@@ -23,8 +23,8 @@ still_works x s t place offset max from kind n (inl (failed, answer, same)) ok =
 still_works x s t place offset max from kind n (inr (inl (works, may, answered, (guest, means, is)))) ok = ap (λ (u : State). u.is_failed) is
 still_works x s t place offset max from kind n (inr (inr (works, may, fault, is))) ok = absurd fault
 
-module _ {D P : Type 0} (spec : Abstraction D P) (x : Setting) (before : ℕ → ℕ) (b : Bytes) where
-  pub looked_up : (old new : D) (s end : State) (commands : List Command) (replies : List Reply) (run : Run x s commands replies end) → RefinesAlong spec x before old new s end commands replies run
+module _ {D P : Type 0} (spec : Abstraction D P) (x : Setting) (before : ℕ → ℕ) (leaked : ℕ) (b : Bytes) where
+  pub looked_up : (old new : D) (s end : State) (commands : List Command) (replies : List Reply) (run : Run x s commands replies end) → RefinesAlong spec x before leaked old new s end commands replies run
       → s.is_failed ≡ false → spec.known old ≡ b → LooksUp b x.is_backed commands replies
   looked_up old new s end (get_mapping place offset max ∷ commands) (mapping_is from kind n ∷ replies) run along ok same =
       let works = still_works x s run.0 place offset max from kind n run.1 ok in

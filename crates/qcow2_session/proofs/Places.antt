@@ -54,9 +54,10 @@ module _ {D P : Type 0} (spec : Abstraction D P) (has : HasFreePlaces spec) wher
       works = λ h. record {
         setting = refl;
         surplus = λ _. same;
+        leaks = refl;
         stops = stops_none (abstract_image spec d out) (abstract_image spec d out') [] [] refl (λ _. refl);
       };
-      rests = λ failed. rests_none (abstract_image spec d out) (abstract_image spec d out') refl refl failed;
+      rests = λ failed. rests_none (abstract_image spec d out) (abstract_image spec d out') refl refl failed refl;
     };
     answer = λ h. (sound h, refl);
   }

@@ -94,6 +94,7 @@ module _ {old mid new : AbstractImage} {gs : List GivenBytes} {e : Refusal} {A B
   works_broken w failed = let r = then.acts.rests failed in record {
     setting = r.setting ∙ w.setting;
     surplus = λ sound. absurd (never failed sound);
+    leaks = r.leaks ∙ w.leaks;
     stops = λ m starts. stops_resting old mid new gs [] r (never failed) m (w.stops m starts);
   }
 

@@ -119,7 +119,7 @@ returns-clause-maps g c = λ opened.
     let commands = map command_of c.args.commands.now in
     let replies = c.loop-command.replies.items in
     ⊎_elim (λ untouched. none_said b (is_some old.backing) commands replies untouched.0)
-    (λ means. looked_up spec (spec.setting old) (spec.surplus old []) b old means.last (started (abstract_of view g.F.BackingDisk.backing old [])) means.end commands (map reply_of replies) means.run means.along refl opened.clean)
+    (λ means. looked_up spec (spec.setting old) (spec.surplus old []) (spec.leaked old) b old means.last (started (abstract_of view g.F.BackingDisk.backing old [])) means.end commands (map reply_of replies) means.run means.along refl opened.clean)
     (returns-clause-means g c opened)
 
 pub returns-in_default-clause-faults : goal.returns-in_default-clause-faults
