@@ -1,8 +1,8 @@
 //! Runs over a disk below: what shows, what is written, and what a stop leaves.
 use super::fresh;
+use crate::check;
 use crate::headline::open_and_run;
 use crate::session::{Command, Reply};
-use crate::check;
 use image_access::{MemBacking, Storage, TraceStorage};
 use qcow2_image::ImageError;
 use std::alloc::{AllocError, Global};
@@ -84,8 +84,15 @@ fn each_stop_over_a_disk_below_has_its_bytes_or_the_given(rt: HostRuntime) -> Re
     let part = Reply::Bytes([0x33, 0x55].to_vec(alloc)?);
     let given = Reply::Bytes([0x33, 0x33].to_vec(alloc)?);
     for replies in shown.iter() {
-        assert!(rt; [&below, &part, &given].iter().any(|reply| replies.first() == Some(*reply)));
+        assert!(rt;
+            [&below, &part, &given]
+                .iter()
+                .any(|reply| replies.first() == Some(*reply))
+        );
     }
-    assert_eq!(rt; shown.last().and_then(|replies| replies.first()), Some(&given));
+    assert_eq!(rt;
+        shown.last().and_then(|replies| replies.first()),
+        Some(&given)
+    );
     Ok(())
 }
