@@ -10,6 +10,7 @@ use Rattle.qcow2_image.specs.Refusals.{IsMet}
 use Rattle.qcow2_session.proofs.Counting.{converted, converting_else, converting_part, converting_raw, none_counted}
 use Rattle.qcow2_session.proofs.Exporting.{unchanged_refused, filled_first, filled_all}
 use Rattle.qcow2_session.proofs.Turns.{refused_is}
+use Rattle.qcow2_image.proofs.Map.Quiet.{reads_none}
 use Rattle.qcow2_session.proofs.convert.to_raw.Goals as goal
 
 pub returns-in_err-export_all-clause-same : goal.returns-in_err-export_all-clause-same
@@ -63,3 +64,9 @@ returns-in_err-export_all-clause-faults g c =
 
 pub returns-clause-faults : goal.returns-clause-faults
 returns-clause-faults g c = converted _ _ _ _ _ _ _ (c.in_ok-export_all.ensures.faults.told.0) (c.in_ok-export_all.ensures.faults.told.1 ∙ (c.in_ok-resize-2.ensures.calls.cause.told ∙ c.in_ok-resize.ensures.calls.cause.told))
+
+pub returns-in_err-resize-clause-quiet : goal.returns-in_err-resize-clause-quiet
+returns-in_err-resize-clause-quiet g c = reads_none g.S.Storage.view c.args.image.now
+
+pub returns-in_err-resize-2-clause-quiet : goal.returns-in_err-resize-2-clause-quiet
+returns-in_err-resize-2-clause-quiet g c = reads_none g.S.Storage.view c.args.image.now

@@ -15,6 +15,8 @@ use Rattle.qcow2_image.specs.Refusals.{IsMet}
 use Rattle.qcow2_session.proofs.Parts.{part_reads}
 use Rattle.std.proofs.Common.{Some}
 use Rattle.qcow2_session.proofs.Marking.{fails_behind, hands_on, unmarked}
+use Rattle.qcow2_image.proofs.Map.Quiet.{reads_none}
+use Rattle.qcow2_alloc.proofs.KeptTables.AllWritten.{written_then}
 use Rattle.qcow2_session.proofs.session.read_into.Goals as goal
 
 pub returns-in_default-clause-sees : goal.returns-in_default-clause-sees
@@ -34,6 +36,7 @@ loop-done-preserved g c = record {
   end = grind (arith, common_steps);
   image = same_then c.loop-done.invariant.image c.read_some.ensures.image;
   works = c.in_ok-done.ensures.marks ∙ c.loop-done.invariant.works;
+  quiet = written_then g.S.Storage.view c.loop-done.invariant.quiet c.read_some.ensures.quiet;
   unwritten = λ reading out sound clean.
       let so_far = c.loop-done.invariant.unwritten reading out sound clean in
       read_then g.S.Storage.view so_far (c.read_some.ensures.unwritten (c.loop-done.invariant.image.writable ∙ reading) out ((c.loop-done.invariant.shown out).answer sound).0 so_far.unmodified);
@@ -103,3 +106,6 @@ pub returns-in_err-done-clause-faults : goal.returns-in_err-done-clause-faults
 returns-in_err-done-clause-faults g c =
     counted_on g.S.Storage.view g.F.BackingDisk.backing c.args.image.now c.loop-done.image c.read_some.new.image c.read_some.result c.in_err-done.field-0.0 c.from_residual-in_err-done.result c.loop-done.invariant.faults c.read_some.ensures.faults c.in_err-done.was
     c.from_residual-in_err-done.ensures
+
+pub returns-in_err-done-clause-quiet : goal.returns-in_err-done-clause-quiet
+returns-in_err-done-clause-quiet g c = written_then g.S.Storage.view c.loop-done.invariant.quiet c.read_some.ensures.quiet

@@ -78,3 +78,9 @@ returns-in_err-bytes-clause-mapped g c = λ some out sound. none_answered _ c.in
 
 pub returns-in_err-read_mapped-clause-mapped : goal.returns-in_err-read_mapped-clause-mapped
 returns-in_err-read_mapped-clause-mapped g c = λ some out sound. none_answered _ c.in_err-read_mapped.field-0.0 (IsFoundWhole g.S.Storage.view c.args.image.now (c.args.mapping.now.offset + c.args.at) (further_by c.args.at c.args.mapping.now.kind) c.args.length) (refused_is _ c.in_err-read_mapped.field-0.0 c.from_residual-in_err-read_mapped.ensures)
+
+pub returns-in_err-read_mapped-clause-quiet : goal.returns-in_err-read_mapped-clause-quiet
+returns-in_err-read_mapped-clause-quiet g c = c.read_mapped.ensures.quiet
+
+pub returns-clause-quiet : goal.returns-clause-quiet
+returns-clause-quiet g c = c.read_mapped.ensures.quiet

@@ -32,3 +32,6 @@ returns-in_err-check_read-clause-marks g c = hands_on _ c.in_err-check_read.fiel
 
 pub returns-in_err-bytes-clause-marks : goal.returns-in_err-bytes-clause-marks
 returns-in_err-bytes-clause-marks g c = hands_on _ c.in_err-bytes.field-0.0 _ _ (refused_is _ c.in_err-bytes.field-0.0 c.from_residual-in_err-bytes.ensures) (memory_marks c.in_err-bytes.field-0.0 _ c.in_err-bytes.ensures.cause.0)
+
+pub returns-clause-quiet : goal.returns-clause-quiet
+returns-clause-quiet g c = c.try_readv_special.ensures.quiet
