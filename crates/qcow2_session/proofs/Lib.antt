@@ -23,3 +23,4 @@ mod Parts
 mod Told
 mod Unwritten
 pub mod Counting
+mod Quiet

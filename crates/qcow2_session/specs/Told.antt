@@ -16,7 +16,7 @@ use Rattle.qcow2_image.specs.Image.{is_external, is_failed, is_writable, number_
 use Rattle.qcow2_image.specs.ImageInvariant.{abstract_of, meaning}
 use Rattle.qcow2_image.specs.Prepared.{length_of, offset_of, table_of}
 use Rattle.qcow2_image.specs.Preparing.{IsAnswered, IsOfNothing}
-use Rattle.qcow2_image.specs.Unwritten.{HoldsSame, IsOnlyRead, IsUnmodified}
+use Rattle.qcow2_image.specs.Unwritten.{HoldsSame, IsOnlyRead, IsUnmodified, ReadsQuietly}
 use Rattle.qcow2_session.specs.Causes.{IsRightlyRefused}
 use Rattle.qcow2_session.specs.Commands.{command_of, reply_of}
 use Rattle.qcow2_session.specs.CountedFaults.{CommandCounts, FailsBy, refusal_in}
@@ -67,6 +67,20 @@ pub record RunPoint (S F : Type 0) : Type 0 where
 abbrev pub first_point : {S F : Type 0} → Qcow2 S F → RunPoint S F
 first_point image = record { image = image; prepared = free_slots; found = λ _. None }
 
+module _ {S F : Type 0} (view : S → StorageView) where
+  -- Of an image opened for reading, in any state and whatever its contents are: where no cached table is modified, none is then, and nothing is written to an honest storage.
+  abbrev pub StaysQuiet : (old new : Qcow2 S F) → Type 0
+  StaysQuiet old new = is_writable old ≡ false → ReadsQuietly view old new
+
+  -- so it is of a command, which leaves existing mappings alone
+  pub record IsLeftQuietly (old new : Qcow2 S F) (after : List (Option Prepared)) : Type 0 where
+    pub reading : is_writable new ≡ false
+    pub quiet : ReadsQuietly view old new
+    pub existing : AreExisting after
+
+  abbrev pub LeavesQuietly : (old : Qcow2 S F) (before : List (Option Prepared)) (new : Qcow2 S F) (after : List (Option Prepared)) → Type 0
+  LeavesQuietly old before new after = is_writable old ≡ false → AreExisting before → IsLeftQuietly old new after
+
 module _ {S F : Type 0} (view : S → StorageView) (backing : F → BackingView) where
   module _ (old new : Qcow2 S F) where
     -- a mapping of no byte where none are prepared; else where the range stands, and how much of it, by what was known before and at the return
@@ -115,7 +129,7 @@ module _ {S F : Type 0} (view : S → StorageView) (backing : F → BackingView)
   LeavesUnwritten old before new after = is_writable old ≡ false → (abstract_of view backing old before).is_sound → IsUnmodified view old → AreExisting before → IsLeftUnwritten old new after
 
   -- One command, whatever the image, from a point of a run to the next. What it tells of the image is so, and the slots are those that it leaves. It is refused for its causes alone, and as a fault only where one was counted.
-  -- Refused as a fault it fails the image, which stays failed. The size of a failed image stays, and one that was opened for reading is left unwritten.
+  -- Refused as a fault it fails the image, which stays failed. The size of a failed image stays, and one that was opened for reading is left unwritten, whatever its contents are.
   pub record IsToldStep (from to : RunPoint S F) (command : Command) (reply : Reply) : Type 0 where
     pub keeps : KeepsItself from.image to.image
     pub tells : TellsOfImage from.image to.image from.prepared to.prepared command reply
@@ -126,6 +140,7 @@ module _ {S F : Type 0} (view : S → StorageView) (backing : F → BackingView)
     pub failed : FailsBy (refusal_in reply) (is_failed from.image) (is_failed to.image)
     pub size : IsTrue (is_failed from.image) → size_of to.image ≡ size_of from.image
     pub unwritten : LeavesUnwritten from.image from.prepared to.image to.prepared
+    pub quiet : LeavesQuietly view from.image from.prepared to.image to.prepared
 
   -- so is each command, from one point to the next
   abbrev pub IsToldAlong : (first : RunPoint S F) → List Command → List Reply → (points : List (RunPoint S F)) → (last : RunPoint S F) → Type 0

@@ -10,6 +10,7 @@ ghost use Rattle.qcow2_alloc.specs.declared.error.ImageError.TheVariants.{Invali
 ghost use Rattle.qcow2_session.specs.Sessions.{IsOfReading, IsOfWriting, cluster_size_of};
 ghost use Rattle.qcow2_session.specs.CountedFaults.{ConversionCounts};
 ghost use Rattle.qcow2_session.specs.Conversions.{DiffersWhereKept, IsOfImporting, IsReasonNotToWrite, IsRefusedUnequal, IsLeft, IsUnchanged, Imports, ImportsAll, ImportsAt, ImportsAny, ImportsAnyAt, ImportsAnyOf, Fills, Exports};
+ghost use Rattle.qcow2_image.specs.Unwritten.{ReadsQuietly};
 ghost use Rattle.qcow2_session.specs.Told.{StaysUnwritten};
 
 use crate::session::{read_into, write};
@@ -136,6 +137,7 @@ pub fn to_raw<S: Storage, F: WrappedFormat<S>, R: Storage>(
     ensures late { refuses_to_read image.old 0 0 ≡ None → (out : List (Option Prepared)) → (abstract_of S.view F.backing image.old out).is_sound → IfErr result IsMet }
     ensures faults { ConversionCounts S.view F.backing image.old image.new (R.view raw.old).faults (R.view raw.new).faults result }
     ensures header_cluster { StaysBehindHeader S.view image.old image.new }
+    ensures quiet { ReadsQuietly S.view image.old image.new }
 {
     image.check_read(0, 0)?;
     let size = image.size();
@@ -167,6 +169,7 @@ fn export_all<S: Storage, F: WrappedFormat<S>, R: Storage>(
     ensures late { refuses_to_read image.old 0 0 ≡ None → size ≡ size_of image.old → (out : List (Option Prepared)) → (abstract_of S.view F.backing image.old out).is_sound → IfErr result IsMet }
     ensures faults { ConversionCounts S.view F.backing image.old image.new (R.view raw.old).faults (R.view raw.new).faults result }
     ensures header_cluster { StaysBehindHeader S.view image.old image.new }
+    ensures quiet { ReadsQuietly S.view image.old image.new }
 {
     let mut at = 0;
     while at < size {
@@ -195,6 +198,7 @@ fn export_at<S: Storage, F: WrappedFormat<S>, R: Storage>(
     ensures late { refuses_to_read image.old at (length bytes.old) ≡ None → IfErr result IsMet }
     ensures faults { ConversionCounts S.view F.backing image.old image.new (R.view raw.old).faults (R.view raw.new).faults result }
     ensures header_cluster { StaysBehindHeader S.view image.old image.new }
+    ensures quiet { ReadsQuietly S.view image.old image.new }
 {
     read_into(image, at, bytes)?;
     if is_same(bytes, zeros) {

@@ -16,8 +16,8 @@ ghost use Rattle.qcow2_session.specs.CountedFaults.{CommandCounts, FailsAs, Fail
 ghost use Rattle.qcow2_session.specs.Sessions.{IsRightlyBeyond, IsOfReading, IsOfWriting, EndsCluster, Reads, ReadsInto, ReadsFirst, Writes, WritesFirst, CommandSteps, Finds, ReleasesMappings, RunsThrough, RunRefinesDisk, LookupsFindContents, mappings_in};
 ghost use Rattle.qcow2_image.specs.declared.mapping.Mapping.{Mapping};
 ghost use Rattle.qcow2_image.specs.Ranges.{ReleasesOneMapping};
-ghost use Rattle.qcow2_image.specs.Unwritten.{IsOnlyRead, IsUnmodified};
-ghost use Rattle.qcow2_session.specs.Told.{IsNeverWritten, KeepsItself, LeavesUnwritten, SlotsAfter, StaysUnwritten, TellsOfImage, TellsThrough};
+ghost use Rattle.qcow2_image.specs.Unwritten.{IsOnlyRead, IsUnmodified, ReadsQuietly};
+ghost use Rattle.qcow2_session.specs.Told.{IsNeverWritten, KeepsItself, LeavesQuietly, LeavesUnwritten, SlotsAfter, StaysQuiet, StaysUnwritten, TellsOfImage, TellsThrough};
 ghost use Rattle.qcow2_image.specs.declared.prepared.Prepared.{Prepared};
 
 use crate::clearing::{discard_to_any, discard_to_backing, discard_to_zero, ensure_zero};
@@ -174,6 +174,7 @@ pub fn read<S: Storage, F: WrappedFormat<S>>(
     ensures beyond { IfErr result (IsRightlyBeyond image.old offset length) }
     ensures cause { IfErr result IsOfReading }
     ensures sees { Reads S.view F.backing image.old image.new offset length result }
+    ensures quiet { ReadsQuietly S.view image.old image.new }
 {
     image.check_read(offset, length)?;
     let Ok(count) = usize::try_from(length) else {
@@ -214,6 +215,7 @@ pub fn read_into<S: Storage, F: WrappedFormat<S>>(
     ensures beyond { IfErr result (IsRightlyBeyond image.old offset (length bytes.old)) }
     ensures cause { IfErr result IsOfReading }
     ensures sees { ReadsInto S.view F.backing image.old image.new offset bytes.new result }
+    ensures quiet { ReadsQuietly S.view image.old image.new }
 {
     image.check_read(offset, bytes.len() as u64)?;
     let mut done = 0;
@@ -243,6 +245,7 @@ fn read_some<S: Storage, F: WrappedFormat<S>>(
     ensures beyond { 0 < length bytes.old → IfErr result (IsRightlyBeyond image.old offset (length bytes.old)) }
     ensures cause { IfErr result IsOfReading }
     ensures sees { ReadsFirst S.view F.backing image.old image.new offset bytes.new result }
+    ensures quiet { ReadsQuietly S.view image.old image.new }
 {
     let (mapping, found) = image.get_mapping(offset, bytes.len() as u64)?;
     let count = found as usize;
@@ -278,6 +281,7 @@ pub fn write<S: Storage, F: WrappedFormat<S>>(
     ensures cause { IfErr result (λ (e, n). IsOfWriting e) }
     ensures ends { (out : List (Option Prepared)) → (abstract_of S.view F.backing image.old out).is_sound → IfErr result (λ (e, n). 0 < n → (n < length bytes.now) × EndsCluster image.old (offset + n)) }
     ensures sees { Writes S.view F.backing image.old image.new offset bytes.now result }
+    ensures quiet { StaysQuiet S.view image.old image.new }
 {
     let mut done = match write_some(image, offset, bytes) {
         Ok(count) => count,
@@ -317,6 +321,7 @@ fn write_some<S: Storage, F: WrappedFormat<S>>(
     ensures end { IfOk result (λ n. (is_failed image.new ≡ is_failed image.old) × (offset + length bytes.now < 2 ^ 64)) }
     ensures ends { (out : List (Option Prepared)) → (abstract_of S.view F.backing image.old out).is_sound → IfOk result (λ n. n < length bytes.now → EndsCluster image.old (offset + n)) }
     ensures sees { WritesFirst S.view F.backing image.old image.new offset bytes.now result }
+    ensures quiet { StaysQuiet S.view image.old image.new }
 {
     let prepared = image.prepare_data_mapping(offset, bytes.len() as u64, true)?;
     let count = bytes.len().min(prepared.length() as usize);
@@ -366,6 +371,7 @@ pub fn run<S: Storage, F: WrappedFormat<S>>(
     ensures tells { TellsThrough S.view F.backing image.old image.new commands.now result.items }
     ensures unwritten { IsNeverWritten S.view F.backing image.old image.new }
     ensures maps { LookupsFindContents S.view F.backing image.old image.new commands.now result.items }
+    ensures quiet { StaysQuiet S.view image.old image.new }
 {
     let Ok(mut replies) = Vec::with_capacity(alloc, commands.len()) else {
         return Vec::new(alloc);
@@ -401,6 +407,7 @@ fn step<S: Storage, F: WrappedFormat<S>>(
     ensures size { IsTrue (is_failed image.old) → size_of image.new ≡ size_of image.old }
     ensures causes { IsRightlyRefused S.view F.backing image.old image.new slots.old.prepared.items (mappings_in slots.old.mappings.items) command.now result }
     ensures unwritten { LeavesUnwritten S.view F.backing image.old slots.old.prepared.items image.new slots.new.prepared.items }
+    ensures quiet { LeavesQuietly S.view image.old slots.old.prepared.items image.new slots.new.prepared.items }
 {
     match command {
         Command::Read { offset, length } => match read(alloc, image, *offset, *length) {
@@ -460,6 +467,7 @@ fn get_mapping<S: Storage, F: WrappedFormat<S>>(
     ensures after { SlotsAfter slots.old.prepared.items (Command.GetMapping slot offset max) result slots.new.prepared.items }
     ensures unwritten { LeavesUnwritten S.view F.backing image.old slots.old.prepared.items image.new slots.new.prepared.items }
     ensures tells { TellsOfImage S.view F.backing image.old image.new slots.old.prepared.items slots.new.prepared.items (Command.GetMapping slot offset max) result }
+    ensures quiet { LeavesQuietly S.view image.old slots.old.prepared.items image.new slots.new.prepared.items }
 {
     match image.get_mapping(offset, max) {
         Ok((mapping, _)) => {
@@ -487,6 +495,7 @@ fn read_mapped<S: Storage, F: WrappedFormat<S>>(
     ensures causes { IsRightlyRefused S.view F.backing image.old image.new slots.now.prepared.items (mappings_in slots.now.mappings.items) (Command.ReadMapped slot at length) result }
     ensures command_step { CommandSteps S.view F.backing image.old image.new slots.now slots.now (Command.ReadMapped slot at length) result }
     ensures finds { Finds slots.now slots.now (Command.ReadMapped slot at length) result }
+    ensures quiet { ReadsQuietly S.view image.old image.new }
 {
     let Some(mapping) = slots.mappings[usize::from(slot)] else {
         return Reply::Misuse;
@@ -520,6 +529,7 @@ fn read_range<S: Storage, F: WrappedFormat<S>>(
         → ¬ IsFoundWhole S.view image.new (mapping.now.offset + at) (further_by at mapping.now.kind) length }
     ensures mapped { 0 < length → (out : List (Option Prepared)) → (abstract_of S.view F.backing image.old out).is_sound → OnOk result (IsFoundWhole S.view image.old (mapping.now.offset + at) (further_by at mapping.now.kind) length) }
     ensures sees { Reads S.view F.backing image.old image.new (mapping.now.offset + at) length result }
+    ensures quiet { ReadsQuietly S.view image.old image.new }
 {
     image.check_read(0, 0)?;
     let mut bytes = zeros(alloc, length as usize)?;
@@ -547,6 +557,7 @@ fn prepare<S: Storage, F: WrappedFormat<S>>(
     ensures after { SlotsAfter slots.old.prepared.items (Command.PrepareDataMapping slot offset length overwrite) result slots.new.prepared.items }
     ensures unwritten { LeavesUnwritten S.view F.backing image.old slots.old.prepared.items image.new slots.new.prepared.items }
     ensures tells { TellsOfImage S.view F.backing image.old image.new slots.old.prepared.items slots.new.prepared.items (Command.PrepareDataMapping slot offset length overwrite) result }
+    ensures quiet { LeavesQuietly S.view image.old slots.old.prepared.items image.new slots.new.prepared.items }
 {
     if slots.get(slot).is_some() {
         return Reply::Misuse;
@@ -611,6 +622,7 @@ fn commit<S: Storage, F: WrappedFormat<S>>(
     ensures finds { Finds slots.old slots.new (Command.CommitDataMapping slot) result }
     ensures after { SlotsAfter slots.old.prepared.items (Command.CommitDataMapping slot) result slots.new.prepared.items }
     ensures unwritten { LeavesUnwritten S.view F.backing image.old slots.old.prepared.items image.new slots.new.prepared.items }
+    ensures quiet { LeavesQuietly S.view image.old slots.old.prepared.items image.new slots.new.prepared.items }
 {
     let Some(prepared) = slots.put(slot, None) else {
         return Reply::Misuse;
@@ -641,6 +653,7 @@ fn discard<S: Storage, F: WrappedFormat<S>>(
     ensures finds { Finds slots.old slots.new (Command.DiscardDataMapping slot) result }
     ensures after { SlotsAfter slots.old.prepared.items (Command.DiscardDataMapping slot) result slots.new.prepared.items }
     ensures unwritten { LeavesUnwritten S.view F.backing image.old slots.old.prepared.items image.new slots.new.prepared.items }
+    ensures quiet { LeavesQuietly S.view image.old slots.old.prepared.items image.new slots.new.prepared.items }
 {
     match slots.put(slot, None) {
         None => Reply::Misuse,
@@ -660,6 +673,7 @@ fn flush<S: Storage, F: WrappedFormat<S>>(image: &mut Qcow2<S, F>) -> Reply
     ensures causes { (before : List (Option Prepared)) (found : ℕ → Option Mapping) → IsRightlyRefused S.view F.backing image.old image.new before found Command.Flush result }
     ensures command_step { (slots : Slots) → CommandSteps S.view F.backing image.old image.new slots slots Command.Flush result }
     ensures finds { (slots : Slots) → Finds slots slots Command.Flush result }
+    ensures quiet { StaysQuiet S.view image.old image.new }
 {
     if let Err(refusal) = image.flush() {
         return Reply::Refused(refusal);
@@ -676,6 +690,7 @@ fn release_slot<S: Storage, F: WrappedFormat<S>>(image: &mut Qcow2<S, F>, slot: 
     ensures header_cluster { StaysBehindHeader S.view image.old image.new }
     ensures marks { is_failed image.new ≡ is_failed image.old }
     ensures sees { (out : List (Option Prepared)) → ReleasesMappings S.view F.backing image.old image.new (out ++ slot ∷ []) out }
+    ensures quiet { ReadsQuietly S.view image.old image.new }
 {
     if let Some(prepared) = slot {
         release(image, prepared);
@@ -691,6 +706,7 @@ fn discard_all<S: Storage, F: WrappedFormat<S>>(image: &mut Qcow2<S, F>, slots: 
     ensures faults { SameFaults S.view F.backing image.old image.new }
     ensures header_cluster { StaysBehindHeader S.view image.old image.new }
     ensures marks { is_failed image.new ≡ is_failed image.old }
+    ensures quiet { ReadsQuietly S.view image.old image.new }
 {
     let Slots {
         image: _,

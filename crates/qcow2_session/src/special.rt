@@ -14,6 +14,7 @@ ghost use Rattle.qcow2_session.specs.Causes.{IsRightlyRefused};
 ghost use Rattle.qcow2_session.specs.CountedFaults.{CommandCounts, FailsAs, FailsBy, refusal_in};
 ghost use Rattle.qcow2_session.specs.Commands.{IsOwnOffset, TellsPlain, TellsSpecial};
 ghost use Rattle.qcow2_session.specs.Sessions.{CommandSteps, Finds};
+ghost use Rattle.qcow2_image.specs.Unwritten.{ReadsQuietly};
 ghost use Rattle.qcow2_session.specs.Told.{StaysUnwritten, TellsOfImage};
 ghost use Rattle.qcow2_session.specs.declared.session.Command.TheVariants.{ReadvSpecial, TryReadvSpecial};
 ghost use Rattle.qcow2_session.specs.declared.slots.Slots.{Slots};
@@ -38,6 +39,7 @@ pub(crate) fn readv_special<S: Storage, F: WrappedFormat<S>>(
     ensures causes { (before : List (Option Prepared)) (found : ℕ → Option Mapping) → IsRightlyRefused S.view F.backing image.old image.new before found (ReadvSpecial offset length) result }
     ensures command_step { (slots : Slots) → CommandSteps S.view F.backing image.old image.new slots slots (ReadvSpecial offset length) result }
     ensures finds { (slots : Slots) → Finds slots slots (ReadvSpecial offset length) result }
+    ensures quiet { ReadsQuietly S.view image.old image.new }
 {
     match read_range(alloc, image, offset, length) {
         Ok(()) => Reply::Done,
@@ -61,6 +63,7 @@ pub(crate) fn try_readv_special<S: Storage, F: WrappedFormat<S>>(
     ensures causes { (before : List (Option Prepared)) (found : ℕ → Option Mapping) → IsRightlyRefused S.view F.backing image.old image.new before found (TryReadvSpecial offset length) result }
     ensures command_step { (slots : Slots) → CommandSteps S.view F.backing image.old image.new slots slots (TryReadvSpecial offset length) result }
     ensures finds { (slots : Slots) → Finds slots slots (TryReadvSpecial offset length) result }
+    ensures quiet { ReadsQuietly S.view image.old image.new }
 {
     match try_range(alloc, image, offset, length) {
         Ok(plain) => Reply::NotCompressed(plain),
@@ -85,6 +88,7 @@ fn read_range<S: Storage, F: WrappedFormat<S>>(
     ensures own { IfErr result (IsOwnOffset offset) }
     ensures tells { (out : List (Option Prepared)) → (abstract_of S.view F.backing image.old out).is_sound → TellsSpecial (known_in S.view image.old.file) offset length result }
     ensures sees { AnswersCall S.view F.backing image.old image.new [] (λ done was is. is ≡ was) result }
+    ensures quiet { ReadsQuietly S.view image.old image.new }
 {
     image.check_read(0, 0)?;
     let mut bytes = zeros(alloc, length as usize)?;
@@ -107,6 +111,7 @@ fn try_range<S: Storage, F: WrappedFormat<S>>(
     ensures answer { IfOk result (λ plain. MatchOption plain (length ≡ 0) (λ at. at ≡ offset)) }
     ensures tells { (out : List (Option Prepared)) → (abstract_of S.view F.backing image.old out).is_sound → TellsPlain (known_in S.view image.old.file) offset length result }
     ensures sees { AnswersCall S.view F.backing image.old image.new [] (λ plain was is. is ≡ was) result }
+    ensures quiet { ReadsQuietly S.view image.old image.new }
 {
     image.check_read(0, 0)?;
     let mut bytes = zeros(alloc, length as usize)?;

@@ -13,6 +13,8 @@ use Rattle.qcow2_image.proofs.Map.Unmodified.{read_none, read_then}
 use Rattle.qcow2_session.proofs.Told.{same_then}
 use Rattle.qcow2_session.proofs.Turns.{refused_is, none_within, does_if, does_then}
 use Rattle.qcow2_image.proofs.Call.BehindHeader.{behind_none, behind_then}
+use Rattle.qcow2_image.proofs.Map.Quiet.{reads_none}
+use Rattle.qcow2_alloc.proofs.KeptTables.AllWritten.{written_then}
 use Rattle.qcow2_session.proofs.convert.export_all.Goals as goal
 
 pub returns-in_err-export_at-clause-same : goal.returns-in_err-export_at-clause-same
@@ -34,6 +36,7 @@ loop-at-init g c = record {
   counted = refl;
   within = omega arith;
   image = record { number = refl; size = refl; writable = refl; external = refl };
+  quiet = reads_none g.S.Storage.view c.args.image.now;
   unwritten = λ reading out sound clean. read_none g.S.Storage.view c.args.image.now clean;
   honest = λ h. h;
   same = λ out. does_nothing (abstract_of g.S.Storage.view g.F.BackingDisk.backing c.args.image.now out);
@@ -50,6 +53,7 @@ loop-at-preserved g c =
       counted = c.in_ok-export_at.ensures.faults.told.1 ∙ c.loop-at.invariant.counted;
       within = grind (arith, common_steps);
       image = same_then c.loop-at.invariant.image c.export_at.ensures.image;
+      quiet = written_then g.S.Storage.view c.loop-at.invariant.quiet c.export_at.ensures.quiet;
       unwritten = λ reading out sound clean.
           let so_far = c.loop-at.invariant.unwritten reading out sound clean in
           read_then view so_far (c.export_at.ensures.unwritten (c.loop-at.invariant.image.writable ∙ reading) out ((c.loop-at.invariant.same out).answer sound).0 so_far.unmodified);
@@ -83,3 +87,6 @@ returns-clause-faults g c = converted _ _ _ _ _ _ _ (c.loop-at.invariant.faults)
 
 pub returns-in_err-export_at-clause-header_cluster : goal.returns-in_err-export_at-clause-header_cluster
 returns-in_err-export_at-clause-header_cluster g c = behind_then c.loop-at.invariant.behind c.export_at.ensures.header_cluster
+
+pub returns-in_err-export_at-clause-quiet : goal.returns-in_err-export_at-clause-quiet
+returns-in_err-export_at-clause-quiet g c = written_then g.S.Storage.view c.loop-at.invariant.quiet c.export_at.ensures.quiet

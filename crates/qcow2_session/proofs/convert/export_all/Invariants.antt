@@ -8,6 +8,7 @@ use Rattle.qcow2_image.specs.Image.{IsSameImage}
 use Rattle.qcow2_image.specs.ImageInvariant.{abstract_of}
 use Rattle.qcow2_image.specs.declared.prepared.Prepared.{Prepared}
 use Rattle.qcow2_session.specs.Conversions.{Fills}
+use Rattle.qcow2_image.specs.Unwritten.{ReadsQuietly}
 use Rattle.qcow2_session.specs.Told.{StaysUnwritten}
 use Rattle.qcow2_session.proofs.convert.export_all.Given as goal
 
@@ -18,6 +19,7 @@ invariant-loop-at g l = record {
   counted : (g.R.Storage.view l.raw).faults ≡ (g.R.Storage.view l.fn.raw).faults;
   within : l.at ≤ l.size;
   image : IsSameImage l.fn.image l.image;
+  quiet : ReadsQuietly g.S.Storage.view l.fn.image l.image;
   unwritten : StaysUnwritten g.S.Storage.view g.F.BackingDisk.backing l.fn.image l.image;
   honest : (g.R.Storage.view l.fn.raw).is_honest → (g.R.Storage.view l.raw).is_honest;
   same : (out : List (Option Prepared)) → let v = abstract_of g.S.Storage.view g.F.BackingDisk.backing l.fn.image out in let w = abstract_of g.S.Storage.view g.F.BackingDisk.backing l.image out in

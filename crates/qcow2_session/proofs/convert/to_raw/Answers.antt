@@ -10,6 +10,7 @@ use Rattle.qcow2_session.proofs.Counting.{converted, converting_else, converting
 use Rattle.qcow2_session.proofs.Exporting.{unchanged_refused, filled_first, filled_all}
 use Rattle.qcow2_session.proofs.Turns.{refused_is}
 use Rattle.qcow2_image.proofs.Call.BehindHeader.{behind_none}
+use Rattle.qcow2_image.proofs.Map.Quiet.{reads_none}
 use Rattle.qcow2_session.proofs.convert.to_raw.Goals as goal
 
 pub returns-in_err-export_all-clause-same : goal.returns-in_err-export_all-clause-same
@@ -78,3 +79,9 @@ returns-in_err-resize-clause-header_cluster g c = behind_none
 
 pub returns-in_err-resize-2-clause-header_cluster : goal.returns-in_err-resize-2-clause-header_cluster
 returns-in_err-resize-2-clause-header_cluster g c = behind_none
+
+pub returns-in_err-resize-clause-quiet : goal.returns-in_err-resize-clause-quiet
+returns-in_err-resize-clause-quiet g c = reads_none g.S.Storage.view c.args.image.now
+
+pub returns-in_err-resize-2-clause-quiet : goal.returns-in_err-resize-2-clause-quiet
+returns-in_err-resize-2-clause-quiet g c = reads_none g.S.Storage.view c.args.image.now

@@ -10,6 +10,7 @@ use Rattle.qcow2_image.proofs.Call.FaultCounts.{faults_then}
 use Rattle.qcow2_image.proofs.Call.BehindHeader.{behind_none, behind_then}
 use Rattle.qcow2_session.proofs.Counting.{none_counted}
 use Rattle.qcow2_session.proofs.Converting.{does_nothing}
+use Rattle.qcow2_alloc.proofs.KeptTables.AllWritten.{written_then}
 use Rattle.qcow2_session.proofs.session.discard_all.Goals as goal
 
 pub loop-slot-preserved : goal.loop-slot-preserved
@@ -23,6 +24,7 @@ loop-slot-preserved g c =
       own = λ k p e. c.loop-slot.invariant.own k p (subst (λ o. slice_get o k ≡ Some (Some p)) (sym c.in-Some.ensures.items) (get_front rest (c.in-Some.slot ∷ []) k (Some p) e)) ∙ sym c.release_slot.ensures.image.number;
       image = same_then c.loop-slot.invariant.image c.release_slot.ensures.image;
       works = c.release_slot.ensures.marks ∙ c.loop-slot.invariant.works;
+      quiet = written_then view c.loop-slot.invariant.quiet c.release_slot.ensures.quiet;
       unwritten = λ clean. let so_far = c.loop-slot.invariant.unwritten clean in read_then view so_far (c.release_slot.ensures.unwritten so_far.unmodified);
       gone = does_if (λ h. h.1 ∙ h.0)
           (does_then (λ _. none_within (abstract_of view below c.loop-slot.image (rest ++ c.in-Some.slot ∷ [])) [])

@@ -82,3 +82,9 @@ returns-in-Err-clause-marks g c = refused_marks c.in-Err.refusal _ _ _ c.in-Err.
 
 pub returns-in-Ok-clause-marks : goal.returns-in-Ok-clause-marks
 returns-in-Ok-clause-marks g c = c.in-Ok.ensures.marks
+
+pub returns-in-Ok-clause-quiet : goal.returns-in-Ok-clause-quiet
+returns-in-Ok-clause-quiet g c = λ reading existing. record { reading = c.get_mapping.ensures.image.writable ∙ reading; quiet = c.get_mapping.ensures.quiet; existing = existing }
+
+pub returns-in-Err-clause-quiet : goal.returns-in-Err-clause-quiet
+returns-in-Err-clause-quiet g c = λ reading existing. record { reading = c.get_mapping.ensures.image.writable ∙ reading; quiet = c.get_mapping.ensures.quiet; existing = existing }

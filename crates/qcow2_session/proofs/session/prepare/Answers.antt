@@ -28,6 +28,8 @@ use Rattle.qcow2_session.proofs.Untaken.{prepared_untaken}
 use Rattle.qcow2_session.proofs.Causing.{begun_with, holds, is_answered, is_misused, is_refused, not_free, some_error}
 use Rattle.qcow2_session.proofs.Marking.{refused_marks}
 use Rattle.qcow2_image.proofs.Call.BehindHeader.{behind_none}
+use Rattle.qcow2_image.proofs.Map.Quiet.{reads_none}
+use Rattle.qcow2_session.proofs.Quiet.{quiet_image, quiet_left}
 use Rattle.qcow2_session.proofs.session.prepare.Goals as goal
 
 pub returns-then-is_some-clause-command_step : goal.returns-then-is_some-clause-command_step
@@ -139,3 +141,25 @@ returns-in-Err-clause-marks g c = refused_marks c.in-Err.refusal _ _ _ c.in-Err.
 
 pub returns-then-is_some-clause-header_cluster : goal.returns-then-is_some-clause-header_cluster
 returns-then-is_some-clause-header_cluster g c = behind_none
+
+pub returns-in-Ok-clause-quiet : goal.returns-in-Ok-clause-quiet
+returns-in-Ok-clause-quiet g c = λ reading existing.
+    let old = c.args.image.now in
+    let new = c.prepare_data_mapping.new.self in
+    let same = prepare_same old reading _ c.args.offset c.args.length c.prepare_data_mapping.ensures.early c.prepare_data_mapping.ensures.nothing in
+    let p = nothing_prepared old reading _ c.in-Ok.prepared c.args.offset c.args.length c.in-Ok.ensures.early c.in-Ok.ensures.nothing in
+    record {
+      reading = ap is_writable same ∙ reading;
+      quiet = quiet_image g.S.Storage.view old new same;
+      existing = subst AreExisting (sym c.fill.ensures.is) (existing_set c.args.slots.now.prepared.items c.args.slot (Some c.in-Ok.prepared) existing p.0);
+    }
+
+pub returns-in-Err-clause-quiet : goal.returns-in-Err-clause-quiet
+returns-in-Err-clause-quiet g c = λ reading existing.
+    let old = c.args.image.now in
+    let new = c.prepare_data_mapping.new.self in
+    let same = prepare_same old reading _ c.args.offset c.args.length c.prepare_data_mapping.ensures.early c.prepare_data_mapping.ensures.nothing in
+    quiet_left g.S.Storage.view old new c.args.slots.now.prepared.items same reading existing
+
+pub returns-then-is_some-clause-quiet : goal.returns-then-is_some-clause-quiet
+returns-then-is_some-clause-quiet g c = λ reading existing. record { reading = reading; quiet = reads_none g.S.Storage.view c.args.image.now; existing = existing }

@@ -18,6 +18,8 @@ use Rattle.std.proofs.Common.{Some}
 use Rattle.qcow2_session.proofs.Marking.{fails_behind, hands_on, unmarked}
 use Rattle.qcow2_session.proofs.Counting.{none_counted}
 use Rattle.qcow2_session.proofs.Converting.{does_nothing}
+use Rattle.qcow2_image.proofs.Map.Quiet.{reads_none}
+use Rattle.qcow2_alloc.proofs.KeptTables.AllWritten.{written_then}
 use Rattle.qcow2_session.proofs.session.read_into.Goals as goal
 
 pub returns-in_default-clause-sees : goal.returns-in_default-clause-sees
@@ -38,6 +40,7 @@ loop-done-preserved g c = record {
   end = grind (arith, common_steps);
   image = same_then c.loop-done.invariant.image c.read_some.ensures.image;
   works = c.in_ok-done.ensures.marks ∙ c.loop-done.invariant.works;
+  quiet = written_then g.S.Storage.view c.loop-done.invariant.quiet c.read_some.ensures.quiet;
   unwritten = λ reading out sound clean.
       let so_far = c.loop-done.invariant.unwritten reading out sound clean in
       read_then g.S.Storage.view so_far (c.read_some.ensures.unwritten (c.loop-done.invariant.image.writable ∙ reading) out ((c.loop-done.invariant.shown out).answer sound).0 so_far.unmodified);
@@ -125,3 +128,6 @@ loop-done-init g c = record {
   unwritten = λ reading out sound clean. read_none g.S.Storage.view c.args.image.now clean;
   shown = λ out. does_if (λ same. (λ i lt. absurd (let none : i < length (take 0 c.args.bytes.now) = lt in grind (arith, common_steps)), same)) (does_nothing (abstract_of g.S.Storage.view g.F.BackingDisk.backing c.args.image.now out));
 }
+
+pub returns-in_err-done-clause-quiet : goal.returns-in_err-done-clause-quiet
+returns-in_err-done-clause-quiet g c = written_then g.S.Storage.view c.loop-done.invariant.quiet c.read_some.ensures.quiet

@@ -6,6 +6,7 @@ use Rattle.qcow2_image.specs.BehindHeader.{StaysBehindHeader}
 use Rattle.qcow2_image.specs.Image.{IsSameImage, is_failed}
 use Rattle.qcow2_image.specs.ImageInvariant.{abstract_of}
 use Rattle.qcow2_image.specs.declared.prepared.Prepared.{Prepared}
+use Rattle.qcow2_image.specs.Unwritten.{ReadsQuietly}
 use Rattle.qcow2_session.specs.Told.{StaysUnwritten}
 use Rattle.qcow2_image.specs.Faults.{SameFaults}
 use Rattle.qcow2_session.proofs.session.read_into.Given as goal
@@ -18,6 +19,7 @@ invariant-loop-done g l = record {
   end : l.fn.offset + length l.bytes < 2 ^ 64;
   image : IsSameImage l.fn.image l.image;
   works : is_failed l.image ≡ is_failed l.fn.image;
+  quiet : ReadsQuietly g.S.Storage.view l.fn.image l.image;
   unwritten : StaysUnwritten g.S.Storage.view g.F.BackingDisk.backing l.fn.image l.image;
   shown : (out : List (Option Prepared)) → let v = abstract_of g.S.Storage.view g.F.BackingDisk.backing l.fn.image out in let w = abstract_of g.S.Storage.view g.F.BackingDisk.backing l.image out in
       AnsweredEffect v w [] [] (Shows (guest_of v).disk l.fn.offset (take l.done l.bytes) × (guest_of w ≡ guest_of v));

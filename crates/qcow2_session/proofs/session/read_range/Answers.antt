@@ -85,3 +85,9 @@ returns-in_err-bytes-clause-header_cluster g c = behind_none
 
 pub returns-in_err-check_read-clause-header_cluster : goal.returns-in_err-check_read-clause-header_cluster
 returns-in_err-check_read-clause-header_cluster g c = behind_none
+
+pub returns-in_err-read_mapped-clause-quiet : goal.returns-in_err-read_mapped-clause-quiet
+returns-in_err-read_mapped-clause-quiet g c = c.read_mapped.ensures.quiet
+
+pub returns-clause-quiet : goal.returns-clause-quiet
+returns-clause-quiet g c = c.read_mapped.ensures.quiet

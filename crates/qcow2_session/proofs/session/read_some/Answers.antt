@@ -16,6 +16,8 @@ use Rattle.qcow2_session.proofs.Parts.{mapping_usable}
 use Rattle.qcow2_image.proofs.Call.MetErrors.{tables_met}
 use Rattle.qcow2_session.proofs.Marking.{fails_behind, hands_on, refused_marks}
 use Rattle.qcow2_image.proofs.Call.BehindHeader.{behind_then}
+use Rattle.qcow2_alloc.proofs.KeptTables.AllWritten.{written_then}
+use Rattle.qcow2_image.proofs.Call.FaultCounts.{counted_on}
 use Rattle.qcow2_session.proofs.session.read_some.Goals as goal
 
 pub returns-in_err-mapping-clause-sees : goal.returns-in_err-mapping-clause-sees
@@ -98,3 +100,20 @@ returns-clause-header_cluster g c = behind_then c.get_mapping.ensures.header_clu
 
 pub returns-in_err-read_mapped-clause-header_cluster : goal.returns-in_err-read_mapped-clause-header_cluster
 returns-in_err-read_mapped-clause-header_cluster g c = behind_then c.get_mapping.ensures.header_cluster c.read_mapped.ensures.header_cluster
+
+pub returns-in_err-read_mapped-clause-quiet : goal.returns-in_err-read_mapped-clause-quiet
+returns-in_err-read_mapped-clause-quiet g c = written_then g.S.Storage.view c.get_mapping.ensures.quiet c.read_mapped.ensures.quiet
+
+pub returns-clause-quiet : goal.returns-clause-quiet
+returns-clause-quiet g c = written_then g.S.Storage.view c.get_mapping.ensures.quiet c.read_mapped.ensures.quiet
+
+pub returns-in_err-mapping-clause-quiet : goal.returns-in_err-mapping-clause-quiet
+returns-in_err-mapping-clause-quiet g c = c.get_mapping.ensures.quiet
+
+pub returns-then-count-eq0-clause-quiet : goal.returns-then-count-eq0-clause-quiet
+returns-then-count-eq0-clause-quiet g c = c.get_mapping.ensures.quiet
+
+pub returns-in_err-read_mapped-clause-faults : goal.returns-in_err-read_mapped-clause-faults
+returns-in_err-read_mapped-clause-faults g c =
+    counted_on g.S.Storage.view g.F.BackingDisk.backing c.args.image.now c.get_mapping.new.self c.read_mapped.new.self c.read_mapped.result c.in_err-read_mapped.field-0.0 c.from_residual-in_err-read_mapped.result c.in_ok-mapping.ensures.faults.told
+    c.read_mapped.ensures.faults c.in_err-read_mapped.was c.from_residual-in_err-read_mapped.ensures

@@ -6,6 +6,7 @@ use Rattle.qcow2_session.proofs.Places.{last_none, last_release}
 use Rattle.qcow2_image.proofs.Map.Unmodified.{read_none}
 use Rattle.qcow2_session.proofs.Unwritten.{read_release_prepared}
 use Rattle.qcow2_image.proofs.Call.BehindHeader.{behind_none}
+use Rattle.qcow2_session.proofs.Quiet.{quiet_release}
 use Rattle.qcow2_session.proofs.session.release_slot.Goals as goal
 
 pub returns-in-Some-clause-sees : goal.returns-in-Some-clause-sees
@@ -31,3 +32,6 @@ returns-in_default-clause-unwritten g c = λ clean. read_none g.S.Storage.view c
 
 pub returns-in_default-clause-header_cluster : goal.returns-in_default-clause-header_cluster
 returns-in_default-clause-header_cluster g c = behind_none
+
+pub returns-in-Some-clause-quiet : goal.returns-in-Some-clause-quiet
+returns-in-Some-clause-quiet g c = quiet_release g.S.Storage.view c.args.image.now c.release.new.image c.release.ensures.rest

@@ -20,6 +20,8 @@ use Rattle.qcow2_session.proofs.Unwritten.{existing_none, never_written}
 use Rattle.qcow2_session.specs.CountedFaults.{RunCounts}
 use Rattle.qcow2_session.proofs.Counting.{none_counted, run_counts_more, run_counts_still}
 use Rattle.qcow2_image.proofs.Call.BehindHeader.{behind_none, behind_then}
+use Rattle.qcow2_alloc.proofs.KeptTables.AllWritten.{written_then}
+use Rattle.qcow2_session.proofs.Quiet.{along_quietly}
 use Rattle.qcow2_session.proofs.session.run.Goals as goal
 
 pub loop-command-init : goal.loop-command-init
@@ -70,7 +72,7 @@ loop-command-preserved g c = record {
       subst (λ l. IsToldSoFar view below c.args.image.now now (take (done + 1) commands) l) (sym c.push_reserved.ensures.items)
       (subst (λ l. IsToldSoFar view below c.args.image.now now l (c.loop-command.replies.items ++ c.step-reply.result ∷ [])) (sym split)
       (told_more view below c.args.image.now before now (take done commands) c.loop-command.replies.items c.command-item.result c.step-reply.result c.loop-command.invariant.told
-      (record { keeps = c.step-reply.ensures.keeps; tells = c.step-reply.ensures.tells; slots = c.step-reply.ensures.after; causes = c.step-reply.ensures.causes; finds = c.step-reply.ensures.finds; counts = c.step-reply.ensures.faults; failed = c.step-reply.ensures.marks; size = c.step-reply.ensures.size; unwritten = c.step-reply.ensures.unwritten })
+      (record { keeps = c.step-reply.ensures.keeps; tells = c.step-reply.ensures.tells; slots = c.step-reply.ensures.after; causes = c.step-reply.ensures.causes; finds = c.step-reply.ensures.finds; counts = c.step-reply.ensures.faults; failed = c.step-reply.ensures.marks; size = c.step-reply.ensures.size; unwritten = c.step-reply.ensures.unwritten; quiet = c.step-reply.ensures.quiet })
       c.step-reply.ensures.command_step));
 }
 
@@ -175,3 +177,8 @@ returns-in_default-clause-header_cluster g c = behind_none
 
 pub returns-in_default-new-clause-header_cluster : goal.returns-in_default-new-clause-header_cluster
 returns-in_default-new-clause-header_cluster g c = behind_none
+
+pub returns-clause-quiet : goal.returns-clause-quiet
+returns-clause-quiet g c = λ reading.
+    let told = c.loop-command.invariant.told in
+    written_then g.S.Storage.view (along_quietly g.S.Storage.view g.F.BackingDisk.backing (first_point c.args.image.now) (take c.loop-command.command-index c.args.commands.now) c.loop-command.replies.items told.points _ told.along reading existing_none) c.discard_all.ensures.quiet

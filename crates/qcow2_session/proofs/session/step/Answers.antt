@@ -10,6 +10,8 @@ use Rattle.qcow2_session.proofs.Unwritten.{left_same}
 use Rattle.qcow2_session.specs.Causes.{IsRightlyRefused}
 use Rattle.qcow2_session.proofs.Causing.{read_answered, read_refused, size_answered, write_answered, write_refused_for}
 use Rattle.qcow2_image.proofs.Call.BehindHeader.{behind_none}
+use Rattle.qcow2_image.proofs.Map.Quiet.{reads_none}
+use Rattle.qcow2_session.proofs.Quiet.{quiet_left}
 use Rattle.qcow2_session.proofs.session.step.Goals as goal
 
 pub returns-in-Ok-clause-command_step : goal.returns-in-Ok-clause-command_step
@@ -315,3 +317,63 @@ returns-in-ResizeShrink-clause-after g c = subst (λ q. SlotsAfter c.args.slots.
 
 pub returns-in-Size-clause-header_cluster : goal.returns-in-Size-clause-header_cluster
 returns-in-Size-clause-header_cluster g c = behind_none
+
+pub returns-in-Ok-clause-quiet : goal.returns-in-Ok-clause-quiet
+returns-in-Ok-clause-quiet g c = λ reading existing. record { reading = c.read.ensures.image.writable ∙ reading; quiet = c.read.ensures.quiet; existing = existing }
+
+pub returns-in-Err-clause-quiet : goal.returns-in-Err-clause-quiet
+returns-in-Err-clause-quiet g c = λ reading existing. record { reading = c.read.ensures.image.writable ∙ reading; quiet = c.read.ensures.quiet; existing = existing }
+
+pub returns-in-Ok-write-clause-quiet : goal.returns-in-Ok-write-clause-quiet
+returns-in-Ok-write-clause-quiet g c = λ reading existing. record { reading = c.write.ensures.image.writable ∙ reading; quiet = c.write.ensures.quiet reading; existing = existing }
+
+pub returns-in-Err-write-clause-quiet : goal.returns-in-Err-write-clause-quiet
+returns-in-Err-write-clause-quiet g c = λ reading existing. record { reading = c.write.ensures.image.writable ∙ reading; quiet = c.write.ensures.quiet reading; existing = existing }
+
+pub returns-in-Flush-clause-quiet : goal.returns-in-Flush-clause-quiet
+returns-in-Flush-clause-quiet g c = λ reading existing. record { reading = c.flush.ensures.image.writable ∙ reading; quiet = c.flush.ensures.quiet reading; existing = existing }
+
+pub returns-in-ReadMapped-clause-quiet : goal.returns-in-ReadMapped-clause-quiet
+returns-in-ReadMapped-clause-quiet g c = λ reading existing. record { reading = c.read_mapped.ensures.image.writable ∙ reading; quiet = c.read_mapped.ensures.quiet; existing = existing }
+
+pub returns-in-ReadvSpecial-clause-quiet : goal.returns-in-ReadvSpecial-clause-quiet
+returns-in-ReadvSpecial-clause-quiet g c = λ reading existing. record { reading = c.readv_special.ensures.image.writable ∙ reading; quiet = c.readv_special.ensures.quiet; existing = existing }
+
+pub returns-in-TryReadvSpecial-clause-quiet : goal.returns-in-TryReadvSpecial-clause-quiet
+returns-in-TryReadvSpecial-clause-quiet g c = λ reading existing. record { reading = c.try_readv_special.ensures.image.writable ∙ reading; quiet = c.try_readv_special.ensures.quiet; existing = existing }
+
+pub returns-in-Size-clause-quiet : goal.returns-in-Size-clause-quiet
+returns-in-Size-clause-quiet g c = λ reading existing. record { reading = reading; quiet = reads_none g.S.Storage.view c.args.image.now; existing = existing }
+
+pub returns-in-GetMapping-clause-quiet : goal.returns-in-GetMapping-clause-quiet
+returns-in-GetMapping-clause-quiet g c = c.get_mapping.ensures.quiet
+
+pub returns-in-PrepareDataMapping-clause-quiet : goal.returns-in-PrepareDataMapping-clause-quiet
+returns-in-PrepareDataMapping-clause-quiet g c = c.prepare.ensures.quiet
+
+pub returns-in-CommitDataMapping-clause-quiet : goal.returns-in-CommitDataMapping-clause-quiet
+returns-in-CommitDataMapping-clause-quiet g c = c.commit.ensures.quiet
+
+pub returns-in-DiscardDataMapping-clause-quiet : goal.returns-in-DiscardDataMapping-clause-quiet
+returns-in-DiscardDataMapping-clause-quiet g c = c.discard.ensures.quiet
+
+pub returns-in-WriteMapped-clause-quiet : goal.returns-in-WriteMapped-clause-quiet
+returns-in-WriteMapped-clause-quiet g c = λ reading existing. quiet_left g.S.Storage.view c.args.image.now c.write_mapped.new.image c.args.slots.now.prepared.items (c.write_mapped.ensures.reading reading) reading existing
+
+pub returns-in-EnsureZeroMapping-clause-quiet : goal.returns-in-EnsureZeroMapping-clause-quiet
+returns-in-EnsureZeroMapping-clause-quiet g c = λ reading existing. quiet_left g.S.Storage.view c.args.image.now c.ensure_zero.new.image c.args.slots.now.prepared.items (c.ensure_zero.ensures.reading reading) reading existing
+
+pub returns-in-DiscardToZero-clause-quiet : goal.returns-in-DiscardToZero-clause-quiet
+returns-in-DiscardToZero-clause-quiet g c = λ reading existing. quiet_left g.S.Storage.view c.args.image.now c.discard_to_zero.new.image c.args.slots.now.prepared.items (c.discard_to_zero.ensures.reading reading) reading existing
+
+pub returns-in-DiscardToAny-clause-quiet : goal.returns-in-DiscardToAny-clause-quiet
+returns-in-DiscardToAny-clause-quiet g c = λ reading existing. quiet_left g.S.Storage.view c.args.image.now c.discard_to_any.new.image c.args.slots.now.prepared.items (c.discard_to_any.ensures.reading reading) reading existing
+
+pub returns-in-DiscardToBacking-clause-quiet : goal.returns-in-DiscardToBacking-clause-quiet
+returns-in-DiscardToBacking-clause-quiet g c = λ reading existing. quiet_left g.S.Storage.view c.args.image.now c.discard_to_backing.new.image c.args.slots.now.prepared.items (c.discard_to_backing.ensures.reading reading) reading existing
+
+pub returns-in-ResizeGrow-clause-quiet : goal.returns-in-ResizeGrow-clause-quiet
+returns-in-ResizeGrow-clause-quiet g c = λ reading existing. quiet_left g.S.Storage.view c.args.image.now c.grow.new.image c.args.slots.now.prepared.items (c.grow.ensures.reading reading) reading existing
+
+pub returns-in-ResizeShrink-clause-quiet : goal.returns-in-ResizeShrink-clause-quiet
+returns-in-ResizeShrink-clause-quiet g c = λ reading existing. quiet_left g.S.Storage.view c.args.image.now c.shrink.new.image c.args.slots.now.prepared.items (c.shrink.ensures.reading reading) reading existing

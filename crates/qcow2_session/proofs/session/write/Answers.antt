@@ -18,6 +18,7 @@ use Rattle.std.proofs.Common.{◌+◌, refl}
 use Rattle.qcow2_session.proofs.Parts.{not_failed_yet, part_prepares, part_under, prepares_usable}
 use Rattle.qcow2_session.proofs.Marking.{fails_behind}
 use Rattle.qcow2_image.proofs.Call.BehindHeader.{behind_then}
+use Rattle.qcow2_alloc.proofs.KeptTables.AllWritten.{written_then}
 use Rattle.qcow2_session.proofs.session.write.Goals as goal
 
 pub returns-in_default-clause-sees : goal.returns-in_default-clause-sees
@@ -30,6 +31,7 @@ loop-done-preserved g c = record {
   works = c.in-Ok-write_some.ensures.end.0 ∙ c.loop-done.invariant.works;
   within = grind (arith, common_steps);
   image = same_then c.loop-done.invariant.image c.write_some-in-loop-done.ensures.image;
+  quiet = λ reading. written_then g.S.Storage.view (c.loop-done.invariant.quiet reading) (c.write_some-in-loop-done.ensures.quiet (c.loop-done.invariant.image.writable ∙ reading));
   unwritten = λ reading out sound clean.
       let so_far = c.loop-done.invariant.unwritten reading out sound clean in
       read_then g.S.Storage.view so_far (c.write_some-in-loop-done.ensures.unwritten (c.loop-done.invariant.image.writable ∙ reading) out ((c.loop-done.invariant.written out).answer sound).0 so_far.unmodified);
@@ -137,3 +139,6 @@ returns-in-Err-clause-marks g c = c.in-Err.ensures.marks
 
 pub returns-in-Err-write_some-clause-header_cluster : goal.returns-in-Err-write_some-clause-header_cluster
 returns-in-Err-write_some-clause-header_cluster g c = behind_then c.loop-done.invariant.behind c.write_some-in-loop-done.ensures.header_cluster
+
+pub returns-in-Err-write_some-clause-quiet : goal.returns-in-Err-write_some-clause-quiet
+returns-in-Err-write_some-clause-quiet g c = λ reading. written_then g.S.Storage.view (c.loop-done.invariant.quiet reading) (c.write_some-in-loop-done.ensures.quiet (c.loop-done.invariant.image.writable ∙ reading))

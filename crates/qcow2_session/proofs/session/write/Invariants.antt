@@ -9,7 +9,7 @@ use Rattle.qcow2_image.specs.Image.{IsSameImage, is_failed}
 use Rattle.qcow2_image.specs.ImageInvariant.{abstract_of}
 use Rattle.qcow2_image.specs.declared.prepared.Prepared.{Prepared}
 use Rattle.qcow2_session.specs.Sessions.{EndsCluster}
-use Rattle.qcow2_session.specs.Told.{StaysUnwritten}
+use Rattle.qcow2_session.specs.Told.{StaysQuiet, StaysUnwritten}
 use Rattle.qcow2_image.specs.Faults.{SameFaults}
 use Rattle.qcow2_session.proofs.session.write.Given as goal
 
@@ -22,6 +22,7 @@ invariant-loop-done g l = record {
   image : IsSameImage l.fn.image l.image;
   ends : (out : List (Option Prepared)) → (abstract_of g.S.Storage.view g.F.BackingDisk.backing l.fn.image out).is_sound → l.done < length l.bytes → EndsCluster l.fn.image (l.fn.offset + l.done);
   end : l.fn.offset + length l.bytes < 2 ^ 64;
+  quiet : StaysQuiet g.S.Storage.view l.fn.image l.image;
   unwritten : StaysUnwritten g.S.Storage.view g.F.BackingDisk.backing l.fn.image l.image;
   written : (out : List (Option Prepared)) → let v = abstract_of g.S.Storage.view g.F.BackingDisk.backing l.fn.image out in let w = abstract_of g.S.Storage.view g.F.BackingDisk.backing l.image out in
       AnsweredEffect v w (given_of l.fn.offset l.bytes ∷ []) [] (guest_of w ≡ with_disk (guest_of v) (with_bytes (guest_of v).disk l.fn.offset (take l.done l.bytes)));

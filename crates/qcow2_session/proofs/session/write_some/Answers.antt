@@ -32,6 +32,8 @@ use Rattle.qcow2_image.proofs.Call.MetErrors.{tables_met}
 use Rattle.qcow2_image.specs.Refusals.{MarksRefused}
 use Rattle.qcow2_session.proofs.Marking.{fails_before, fails_behind, hands_on, refused_marks}
 use Rattle.qcow2_image.proofs.Call.BehindHeader.{behind_then}
+use Rattle.qcow2_alloc.proofs.KeptTables.AllWritten.{written_then}
+use Rattle.qcow2_session.proofs.Quiet.{quiet_commit, quiet_image, quiet_release}
 use Rattle.qcow2_session.proofs.session.write_some.Goals as goal
 
 -- what refused a call that begins another one before any work refused that one
@@ -307,3 +309,68 @@ returns-in-Err-Spent-clause-header_cluster g c = behind_then (behind_then c.prep
 
 pub returns-in-Err-Kept-clause-header_cluster : goal.returns-in-Err-Kept-clause-header_cluster
 returns-in-Err-Kept-clause-header_cluster g c = behind_then (behind_then (behind_then c.prepare_data_mapping.ensures.header_cluster c.write_mapped.ensures.header_cluster) c.commit_data_mapping.ensures.header_cluster) c.release-in-Err-Kept.ensures.header_cluster
+
+pub returns-in_err-prepared-clause-quiet : goal.returns-in_err-prepared-clause-quiet
+returns-in_err-prepared-clause-quiet g c = λ reading.
+    let view = g.S.Storage.view in
+    let old = c.args.image.now in
+    let mid = c.prepare_data_mapping.new.self in
+    let made = prepare_same old reading _ c.args.offset (length c.args.bytes.now) c.prepare_data_mapping.ensures.early c.prepare_data_mapping.ensures.nothing in
+    quiet_image view old mid made
+
+pub returns-in-Err-clause-quiet : goal.returns-in-Err-clause-quiet
+returns-in-Err-clause-quiet g c = λ reading.
+    let view = g.S.Storage.view in
+    let old = c.args.image.now in
+    let mid = c.prepare_data_mapping.new.self in
+    let made = prepare_same old reading _ c.args.offset (length c.args.bytes.now) c.prepare_data_mapping.ensures.early c.prepare_data_mapping.ensures.nothing in
+    let put = c.write_mapped.new.self in
+    let p = c.in_ok-prepared.prepared in
+    let same : put ≡ old = put_same mid (ap is_writable made ∙ reading) _ (refuses_mapping mid (image_of p)) _ c.write_mapped.ensures.early c.write_mapped.ensures.read_only c.write_mapped.ensures.nothing ∙ made in
+    let first = quiet_image view old put same in
+    written_then view first (quiet_release view put c.release.new.image c.release.ensures.rest)
+
+pub returns-in-Ok-clause-quiet : goal.returns-in-Ok-clause-quiet
+returns-in-Ok-clause-quiet g c = λ reading.
+    let view = g.S.Storage.view in
+    let old = c.args.image.now in
+    let mid = c.prepare_data_mapping.new.self in
+    let made = prepare_same old reading _ c.args.offset (length c.args.bytes.now) c.prepare_data_mapping.ensures.early c.prepare_data_mapping.ensures.nothing in
+    let put = c.write_mapped.new.self in
+    let p = c.in_ok-prepared.prepared in
+    let same : put ≡ old = put_same mid (ap is_writable made ∙ reading) _ (refuses_mapping mid (image_of p)) _ c.write_mapped.ensures.early c.write_mapped.ensures.read_only c.write_mapped.ensures.nothing ∙ made in
+    let first = quiet_image view old put same in
+    let none = nothing_prepared old reading _ p c.args.offset (length c.args.bytes.now) c.in_ok-prepared.ensures.early c.in_ok-prepared.ensures.nothing in
+    let own = c.in_ok-prepared.ensures.own ∙ sym (ap number_of same) in
+    let second = written_then view first (quiet_commit view put c.commit_data_mapping.new.self (c.commit_data_mapping.ensures.failed own) (λ works. c.commit_data_mapping.ensures.existing own works none.0)) in
+    second
+
+pub returns-in-Err-Spent-clause-quiet : goal.returns-in-Err-Spent-clause-quiet
+returns-in-Err-Spent-clause-quiet g c = λ reading.
+    let view = g.S.Storage.view in
+    let old = c.args.image.now in
+    let mid = c.prepare_data_mapping.new.self in
+    let made = prepare_same old reading _ c.args.offset (length c.args.bytes.now) c.prepare_data_mapping.ensures.early c.prepare_data_mapping.ensures.nothing in
+    let put = c.write_mapped.new.self in
+    let p = c.in_ok-prepared.prepared in
+    let same : put ≡ old = put_same mid (ap is_writable made ∙ reading) _ (refuses_mapping mid (image_of p)) _ c.write_mapped.ensures.early c.write_mapped.ensures.read_only c.write_mapped.ensures.nothing ∙ made in
+    let first = quiet_image view old put same in
+    let none = nothing_prepared old reading _ p c.args.offset (length c.args.bytes.now) c.in_ok-prepared.ensures.early c.in_ok-prepared.ensures.nothing in
+    let own = c.in_ok-prepared.ensures.own ∙ sym (ap number_of same) in
+    let second = written_then view first (quiet_commit view put c.commit_data_mapping.new.self (c.commit_data_mapping.ensures.failed own) (λ works. c.commit_data_mapping.ensures.existing own works none.0)) in
+    second
+
+pub returns-in-Err-Kept-clause-quiet : goal.returns-in-Err-Kept-clause-quiet
+returns-in-Err-Kept-clause-quiet g c = λ reading.
+    let view = g.S.Storage.view in
+    let old = c.args.image.now in
+    let mid = c.prepare_data_mapping.new.self in
+    let made = prepare_same old reading _ c.args.offset (length c.args.bytes.now) c.prepare_data_mapping.ensures.early c.prepare_data_mapping.ensures.nothing in
+    let put = c.write_mapped.new.self in
+    let p = c.in_ok-prepared.prepared in
+    let same : put ≡ old = put_same mid (ap is_writable made ∙ reading) _ (refuses_mapping mid (image_of p)) _ c.write_mapped.ensures.early c.write_mapped.ensures.read_only c.write_mapped.ensures.nothing ∙ made in
+    let first = quiet_image view old put same in
+    let none = nothing_prepared old reading _ p c.args.offset (length c.args.bytes.now) c.in_ok-prepared.ensures.early c.in_ok-prepared.ensures.nothing in
+    let own = c.in_ok-prepared.ensures.own ∙ sym (ap number_of same) in
+    let second = written_then view first (quiet_commit view put c.commit_data_mapping.new.self (c.commit_data_mapping.ensures.failed own) (λ works. c.commit_data_mapping.ensures.existing own works none.0)) in
+    written_then view second (quiet_release view c.commit_data_mapping.new.self c.release-in-Err-Kept.new.image c.release-in-Err-Kept.ensures.rest)

@@ -39,3 +39,6 @@ returns-in_err-bytes-clause-header_cluster g c = behind_none
 
 pub returns-in_err-check_read-clause-header_cluster : goal.returns-in_err-check_read-clause-header_cluster
 returns-in_err-check_read-clause-header_cluster g c = behind_none
+
+pub returns-clause-quiet : goal.returns-clause-quiet
+returns-clause-quiet g c = c.try_readv_special.ensures.quiet

@@ -1,0 +1,49 @@
+-- Over any contents: an image that was opened for reading, and whose caches hold no modified table, is never written.
+use Rattle.std.proofs.Common.{◌≡◌, inl, inr, List, [], ◌∷◌, Bool, true, false, IsTrue, sym, ap, ◌∙◌, subst, Option}
+use Rattle.std.proofs.lemmas.Bool.{cases_Bool}
+use Rattle.image_access.specs.Backing.{BackingView}
+use Rattle.image_access.specs.Moments.{StorageView}
+use Rattle.qcow2_alloc.specs.ImageStorage.{storage_of}
+use Rattle.qcow2_image.specs.declared.image.Qcow2.{Qcow2}
+use Rattle.qcow2_image.specs.declared.prepared.Prepared.{Prepared}
+use Rattle.qcow2_image.specs.Image.{is_failed, is_writable}
+use Rattle.qcow2_image.specs.Ranges.{ReleasesOneMapping}
+use Rattle.qcow2_image.specs.Unwritten.{ReadsQuietly}
+use Rattle.qcow2_image.proofs.Map.Quiet.{reads_none, reads_same, reads_aside}
+use Rattle.qcow2_alloc.proofs.KeptTables.AllWritten.{written_then}
+use Rattle.qcow2_session.specs.Told.{AreExisting, IsLeftQuietly, IsToldAlong, RunPoint}
+use Rattle.qcow2_session.specs.declared.session.Command.{Command}
+use Rattle.qcow2_session.specs.declared.session.Reply.{Reply}
+
+module _ {S F : Type 0} (view : S → StorageView) where
+  -- the image is the same one
+  pub quiet_image : (old new : Qcow2 S F) → new ≡ old → ReadsQuietly view old new
+  quiet_image old new same = reads_same view old new (ap (λ (image : Qcow2 S F). image.file) same)
+
+  -- a mapping was let go
+  pub quiet_release : (old new : Qcow2 S F) → ReleasesOneMapping view old new → ReadsQuietly view old new
+  quiet_release old new gone = reads_aside view old new (ap (λ (image : Qcow2 S F). storage_of image.file.storage) gone.rest) gone.written
+
+  -- an existing mapping is committed; a failed image stays as it is
+  pub quiet_commit : {X Y : Type 0} (old new : Qcow2 S F) → (IsTrue (is_failed old) → X × (new ≡ old)) → (is_failed old ≡ false → Y × ReleasesOneMapping view old new) → ReadsQuietly view old new
+  quiet_commit old new failed existing = elim (cases_Bool (is_failed old)) [
+    | inl fails ↦ quiet_image old new (failed fails).1
+    | inr works ↦ quiet_release old new (existing works).1
+  ]
+
+  -- a command that left the image
+  pub quiet_left : (old new : Qcow2 S F) (out : List (Option Prepared)) → new ≡ old → is_writable old ≡ false → AreExisting out → IsLeftQuietly view old new out
+  quiet_left old new out same reading existing = record { reading = ap is_writable same ∙ reading; quiet = quiet_image old new same; existing = existing }
+
+  -- commands, one after another
+  module _ (backing : F → BackingView) where
+    pub along_quietly : (first : RunPoint S F) (commands : List Command) (replies : List Reply) (points : List (RunPoint S F)) (last : RunPoint S F)
+        → IsToldAlong view backing first commands replies points last → is_writable first.image ≡ false → AreExisting first.prepared → ReadsQuietly view first.image last.image
+    along_quietly first [] [] [] last along reading existing = subst (λ (p : RunPoint S F). ReadsQuietly view first.image p.image) (sym along) (reads_none view first.image)
+    along_quietly first (command ∷ commands) (reply ∷ replies) (next ∷ points) last along reading existing =
+        let left = along.0.quiet reading existing in
+        written_then view left.quiet (along_quietly next commands replies points last along.1 left.reading left.existing)
+    along_quietly first [] [] (next ∷ points) last along reading existing = absurd along
+    along_quietly first [] (reply ∷ replies) points last along reading existing = absurd along
+    along_quietly first (command ∷ commands) [] points last along reading existing = absurd along
+    along_quietly first (command ∷ commands) (reply ∷ replies) [] last along reading existing = absurd along
