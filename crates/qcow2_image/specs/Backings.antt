@@ -25,3 +25,4 @@ pub record IsOver {S F : Type 0} (view : S → StorageView) (backing : F → Bac
   pub known : (abstract_of view backing new out).known ≡ (abstract_of view backing old out).known
   pub contents : stored_bytes (abstract_of view backing new out) ≡ stored_bytes (abstract_of view backing old out)
   pub surplus : (abstract_of view backing new out).surplus ≡ (abstract_of view backing old out).surplus
+  pub leaks : (abstract_of view backing new out).leaked ≡ (abstract_of view backing old out).leaked
