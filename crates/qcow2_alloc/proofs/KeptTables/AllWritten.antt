@@ -1,5 +1,5 @@
 -- Caches of which no table is modified stay so, and nothing is written, whatever the tables hold.
-use Rattle.std.proofs.Common.{◌≡◌, ℕ, Bool, true, eqb, List, Result, Ok, IsSome, ap, refl}
+use Rattle.std.proofs.Common.{◌≡◌, ℕ, Bool, true, eqb, Result, Ok, IsSome, ap}
 use Rattle.std.specs.Option.{IsNone}
 use Rattle.std.specs.Map.{lookup}
 use Rattle.lru.specs.LruCache.{promoted}
@@ -40,7 +40,7 @@ module _ {S : Type 0} (view : S → StorageView) where
     tables_flushed_written l2 answer flushes = record {
       tables = λ all. (
         flush_clean (l2_steps (λ s. view (storage_of s)) caches.l2.backend.header.fields) l2.backend.header.fields.cluster_bits (λ (t : L2TableView). t.bytes) (λ t. t.is_modified) (λ s t k v w h. ap (λ (t : L2TableView). t.is_modified) h.clean) old new
-        caches.l2.entries l2.entries answer flushes (clean_as _ _ (λ (t : L2TableView). t.bytes) (λ t. t.is_modified) caches.l2.entries all.0),
+            caches.l2.entries l2.entries answer flushes (clean_as _ _ (λ (t : L2TableView). t.bytes) (λ t. t.is_modified) caches.l2.entries all.0),
         all.1,
       );
       quiet = λ all. tables_quiet view old new caches l2 answer flushes all.0;
@@ -52,7 +52,7 @@ module _ {S : Type 0} (view : S → StorageView) where
       tables = λ all. (
         all.0,
         flush_clean (rb_steps (λ s. view (storage_of s)) caches.rb.backend.header.fields) rb.backend.header.fields.cluster_bits (λ (b : RefBlockView). b.bytes) (λ b. b.is_modified) (λ s t k v w h. ap (λ (b : RefBlockView). b.is_modified) h.clean) old new
-        caches.rb.entries rb.entries answer flushes (clean_as _ _ (λ (b : RefBlockView). b.bytes) (λ b. b.is_modified) caches.rb.entries all.1),
+            caches.rb.entries rb.entries answer flushes (clean_as _ _ (λ (b : RefBlockView). b.bytes) (λ b. b.is_modified) caches.rb.entries all.1),
       );
       quiet = λ all. blocks_quiet view old new caches rb answer flushes all.1;
     }
@@ -65,7 +65,7 @@ module _ {S : Type 0} (view : S → StorageView) where
     table_got_written may_flush key l2 answer hit miss = record {
       tables = λ all. (
         get_clean (l2_steps (λ s. view (storage_of s)) caches.l2.backend.header.fields) l2.backend.header.fields.cluster_bits (λ (t : L2TableView). t.bytes) (λ t. t.is_modified) (λ s t k v h. h.unmodified) caches.l2.size may_flush key old new
-        caches.l2.entries l2.entries (clean_as _ _ (λ (t : L2TableView). t.bytes) (λ t. t.is_modified) caches.l2.entries all.0) answer hit miss,
+            caches.l2.entries l2.entries (clean_as _ _ (λ (t : L2TableView). t.bytes) (λ t. t.is_modified) caches.l2.entries all.0) answer hit miss,
         all.1,
       );
       quiet = λ all. table_got_quietly view old new caches may_flush key l2 answer hit miss (λ may. clean_next _ (λ (t : L2TableView). t.bytes) (λ t. t.is_modified) caches.l2.entries all.0);

@@ -129,9 +129,13 @@ module _ {S F : Type 0} (view : S → StorageView) (backing : F → BackingView)
     grown (Ok x) failed resizes grows reaches long marks =
         let q = pending_with_listed p mid big in
         let all = extends_then p p q old mid big [] (size ∷ []) (extends_keeping p p old mid begun) resizes.0 in
-        subst (λ (f : Bool). GrowsDisk view backing old (record big { is_failed = f }) size (Ok x)) (sym marks)
-        (subst (λ (r : Pending). Extends view backing p r old big (size ∷ [])) (pending_is view backing big [] q all.safe_step.sound (nothing_else grows)) all, resizes.1 ∙ sym (omega (arith, larger)), λ _. reaches, λ fits. fits_grown old.file.header.fields big.file.header.fields size fits larger (ap (λ (k : HeaderFields). k.cluster_bits) all.format) resizes.1
-        (reaches_begun old.file.header.fields mid.file.header.fields big.file.header.fields (size - 1) begun.unseen.header long))
+        subst (λ (f : Bool). GrowsDisk view backing old (record big { is_failed = f }) size (Ok x)) (sym marks) (
+          subst (λ (r : Pending). Extends view backing p r old big (size ∷ [])) (pending_is view backing big [] q all.safe_step.sound (nothing_else grows)) all,
+          resizes.1 ∙ sym (omega (arith, larger)),
+          λ _. reaches,
+          λ fits. fits_grown old.file.header.fields big.file.header.fields size fits larger (ap (λ (k : HeaderFields). k.cluster_bits) all.format) resizes.1
+              (reaches_begun old.file.header.fields mid.file.header.fields big.file.header.fields (size - 1) begun.unseen.header long),
+        )
     grown (Err e) failed lasts grows reaches long marks = lasts_then p p old mid big [] (size ∷ []) (extends_keeping p p old mid begun) lasts
 
     pub grown_so : (new : Qcow2 S F) (done r : Result (Unit {0}) ImageError) → r ≡ done → new ≡ record big { is_failed = is_failed new } → MayMarkBy done (is_failed big) (is_failed new) → Resizes view backing p mid big size done → OnOk done (ListGrows mid big)

@@ -1,6 +1,5 @@
 use Rattle.std.proofs.Common.{inr}
 use Rattle.qcow2_alloc.proofs.KeptTables.Turning.{blocks_free}
-
 use Rattle.qcow2_alloc.proofs.cache.MetadataCaches.before_l2.Goals as goal
 
 pub returns-in-L2DependsOnRb-clause-keeps : goal.returns-in-L2DependsOnRb-clause-keeps

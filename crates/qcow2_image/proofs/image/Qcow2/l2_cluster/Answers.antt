@@ -6,14 +6,14 @@ use Rattle.qcow2_image.proofs.Prepare.Pinned.{whole_quotient}
 use Rattle.qcow2_image.proofs.image.Qcow2.l2_cluster.Goals as goal
 
 pub returns-in_default-clause-own : goal.returns-in_default-clause-own
-returns-in_default-clause-own g c = 
+returns-in_default-clause-own g c =
     let old = c.args.self.now in
     let idx : c.l1_index.result ≡ l1_index_of old.file.header.fields c.args.offset =
     c.l1_index.ensures ∙ ap (λ n. n / 2 ^ c.cluster_bits-bits.result / (2 ^ c.cluster_bits-bits.result / 8)) c.new.ensures ∙ ap (λ b. c.args.offset / 2 ^ b / (2 ^ b / 8)) c.cluster_bits-bits.ensures.value in
     ap (λ i. host_offset (entry_at old.l1_table.bytes i)) (sym idx) ∙ c.in_default.ensures.none
 
 pub returns-in-Some-checked_cluster-clause-own : goal.returns-in-Some-checked_cluster-clause-own
-returns-in-Some-checked_cluster-clause-own g c = 
+returns-in-Some-checked_cluster-clause-own g c =
     let old = c.args.self.now in
     let idx : c.l1_index.result ≡ l1_index_of old.file.header.fields c.args.offset =
     c.l1_index.ensures ∙ ap (λ n. n / 2 ^ c.cluster_bits-bits.result / (2 ^ c.cluster_bits-bits.result / 8)) c.new.ensures ∙ ap (λ b. c.args.offset / 2 ^ b / (2 ^ b / 8)) c.cluster_bits-bits.ensures.value in
