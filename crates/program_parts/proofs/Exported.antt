@@ -11,6 +11,7 @@ use Rattle.qcow2_disk.specs.Calls.{CallEffect}
 use Rattle.qcow2_disk.specs.Disk.{disk}
 use Rattle.qcow2_disk.specs.HeaderRest.{KeepsHeaderRest}
 use Rattle.qcow2_disk.specs.Stops.{StopOkEverywhere, checkpoint_at}
+use Rattle.qcow2_alloc.specs.Quiet.{IsQuiet}
 use Rattle.qcow2_alloc.specs.declared.error.ImageError.{ImageError}
 use Rattle.qcow2_image.specs.declared.image.Qcow2.{Qcow2}
 use Rattle.qcow2_image.specs.Image.{storage_of_image}
@@ -19,7 +20,7 @@ use Rattle.qcow2_image.specs.Opened.{OpensAtOnce}
 use Rattle.qcow2_image.specs.Unwritten.{HoldsSame}
 use Rattle.qcow2_disk.proofs.HeaderRest.{header_rest_same}
 use Rattle.qcow2_image.proofs.Free.{whole}
-use Rattle.qcow2_image.proofs.Map.Unmodified.{holds_still}
+use Rattle.qcow2_image.proofs.Map.Unmodified.{holds_still, quiet_still}
 use Rattle.qcow2_session.specs.Conversions.{IsRawOf, Exports, IsUnchanged}
 use Rattle.program_parts.specs.Conversions.{IsExport, KeepsDisk, disk_alone, zeros_below}
 use Rattle.program_parts.proofs.Imported.{none_below, of_ok}
@@ -64,3 +65,7 @@ module _ {S F : Type 0} (view : S → StorageView) (backing : F → BackingView)
 -- a storage that was opened for reading, or that a refusal handed back, holds what it held
 pub opened_still : (old new : StorageView) → OpensAtOnce false old new → new.contents ≡ old.contents → HoldsSame old new
 opened_still old new time same = holds_still old new (passes_if (λ c. c ≡ old.contents) (λ c is. ⊎_elim (λ (e : c ≡ old.contents). e) (λ (e : c ≡ old.contents). e) is) time) same
+
+-- so nothing was written to it
+pub opened_quietly : (old new : StorageView) → new.is_honest → OpensAtOnce false old new → new.contents ≡ old.contents → IsQuiet old new
+opened_quietly old new honest time same = quiet_still old new honest (passes_if (λ c. c ≡ old.contents) (λ c is. ⊎_elim (λ (e : c ≡ old.contents). e) (λ (e : c ≡ old.contents). e) is) time) same

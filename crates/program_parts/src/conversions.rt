@@ -8,6 +8,7 @@ ghost use Rattle.qcow2_metadata.specs.Bytes.{byte_at};
 ghost use Rattle.qcow2_metadata.specs.Consistent.{IsConsistent};
 ghost use Rattle.qcow2_image.specs.Image.{HasNothingToFree, IsSameImage, is_writable, storage_of_image};
 ghost use Rattle.qcow2_image.specs.Opened.{NeedsAnother};
+ghost use Rattle.qcow2_alloc.specs.Quiet.{IsQuiet};
 ghost use Rattle.qcow2_image.specs.Unwritten.{HoldsSame};
 ghost use Rattle.qcow2_session.specs.Conversions.{Imports, IsLeft, IsOfImporting};
 ghost use Rattle.program_parts.specs.Conversions.{CountsBoth, IsImageOf, IsImageOfSize, IsStopOfMaking, IsExport, KeepsDisk};
@@ -92,6 +93,7 @@ pub fn make_raw_disk<S: Storage, R: Storage>(
     ensures image { (S.view storage).is_honest → IsConsistent (byte_at (S.view storage).contents) → KeepsDisk (S.view storage) (S.view result.0) }
     ensures unwritten { (S.view storage).is_honest → IsConsistent (byte_at (S.view storage).contents) → HoldsSame (S.view storage) (S.view result.0) }
     ensures another { (S.view storage).is_honest → NeedsAnother (S.view storage).contents → ContentsStay (S.view storage) (S.view result.0) × (raw.new ≡ raw.old) }
+    ensures quiet { (S.view storage).is_honest → IsQuiet (S.view storage) (S.view result.0) }
     ensures faults { CountsBoth (S.view storage).faults (S.view result.0).faults (R.view raw.old).faults (R.view raw.new).faults result.1 }
 {
     match Qcow2::<S, NoBacking>::open_alone(alloc, storage, false, 1) {

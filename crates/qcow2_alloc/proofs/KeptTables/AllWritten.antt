@@ -1,5 +1,5 @@
 -- Caches of which no table is modified stay so, and nothing is written, whatever the tables hold.
-use Rattle.std.proofs.Common.{◌≡◌, ℕ, Bool, true, eqb, List, Result, Ok, IsSome, ap, refl}
+use Rattle.std.proofs.Common.{◌≡◌, ℕ, Bool, true, eqb, Result, Ok, IsSome, ap}
 use Rattle.std.specs.Option.{IsNone}
 use Rattle.std.specs.Map.{lookup}
 use Rattle.lru.specs.LruCache.{promoted}

@@ -6,7 +6,9 @@ use Rattle.program_parts.proofs.Imported.{ok_then}
 use Rattle.qcow2_image.specs.Image.{storage_of_image}
 use Rattle.qcow2_image.specs.Unwritten.{HoldsSame}
 use Rattle.qcow2_image.proofs.Map.Unmodified.{holds_then}
-use Rattle.program_parts.proofs.Exported.{keeps_itself, opened_still, once_flushed, has_export, keeps_disk}
+use Rattle.program_parts.proofs.Exported.{keeps_itself, opened_quietly, opened_still, once_flushed, has_export, keeps_disk}
+use Rattle.qcow2_alloc.specs.Quiet.{IsQuiet}
+use Rattle.qcow2_alloc.proofs.KeptTables.Quiet.{quiet_then}
 use Rattle.program_parts.proofs.conversions.make_raw_disk.Goals as goal
 
 pub returns-in-Ok-clause-raw : goal.returns-in-Ok-clause-raw
@@ -51,3 +53,16 @@ returns-in-Ok-clause-faults g c =
     let opened = c.in-Ok.ensures.faults.told in
     c.flushed-exported.ensures.faults (view c.args.storage).faults (view c.into_storage.result).faults (g.R.Storage.view c.args.raw.now).faults
     (both_since _ _ _ _ _ _ _ opened refl (both_of view _ (λ b. refl) c.in-Ok.image c.to_raw-copied.new.image c.into_storage.result _ _ c.to_raw-copied.result c.to_raw-copied.ensures.faults c.into_storage.ensures))
+
+pub returns-in-Ok-clause-quiet : goal.returns-in-Ok-clause-quiet
+returns-in-Ok-clause-quiet g c = λ honest.
+    let view = g.S.Storage.view in
+    let opened = view (storage_of_image c.in-Ok.image) in
+    let first = opened_quietly (view c.args.storage) opened (c.in-Ok.ensures.storage.honest honest) (c.in-Ok.ensures.storage.at_once honest) (c.in-Ok.ensures.storage.contents honest).contents in
+    let last = view (storage_of_image c.to_raw-copied.new.image) in
+    subst (λ s. IsQuiet (view c.args.storage) (view s)) (sym c.into_storage.ensures)
+    (quiet_then (view c.args.storage) opened last first (c.to_raw-copied.ensures.quiet.quiet c.in-Ok.ensures.unmodified first.honest))
+
+pub returns-in-Err-clause-quiet : goal.returns-in-Err-clause-quiet
+returns-in-Err-clause-quiet g c = λ honest.
+    opened_quietly (g.S.Storage.view c.args.storage) (g.S.Storage.view c.in-Err.storage) (c.in-Err.ensures.storage.honest honest) (c.in-Err.ensures.storage.at_once honest) (elim (c.in-Err.ensures.storage.contents honest) [ inl stay ↦ stay | inr made ↦ made.2 ])

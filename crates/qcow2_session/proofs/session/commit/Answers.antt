@@ -146,8 +146,12 @@ pub returns-in-Err-Spent-clause-quiet : goal.returns-in-Err-Spent-clause-quiet
 returns-in-Err-Spent-clause-quiet g c = λ reading existing. record { reading = c.commit_data_mapping.ensures.image.writable ∙ reading; quiet = quiet_commit g.S.Storage.view c.args.image.now c.commit_data_mapping.new.self (c.commit_data_mapping.ensures.failed (c.in-Some.ensures.own ∙ c.put.ensures.image ∙ c.requires)) (λ works. c.commit_data_mapping.ensures.existing (c.in-Some.ensures.own ∙ c.put.ensures.image ∙ c.requires) works (existing c.args.slot c.in-Some.prepared c.in-Some.ensures.was)); existing = subst AreExisting (sym c.put.ensures.is) (existing_set c.args.slots.now.prepared.items c.args.slot None existing tt) }
 
 pub returns-in-Err-Kept-clause-quiet : goal.returns-in-Err-Kept-clause-quiet
-returns-in-Err-Kept-clause-quiet g c = λ reading existing. record { reading = c.commit_data_mapping.ensures.image.writable ∙ reading; quiet = quiet_commit g.S.Storage.view c.args.image.now c.commit_data_mapping.new.self (c.commit_data_mapping.ensures.failed (c.in-Some.ensures.own ∙ c.put.ensures.image ∙ c.requires)) (λ works. c.commit_data_mapping.ensures.existing (c.in-Some.ensures.own ∙ c.put.ensures.image ∙ c.requires) works (existing c.args.slot c.in-Some.prepared c.in-Some.ensures.was)); existing = subst AreExisting (sym (c.fill.ensures.is ∙ ap (λ (o : List (Option _)). slice_set o c.args.slot (Some c.in-Err-Kept.prepared)) c.put.ensures.is
-    ∙ set_again c.args.slots.now.prepared.items c.args.slot None (Some c.in-Err-Kept.prepared) (Some c.in-Some.prepared) c.in-Some.ensures.was (ap Some (kept_same c.in-Some.prepared c.in-Err-Kept.field-0-is c.in-Err-Kept.ensures.kept)))) existing }
+returns-in-Err-Kept-clause-quiet g c = λ reading existing. record {
+  reading = c.commit_data_mapping.ensures.image.writable ∙ reading;
+  quiet = quiet_commit g.S.Storage.view c.args.image.now c.commit_data_mapping.new.self (c.commit_data_mapping.ensures.failed (c.in-Some.ensures.own ∙ c.put.ensures.image ∙ c.requires)) (λ works. c.commit_data_mapping.ensures.existing (c.in-Some.ensures.own ∙ c.put.ensures.image ∙ c.requires) works (existing c.args.slot c.in-Some.prepared c.in-Some.ensures.was));
+  existing = subst AreExisting (sym (c.fill.ensures.is ∙ ap (λ (o : List (Option _)). slice_set o c.args.slot (Some c.in-Err-Kept.prepared)) c.put.ensures.is
+      ∙ set_again c.args.slots.now.prepared.items c.args.slot None (Some c.in-Err-Kept.prepared) (Some c.in-Some.prepared) c.in-Some.ensures.was (ap Some (kept_same c.in-Some.prepared c.in-Err-Kept.field-0-is c.in-Err-Kept.ensures.kept)))) existing;
+}
 
 pub returns-in_default-clause-quiet : goal.returns-in_default-clause-quiet
 returns-in_default-clause-quiet g c = λ reading existing. record { reading = reading; quiet = reads_none g.S.Storage.view c.args.image.now; existing = subst AreExisting (sym c.put.ensures.is) (existing_set c.args.slots.now.prepared.items c.args.slot None existing tt) }

@@ -18,7 +18,6 @@ use Rattle.std.proofs.Common.{Some}
 use Rattle.qcow2_session.proofs.Marking.{fails_behind, hands_on, unmarked}
 use Rattle.qcow2_session.proofs.Counting.{none_counted}
 use Rattle.qcow2_session.proofs.Converting.{does_nothing}
-use Rattle.qcow2_image.proofs.Map.Quiet.{reads_none}
 use Rattle.qcow2_alloc.proofs.KeptTables.AllWritten.{written_then}
 use Rattle.qcow2_session.proofs.session.read_into.Goals as goal
 

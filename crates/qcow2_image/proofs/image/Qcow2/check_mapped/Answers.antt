@@ -6,7 +6,7 @@ use Rattle.qcow2_alloc.proofs.AllocationSteps.{handed_on}
 use Rattle.qcow2_image.specs.Refusals.{IsUnlimited}
 use Rattle.std.specs.Prelude.{IfErr, Result}
 use Rattle.qcow2_image.proofs.Map.Held.{held_whole, heeds_else, same_found}
-use Rattle.std.proofs.Common.{◌<◌, ⊎_elim, ap, ◌∙◌}
+use Rattle.std.proofs.Common.{◌<◌, ⊎_elim}
 use Rattle.std.proofs.lemmas.Bool.{cases_lt}
 use Rattle.std.specs.Prelude.{is_some}
 use Rattle.qcow2_alloc.specs.ImageError.{IsOfTables}
