@@ -70,7 +70,7 @@ returns g c =
       opens = λ stays honest consistent.
           let was = c.in-Ok.ensures.opens honest consistent in
           let over = set.sees [] was.opened.sound (subst (λ (disk : Option _). IsHonestBacking view below disk) c.in-Some.is stays) in
-          record { opened = record { sound = over.sound; clean = over.known ∙ was.opened.clean ∙ sym over.contents }; surplus = over.surplus ∙ was.surplus };
+          record { opened = record { sound = over.sound; clean = over.known ∙ was.opened.clean ∙ sym over.contents }; surplus = over.surplus ∙ was.surplus; leaks = over.leaks ∙ was.leaks };
       since = λ honest consistent. subst (λ (i : Qcow2 _ _). IsKeptSince before (view (storage_of_image i))) done (c.in-Ok.ensures.since honest consistent);
       format = λ honest. subst (λ (i : Qcow2 _ _). SameFormat (header (byte_at before.contents)) i.file.header.fields) done (c.in-Ok.ensures.format honest);
       ok = subst (λ (i : Qcow2 _ _). (number_of i ≡ c.args.number) × (is_failed i ≡ false) × (is_writable i ≡ true)) done c.in-Ok.ensures.ok;
