@@ -1,5 +1,5 @@
 -- A run on an image over another disk, once the image is closed. The data are to stand in the image's own file.
-use Rattle.std.specs.Prelude.{ℕ, ◌≡◌, ◌⊎◌, IsTrue, List, [], Option, Result, Ok, Err, Vec, true, false}
+use Rattle.std.specs.Prelude.{ℕ, ◌≡◌, IsTrue, List, [], Option, Result, Ok, Err, Vec, true, false}
 use Rattle.std.specs.Global.{Global}
 use Rattle.image_access.specs.Backing.{BackingView}
 use Rattle.image_access.specs.Moments.{StorageView}
@@ -7,7 +7,6 @@ use Rattle.qcow2_metadata.specs.Bytes.{byte_at}
 use Rattle.qcow2_metadata.specs.Consistent.{IsConsistent}
 use Rattle.qcow2_disk.specs.AbstractImages.{IsOpened}
 use Rattle.qcow2_alloc.specs.declared.error.ImageError.{ImageError}
-use Rattle.qcow2_alloc.specs.declared.error.ImageError.TheVariants.{MappingPrepared}
 use Rattle.qcow2_image.specs.Backings.{IsOver}
 use Rattle.qcow2_image.specs.CountedOpening.{OpeningCounts}
 use Rattle.qcow2_image.specs.declared.image.Missing.TheVariants as M
@@ -40,9 +39,8 @@ module _ {S F : Type 0} (view : S → StorageView) (backing : F → BackingView)
     pub tells : TellsThrough view backing (record opened { backing = below }) last commands replies
     pub is_left : left ≡ storage_of_image last
 
-  -- Where it isn't opened, it is refused as opening for writing is where a data file is missing, which leaves the storage so, and as a fault only where one was counted. It has a mapping prepared only where the contents weren't consistent.
+  -- Where it isn't opened, it is refused as opening for writing is where a data file is missing, which leaves the storage so, and as a fault only where one was counted.
   abbrev pub RunsOnceClosed : ℕ → List Command → S → Result (Vec Reply Global) ImageError → Type 0
   RunsOnceClosed number commands left (Ok replies) = RunsOver number commands left replies.items
   RunsOnceClosed number commands left (Err e) =
-      (OpensRightly {S = S} {F = F} before true M.DataFile (Err (left, e)) × LeavesStorage {F = F} view true before (Err (left, e)) × OpeningCounts {F = F} view before.faults (Err (left, e)))
-      ⊎ ((e ≡ MappingPrepared) × (before.is_honest → IsConsistent (byte_at before.contents) → ⊥))
+      OpensRightly {S = S} {F = F} before true M.DataFile (Err (left, e)) × LeavesStorage {F = F} view true before (Err (left, e)) × OpeningCounts {F = F} view before.faults (Err (left, e))

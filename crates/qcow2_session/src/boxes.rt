@@ -11,8 +11,7 @@ use std::alloc::Global;
 
 /// Opens an image in a storage of any type for writing, under its number, over a disk of any type where one is given. It answers each
 /// command as `run` does, and hands the storage back; the disk below goes with the image. What isn't flushed is lost, so end the
-/// commands with a flush. Refused as `open_with_own_data` is, 12 (dependency) where the data stand in another file, and
-/// 17 (mapping prepared) on contents that no image has.
+/// commands with a flush. Refused as `open_with_own_data` is: 12 (dependency) where the data stand in another file.
 pub fn run_in_boxes(
     alloc: Global,
     storage: Box<dyn DynStorage>,

@@ -7,20 +7,9 @@ use Rattle.qcow2_session.specs.Sessions.{RunRefinesDisk}
 use Rattle.qcow2_session.specs.Told.{TellsThrough}
 use Rattle.qcow2_session.proofs.boxes.run_and_close.Goals as goal
 
+-- no table has a pin yet
 pub returns-in-Err-set_backing : goal.returns-in-Err-set_backing
-returns-in-Err-set_backing g c =
-    let works = c.in-Ok.ensures.ok.1 in
-    let refused = c.in-Err-set_backing.ensures.refused works in
-    record {
-      runs = inr (
-        ap (λ (x : Option _ × ImageError). x.1) refused.0,
-        λ honest consistent.
-            let sound = (c.in-Ok.ensures.opens honest consistent).opened.sound in
-            let has = (c.set_backing.ensures.prepared works [] sound).0 (subst (λ (r : Result _ _). IsErr r) (sym c.in-Err-set_backing.is) refl) in
-            absurd (let bad : None ≡ Some (Some has.mapping) = has.there in cc),
-      );
-      another = λ honest needs. absurd ((c.in-Ok.ensures.another honest needs).0);
-    }
+returns-in-Err-set_backing g c = absurd (c.in-Ok.ensures.unpinned ((c.set_backing.ensures.pinned c.in-Ok.ensures.ok.1).0 (subst (λ (r : Result _ _). IsErr r) (sym c.in-Err-set_backing.is) refl)))
 
 pub returns-in-Err-clause-another : goal.returns-in-Err-clause-another
 returns-in-Err-clause-another g c = λ honest needs. (refl, (c.in-Err.ensures.another honest needs).1)

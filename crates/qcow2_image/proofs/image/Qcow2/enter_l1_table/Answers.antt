@@ -103,8 +103,8 @@ returns-clause-limit g c = λ p out sound longer some.
     let took = c.in_ok-pending.ensures.sound p (record { sound = sound.file; reftable = own.reftable }) in
     let since = pending_then p old.file.free_list file.free_list in
     let hint = c.in_ok-pending.ensures.hint p (record { sound = record { sound = sound.file; reftable = own.reftable }; hint = own.hint }) in
-    let keeps = keeps_taken view below out p old sound file c.allocate_meta.new.self c.allocate_meta.ensures.marks.pins c.allocate_meta.ensures.list c.allocate_meta.ensures.header c.args.table c.in_ok-pending.pending.first_cluster c.cluster_count.result c.cluster_count.ensures took.2 hint longer in
-    let there = longer_taken view below out p old sound file c.allocate_meta.new.self c.allocate_meta.ensures.marks.pins c.allocate_meta.ensures.list c.allocate_meta.ensures.header c.args.table c.in_ok-pending.pending.first_cluster c.cluster_count.result c.cluster_count.ensures took.2 hint longer in
+    let keeps = keeps_taken view below out p old sound file c.allocate_meta.new.self c.allocate_meta.ensures.marks.pins c.allocate_meta.ensures.list c.allocate_meta.ensures.header (leaked_still old c.in-Some.allocator c.allocate_meta.new.self c.in-Some.is (c.allocate_meta.ensures.leaks p (record { sound = sound.file; reftable = own.reftable }))) c.args.table c.in_ok-pending.pending.first_cluster c.cluster_count.result c.cluster_count.ensures took.2 hint longer in
+    let there = longer_taken view below out p old sound file c.allocate_meta.new.self c.allocate_meta.ensures.marks.pins c.allocate_meta.ensures.list c.allocate_meta.ensures.header (leaked_still old c.in-Some.allocator c.allocate_meta.new.self c.in-Some.is (c.allocate_meta.ensures.leaks p (record { sound = sound.file; reftable = own.reftable }))) c.args.table c.in_ok-pending.pending.first_cluster c.cluster_count.result c.cluster_count.ensures took.2 hint longer in
     unlimited_all c.write_taken.result (λ e. StandsInWay view (HasNoTablePlace (entry_count c.args.table)) old.file.free_list old c.write_taken.new.self) (c.write_taken.ensures.limited since out keeps.sound there)
 
 pub returns-clause-placed : goal.returns-clause-placed

@@ -106,7 +106,7 @@ returns-in-Err-clause-limit g c = λ p out sound may says near.
     let took = c.in_ok-pending.ensures.sound p (record { sound = sound.file; reftable = own.reftable }) in
     let since = pending_then p old.file.free_list c.allocate_meta.new.file.free_list in
     let allocator_step = subst (λ n. UnseenAllocatorGrowth view p old.file c.allocate_meta.new.self c.allocate_meta.new.file (taken_as false since (run_at n c.new.result))) (sym c.cluster-cluster.ensures) took.2 in
-    let keeps = keeps_taken view below out p old sound c.allocate_meta.new.file c.allocate_meta.new.self c.allocate_meta.ensures.marks.pins c.allocate_meta.ensures.list c.cluster-cluster.result c.new.result c.new.ensures allocator_step
+    let keeps = keeps_taken view below out p old sound c.allocate_meta.new.file c.allocate_meta.new.self c.allocate_meta.ensures.marks.pins c.allocate_meta.ensures.list (leaked_still old c.in-Some.allocator c.allocate_meta.new.self c.in-Some.is (c.allocate_meta.ensures.leaks p (record { sound = sound.file; reftable = own.reftable }))) c.cluster-cluster.result c.new.result c.new.ensures allocator_step
     (c.in_ok-pending.ensures.hint p (record { sound = record { sound = sound.file; reftable = own.reftable }; hint = own.hint })) in
     let known = says_still view below out p (with_new_tables since (one_at c.cluster-cluster.result)) old taken c.args.index c.args.table keeps says in
     let host = subst (λ n. IsHostCluster n c.cluster-cluster.result) (sym (ap (λ (v : HeaderView). v.fields.cluster_bits) c.allocate_meta.ensures.header))
