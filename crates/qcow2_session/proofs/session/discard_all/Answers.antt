@@ -10,7 +10,7 @@ use Rattle.qcow2_image.proofs.Call.FaultCounts.{faults_then}
 use Rattle.qcow2_image.proofs.Call.BehindHeader.{behind_none, behind_then}
 use Rattle.qcow2_session.proofs.Counting.{none_counted}
 use Rattle.qcow2_session.proofs.Converting.{does_nothing}
-use Rattle.qcow2_alloc.proofs.KeptTables.AllWritten.{written_then}
+use Rattle.qcow2_alloc.proofs.KeptTables.AllWritten.{written_none, written_then}
 use Rattle.qcow2_session.proofs.session.discard_all.Goals as goal
 
 pub loop-slot-preserved : goal.loop-slot-preserved
@@ -38,6 +38,7 @@ loop-slot-init g c = record {
   own = search rules;
   image = record { number = refl; size = refl; writable = refl; external = refl };
   works = refl;
+  quiet = written_none g.S.Storage.view c.args.image.now.file.storage c.args.image.now.file.caches;
   unwritten = λ clean. read_none g.S.Storage.view c.args.image.now clean;
   gone = does_if (λ same. refl) (does_nothing (abstract_of g.S.Storage.view g.F.BackingDisk.backing c.args.image.now c.args.slots.prepared.items));
 }

@@ -18,7 +18,7 @@ use Rattle.std.proofs.Common.{Some}
 use Rattle.qcow2_session.proofs.Marking.{fails_behind, hands_on, unmarked}
 use Rattle.qcow2_session.proofs.Counting.{none_counted}
 use Rattle.qcow2_session.proofs.Converting.{does_nothing}
-use Rattle.qcow2_alloc.proofs.KeptTables.AllWritten.{written_then}
+use Rattle.qcow2_alloc.proofs.KeptTables.AllWritten.{written_none, written_then}
 use Rattle.qcow2_session.proofs.session.read_into.Goals as goal
 
 pub returns-in_default-clause-sees : goal.returns-in_default-clause-sees
@@ -124,6 +124,7 @@ loop-done-init g c = record {
   end = grind (arith, common_steps);
   image = record { number = refl; size = refl; writable = refl; external = refl };
   works = refl;
+  quiet = written_none g.S.Storage.view c.args.image.now.file.storage c.args.image.now.file.caches;
   unwritten = λ reading out sound clean. read_none g.S.Storage.view c.args.image.now clean;
   shown = λ out. does_if (λ same. (λ i lt. absurd (let none : i < length (take 0 c.args.bytes.now) = lt in grind (arith, common_steps)), same)) (does_nothing (abstract_of g.S.Storage.view g.F.BackingDisk.backing c.args.image.now out));
 }
