@@ -16,6 +16,7 @@ use Rattle.qcow2_metadata.specs.RefBlock.{RefBlockView, count_at}
 use Rattle.qcow2_metadata.specs.TableBytes.{entry_at}
 use Rattle.qcow2_metadata.specs.declared.l2_mapping.L2Mapping.{L2Mapping}
 use Rattle.qcow2_metadata.specs.declared.l2_mapping.L2Mapping.TheVariants.{Zero, Uncovered}
+use Rattle.qcow2_disk.specs.AbstractImages.{AbstractImage}
 use Rattle.qcow2_disk.specs.Disk.{disk}
 use Rattle.qcow2_disk.specs.Mappings.{is_copied_data}
 use Rattle.qcow2_laws.specs.NewImages.{IsNewImage}
@@ -63,6 +64,11 @@ IsCoverOf mode v = is_copied_data v ≡ true
 pub record IsPreallocated (mode : PreallocateMode) (n : ℕ) (b : Bytes) : Type 0 where
   pub inside : (g : ℕ) → g * cluster_size (header b) < n → IsCoverOf mode (cover (header b) b g)
   pub behind : (g : ℕ) → n ≤ g * cluster_size (header b) → cover (header b) b g ≡ Uncovered
+
+-- No cluster of an image is lost: each is counted as often as it is named, and none was leaked.
+pub record HasLostNone (v : AbstractImage) : Type 0 where
+  pub counted : (cluster : ℕ) → v.surplus cluster ≡ 0
+  pub leaks : v.leaked ≡ 0
 
 -- What a stop may leave while an image of this size is created in a mode. It is nothing that is taken for an image, or a new disk of no bytes or of that size.
 abbrev pub IsStopOfCreating : PreallocateMode → ℕ → Bytes → Type 0

@@ -23,6 +23,7 @@ use Rattle.qcow2_image.specs.Found.{l1_index_of}
 use Rattle.qcow2_image.specs.L1Entries.{HasOwnTable}
 use Rattle.qcow2_image.specs.ListedClusters.{GaveWayMeanwhile, KeepsReftable, ListsFormer}
 use Rattle.qcow2_image.specs.LongerTables.{listed, run_of_table}
+use Rattle.qcow2_image.specs.Preparing.{IsWritableAt}
 
 -- a cluster lies in a run of a list
 abbrev pub IsListed : List ClustersToFreeEntry → ℕ → Type 0
@@ -146,12 +147,16 @@ module _ {S F : Type 0} where
     LacksData offset n runs old new =
         StandsInWay HasNoCluster runs old new ⊎ LacksBehind (first_of_range offset old) (offset % cluster_size old.file.header.fields) (bytes_in_table offset n old) runs old new
 
+    -- not all of a range may be written where it is
+    abbrev pub IsWrittenNowhere : ℕ → ℕ → Qcow2 S F → Type 0
+    IsWrittenNowhere offset n image = (place : ℕ) → ¬ IsWritableAt image.file.header.fields (known_in view image.file) offset n place
+
     -- or there is no L2 table
     abbrev pub LacksRange : ℕ → ℕ → Qcow2 S F → Qcow2 S F → Type 0
-    LacksRange offset n old new = LacksTableFor offset old new ⊎ LacksData offset n (listed_or_l1 old) old new
+    LacksRange offset n old new = LacksTableFor offset old new ⊎ (IsWrittenNowhere offset n old × LacksData offset n (listed_or_l1 old) old new)
 
-    -- Why a range isn't prepared: there is no L2 table of the image's own for it. Or one cluster for its first bytes has no place. Or a mapping that begins can't go on.
+    -- Why a range isn't prepared: there is no L2 table of the image's own for it. Or it can't be written where it is, and one cluster for its first bytes has no place, or a mapping that begins can't go on.
     abbrev pub LacksPlaceFor : ℕ → ℕ → Qcow2 S F → Qcow2 S F → Type 0
     LacksPlaceFor offset n old new =
         LacksTableFor offset old new
-        ⊎ StandsInWay (λ used h allocator. HasNoCluster used h allocator ⊎ CantGoOn (first_of_range offset old) (offset % cluster_size old.file.header.fields) (bytes_in_table offset n old) used h allocator) (listed_or_l1 old) old new
+        ⊎ IsWrittenNowhere offset n old × StandsInWay (λ used h allocator. HasNoCluster used h allocator ⊎ CantGoOn (first_of_range offset old) (offset % cluster_size old.file.header.fields) (bytes_in_table offset n old) used h allocator) (listed_or_l1 old) old new

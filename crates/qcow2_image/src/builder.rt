@@ -90,7 +90,7 @@ fn has_l1_entries(cluster_bits: u32, size: u64) -> bool
 impl<S: Storage> Qcow2CreateBuilder<S> {
     ghost use Rattle.std.specs.Prelude.{Err};
     ghost use Rattle.qcow2_alloc.specs.declared.error.ImageError.TheVariants.{InvalidOption, Limit};
-    ghost use Rattle.qcow2_image.specs.Created.{StopsCreating, IsCreated, IsAllowed, IsNewDisk, IsReasonNotToCreate};
+    ghost use Rattle.qcow2_image.specs.Created.{StopsCreating, IsCreated, IsAllowed, HasLostNone, IsNewDisk, IsReasonNotToCreate};
     ghost use Rattle.std.specs.Prelude.{true, false};
     ghost use Rattle.qcow2_image.specs.Image.{number_of, storage_of_image};
     ghost use Rattle.qcow2_image.specs.Opened.{storage_after};
@@ -205,7 +205,7 @@ impl<S: Storage> Qcow2CreateBuilder<S> {
         ensures refused { ¬ IsAllowed self → result ≡ Err (self.image, InvalidOption) }
         ensures limit { IsAllowed self → longest_disk self.cluster_size < self.size → result ≡ Err (self.image, Limit) }
         ensures opens { (S.view self.image).is_honest → IfOk result (λ image. IsOpened (abstract_of S.view F.backing image [])) }
-        ensures surplus { (S.view self.image).is_honest → IfOk result (λ image. (c : ℕ) → (abstract_of S.view F.backing image []).surplus c ≡ 0) }
+        ensures clusters { (S.view self.image).is_honest → IfOk result (λ image. HasLostNone (abstract_of S.view F.backing image [])) }
         ensures new_disk { (S.view self.image).is_honest → IfOk result (λ image. IsNewDisk self.preallocate self.size (abstract_of S.view F.backing image []).known) }
         ensures ok { IfOk result (λ image. (number_of image ≡ number) × (is_failed image ≡ false) × (is_writable image ≡ true) × (is_some image.backing ≡ false)) }
         ensures cause { (S.view self.image).is_honest → IfErr result (λ refused. IsReasonNotToCreate self refused.1) }

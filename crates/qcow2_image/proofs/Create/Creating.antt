@@ -26,7 +26,7 @@ use Rattle.qcow2_alloc.specs.ImageFile.{nothing_given, view_in}
 use Rattle.qcow2_image.specs.declared.builder.Qcow2CreateBuilder.{Qcow2CreateBuilder}
 use Rattle.qcow2_image.specs.declared.image.Missing.TheVariants as N
 use Rattle.qcow2_image.specs.declared.image.Qcow2.{Qcow2}
-use Rattle.qcow2_image.specs.Created.{IsNewDisk, IsPreallocated, IsUnwritten, ShowsZeros, IsStopOfCreating, StopsCreating, StaysCreating, IsNewHeader, IsCreated, Enlarges}
+use Rattle.qcow2_image.specs.Created.{IsNewDisk, IsPreallocated, IsUnwritten, ShowsZeros, IsStopOfCreating, StopsCreating, StaysCreating, IsNewHeader, IsCreated, Enlarges, HasLostNone}
 use Rattle.qcow2_image.specs.Growing.{FitsSize, SameFormat, GrowsWhole, ReachesSize}
 use Rattle.qcow2_image.specs.Image.{size_of, storage_of_image}
 use Rattle.qcow2_image.specs.Opened.{IsKeptSince, LeavesStorage, Opens, storage_after, NeedsAnother, needs_another}
@@ -263,9 +263,9 @@ module _ {S : Type 0} (view : S → StorageView) (builder : Qcow2CreateBuilder S
       created_still builder (view storage) (view (storage_of_image image)) made (left.honest made.honest) ((left.contents made.honest).contents ∙ opened_none true (view storage).contents made.no_autoclear)
   created_opened (Err e) left = tt
 
-  pub no_surplus : {F : Type 0} (backing : F → BackingView) (result : Result (Qcow2 S F) (S × ImageError)) → IfOk result (Opens view backing (view storage)) → IfOk result (λ image. (k : ℕ) → (abstract_of view backing image []).surplus k ≡ 0)
-  no_surplus backing (Ok image) opens = λ k. ap (λ (f : ℕ → ℕ). f k) (opens made.honest whole).surplus ∙ made.no_leaks k
-  no_surplus backing (Err e) opens = tt
+  pub none_lost : {F : Type 0} (backing : F → BackingView) (result : Result (Qcow2 S F) (S × ImageError)) → IfOk result (Opens view backing (view storage)) → IfOk result (λ image. HasLostNone (abstract_of view backing image []))
+  none_lost backing (Ok image) opens = let opened = opens made.honest whole in record { counted = λ k. ap (λ (f : ℕ → ℕ). f k) opened.surplus ∙ made.no_leaks k; leaks = opened.leaks }
+  none_lost backing (Err e) opens = tt
 
 pub made_so : {S : Type 0} (view : S → StorageView) (builder : Qcow2CreateBuilder S) (storage : S) (done : Result (Unit {0}) ImageError) (x : Unit {0}) → done ≡ Ok x → IfOk done (λ d. IsCreated builder (view storage)) → IsCreated builder (view storage)
 made_so view builder storage done x is created = subst (λ (r : Result (Unit {0}) ImageError). IfOk r (λ d. IsCreated builder (view storage))) is created

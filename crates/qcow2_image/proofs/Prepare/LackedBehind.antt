@@ -24,7 +24,7 @@ use Rattle.qcow2_alloc.specs.declared.clusters_to_free.ClustersToFreeEntry.{Clus
 use Rattle.qcow2_alloc.proofs.Limits.{count_more, lowest_more}
 use Rattle.qcow2_alloc.proofs.Runs.{run_after, run_before, run_in}
 use Rattle.qcow2_image.specs.ImageInvariant.{begin_of, cluster_of, host_begin_of, new_data_in, IsNewAt, IsPending, IsShareAt}
-use Rattle.qcow2_image.specs.LackedPlaces.{CantGoOn, CantGoOnFrom, CantTakeAt, FreesJustListed, HasNoCluster, IsListed, LacksBehind, LacksData, LacksPlaceFor, LacksRange, MayBeginIn, StandsInWay, bytes_in_table, first_of_range, listed_or_l1}
+use Rattle.qcow2_image.specs.LackedPlaces.{CantGoOn, CantGoOnFrom, CantTakeAt, FreesJustListed, HasNoCluster, IsListed, LacksBehind, LacksData, IsWrittenNowhere, LacksPlaceFor, LacksRange, MayBeginIn, StandsInWay, bytes_in_table, first_of_range, listed_or_l1}
 use Rattle.qcow2_disk.specs.Found.{rest_of_table}
 use Rattle.qcow2_image.specs.ListedClusters.{GaveWayMeanwhile, ListsFormer, ListsSinceTable}
 use Rattle.qcow2_image.specs.MovedTables.{CoversStay, MovesTables}
@@ -311,7 +311,7 @@ module _ {S F : Type 0} (view : S → StorageView) where
       let bytes = bytes_in_table view offset n old in
       elim lacks [
         | inl table ↦ inl (lacks_freed view offset old mid new header just table)
-        | inr lacks_data ↦ inr (elim lacks_data [
+        | inr lacks_data ↦ inr (lacks_data.0, elim lacks_data.1 [
           | inl s ↦ stands_as view HasNoCluster (λ used h allocator. HasNoCluster used h allocator ⊎ CantGoOn first start bytes used h allocator) (listed_or_l1 old) old new (λ A a none. inl none)
               (stands_after view HasNoCluster cluster_more (listed_or_l1 old) old mid new header just s)
           | inr behind ↦ behind_ended first start bytes (listed_or_l1 old) old new empty (record {
@@ -326,10 +326,11 @@ module _ {S F : Type 0} (view : S → StorageView) where
 
   -- the call began, and marks a failure
   pub place_ended : (offset n : ℕ) (old begun new : Qcow2 S F) (failed : Bool) → begun ≡ record old { file = record old.file { storage = begun.file.storage; caches = begun.file.caches } } → first_of_range view offset begun ≡ first_of_range view offset old
-      → LacksPlaceFor view offset n begun new → LacksPlaceFor view offset n old (record new { is_failed = failed })
-  place_ended offset n old begun new failed rest same lacks = elim lacks [
+      → (IsWrittenNowhere view offset n begun → IsWrittenNowhere view offset n old) → LacksPlaceFor view offset n begun new → LacksPlaceFor view offset n old (record new { is_failed = failed })
+  place_ended offset n old begun new failed rest same nowhere lacks = elim lacks [
     | inl table ↦ inl (lacks_ended view offset old begun new failed rest table)
-    | inr s ↦
+    | inr place ↦
+        let s = place.1 in
         let start = offset % cluster_size old.file.header.fields in
         let bytes = bytes_in_table view offset n old in
         let header = ap (λ (i : Qcow2 S F). i.file.header) rest in
@@ -337,7 +338,7 @@ module _ {S F : Type 0} (view : S → StorageView) where
         let it = subst (λ l. StandsInWay view (λ used h allocator. HasNoCluster used h allocator ⊎ CantGoOn (first_of_range view offset old) start bytes used h allocator) l begun new) runs
         (subst (λ (v : HeaderView). StandsInWay view (λ used h allocator. HasNoCluster used h allocator ⊎ CantGoOn (first_of_range view offset old) (offset % cluster_size v.fields) (min n (rest_of_table v.fields offset)) used h allocator) (listed_or_l1 begun) begun new) header
         (subst (λ (x : L2Mapping). StandsInWay view (λ used h allocator. HasNoCluster used h allocator ⊎ CantGoOn x (offset % cluster_size begun.file.header.fields) (bytes_in_table view offset n begun) used h allocator) (listed_or_l1 begun) begun new) same s)) in
-        inr (stands_ended view (λ used h allocator. HasNoCluster used h allocator ⊎ CantGoOn (first_of_range view offset old) start bytes used h allocator) (listed_or_l1 old) old begun new failed (ap (λ (i : Qcow2 S F). i.allocator) rest) it)
+        inr (nowhere place.0, stands_ended view (λ used h allocator. HasNoCluster used h allocator ⊎ CantGoOn (first_of_range view offset old) start bytes used h allocator) (listed_or_l1 old) old begun new failed (ap (λ (i : Qcow2 S F). i.allocator) rest) it)
   ]
 
   -- the same stands for the range once the call began

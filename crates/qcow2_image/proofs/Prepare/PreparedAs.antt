@@ -134,6 +134,9 @@ module _ {S F : Type 0} (view : S → StorageView) (old mid : Qcow2 S F) (offset
   pub writable_as_before : (place : ℕ) → IsWritableAt mid.file.header.fields (known_in view mid.file) offset n place → IsWritableAt old.file.header.fields (known_in view old.file) offset n place
   writable_as_before place is = writable_still old.file.header.fields mid.file.header.fields (known_in view mid.file) (known_in view old.file) same offset n place (subst (λ (x : HeaderFields). IsWritableAt x (known_in view mid.file) offset n place) header is)
 
+  pub nowhere_before : ((place : ℕ) → ¬ IsWritableAt mid.file.header.fields (known_in view mid.file) offset n place) → (place : ℕ) → ¬ IsWritableAt old.file.header.fields (known_in view old.file) offset n place
+  nowhere_before never place at = subst (λ (x : HeaderFields). (place : ℕ) → ¬ IsWritableAt x (known_in view mid.file) offset n place) header never place (writable_before old.file.header.fields mid.file.header.fields (known_in view mid.file) (known_in view old.file) same offset n place at)
+
 -- what is held is counted once, and nothing names it
 pub new_data_alone : (s : DriverState) → StateInvariant s → (k : ℕ) → 0 < s.pending.new_data k → IsHeldAlone s.header s.known k
 new_data_alone s sound k some =

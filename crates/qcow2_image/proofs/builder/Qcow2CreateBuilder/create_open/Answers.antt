@@ -6,7 +6,7 @@ use Rattle.qcow2_alloc.specs.declared.error.ImageError.TheVariants as I
 use Rattle.qcow2_image.specs.Created.{IsCreated, IsReasonNotToCreate}
 use Rattle.qcow2_image.specs.Opened.{storage_after}
 use Rattle.qcow2_image.proofs.Create.Causes.{counts_opened, counts_refused, opening_reasons}
-use Rattle.qcow2_image.proofs.Create.Creating.{created_opened, made_so, no_surplus, opened_new, refused_open, stops_opened}
+use Rattle.qcow2_image.proofs.Create.Creating.{created_opened, made_so, none_lost, opened_new, refused_open, stops_opened}
 use Rattle.qcow2_metadata.specs.Bytes.{byte_at}
 use Rattle.qcow2_image.proofs.Create.NewDisks.{new_disk_consistent}
 use Rattle.qcow2_image.proofs.Open.NamedBehind.{lies_if}
@@ -47,11 +47,11 @@ returns-clause-created g c = λ honest.
     let made = made_so view c.args.self c.create-storage.result.0 c.create-storage.result.1 c.in_default.field-0 c.in_default.is (c.create-storage.ensures.created honest) in
     created_opened view c.args.self c.create-storage.result.0 (storage_after c.open_image.result) made c.open_image.result c.open_image.ensures.storage
 
-pub returns-clause-surplus : goal.returns-clause-surplus
-returns-clause-surplus g c = λ honest.
+pub returns-clause-clusters : goal.returns-clause-clusters
+returns-clause-clusters g c = λ honest.
     let view = g.S.Storage.view in
     let made = made_so view c.args.self c.create-storage.result.0 c.create-storage.result.1 c.in_default.field-0 c.in_default.is (c.create-storage.ensures.created honest) in
-    no_surplus view c.args.self c.create-storage.result.0 c.create-storage.result.0 made g.F.BackingDisk.backing c.open_image.result c.open_image.ensures.opens
+    none_lost view c.args.self c.create-storage.result.0 c.create-storage.result.0 made g.F.BackingDisk.backing c.open_image.result c.open_image.ensures.opens
 
 pub returns-in-Err-clause-refused : goal.returns-in-Err-clause-refused
 returns-in-Err-clause-refused g c = λ none. refused_open c.create-storage.result.0 c.args.self.image c.in-Err.refusal c.create-storage.result.1 c.in-Err.is (c.create-storage.ensures.refused none)

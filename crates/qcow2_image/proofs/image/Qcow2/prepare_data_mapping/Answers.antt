@@ -4,7 +4,7 @@ use Rattle.qcow2_alloc.specs.declared.error.ImageError.TheVariants.{Overflow, Ta
 use Rattle.qcow2_alloc.specs.ImageFile.{known_in}
 use Rattle.qcow2_image.specs.Preparing.{IsAnswered, IsTaken}
 use Rattle.qcow2_image.proofs.Map.Loading.{if_ok}
-use Rattle.qcow2_image.proofs.Prepare.PreparedAs.{answered_before, taken_before}
+use Rattle.qcow2_image.proofs.Prepare.PreparedAs.{answered_before, nowhere_before, taken_before}
 use Rattle.qcow2_image.proofs.Prepare.Taken.{if_err}
 use Rattle.qcow2_image.specs.declared.image.Qcow2.{Qcow2}
 use Rattle.qcow2_image.specs.Calls.{Prepares}
@@ -196,4 +196,4 @@ returns-clause-limit g c = λ may some out sound.
     subst (λ (r : Result _ _). IfErr r (λ x. x ≡ Limit → LacksPlaceFor view c.args.offset c.args.length old c.mark_failure.new.self)) (sym c.mark_failure.ensures.answer)
     (subst (λ (image : Qcow2 _ _). IfErr c.prepare-prepared.result (λ x. x ≡ Limit → LacksPlaceFor view c.args.offset c.args.length old image)) (sym c.mark_failure.ensures.rest)
     (limits_as (λ x. LacksPlaceFor view c.args.offset c.args.length mid new) (λ x. LacksPlaceFor view c.args.offset c.args.length old (record new { is_failed = failed })) c.prepare-prepared.result
-    (λ e lacks. place_ended view c.args.offset c.args.length old mid new failed c.begin.ensures.rest same lacks) (c.prepare-prepared.ensures.limit some out stays.sound)))
+    (λ e lacks. place_ended view c.args.offset c.args.length old mid new failed c.begin.ensures.rest same (nowhere_before view old mid c.args.offset c.args.length stays.header stays.covers) lacks) (c.prepare-prepared.ensures.limit some out stays.sound)))

@@ -4,7 +4,7 @@ use Rattle.qcow2_alloc.proofs.AllocationSteps.{handed_on}
 use Rattle.qcow2_image.specs.CallParts.{PreparesRange}
 use Rattle.qcow2_image.specs.Preparing.{IsPlaceOf, IsWritableAt}
 use Rattle.qcow2_image.specs.ImageInvariant.{meaning, pending_in}
-use Rattle.qcow2_image.proofs.Prepare.PreparedAs.{answered_before, answered_existing, answered_range, taken_before}
+use Rattle.qcow2_image.proofs.Prepare.PreparedAs.{answered_before, answered_existing, answered_range, nowhere_before, taken_before}
 use Rattle.qcow2_image.proofs.Map.Loading.{if_ok}
 use Rattle.qcow2_image.proofs.Free.{free_places}
 use Rattle.qcow2_image.proofs.Grow.Lengths.{kept_length, on_ok}
@@ -184,5 +184,7 @@ returns-in-None-clause-limit g c = λ some out sound.
     let mid = c.table_for.new.self in
     let new = c.prepare_in.new.self in
     let found = c.in_ok-table.ensures.finds out sound in
+    let p = pending_in view g.F.BackingDisk.backing mid out in
+    let nowhere = subst (IsPlaceOf mid.file.header.fields (known_in view mid.file) c.args.offset c.args.length) c.in-None.is (c.in_ok-host.ensures.place p found.0.sound.file found.1.entry some) in
     limits_as (λ x. LacksData view c.args.offset c.args.length mid.file.free_list mid new) (λ x. LacksRange view c.args.offset c.args.length old new) c.prepare_in.result
-    (λ e lacks. inr (data_after_table view c.args.offset c.args.length old mid new found.0.header found.0.covers (c.in_ok-table.ensures.freed out sound) lacks)) (c.prepare_in.ensures.limit out found.0.sound found.1 some)
+    (λ e lacks. inr (nowhere_before view old mid c.args.offset c.args.length found.0.header found.0.covers nowhere, data_after_table view c.args.offset c.args.length old mid new found.0.header found.0.covers (c.in_ok-table.ensures.freed out sound) lacks)) (c.prepare_in.ensures.limit out found.0.sound found.1 some)
