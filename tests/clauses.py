@@ -62,6 +62,11 @@ def fields_kept(lines, name, other):
     return kept
 
 
+def is_never_reached(lines):
+    """Whether an answer says that its path is never taken, which answers each clause."""
+    return bool(re.match(r"\S+ g c = absurd \(", lines[-1]))
+
+
 def declarations(text):
     """The parts of a proof, each from a line at the margin that begins a declaration: a line that closes a bracket, or a declaration's second one, goes on with what stands before it."""
     found, name = [[]], None
@@ -96,7 +101,7 @@ def answers_kept(text, name, other):
         clause = OF_A_CLAUSE.fullmatch(named[1]) if is_answer else None
         if is_answer and not clause:
             blank = next((i for i in range(len(lines)) if not any(it.strip() for it in lines[i:])), len(lines))
-            fields = fields_kept(lines[:blank], name, other)
+            fields = lines[:blank] if is_never_reached(lines[:blank]) else fields_kept(lines[:blank], name, other)
             if fields is None:
                 return None
             kept += [*fields, *lines[blank:]]
