@@ -21,7 +21,7 @@ use Rattle.qcow2_alloc.specs.declared.image_file.ImageFile.{ImageFile}
 use Rattle.qcow2_alloc.specs.declared.clusters_to_free.ClusterKind.{ClusterKind}
 use Rattle.qcow2_alloc.specs.declared.clusters_to_free.ClusterKind.TheVariants.{Data, Metadata}
 use Rattle.qcow2_alloc.specs.declared.clusters_to_free.ClustersToFreeEntry.{ClustersToFreeEntry}
-use Rattle.qcow2_alloc.specs.Allocation.{run_at, is_data, taken_as, Owed, Taken, Listed, owed_as, MayTake, MayLower, HasNone, NamesBlock, NamesBehindHeader, KeepsEntries, KeepsNamed, RefblockAt, UnseenAllocatorStep, UnseenAllocatorGrowth, PlacesBlock, GetsBlock, RefusedGrowth, TakesOne, TakesCluster, Allocates}
+use Rattle.qcow2_alloc.specs.Allocation.{run_at, is_data, taken_as, Owed, Taken, Listed, owed_as, MayTake, MayLower, HasNone, NamesBlock, NamesBehindHeader, KeepsRefblocks, NamesLacking, KeepsEntries, KeepsNamed, RefblockAt, UnseenAllocatorStep, UnseenAllocatorGrowth, PlacesBlock, GetsBlock, RefusedGrowth, TakesOne, TakesCluster, Allocates}
 use Rattle.qcow2_laws.specs.Caches.{AreNamedBlocks}
 use Rattle.qcow2_alloc.specs.CachePins.{KeepsPinsAndNotes, SameTables}
 use Rattle.qcow2_alloc.specs.ImageFile.{view_in, contents_in, known_in, FileInvariant, AllocatorInvariant, HasReftable, RefusedFileStep}
@@ -89,6 +89,25 @@ behind_entered t t' range at value some rest enters offset = record {
   ];
 }
 
+-- ---- each range that has a refblock keeps it
+pub ranges_then : (a b c : EntryTableView) → KeepsRefblocks a b → KeepsRefblocks b c → KeepsRefblocks a c
+ranges_then a b c first second = λ k has. second k (λ none. has (ap block_offset (sym (first k has)) ∙ none)) ∙ first k has
+
+-- a copy whose entries stay
+pub lacking_none : (t a : EntryTableView) → NamesLacking t a a
+lacking_none t a = record { behind = behind_none a; ranges = λ k has. refl }
+
+-- a copy with one entry more, for a range that had none
+pub lacking_more : (t a b c : EntryTableView) (range : ℕ) → HasNone t range → NamesLacking t a b → KeepsEntries (λ k. k ≢ range) b c → NamesLacking t a c
+lacking_more t a b c range none first then = record {
+  behind = behind_then a b c first.behind then.behind;
+  ranges = λ k has. then.others k (λ same. has (subst (HasNone t) (sym same) none)) ∙ first.ranges k has;
+}
+
+-- what a copy of the reftable names beside it
+pub lacking_clone : (t a b : EntryTableView) → a.cluster_bits ≡ t.cluster_bits → ((k : ℕ) → entry_at a.bytes k ≡ entry_at t.bytes k) → NamesLacking t a b → NamesBehindHeader t b × KeepsRefblocks t b
+lacking_clone t a b bits same names = (behind_then t a b (behind_same t a bits same) names.behind, λ k has. names.ranges k has ∙ same k)
+
 -- ---- reftables with the same entries
 pub entries_then : (P : ℕ → Type 0) (a b c : EntryTableView) → KeepsEntries P a b → KeepsEntries P b c → KeepsEntries P a c
 entries_then P a b c first second = record {
@@ -108,7 +127,7 @@ named_then a b c first second = record {
   cluster = second.cluster ∙ first.cluster;
   bits = second.bits ∙ first.bits;
   count = second.count ∙ first.count;
-  others = λ k has. second.others k (λ none. has (ap block_offset (sym (first.others k has)) ∙ none)) ∙ first.others k has;
+  others = ranges_then a b c first.others second.others;
   behind = behind_then a b c first.behind second.behind;
 }
 

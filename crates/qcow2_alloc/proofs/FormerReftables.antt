@@ -2,16 +2,16 @@
 use Rattle.std.proofs.Common.{◌≡◌, ℕ, ◌+◌, ◌-◌, ◌*◌, ◌/◌, ◌%◌, ◌^◌, ◌<◌, List, [], ◌∷◌, ◌++◌, length, Some, refl, sym, ap, ◌∙◌, subst, append_assoc, arith}
 use Rattle.std.proofs.lemmas.List.{append-nil}
 use Rattle.qcow2_metadata.specs.EntryTable.{EntryTableView, entry_count, IsRefTable}
-use Rattle.qcow2_alloc.specs.Allocation.{NamesBehindHeader, KeepsEntries}
+use Rattle.qcow2_alloc.specs.Allocation.{NamesBehindHeader, KeepsRefblocks, KeepsEntries, KeepsNamed}
 use Rattle.qcow2_alloc.specs.ClustersToFree.{metadata_entry}
 use Rattle.qcow2_alloc.specs.FreeList.{SamePlace, IsRunOfTable, GaveWay, ListsReftables}
 use Rattle.qcow2_alloc.specs.declared.clusters_to_free.ClustersToFreeEntry.{ClustersToFreeEntry}
-use Rattle.qcow2_alloc.proofs.AllocationSteps.{behind_none, behind_then, entries_then, entries_less}
+use Rattle.qcow2_alloc.proofs.AllocationSteps.{behind_none, behind_then, ranges_then, entries_then, entries_less}
 
 pub place_none : (t : EntryTableView) → SamePlace t t
 place_none t = record { cluster = refl; bits = refl; count = refl; others = λ k none. refl; behind = behind_none t }
 
-pub place_as : (P : ℕ → Type 0) (a b : EntryTableView) → KeepsEntries P a b → SamePlace a b
+place_as : (P : ℕ → Type 0) (a b : EntryTableView) → KeepsEntries P a b → SamePlace a b
 place_as P a b keeps = entries_less P (λ k. ⊥) a b (λ k none. absurd none) keeps
 
 pub place_then : (a b c : EntryTableView) → SamePlace a b → SamePlace b c → SamePlace a c
@@ -33,11 +33,11 @@ gave_then a b c [] fs first then = gave_as a b c fs first then
 gave_then a b c (e ∷ es) fs first then = (first.0, first.1, first.2, gave_then first.1 b c es fs first.3 then)
 
 -- nothing is listed
-pub former_same : (a b : EntryTableView) (l m : List ClustersToFreeEntry) → SamePlace a b → m ≡ l → ListsReftables a b l m
-former_same a b l m same is = record { more = []; is = is ∙ sym (append-nil l); gone = same; behind = same.behind }
+pub former_same : (a b : EntryTableView) (l m : List ClustersToFreeEntry) → KeepsNamed a b → m ≡ l → ListsReftables a b l m
+former_same a b l m named is = record { more = []; is = is ∙ sym (append-nil l); gone = place_as _ a b named; behind = named.behind; ranges = named.others }
 
 pub former_none : (a : EntryTableView) (l : List ClustersToFreeEntry) → ListsReftables a a l l
-former_none a l = former_same a a l l (place_none a) refl
+former_none a l = record { more = []; is = sym (append-nil l); gone = place_none a; behind = behind_none a; ranges = λ k has. refl }
 
 -- one step after another
 pub former_then : (a b c : EntryTableView) (l m n : List ClustersToFreeEntry) → ListsReftables a b l m → ListsReftables b c m n → ListsReftables a c l n
@@ -46,6 +46,7 @@ former_then a b c l m n first then = record {
   is = then.is ∙ ap (λ (x : List ClustersToFreeEntry). x ++ then.more) first.is ∙ append_assoc l first.more then.more;
   gone = gave_then a b c first.more then.more first.gone then.gone;
   behind = behind_then a b c first.behind then.behind;
+  ranges = ranges_then a b c first.ranges then.ranges;
 }
 
 -- after which reftable and list stay
@@ -53,8 +54,8 @@ pub former_still : (a b c : EntryTableView) (l m n : List ClustersToFreeEntry) �
 former_still a b c l m n first same_table same_list = subst (λ (t : EntryTableView). ListsReftables a t l n) (sym same_table) (subst (ListsReftables a b l) (sym same_list) first)
 
 -- one goes
-pub former_one : (a b : EntryTableView) (e : ClustersToFreeEntry) (l m : List ClustersToFreeEntry) → IsRunOfTable a e → entry_count a < entry_count b → NamesBehindHeader a b → m ≡ l ++ e ∷ [] → ListsReftables a b l m
-former_one a b e l m run longer behind is = record { more = e ∷ []; is = is; gone = (run, b, longer, place_none b); behind = behind }
+pub former_one : (a b : EntryTableView) (e : ClustersToFreeEntry) (l m : List ClustersToFreeEntry) → IsRunOfTable a e → entry_count a < entry_count b → NamesBehindHeader a b → KeepsRefblocks a b → m ≡ l ++ e ∷ [] → ListsReftables a b l m
+former_one a b e l m run longer behind ranges is = record { more = e ∷ []; is = is; gone = (run, b, longer, place_none b); behind = behind; ranges = ranges }
 
 -- a reftable has whole entries
 pub run_of_table : (t : EntryTableView) (e : ClustersToFreeEntry) (c : ℕ) → t.cluster ≡ Some c → IsRefTable t → e ≡ metadata_entry c ((length t.bytes + 2 ^ t.cluster_bits - 1) / 2 ^ t.cluster_bits) → IsRunOfTable t e

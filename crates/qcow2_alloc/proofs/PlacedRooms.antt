@@ -58,7 +58,7 @@ before_in per c some inside =
     let e : c - 1 ≡ c / per * per + (c % per - 1) = omega (arith, a, inside) in
     ap (λ n. n / per) e ∙ div-mul-add (c / per) per (c % per - 1) (omega (arith, below))
 
-opens_range : (t : EntryTableView) (per first c : ℕ) → opens t per first c ≡ true → ((c ≡ first) ⊎ (c % per ≡ 0)) × HasNone t (c / per)
+pub opens_range : (t : EntryTableView) (per first c : ℕ) → opens t per first c ≡ true → ((c ≡ first) ⊎ (c % per ≡ 0)) × HasNone t (c / per)
 opens_range t per first c is = elim (cases_Bool (c == first)) [
   | inl here ↦ (inl (same_of c first here), lacks_none t (c / per) (rw here at is))
   | inr other ↦ elim (cases_Bool (c % per == 0)) [

@@ -107,6 +107,15 @@ pub record NamesBehindHeader (old new : EntryTableView) : Type 0 where
   pub bits : new.cluster_bits ≡ old.cluster_bits
   pub each : (k : ℕ) → (entry_at new.bytes k ≡ entry_at old.bytes k) ⊎ (2 ^ old.cluster_bits ≤ block_offset (entry_at new.bytes k))
 
+-- each range of counts that has a refblock keeps it
+abbrev pub KeepsRefblocks : EntryTableView → EntryTableView → Type 0
+KeepsRefblocks old new = (range : ℕ) → (HasNone old range → ⊥) → entry_at new.bytes range ≡ entry_at old.bytes range
+
+-- A copy of a reftable names only refblocks that this one lacks: none in cluster 0, and each range that has a refblock keeps its entry.
+pub record NamesLacking (reftable old new : EntryTableView) : Type 0 where
+  pub behind : NamesBehindHeader old new
+  pub ranges : (range : ℕ) → (HasNone reftable range → ⊥) → entry_at new.bytes range ≡ entry_at old.bytes range
+
 -- a reftable of the same place and length, with the same entries for these ranges
 pub record KeepsEntries (Stays : ℕ → Type 0) (old new : EntryTableView) : Type 0 where
   pub cluster : new.cluster ≡ old.cluster

@@ -5,7 +5,7 @@ use Rattle.qcow2_laws.specs.CrashInvariant.{Pending}
 use Rattle.qcow2_alloc.specs.declared.clusters_to_free.ClusterKind.{ClusterKind}
 use Rattle.qcow2_alloc.specs.declared.clusters_to_free.ClusterKind.TheVariants as Kind
 use Rattle.qcow2_alloc.specs.declared.clusters_to_free.ClustersToFreeEntry.{ClustersToFreeEntry}
-use Rattle.qcow2_alloc.specs.Allocation.{run_at, NamesBehindHeader, KeepsEntries}
+use Rattle.qcow2_alloc.specs.Allocation.{run_at, NamesBehindHeader, KeepsRefblocks, KeepsEntries}
 use Rattle.qcow2_alloc.specs.ClustersToFree.{metadata_entry}
 use Rattle.qcow2_alloc.specs.declared.error.ImageError.{ImageError}
 
@@ -73,14 +73,15 @@ abbrev pub GaveWay : EntryTableView → List ClustersToFreeEntry → EntryTableV
 GaveWay old [] new = SamePlace old new
 GaveWay old (e ∷ es) new = IsRunOfTable old e × (next : EntryTableView) × (entry_count old < entry_count next) × GaveWay next es new
 
--- What is listed behind what was listed are the clusters of former reftables, and nothing else. No refblock comes to lie in cluster 0.
+-- What is listed behind what was listed are the clusters of former reftables, and nothing else. No refblock comes to lie in cluster 0, and each range that has one keeps it.
 pub record ListsReftables (old new : EntryTableView) (list list' : List ClustersToFreeEntry) : Type 0 where
   pub more : List ClustersToFreeEntry
   pub is : list' ≡ list ++ more
   pub gone : GaveWay old more new
   pub behind : NamesBehindHeader old new
+  pub ranges : KeepsRefblocks old new
 
--- a reftable gave way to another one, and just its clusters were listed; refused, it stays, and so does the list
+-- a reftable gave way to another one, which has its refblocks, and just its clusters were listed; refused, it stays, and so does the list
 abbrev pub GivesWay : EntryTableView → EntryTableView → List ClustersToFreeEntry → List ClustersToFreeEntry → Result (Unit {0}) ImageError → Type 0
-GivesWay old new list list' (Ok _) = (e : ClustersToFreeEntry) × IsRunOfTable old e × (list' ≡ list ++ e ∷ []) × NamesBehindHeader old new
+GivesWay old new list list' (Ok _) = (e : ClustersToFreeEntry) × IsRunOfTable old e × (list' ≡ list ++ e ∷ []) × NamesBehindHeader old new × KeepsRefblocks old new
 GivesWay old new list list' (Err _) = (new ≡ old) × (list' ≡ list)

@@ -7,7 +7,7 @@ ghost use Rattle.qcow2_metadata.specs.RefBlock.{IsRefBlock};
 ghost use Rattle.qcow2_metadata.specs.TableBytes.{HasPlace};
 ghost use Rattle.qcow2_laws.specs.Caches.{AreClean, BlocksMayGo};
 ghost use Rattle.qcow2_laws.specs.CrashInvariant.{Pending};
-ghost use Rattle.qcow2_alloc.specs.Allocation.{run_at, NamesBehindHeader, SameLeaks};
+ghost use Rattle.qcow2_alloc.specs.Allocation.{run_at, NamesLacking, SameLeaks};
 ghost use Rattle.qcow2_alloc.specs.KeptMarks.{KeepsMarks};
 ghost use Rattle.qcow2_alloc.specs.KeptNotes.{KeepsNotes};
 ghost use Rattle.qcow2_alloc.specs.Faults.{CountsFaults};
@@ -136,7 +136,7 @@ impl Allocator {
         ensures clean { AreClean (refblocks file.old.caches) → AreClean (refblocks file.new.caches) }
         ensures rest { table.new ≡ record table.old { bytes = table.new.bytes } }
         ensures as_long { length table.new.bytes ≡ length table.old.bytes }
-        ensures behind { NamesBehindHeader table.old table.new }
+        ensures lacking { NamesLacking self.now.reftable table.old table.new }
         ensures sound { (p : Pending) → AllocatorInvariant S.view self.now (with_run p file.old.header.fields self.now.reftable room.first (room_length room)) file.old
             → BlocksMayGo (order_of file.old.caches) (l2_tables file.old.caches) → IsLonger file.old.header.fields self.now.reftable table.old room.clusters
             → PlacesBlocks S.view (with_run p file.old.header.fields self.now.reftable room.first (room_length room)) file.old self.now file.new self.now.reftable table.new room result }
@@ -187,7 +187,7 @@ impl Allocator {
         ensures noted { OnOk result (IsTrue (has_noted file.new)) }
         ensures table { OnOk result (entry_count self.new.reftable ≡ entry_count table) }
         ensures place { OnOk result (self.new.reftable.cluster ≡ Some (room.first + room.blocks)) }
-        ensures behind { OnOk result (NamesBehindHeader table self.new.reftable) }
+        ensures lacking { OnOk result (NamesLacking self.old.reftable table self.new.reftable) }
         ensures first { self.new.first_free_cluster ≡ self.old.first_free_cluster }
         ensures sound { (p : Pending) → AllocatorInvariant S.view self.old (with_run p file.old.header.fields self.old.reftable room.first (room_length room)) file.old
             → IsLonger file.old.header.fields self.old.reftable table room.clusters

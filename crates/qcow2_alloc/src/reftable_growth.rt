@@ -4,7 +4,7 @@ ghost use Rattle.qcow2_laws.specs.CrashInvariant.{Pending};
 ghost use Rattle.qcow2_metadata.specs.EntryTable.{entry_count, IsRefTable};
 ghost use Rattle.qcow2_metadata.specs.Header.{entries_per_cluster, counts_per_block};
 ghost use Rattle.qcow2_metadata.specs.TableBytes.{entry_at};
-ghost use Rattle.qcow2_alloc.specs.Allocation.{GrowsTable, NamesBehindHeader, SameLeaks};
+ghost use Rattle.qcow2_alloc.specs.Allocation.{GrowsTable, NamesLacking, SameLeaks};
 ghost use Rattle.qcow2_alloc.specs.KeptMarks.{KeepsMarks};
 ghost use Rattle.qcow2_alloc.specs.Faults.{CountsFaults};
 ghost use Rattle.qcow2_alloc.specs.SparedHeaders.{SparesHeaderButPointer};
@@ -132,7 +132,7 @@ impl Allocator {
         ensures header { KeepsHeader file.old.header file.new.header }
         ensures list { file.new.free_list ≡ file.old.free_list }
         ensures table { OnOk result (entry_count self.new.reftable ≡ entry_count table) }
-        ensures behind { OnOk result (NamesBehindHeader table self.new.reftable) }
+        ensures lacking { OnOk result (NamesLacking self.old.reftable table self.new.reftable) }
         ensures first { self.new.first_free_cluster ≡ self.old.first_free_cluster }
         ensures elsewhere { OnOk result (IfSome self.new.reftable.cluster (λ c. 0 < c)) }
         ensures cause { IfErr result IsOfTables }

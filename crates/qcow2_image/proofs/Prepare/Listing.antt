@@ -27,11 +27,11 @@ same_value a b is = cc is
 
 -- the same entries, behind others
 behind_others : (a b : EntryTableView) (l es : List ClustersToFreeEntry) → ListsReftables a b [] es → ListsReftables a b l (l ++ es)
-behind_others a b l es lists = record { more = lists.more; is = ap (λ (m : List ClustersToFreeEntry). l ++ m) lists.is; gone = lists.gone; behind = lists.behind }
+behind_others a b l es lists = record { more = lists.more; is = ap (λ (m : List ClustersToFreeEntry). l ++ m) lists.is; gone = lists.gone; behind = lists.behind; ranges = lists.ranges }
 
 -- what was listed behind others, alone
 alone : (a b : EntryTableView) (l m : List ClustersToFreeEntry) (lists : ListsReftables a b l m) → ListsReftables a b [] lists.more
-alone a b l m lists = record { more = lists.more; is = refl; gone = lists.gone; behind = lists.behind }
+alone a b l m lists = record { more = lists.more; is = refl; gone = lists.gone; behind = lists.behind; ranges = lists.ranges }
 
 module _ {S F : Type 0} where
   -- nothing gave way

@@ -8,7 +8,7 @@ use Rattle.qcow2_metadata.specs.L2Mapping.{greatest_offset}
 use Rattle.qcow2_laws.specs.CrashInvariant.{Pending}
 use Rattle.qcow2_alloc.specs.declared.error.ImageError.{ImageError}
 use Rattle.qcow2_alloc.specs.declared.image_file.ImageFile.{ImageFile}
-use Rattle.qcow2_alloc.specs.Allocation.{UnseenAllocatorStep}
+use Rattle.qcow2_alloc.specs.Allocation.{NamesLacking, UnseenAllocatorStep}
 use Rattle.qcow2_alloc.specs.Growing.{IsCloneOf}
 use Rattle.qcow2_alloc.specs.GrownTables.{with_run, EntersReftable, NamesReftable}
 use Rattle.qcow2_alloc.specs.ImageFile.{AllocatorInvariant, KeepsHeader}
@@ -222,11 +222,12 @@ returns-clause-cause g c = c.write_reftable.ensures.cause
 pub returns-clause-storage_faults : goal.returns-clause-storage_faults
 returns-clause-storage_faults g c = told_since _ _ _ c.in_ok-room.ensures.storage_faults.told c.write_reftable.ensures.storage_faults
 
-pub returns-in_err-room-clause-behind : goal.returns-in_err-room-clause-behind
-returns-in_err-room-clause-behind g c = on_no_ok _ c.from_residual.result c.in_err-room.field-0.0 c.from_residual.ensures
+pub returns-in_err-room-clause-lacking : goal.returns-in_err-room-clause-lacking
+returns-in_err-room-clause-lacking g c = on_no_ok _ c.from_residual.result c.in_err-room.field-0.0 c.from_residual.ensures
 
-pub returns-clause-behind : goal.returns-clause-behind
-returns-clause-behind g c = c.write_reftable.ensures.behind
+pub returns-clause-lacking : goal.returns-clause-lacking
+returns-clause-lacking g c =
+    subst (λ (t : EntryTableView). OnOk c.write_reftable.result (NamesLacking t c.args.table c.write_reftable.new.self.reftable)) c.take_room.ensures.reftable c.write_reftable.ensures.lacking
 
 pub returns-in_err-room-clause-leaks : goal.returns-in_err-room-clause-leaks
 returns-in_err-room-clause-leaks g c = λ p sound. c.take_room.ensures.leaks p sound

@@ -10,7 +10,7 @@ use Rattle.qcow2_alloc.specs.declared.error.ImageError.{ImageError}
 use Rattle.qcow2_alloc.specs.FreeList.{pending_then, GivesWay}
 use Rattle.qcow2_alloc.specs.Growing.{IsLongEnough}
 use Rattle.qcow2_alloc.specs.Limits.{IsFaultOr, HasNoRoomFor, CantGrow}
-use Rattle.qcow2_alloc.proofs.AllocationSteps.{handed_on, behind_same, behind_then}
+use Rattle.qcow2_alloc.proofs.AllocationSteps.{handed_on, lacking_clone}
 use Rattle.qcow2_alloc.proofs.FullRooms.{cant_grow}
 use Rattle.qcow2_alloc.proofs.Limits.{cause_as}
 use Rattle.qcow2_alloc.proofs.ListedAfter.{listed_after_same}
@@ -111,11 +111,13 @@ returns-in_err-former-clause-former g c =
 
 pub returns-in-Ok-clause-former : goal.returns-in-Ok-clause-former
 returns-in-Ok-clause-former g c =
-    let clone = c.in_ok-table.ensures.entries in (
+    let clone = c.in_ok-table.ensures.entries in
+    let names = lacking_clone c.args.self.now.reftable c.in_ok-table.table c.enter_reftable.new.self.reftable clone.bits clone.entries c.in-Ok.ensures.lacking in (
       c.in_ok-former.former,
       c.in_ok-former.ensures.of_table,
       c.hand_back.ensures ∙ ap (λ (l : List ClustersToFreeEntry). l ++ c.in_ok-former.former ∷ []) c.enter_reftable.ensures.list,
-      behind_then c.args.self.now.reftable c.in_ok-table.table c.enter_reftable.new.self.reftable (behind_same c.args.self.now.reftable c.in_ok-table.table clone.bits clone.entries) c.in-Ok.ensures.behind,
+      names.0,
+      names.1,
     )
 
 pub returns-in-Err-clause-former : goal.returns-in-Err-clause-former

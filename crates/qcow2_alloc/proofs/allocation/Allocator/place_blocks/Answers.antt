@@ -9,18 +9,18 @@ use Rattle.qcow2_laws.specs.Caches.{AreClean}
 use Rattle.qcow2_laws.specs.Tops.{IsSameOutside}
 use Rattle.qcow2_metadata.specs.Bytes.{one_if}
 use Rattle.qcow2_metadata.specs.TableBytes.{ChangesEntry}
-use Rattle.qcow2_alloc.specs.Allocation.{run_at, NamesBehindHeader, StandAt, UnseenAllocatorStep}
+use Rattle.qcow2_alloc.specs.Allocation.{run_at, NamesLacking, StandAt, UnseenAllocatorStep}
 use Rattle.qcow2_alloc.specs.GrownTables.{with_run}
 use Rattle.qcow2_alloc.specs.HeaderClusters.{KeepsHeaderCluster}
 use Rattle.qcow2_alloc.specs.ImageFile.{view_in, contents_in}
 use Rattle.qcow2_alloc.specs.MetadataCaches.{l2_tables, refblocks, rb_at}
 use Rattle.qcow2_alloc.specs.Rooms.{opens, opened, room_length, PlacesBlocks}
 use Rattle.qcow2_alloc.specs.TableCaches.{IsBlockOf}
-use Rattle.qcow2_alloc.proofs.AllocationSteps.{handed_on, behind_none, behind_then, entries_entered, allocator_step_none, allocator_step_then, is_sound_now}
+use Rattle.qcow2_alloc.proofs.AllocationSteps.{handed_on, lacking_none, lacking_more, entries_entered, allocator_step_none, allocator_step_then, is_sound_now}
 use Rattle.qcow2_alloc.proofs.FileSteps.{leaves_then}
 use Rattle.qcow2_alloc.proofs.Rooms.{opened_none, empty_run}
 use Rattle.qcow2_alloc.proofs.Runs.{run_in}
-use Rattle.qcow2_alloc.proofs.PlacedRooms.{EntersSo, Counting, enters_none, enters_first, counting_first}
+use Rattle.qcow2_alloc.proofs.PlacedRooms.{EntersSo, Counting, opens_range, enters_none, enters_first, counting_first}
 use Rattle.qcow2_alloc.proofs.RoomSteps.{entries_aligned, wrote_err, wrote_ok, may_go, of_three, rest_then, placed_more, range_within, run_within, counts_as, room_enters, room_counts, room_uncached}
 use Rattle.qcow2_alloc.proofs.PlacedBlocks.{file_sizes}
 use Rattle.qcow2_alloc.proofs.KeptMarks.{kept_marks_none, kept_marks_then}
@@ -49,7 +49,7 @@ placing-init g c =
       clean = λ all. all;
       rest = refl;
       as_long = refl;
-      behind = behind_none c.args.table.now;
+      lacking = lacking_none t c.args.table.now;
       counts = c.rb_bits-bits.ensures.counts;
       bits = let high = c.rb_bits-bits.ensures.high in omega (arith, high);
       end_is = omega arith;
@@ -116,9 +116,10 @@ placing-preserved g c =
         clean = λ all. subst (λ f. AreClean (refblocks f.caches)) (sym w.file-is) (w.write_new_block.ensures.clean (inv.clean all));
         rest = rest_then c.args.table.now c.placing.table w.enter_refblock.new.self c.if-opens_range.table w.table-is w.enter_refblock.ensures.rest inv.rest;
         as_long = ap (λ x. length x.bytes) w.table-is ∙ w.enter_refblock.ensures.entry.as_long ∙ inv.as_long;
-        behind = subst (NamesBehindHeader c.args.table.now) (sym w.table-is) (behind_then c.args.table.now c.placing.table w.enter_refblock.new.self inv.behind
+        lacking = subst (NamesLacking t c.args.table.now) (sym w.table-is) (lacking_more t c.args.table.now c.placing.table w.enter_refblock.new.self (c.placing.cluster / 2 ^ c.rb_bits-bits.result)
+            (opens_range t (2 ^ c.rb_bits-bits.result) first c.placing.cluster (sym c.opens_range.ensures ∙ w.if-opens_range.true)).1 inv.lacking
             (entries_entered c.placing.table w.enter_refblock.new.self (c.placing.cluster / 2 ^ c.rb_bits-bits.result) w.new-place.result
-            (let is = w.new-place.ensures in let low = inv.low in let above = c.requires.above in omega (arith, is, low, above)) w.enter_refblock.ensures.rest w.enter_refblock.ensures.entry w.enter_refblock.ensures.offset).behind);
+            (let is = w.new-place.ensures in let low = inv.low in let above = c.requires.above in omega (arith, is, low, above)) w.enter_refblock.ensures.rest w.enter_refblock.ensures.entry w.enter_refblock.ensures.offset));
         counts = inv.counts;
         bits = inv.bits;
         end_is = inv.end_is;
@@ -175,7 +176,7 @@ placing-preserved g c =
         clean = λ all. subst (λ f. AreClean (refblocks f.caches)) (sym w.file-is) (inv.clean all);
         rest = subst (λ (x : EntryTableView). x ≡ record c.args.table.now { bytes = x.bytes }) (sym w.table-is) inv.rest;
         as_long = ap (λ x. length x.bytes) w.table-is ∙ inv.as_long;
-        behind = subst (NamesBehindHeader c.args.table.now) (sym w.table-is) inv.behind;
+        lacking = subst (NamesLacking t c.args.table.now) (sym w.table-is) inv.lacking;
         counts = inv.counts;
         bits = inv.bits;
         end_is = inv.end_is;

@@ -2,7 +2,7 @@ use Rattle.std.proofs.Common.{◌≡◌, ℕ, ◌+◌, ◌-◌, ◌^◌, ◌<◌
 use Rattle.qcow2_metadata.specs.Header.{counts_per_block}
 use Rattle.qcow2_laws.specs.Caches.{AreClean, BlocksMayGo}
 use Rattle.qcow2_laws.specs.CrashInvariant.{Pending}
-use Rattle.qcow2_alloc.specs.Allocation.{run_at, NamesBehindHeader, UnseenAllocatorStep}
+use Rattle.qcow2_alloc.specs.Allocation.{run_at, NamesLacking, UnseenAllocatorStep}
 use Rattle.qcow2_alloc.specs.KeptMarks.{KeepsMarks}
 use Rattle.qcow2_alloc.specs.Faults.{faults_of}
 use Rattle.qcow2_alloc.specs.GrownTables.{with_run}
@@ -26,7 +26,7 @@ invariant-placing g l = record {
   clean : AreClean (refblocks l.fn.file.caches) → AreClean (refblocks l.file.caches);
   rest : l.table ≡ record l.fn.table { bytes = l.table.bytes };
   as_long : length l.table.bytes ≡ length l.fn.table.bytes;
-  behind : NamesBehindHeader l.fn.table l.table;
+  lacking : NamesLacking l.fn.self.reftable l.fn.table l.table;
   counts : counts_per_block l.fn.file.header.fields ≡ 2 ^ l.bits;
   bits : l.bits < 64;
   end_is : l.end ≡ l.fn.room.first + room_length l.fn.room;

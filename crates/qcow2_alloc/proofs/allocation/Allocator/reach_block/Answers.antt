@@ -13,7 +13,7 @@ use Rattle.std.specs.Prelude.{IfErr}
 use Rattle.qcow2_metadata.specs.L2Mapping.{IsHostCluster}
 use Rattle.qcow2_metadata.specs.EntryTable.{entry_count}
 use Rattle.qcow2_alloc.specs.declared.error.ImageError.{ImageError}
-use Rattle.qcow2_alloc.proofs.FormerReftables.{former_none, former_one, former_still, former_same, former_then, place_as}
+use Rattle.qcow2_alloc.proofs.FormerReftables.{former_none, former_one, former_still, former_same, former_then}
 use Rattle.qcow2_alloc.proofs.Faults.{told_on, told_since}
 use Rattle.qcow2_alloc.proofs.Outcomes.{on_no_ok, handed_cause}
 use Rattle.qcow2_alloc.proofs.SparedHeaders.{spares_then, spares_less}
@@ -88,7 +88,7 @@ returns-clause-limit g c = λ p sound hint near.
     (subst (λ n. IsHostCluster n c.args.cluster) (sym (header_bits c.args.file.now.header c.grow_reftable.new.file.header c.grow_reftable.ensures.header)) near))
 
 pub returns-then-in_bounds-clause-former : goal.returns-then-in_bounds-clause-former
-returns-then-in_bounds-clause-former g c = former_same c.args.self.now.reftable c.ensure_block.new.self.reftable c.args.file.now.free_list c.ensure_block.new.file.free_list (place_as _ _ _ c.ensure_block.ensures.named) c.ensure_block.ensures.list
+returns-then-in_bounds-clause-former g c = former_same c.args.self.now.reftable c.ensure_block.new.self.reftable c.args.file.now.free_list c.ensure_block.new.file.free_list c.ensure_block.ensures.named c.ensure_block.ensures.list
 
 pub returns-clause-former : goal.returns-clause-former
 returns-clause-former g c =
@@ -96,8 +96,8 @@ returns-clause-former g c =
     let past = not_below (c.args.cluster / 2 ^ c.rb_bits.result) (entry_count c.args.self.now.reftable) c.in_bounds.result c.in_bounds.ensures c.if-in_bounds.false in
     let within = c.in_ok-grow_reftable.ensures.length.enough.above in
     former_then c.args.self.now.reftable c.grow_reftable.new.self.reftable c.ensure_block-2.new.self.reftable c.args.file.now.free_list c.grow_reftable.new.file.free_list c.ensure_block-2.new.file.free_list
-    (former_one c.args.self.now.reftable c.grow_reftable.new.self.reftable gave.0 c.args.file.now.free_list c.grow_reftable.new.file.free_list gave.1 (omega (arith, past, within)) gave.3 gave.2)
-    (former_same c.grow_reftable.new.self.reftable c.ensure_block-2.new.self.reftable c.grow_reftable.new.file.free_list c.ensure_block-2.new.file.free_list (place_as _ _ _ c.ensure_block-2.ensures.named) c.ensure_block-2.ensures.list)
+    (former_one c.args.self.now.reftable c.grow_reftable.new.self.reftable gave.0 c.args.file.now.free_list c.grow_reftable.new.file.free_list gave.1 (omega (arith, past, within)) gave.3 gave.4 gave.2)
+    (former_same c.grow_reftable.new.self.reftable c.ensure_block-2.new.self.reftable c.grow_reftable.new.file.free_list c.ensure_block-2.new.file.free_list c.ensure_block-2.ensures.named c.ensure_block-2.ensures.list)
 
 pub returns-then-in_bounds-clause-marks : goal.returns-then-in_bounds-clause-marks
 returns-then-in_bounds-clause-marks g c = c.ensure_block.ensures.marks

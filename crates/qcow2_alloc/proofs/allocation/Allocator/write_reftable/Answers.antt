@@ -4,13 +4,13 @@ use Rattle.qcow2_metadata.specs.EntryTable.{EntryTableView}
 use Rattle.qcow2_metadata.specs.Header.{cluster_size, HeaderView}
 use Rattle.qcow2_laws.specs.Caches.{AreClean}
 use Rattle.qcow2_alloc.specs.declared.cache.MetadataCaches.{MetadataCaches}
-use Rattle.qcow2_alloc.specs.Allocation.{run_at, NamesBehindHeader, StandAt}
+use Rattle.qcow2_alloc.specs.Allocation.{run_at, NamesLacking, StandAt}
 use Rattle.qcow2_alloc.specs.GrownTables.{with_run, NamesReftable, StandsGrown}
 use Rattle.qcow2_alloc.specs.ImageFile.{contents_in, AllocatorInvariant, view_in}
 use Rattle.qcow2_alloc.specs.LowestRuns.{KeepsUsed}
 use Rattle.qcow2_alloc.specs.MetadataCaches.{order_of, l2_tables, refblocks, rb_at}
 use Rattle.qcow2_alloc.specs.Rooms.{room_length, placed_at}
-use Rattle.qcow2_alloc.proofs.AllocationSteps.{handed_on, behind_same, behind_then, allocator_step_cached, allocator_step_then, is_sound_now}
+use Rattle.qcow2_alloc.proofs.AllocationSteps.{handed_on, allocator_step_cached, allocator_step_then, is_sound_now}
 use Rattle.qcow2_alloc.proofs.FileSteps.{leaves_then}
 use Rattle.qcow2_alloc.proofs.PlacedBlocks.{file_sizes}
 use Rattle.qcow2_alloc.proofs.PlacedRooms.{Counting}
@@ -332,20 +332,21 @@ returns-clause-kept g c = c.name_reftable.ensures.kept
 pub returns-clause-storage_faults : goal.returns-clause-storage_faults
 returns-clause-storage_faults g c = told_since _ _ _ (c.in_ok-place_table.ensures.storage_faults.told ∙ (c.in_ok-place_blocks.ensures.storage_faults.told ∙ c.in_ok-flush_rb.ensures.storage_faults.told)) c.name_reftable.ensures.storage_faults
 
-pub returns-clause-behind : goal.returns-clause-behind
-returns-clause-behind g c =
-    ok_as (c.name_reftable.new.self.reftable ≡ c.place_table.new.table) (NamesBehindHeader c.args.table c.name_reftable.new.self.reftable) c.name_reftable.result
-    (λ is. subst (NamesBehindHeader c.args.table) (sym (is ∙ c.place_table.ensures.table)) (behind_then c.args.table c.place_blocks.new.table (placed_at c.place_blocks.new.table c.new.result) c.place_blocks.ensures.behind
-    (behind_same c.place_blocks.new.table (placed_at c.place_blocks.new.table c.new.result) refl (λ k. refl)))) c.name_reftable.ensures.table
+pub returns-clause-lacking : goal.returns-clause-lacking
+returns-clause-lacking g c =
+    let names = c.place_blocks.ensures.lacking in
+    let placed : NamesLacking c.args.self.now.reftable c.args.table (placed_at c.place_blocks.new.table c.new.result) = record { behind = record { bits = names.behind.bits; each = names.behind.each }; ranges = names.ranges } in
+    ok_as (c.name_reftable.new.self.reftable ≡ c.place_table.new.table) (NamesLacking c.args.self.now.reftable c.args.table c.name_reftable.new.self.reftable) c.name_reftable.result
+    (λ is. subst (NamesLacking c.args.self.now.reftable c.args.table) (sym (is ∙ c.place_table.ensures.table)) placed) c.name_reftable.ensures.table
 
-pub returns-in_err-flush_rb-clause-behind : goal.returns-in_err-flush_rb-clause-behind
-returns-in_err-flush_rb-clause-behind g c = on_no_ok _ c.from_residual.result c.in_err-flush_rb.field-0.0 c.from_residual.ensures
+pub returns-in_err-flush_rb-clause-lacking : goal.returns-in_err-flush_rb-clause-lacking
+returns-in_err-flush_rb-clause-lacking g c = on_no_ok _ c.from_residual.result c.in_err-flush_rb.field-0.0 c.from_residual.ensures
 
-pub returns-in_err-place_blocks-clause-behind : goal.returns-in_err-place_blocks-clause-behind
-returns-in_err-place_blocks-clause-behind g c = on_no_ok _ c.from_residual-in_err-place_blocks.result c.in_err-place_blocks.field-0.0 c.from_residual-in_err-place_blocks.ensures
+pub returns-in_err-place_blocks-clause-lacking : goal.returns-in_err-place_blocks-clause-lacking
+returns-in_err-place_blocks-clause-lacking g c = on_no_ok _ c.from_residual-in_err-place_blocks.result c.in_err-place_blocks.field-0.0 c.from_residual-in_err-place_blocks.ensures
 
-pub returns-in_err-place_table-clause-behind : goal.returns-in_err-place_table-clause-behind
-returns-in_err-place_table-clause-behind g c = on_no_ok _ c.from_residual-in_err-place_table.result c.in_err-place_table.field-0.0 c.from_residual-in_err-place_table.ensures
+pub returns-in_err-place_table-clause-lacking : goal.returns-in_err-place_table-clause-lacking
+returns-in_err-place_table-clause-lacking g c = on_no_ok _ c.from_residual-in_err-place_table.result c.in_err-place_table.field-0.0 c.from_residual-in_err-place_table.ensures
 
 pub returns-in_err-flush_rb-clause-header_cluster : goal.returns-in_err-flush_rb-clause-header_cluster
 returns-in_err-flush_rb-clause-header_cluster g c = spares_less (spares_cached c.args.self.now.reftable c.args.file.now c.flush_rb.new.storage c.flush_rb.new.self c.flush_rb.ensures.header_cluster)
