@@ -1,6 +1,8 @@
-use Rattle.std.proofs.Common.{◌≡◌, ◌<◌, true, false, sym, ap, ◌∙◌, subst, arith, min}
-use Rattle.std.specs.Prelude.{Ok, Err, Some, None, slice_set}
+use Rattle.std.proofs.Common.{◌≡◌, ◌*◌, ◌%◌, ◌<◌, true, false, refl, sym, ap, ◌∙◌, subst, arith, min}
+use Rattle.std.specs.Prelude.{Ok, Err, Some, None, slice_set, vec_capacity}
+use Rattle.qcow2_metadata.specs.Header.{cluster_size}
 use Rattle.qcow2_alloc.proofs.AllocationSteps.{handed_on}
+use Rattle.qcow2_alloc.proofs.ListedAfter.{header_same}
 use Rattle.qcow2_image.specs.declared.prepared.Prepared.{Prepared}
 use Rattle.qcow2_image.specs.CallParts.{IsReadied}
 use Rattle.qcow2_image.specs.Ranges.{BreaksOff, Ends, GoesNext, GoesOn}
@@ -8,8 +10,8 @@ use Rattle.qcow2_image.proofs.Call.Slots.{get_set_same}
 use Rattle.qcow2_image.proofs.Prepare.Onward.{may_go_on, so_far_all, so_far_ends, so_far_next}
 use Rattle.qcow2_image.proofs.Call.FaultCounts.{counted_ok, counted_on, faults_then}
 use Rattle.qcow2_image.proofs.Prepare.Listing.{lists_none, lists_then}
-use Rattle.qcow2_alloc.proofs.KeptMarks.{notes_then}
-use Rattle.qcow2_image.proofs.Call.BehindHeader.{behind_then}
+use Rattle.qcow2_alloc.proofs.KeptMarks.{notes_none, notes_then}
+use Rattle.qcow2_image.proofs.Call.BehindHeader.{behind_none, behind_then}
 use Rattle.qcow2_image.proofs.Prepare.Lacked.{cant_after, hands_limit}
 use Rattle.qcow2_disk.specs.Found.{rest_of_table}
 use Rattle.qcow2_image.specs.LackedPlaces.{CantTakeAt}
@@ -60,6 +62,24 @@ returns-then-not-branch-clause-image_step g c = λ start out k free under is.
     (λ may sound.
     subst (λ b. GoesNext view below now new (slice_set out k (Some q)) k n c.args.overwrite q c.prepare_next.new.prepared (Ok b)) c.if-not-branch.true
     (c.in_ok-prepare_next.ensures.image_step (slice_set out k (Some q)) k (get_set_same out k (Some q) None free) may sound)))
+
+pub loop-prepared-init : goal.loop-prepared-init
+loop-prepared-init g c = record {
+  turns = record {
+    stays = record { image = record { number = refl; size = refl; writable = refl; external = refl }; failed = refl };
+    header = header_same _ _ refl;
+    longer = record { image = refl; guest = refl; place = refl; under = refl; first = λ share at. at; more = omega arith; most = λ past. refl; whole = λ less. c.requires.whole };
+    room =
+        let bound = c.min-end.ensures ∙ ap (min c.args.length) c.rest_of_table.ensures.value in
+        subst (λ m. c.args.prepared.now.guest % cluster_size c.args.self.now.file.header.fields + m < vec_capacity c.args.prepared.now.shares * cluster_size c.args.self.now.file.header.fields) (sym bound) c.requires.room;
+    image_step = λ start out k free under is. is;
+  };
+  faults = record { storage = refl; below = refl };
+  former = lists_none c.args.self.now c.requires.writable;
+  uses = λ start out k free under is j used. used;
+  notes = notes_none;
+  behind = behind_none;
+}
 
 pub loop-prepared-preserved : goal.loop-prepared-preserved
 loop-prepared-preserved g c =
