@@ -21,9 +21,10 @@ use Rattle.qcow2_image.specs.declared.preallocation.ZeroWrites.TheVariants.{Shor
 use Rattle.qcow2_image.specs.declared.prepared.Prepared.{Prepared}
 use Rattle.qcow2_image.specs.CallParts.{AreCopied, StaysBeside}
 use Rattle.qcow2_image.specs.Clearing.{IsUnderMapping, setting_of}
-use Rattle.qcow2_image.specs.Image.{size_of, has_noted_change}
+use Rattle.qcow2_image.specs.Image.{HasNothingToFree, size_of, has_noted_change}
 use Rattle.qcow2_image.specs.ImageInvariant.{ImageInvariant, abstract_of, disk_of, meaning, pending_in}
 use Rattle.qcow2_image.specs.L1Entries.{StaysAsLong}
+use Rattle.qcow2_image.specs.LackedPlaces.{LacksPlaceFor, LacksTableFor}
 use Rattle.qcow2_image.specs.MovedTables.{CoversStay, MovesTables}
 use Rattle.qcow2_alloc.specs.ImageFile.{known_in}
 
@@ -87,19 +88,35 @@ module _ {S F : Type 0} (view : S → StorageView) (backing : F → BackingView)
     pub noted : e ≡ I.Memory → IsTrue (has_noted_change new)
     pub works : EffectOnSound (abstract_of view backing old out) (abstract_of view backing (record new { is_failed = true }) out) given []
 
-  -- a refused part: one or the other, and that a table is prepared only where one of the range is
-  pub record RefusedFill (from to : ℕ) (old new : Qcow2 S F) (out : List (Option Prepared)) (e : ImageError) : Type 0 where
+  -- Why a range isn't filled for a limit: what was done so far left an image on which nothing is to be freed, where nothing was before. From there n bytes of the range have no place. They have no L2 table where whole clusters are to be zeros, from an offset on.
+  -- At the return nothing is to be freed.
+  pub record LacksPlaceOnWay (first from to : ℕ) (old new : Qcow2 S F) (out : List (Option Prepared)) : Type 0 where
+    pub mid : Qcow2 S F
+    pub so_far : FillsSome from to old mid out
+    pub listed : HasNothingToFree old → HasNothingToFree mid
+    pub offset : ℕ
+    pub n : ℕ
+    pub low : from ≤ offset
+    pub some : 0 < n
+    pub high : offset + n ≤ to
+    pub lacks : LacksPlaceFor view offset n mid new
+    pub zeros : first ≤ offset → LacksTableFor view offset mid new
+    pub emptied : HasNothingToFree new
+
+  -- A refused part: one or the other. That a table is prepared refuses it only where one of the range is, and a limit only where a place lacks for it.
+  pub record RefusedFill (first from to : ℕ) (old new : Qcow2 S F) (out : List (Option Prepared)) (e : ImageError) : Type 0 where
     pub left : FillsSome from to old new out ⊎ InterruptedGiving (given_by_zeros from to ∷ []) old new out e
     pub taken : e ≡ I.TablePrepared → IsUnderMappingIn old.file.header.fields from to out
+    pub limit : e ≡ I.Limit → LacksPlaceOnWay first from to old new out
 
   abbrev pub FillsOrRefuses : (first from to : ℕ) → Qcow2 S F → Qcow2 S F → List (Option Prepared) → Result (Unit {0}) ImageError → Type 0
   FillsOrRefuses first from to old new out (Ok _) = FillsPart first from to old new out
-  FillsOrRefuses first from to old new out (Err e) = RefusedFill from to old new out e
+  FillsOrRefuses first from to old new out (Err e) = RefusedFill first from to old new out e
 
   -- so far the range is filled, or it was refused
   abbrev pub FillsFirst : (first from to : ℕ) → Qcow2 S F → Qcow2 S F → List (Option Prepared) → Result ℕ ImageError → Type 0
   FillsFirst first from to old new out (Ok next) = FillsPart first from next old new out
-  FillsFirst first from to old new out (Err e) = RefusedFill from to old new out e
+  FillsFirst first from to old new out (Err e) = RefusedFill first from to old new out e
 
   -- a mapping that is out is committed, and its place is free
   pub record CommitsWhole (old new : Qcow2 S F) (out : List (Option Prepared)) (k : ℕ) (p : Prepared) (free : List (Option Prepared)) : Type 0 where
@@ -132,10 +149,11 @@ module _ {S F : Type 0} (view : S → StorageView) (backing : F → BackingView)
     pub may : MayGrow (setting_of view backing old) (disk_of view backing old) size mode now
     pub shows : guest_of (abstract_of view backing new out) ≡ with_disk (guest_of (abstract_of view backing old out)) now
 
-  -- or it broke off; that a table is prepared refuses it only where one of the range behind the end is
+  -- Or it broke off. That a table is prepared refuses it only where one of the range behind the end is, and a limit only where a place lacks for that.
   pub record RefusedGrown (size : ℕ) (mode : PreallocateMode) (old new : Qcow2 S F) (out : List (Option Prepared)) (e : ImageError) : Type 0 where
     pub left : FillsGrownInPart size mode old new out ⊎ InterruptedGiving (all_given_by_growing old size mode) old new out e
     pub taken : e ≡ I.TablePrepared → IsUnderMappingIn old.file.header.fields (disk_of view backing old).size (rounded_up (cluster_size old.file.header.fields) size) out
+    pub limit : e ≡ I.Limit → LacksPlaceOnWay (first_zeros (cluster_size old.file.header.fields) (size_of old) size mode) (size_of old) (rounded_up (cluster_size old.file.header.fields) size) old new out
 
   abbrev pub FillsGrownOrRefuses : ℕ → PreallocateMode → Qcow2 S F → Qcow2 S F → List (Option Prepared) → Result (Unit {0}) ImageError → Type 0
   FillsGrownOrRefuses size mode old new out (Ok _) = FillsGrown size mode old new out

@@ -44,6 +44,7 @@ impl ZeroWrites {
         ensures most { IfOk result (λ writes. most_of writes ≡ count) }
         ensures zeros { IfOk result AreZeros }
         ensures cause { IfErr result IsMet }
+        ensures limited { IfErr result IsUnlimited }
         ensures faults { IfErr result IsNotOfStorage }
     {
         let zeros = vec![in alloc; 0; count]?;
@@ -301,6 +302,7 @@ impl<S: Storage, F: WrappedFormat<S>> Qcow2<S, F> {
         requires zeros { AreZeros writes.now }
         ensures stays { ImageStays self.old self.new }
         ensures cause { IfErr result IsMet }
+        ensures limited { IfErr result IsUnlimited }
         ensures written { WritesBytes S.view self.old self.new host (replicate count 0) result }
         ensures notes { KeepsFileNotes S.view self.old.file self.new.file }
         ensures header_cluster { StaysBehindHeader S.view self.old self.new }

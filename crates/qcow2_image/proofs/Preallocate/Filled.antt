@@ -16,7 +16,7 @@ use Rattle.qcow2_alloc.specs.ImageError.{IsFault as FaultOfTables}
 use Rattle.qcow2_alloc.specs.ImageFile.{known_in}
 use Rattle.qcow2_alloc.specs.declared.error.ImageError.{ImageError}
 use Rattle.qcow2_alloc.specs.declared.error.ImageError.TheVariants as I
-use Rattle.qcow2_image.specs.Image.{has_noted_change}
+use Rattle.qcow2_image.specs.Image.{HasNothingToFree, has_noted_change}
 use Rattle.qcow2_image.specs.CallParts.{RefusedCall, UnseenCall}
 use Rattle.qcow2_image.specs.Clearing.{ClearsPart, IsUnderMapping}
 use Rattle.qcow2_image.specs.declared.discarding.Clearance.TheVariants.{KeptZeros}
@@ -24,14 +24,16 @@ use Rattle.qcow2_image.specs.declared.image.Qcow2.{Qcow2}
 use Rattle.qcow2_image.specs.declared.prepared.Prepared.{Prepared}
 use Rattle.qcow2_image.specs.ImageInvariant.{ImageInvariant, abstract_of, disk_of, pending_in}
 use Rattle.qcow2_image.specs.L1Entries.{ReachesOffset}
+use Rattle.qcow2_image.specs.LackedPlaces.{LacksPlaceFor, LacksTableFor}
 use Rattle.qcow2_image.specs.MovedTables.{MovesTables}
-use Rattle.qcow2_image.specs.Preallocation.{FilledCovers, FillsOrRefuses, FillsPart, FillsSome, InterruptedGiving, IsUnderMappingIn, MayBeZero, RefusedFill, given_by_zeros}
-use Rattle.qcow2_image.specs.Refusals.{IsMet}
+use Rattle.qcow2_image.specs.Preallocation.{FilledCovers, FillsOrRefuses, FillsPart, FillsSome, InterruptedGiving, IsUnderMappingIn, LacksPlaceOnWay, MayBeZero, RefusedFill, given_by_zeros}
+use Rattle.qcow2_image.specs.Refusals.{IsMet, IsUnlimited}
 use Rattle.qcow2_image.proofs.Call.Called.{works_none}
 use Rattle.qcow2_image.proofs.Clear.ClearCalls.{under_before}
 use Rattle.qcow2_image.proofs.Clear.Ranges.{table_end, table_whole}
 use Rattle.qcow2_image.proofs.Grow.Lengths.{reaches_stays, same_length, stays_long_shorter, stays_long_then}
 use Rattle.qcow2_image.proofs.Moved.{file_step_then}
+use Rattle.qcow2_image.proofs.Prepare.Lacked.{other_limit}
 use Rattle.std.proofs.lemmas.Nat.{pow_pos}
 use Rattle.qcow2_image.proofs.Preallocate.Covers.{covers_before, covers_cleared, covers_from, covers_none, covers_stay, covers_then}
 use Rattle.qcow2_image.proofs.Preallocate.Pieces.{none_of}
@@ -112,17 +114,35 @@ module _ {S F : Type 0} (view : S → StorageView) (backing : F → BackingView)
   })
   fill_unseen old new from to e (inr interrupted) = inr (record { fault = interrupted.fault; noted = interrupted.noted; works = none_of _ _ (given_by_zeros from to ∷ []) interrupted.works })
 
+  -- nothing was done
+  some_none : (image : Qcow2 S F) (from to : ℕ) → ImageInvariant view backing (pending_in view backing image out) image out → FillsSome view backing from to image image out
+  some_none image from to sound = record {
+    works = none_of _ _ (given_by_zeros from to ∷ []) (works_none (abstract_of view backing image out) sound);
+    sound = sound;
+    now = disk_of view backing image;
+    may = may_none from to (disk_of view backing image);
+    shows = refl;
+  }
+
   -- refused before anything was done
-  pub refused_here : (image : Qcow2 S F) (from to : ℕ) (e : ImageError) → (e ≡ I.TablePrepared → ⊥) → ImageInvariant view backing (pending_in view backing image out) image out → RefusedFill view backing from to image image out e
-  refused_here image from to e other sound = record {
-    left = inl (record {
-      works = none_of _ _ (given_by_zeros from to ∷ []) (works_none (abstract_of view backing image out) sound);
-      sound = sound;
-      now = disk_of view backing image;
-      may = may_none from to (disk_of view backing image);
-      shows = refl;
-    });
-    taken = λ is. absurd (other is);
+  pub refused_here : (image : Qcow2 S F) (first from to : ℕ) (e : ImageError) → (e ≡ I.TablePrepared → ⊥) → (e ≡ I.Limit → ⊥) → ImageInvariant view backing (pending_in view backing image out) image out → RefusedFill view backing first from to image image out e
+  refused_here image first from to e other unlimited sound = record { left = inl (some_none image from to sound); taken = λ is. absurd (other is); limit = λ is. absurd (unlimited is) }
+
+  -- the first bytes of a range lack a place
+  pub lacks_here : (old new : Qcow2 S F) (first from to n : ℕ) → ImageInvariant view backing (pending_in view backing old out) old out → 0 < n → from + n ≤ to → LacksPlaceFor view from n old new → (first ≤ from → LacksTableFor view from old new) → HasNothingToFree new
+      → LacksPlaceOnWay view backing first from to old new out
+  lacks_here old new first from to n sound some high lacks zeros emptied = record {
+    mid = old;
+    so_far = some_none old from to sound;
+    listed = λ none. none;
+    offset = from;
+    n = n;
+    low = omega arith;
+    some = some;
+    high = high;
+    lacks = lacks;
+    zeros = zeros;
+    emptied = emptied;
   }
 
   -- ---- one part after another
@@ -174,10 +194,31 @@ module _ {S F : Type 0} (view : S → StorageView) (backing : F → BackingView)
           (wider_works b (record c { is_failed = true }) x' y' from to low' high' then.works);
     }
 
-    pub refused_after : (e : ImageError) → RefusedFill view backing x' y' b c out e → RefusedFill view backing from to a c out e
+    left_after : (e : ImageError) → FillsSome view backing x' y' b c out ⊎ InterruptedGiving view backing (given_by_zeros x' y' ∷ []) b c out e → FillsSome view backing from to a c out ⊎ InterruptedGiving view backing (given_by_zeros from to ∷ []) a c out e
+    left_after e left = ⊎_elim (λ (some : FillsSome view backing x' y' b c out). inl (some_after some)) (λ (broken : InterruptedGiving view backing (given_by_zeros x' y' ∷ []) b c out e). inr (broken_after e broken)) left
+
+  -- it lacks a place for a limit
+  module _ (a b c : Qcow2 S F) (zeros from to x y x' y' : ℕ) (low : from ≤ x) (high : y ≤ to) (low' : from ≤ x') (high' : y' ≤ to) (first : FillsPart view backing zeros x y a b out) (inner : ℕ) (within : inner ≤ zeros) (keeps : HasNothingToFree a → HasNothingToFree b) where
+    lacks_after : LacksPlaceOnWay view backing inner x' y' b c out → LacksPlaceOnWay view backing zeros from to a c out
+    lacks_after lacks = let l = lacks.low in let h = lacks.high in record {
+      mid = lacks.mid;
+      so_far = some_after a b lacks.mid zeros from to x y x' y' low high low' high' first lacks.so_far;
+      listed = λ none. lacks.listed (keeps none);
+      offset = lacks.offset;
+      n = lacks.n;
+      low = omega (arith, low', l);
+      some = lacks.some;
+      high = omega (arith, high', h);
+      lacks = lacks.lacks;
+      zeros = λ past. lacks.zeros (omega (arith, within, past));
+      emptied = lacks.emptied;
+    }
+
+    pub refused_after : (e : ImageError) → RefusedFill view backing inner x' y' b c out e → RefusedFill view backing zeros from to a c out e
     refused_after e then = record {
-      left = ⊎_elim (λ (some : FillsSome view backing x' y' b c out). inl (some_after some)) (λ (broken : InterruptedGiving view backing (given_by_zeros x' y' ∷ []) b c out e). inr (broken_after e broken)) then.left;
+      left = left_after a b c zeros from to x y x' y' low high low' high' first e then.left;
       taken = λ is. taken_wider a.file.header.fields b.file.header.fields x' y' from to out first.header low' high' (then.taken is);
+      limit = λ is. lacks_after (then.limit is);
     }
 
   -- a part, and then a step that no guest sees
@@ -193,9 +234,12 @@ module _ {S F : Type 0} (view : S → StorageView) (backing : F → BackingView)
     }
 
     -- that is refused
-    pub fills_refused : (to' : ℕ) (e : ImageError) → to ≤ to' → IsMet e → RefusedCall view backing b c out e → RefusedFill view backing from to' a c out e
-    fills_refused to' e high met then =
-        refused_after a b c zeros from to' from to from to' (omega arith) high (omega arith) (omega arith) first e (record { left = fill_unseen b c from to' e then; taken = met_taken e met })
+    pub fills_refused : (to' : ℕ) (e : ImageError) → to ≤ to' → IsMet e → IsUnlimited e → RefusedCall view backing b c out e → RefusedFill view backing zeros from to' a c out e
+    fills_refused to' e high met unlimited then = record {
+      left = left_after a b c zeros from to' from to from to' (omega arith) high (omega arith) (omega arith) first e (fill_unseen b c from to' e then);
+      taken = met_taken e met;
+      limit = other_limit (LacksPlaceOnWay view backing zeros from to' a c out) e unlimited;
+    }
 
   -- whole clusters are cleared
   pub cleared_fills : (old new : Qcow2 S F) (from to : ℕ) → from < to → ReachesOffset from old.file.header.fields new.file.header.fields → from % cluster_size old.file.header.fields ≡ 0 → ClearsPart view backing KeptZeros from to old new out → FillsPart view backing 0 from to old new out
@@ -239,6 +283,6 @@ module _ {S F : Type 0} (view : S → StorageView) (backing : F → BackingView)
   -- the answer of one part is that of both
   module _ (a b c : Qcow2 S F) (zeros from mid to : ℕ) (low : from ≤ mid) (high : mid ≤ to) (first : FillsPart view backing zeros from mid a b out) where
     -- the last part clears whole clusters
-    pub fills_or_refuses : zeros ≤ mid → mid % cluster_size b.file.header.fields ≡ 0 → (r : Result (Unit {0}) ImageError) → FillsOrRefuses view backing 0 mid to b c out r → FillsOrRefuses view backing zeros from to a c out r
-    fills_or_refuses le whole (Ok done) then = fills_then a b c zeros from mid to low high first (zeros_all b c zeros mid to whole le then)
-    fills_or_refuses le whole (Err e) then = refused_after a b c zeros from to from mid mid to (omega arith) high low (omega arith) first e then
+    pub fills_or_refuses : (HasNothingToFree a → HasNothingToFree b) → zeros ≤ mid → mid % cluster_size b.file.header.fields ≡ 0 → (r : Result (Unit {0}) ImageError) → FillsOrRefuses view backing 0 mid to b c out r → FillsOrRefuses view backing zeros from to a c out r
+    fills_or_refuses keeps le whole (Ok done) then = fills_then a b c zeros from mid to low high first (zeros_all b c zeros mid to whole le then)
+    fills_or_refuses keeps le whole (Err e) then = refused_after a b c zeros from to from mid mid to (omega arith) high low (omega arith) first 0 (omega arith) keeps e then

@@ -8,6 +8,7 @@ use Rattle.qcow2_disk.specs.Stops.{GivenBytes}
 use Rattle.qcow2_disk.proofs.Compose.{works_less, works_then}
 use Rattle.qcow2_alloc.specs.ImageError.{IsFault}
 use Rattle.qcow2_alloc.specs.declared.error.ImageError.{ImageError}
+use Rattle.qcow2_alloc.specs.declared.error.ImageError.TheVariants as I
 use Rattle.qcow2_image.specs.CallParts.{RefusedCall}
 use Rattle.qcow2_image.specs.declared.image.Qcow2.{Qcow2}
 use Rattle.qcow2_image.specs.declared.prepared.Prepared.{Prepared}
@@ -46,6 +47,10 @@ module _ {S F : Type 0} (view : S → StorageView) (backing : F → BackingView)
           ]
           | inr broken ↦ let is = fault broken.fault in inr (subst (λ (x : ImageError). InterruptedGiving view backing given old new out x) (sym is.0) (subst (λ (image : Qcow2 S F). InterruptedGiving view backing given old image out e) (sym is.1) broken))
         ]
+
+    -- a limit that refuses then had refused the filling
+    pub limit_before : (ImageInvariant view backing (pending_in view backing mid out) mid out → e' ≡ I.Limit → e ≡ I.Limit) → e' ≡ I.Limit → e ≡ I.Limit
+    limit_before told is = elim left [ inl part ↦ told part.sound is | inr broken ↦ sym (fault broken.fault).0 ∙ is ]
 
     -- nothing is left to be freed then
     pub grown_left : (ImageInvariant view backing (pending_in view backing mid out) mid out → FreesRefused new e') → FreesRefused new e'

@@ -236,7 +236,7 @@ module _ {S F : Type 0} (view : S → StorageView) (backing : F → BackingView)
       gone_sound : ImageInvariant view backing (pending_in view backing gone (None ∷ out)) gone (None ∷ out)
       gone_sound = ((discards (Some p ∷ out) 0 refl).answer put.sound).0
 
-      sound_now : ImageInvariant view backing (pending_in view backing gone out) gone out
+      pub sound_now : ImageInvariant view backing (pending_in view backing gone out) gone out
       sound_now = (free_places view backing).left gone [] out gone_sound
 
       works_now : EffectOnSound (abstract_of view backing old out) (abstract_of view backing gone out) (given_by_zeros from (from + p.length) ∷ []) []

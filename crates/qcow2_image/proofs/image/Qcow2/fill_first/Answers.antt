@@ -4,15 +4,17 @@ use Rattle.std.proofs.Common.{◌≡◌, ◌∙◌, ◌+◌, ◌^◌, ◌≤◌,
 use Rattle.qcow2_laws.specs.CrashInvariant.{Pending}
 use Rattle.qcow2_alloc.proofs.AllocationSteps.{handed_on}
 use Rattle.qcow2_image.specs.ImageInvariant.{ImageInvariant, abstract_of}
-use Rattle.qcow2_image.specs.Preallocation.{FillsFirst, FillsPart}
+use Rattle.qcow2_image.specs.Preallocation.{FillsFirst, FillsPart, LacksPlaceOnWay}
 use Rattle.qcow2_image.proofs.Call.Called.{works_none}
 use Rattle.qcow2_image.proofs.Flush.Freeing.{all_listed, beside, freed_refused, tidy_stays}
 use Rattle.qcow2_image.proofs.Free.{free_places}
-use Rattle.qcow2_image.proofs.Preallocate.Filled.{fill_unseen, fills_none, fills_refused, fills_stays, met_taken, refused_after, taken_here}
-use Rattle.qcow2_image.proofs.Preallocate.Piece.{all_filled, all_fits, all_next, all_put, all_within, piece_gone}
+use Rattle.qcow2_image.proofs.Preallocate.Filled.{fill_unseen, fills_none, fills_refused, fills_stays, lacks_here, met_taken, refused_after, taken_here}
+use Rattle.qcow2_image.proofs.Preallocate.Piece.{all_filled, all_fits, all_next, all_put, all_within, piece_gone, sound_now}
 use Rattle.qcow2_image.proofs.Call.FaultCounts.{counted_as, counted_of, counted_still}
 use Rattle.qcow2_image.specs.Faults.{CountsImageFaults}
 use Rattle.qcow2_image.proofs.Call.MetErrors.{tables_met}
+use Rattle.qcow2_image.proofs.Call.Unlimited.{fault_unlimited}
+use Rattle.qcow2_image.proofs.Prepare.Lacked.{emptied_by_limit, other_limit}
 use Rattle.qcow2_image.proofs.Call.BehindHeader.{behind_then}
 use Rattle.qcow2_image.proofs.image.Qcow2.fill_first.Goals as goal
 
@@ -33,6 +35,9 @@ returns-in_err-prepared-clause-fills g c = λ out sound whole.
       left = fill_unseen view below out old new c.args.from c.args.to e (c.in_err-prepared.ensures.readies some out sound);
       taken = λ is. let t = c.in_err-prepared.ensures.taken some out sound is in
           taken_here old.file.header.fields c.args.from c.args.to out lt (record { place = t.place; other = t.other; is_out = t.is_out; keeps_table = t.keeps_table; same_table = t.same_table });
+      limit = λ is.
+          lacks_here view below out old new c.args.to c.args.from c.args.to c.min.result sound some (omega (arith, asked, lt)) (c.in_err-prepared.ensures.limit some out sound is) (λ past. absurd (omega (arith, lt, past)))
+          (emptied_by_limit new e (c.in_err-prepared.ensures.listed some out sound) is);
     })
 
 pub returns-in-Err-clause-fills : goal.returns-in-Err-clause-fills
@@ -57,10 +62,13 @@ returns-in-Err-clause-fills g c = λ out sound whole.
     let fits = all_fits view below out old mid p from to c.most.result n c.min-count.result sound ready answered lt whole few asked counted in
     let within = all_within view below out old mid p from to c.most.result n c.min-count.result sound ready answered lt whole few asked counted in
     let put = all_put view below out old mid p from to c.most.result n c.min-count.result sound ready answered lt whole few asked counted c.put_zeros.new.self _ c.in-Err.ensures.written in
-    refused_after view below out old old c.free_after.new.self to from to from from from (from + p.length) (omega arith) (omega (arith, lt)) (omega arith) within (fills_none view below out old to from sound (works_none (abstract_of view below old out) sound)) e'
+    refused_after view below out old old c.free_after.new.self to from to from from from (from + p.length) (omega arith) (omega (arith, lt)) (omega arith) within (fills_none view below out old to from sound (works_none (abstract_of view below old out) sound)) to (omega arith) (λ none. none) e'
     (record {
       left = piece_gone view below out old mid p from n sound ready answered fits c.put_zeros.new.self c.release_prepared.new.self c.free_after.new.self to e e' within put c.release_prepared.ensures.sees c.free_after.ensures.fault (λ still. c.free_after.ensures.frees out still);
       taken = λ is. met_taken e c.in-Err.ensures.cause (c.free_after.ensures.taken (inl c.in-Err.ensures.cause) is);
+      limit = λ is.
+          let gone = sound_now view below out old mid p from n sound ready answered fits c.put_zeros.new.self c.release_prepared.new.self c.free_after.new.self to e e' within put c.release_prepared.ensures.sees c.free_after.ensures.fault in
+          other_limit (LacksPlaceOnWay view below to from (from + p.length) old c.free_after.new.self out) e c.in-Err.ensures.limited (c.free_after.ensures.limit out gone is).0;
     })
 
 pub returns-in_err-free_listed-clause-fills : goal.returns-in_err-free_listed-clause-fills
@@ -87,7 +95,7 @@ returns-in_err-free_listed-clause-fills g c = λ out sound whole.
     let part = all_filled view below out old mid p from to c.most.result n c.min-count.result sound ready answered lt whole few asked counted (c.in_ok-prepared.ensures.some some) c.put_zeros.new.self done c.in_default.ensures.written c.commit_filled.ensures.commits c.commit_filled.ensures.header (c.in_ok-prepared.ensures.listed some out sound).reaches in
     let listed = subst (λ (x : Pending). ImageInvariant view below x done out) (all_listed view below done out) part.sound in
     handed_on (λ r. FillsFirst view below to from to old new out r) c.from_residual-in_err-free_listed.result e c.from_residual-in_err-free_listed.ensures
-    (fills_refused view below out old done new to from (from + p.length) part to e within (tables_met e c.in_err-free_listed.ensures.cause)
+    (fills_refused view below out old done new to from (from + p.length) part to e within (tables_met e c.in_err-free_listed.ensures.cause) (fault_unlimited e (c.in_err-free_listed.ensures.faults (beside view below done out) out listed))
     (freed_refused view below done out new e part.sound (c.in_err-free_listed.ensures.frees (beside view below done out) out listed)))
 
 pub returns-clause-fills : goal.returns-clause-fills

@@ -2,10 +2,13 @@ use Rattle.qcow2_alloc.proofs.KeptMarks.{notes_then}
 use Rattle.std.proofs.Common.{◌≡◌, ◌∙◌, ap, subst, sym, refl, Ok, Err}
 use Rattle.std.specs.Prelude.{IsTrue}
 use Rattle.qcow2_alloc.specs.declared.error.ImageError.TheVariants.{Version}
+use Rattle.qcow2_metadata.specs.Header.{cluster_size, rounded_up}
 use Rattle.qcow2_image.specs.declared.image.Qcow2.{Qcow2}
+use Rattle.qcow2_image.specs.Image.{size_of}
+use Rattle.qcow2_image.specs.Preallocation.{LacksPlaceOnWay, first_zeros}
 use Rattle.qcow2_image.proofs.Call.BehindHeader.{behind_then}
 use Rattle.qcow2_image.proofs.Call.FaultCounts.{counted_as, counted_of, untouched}
-use Rattle.qcow2_image.proofs.Preallocate.FreedBehind.{grown_freed, grown_left, same_refusal}
+use Rattle.qcow2_image.proofs.Preallocate.FreedBehind.{grown_freed, grown_left, limit_before, same_refusal}
 use Rattle.qcow2_image.proofs.image.Qcow2.fill_grown.Goals as goal
 
 pub returns-in-Err-clause-emptied : goal.returns-in-Err-clause-emptied
@@ -25,10 +28,21 @@ returns-in-Ok-clause-fills g c = λ out sound. c.in-Ok.ensures.fills out sound
 
 pub returns-in-Err-clause-fills : goal.returns-in-Err-clause-fills
 returns-in-Err-clause-fills g c = λ out sound.
+    let view = g.S.Storage.view in
+    let below = g.F.BackingDisk.backing in
+    let old = c.args.self.now in
+    let mid = c.fill_behind.new.self in
+    let new = c.free_after.new.self in
+    let size = c.args.size in
     let refused = c.in-Err.ensures.fills out sound in
     record {
-      left = grown_freed g.S.Storage.view g.F.BackingDisk.backing out c.args.self.now c.fill_behind.new.self c.free_after.new.self c.args.size c.args.mode c.in-Err.refusal c.free_after.result refused.left c.free_after.ensures.fault (c.free_after.ensures.frees out);
+      left = grown_freed view below out old mid new size c.args.mode c.in-Err.refusal c.free_after.result refused.left c.free_after.ensures.fault (c.free_after.ensures.frees out);
       taken = λ is. refused.taken (c.free_after.ensures.taken c.in-Err.ensures.cause is);
+      limit = λ is.
+          let before = limit_before view below out old mid new size c.args.mode c.in-Err.refusal c.free_after.result refused.left c.free_after.ensures.fault (λ still now. (c.free_after.ensures.limit out still now).0) is in
+          let lacks = refused.limit before in
+          let cs = cluster_size old.file.header.fields in
+          subst (λ (image : Qcow2 _ _). LacksPlaceOnWay view below (first_zeros cs (size_of old) size c.args.mode) (size_of old) (rounded_up cs size) old image out) (sym (c.free_after.ensures.idle lacks.emptied).1) lacks;
     }
 
 pub returns-in-Err-clause-freed : goal.returns-in-Err-clause-freed

@@ -22,7 +22,7 @@ returns-in_err-at-clause-fills g c = λ out sound le whole.
     let below = g.F.BackingDisk.backing in
     let e = c.in_err-at.field-0.0 in
     handed_on (λ r. FillsOrRefuses view below c.args.to c.args.from c.args.to c.args.self.now c.fill_first.new.self out r) c.from_residual.result e c.from_residual.ensures
-    (filled_refused view below c.args.from c.args.to c.loop-at.at c.args.self.now c.loop-at.self c.fill_first.new.self c.loop-at-test.true c.loop-at.invariant.turns e c.in_err-at.ensures.fills out sound whole)
+    (filled_refused view below c.args.from c.args.to c.loop-at.at c.args.self.now c.loop-at.self c.fill_first.new.self c.loop-at-test.true c.loop-at.invariant.turns c.loop-at.invariant.emptied e c.in_err-at.ensures.fills out sound whole)
 
 pub loop-at-preserved : goal.loop-at-preserved
 loop-at-preserved g c =

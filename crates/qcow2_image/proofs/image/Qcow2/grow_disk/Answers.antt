@@ -3,7 +3,7 @@ use Rattle.qcow2_alloc.specs.declared.image_file.ImageFile.{ImageFile}
 use Rattle.qcow2_alloc.specs.ImageFile.{has_noted}
 use Rattle.qcow2_image.proofs.Call.Notes.{same_kept}
 use Rattle.qcow2_alloc.proofs.KeptMarks.{notes_then}
-use Rattle.std.proofs.Common.{inl, ◌≡◌, ◌∙◌, ◌+◌, ◌-◌, ◌<◌, max, sym, ap, subst, arith, refl}
+use Rattle.std.proofs.Common.{inl, inr, ◌≡◌, ◌∙◌, ◌+◌, ◌-◌, ◌<◌, max, sym, ap, subst, arith, refl}
 use Rattle.std.specs.Prelude.{Err, IfErr, IsTrue, Ok, OnOk, Result}
 use Rattle.qcow2_metadata.specs.declared.header.HeaderFields.{HeaderFields}
 use Rattle.qcow2_metadata.specs.EntryTable.{entry_count}
@@ -24,7 +24,7 @@ use Rattle.qcow2_image.specs.Refusals.{FreesRefused, IsMet}
 use Rattle.qcow2_image.proofs.Prepare.Taken.{if_err}
 use Rattle.qcow2_image.proofs.Call.Marked.{MayMarkBy, marks_memory, may_mark}
 use Rattle.qcow2_image.specs.Resizing.{GrowsTables, GrowsTo, LacksZeros, RefusesUnchanged, WritesSizeLast}
-use Rattle.image_access.specs.declared.storage.PreallocateMode.TheVariants.{Zero}
+use Rattle.image_access.specs.declared.storage.PreallocateMode.TheVariants.{None as PreallocateNone, Zero}
 use Rattle.qcow2_image.proofs.Call.Refused.{stays_then}
 use Rattle.qcow2_image.proofs.Clear.ClearCalls.{err_is}
 use Rattle.qcow2_image.proofs.Grow.Lengths.{reaches_begun, reaches_on, reaches_told}
@@ -41,9 +41,9 @@ use Rattle.qcow2_alloc.proofs.Outcomes.{err_as}
 use Rattle.qcow2_image.specs.Noted.{FailsOnceWritten}
 use Rattle.qcow2_image.proofs.Call.OnceWritten.{once_written, kept_noted, once_marked}
 use Rattle.qcow2_image.proofs.Call.BehindHeader.{behind_by, behind_call, behind_none, behind_then}
-use Rattle.qcow2_image.proofs.Prepare.Lacked.{faults_unlimited, unlimited_all}
-use Rattle.qcow2_image.proofs.Sizing.LackedTables.{longer_ended}
-use Rattle.qcow2_image.specs.LackedTables.{LacksTableReaching}
+use Rattle.qcow2_image.proofs.Prepare.Lacked.{faults_unlimited, limited_not, unlimited_all}
+use Rattle.qcow2_image.proofs.Sizing.LackedTables.{behind_lacked, longer_ended}
+use Rattle.qcow2_image.specs.LackedTables.{CantGrow, LacksPlaceBehind, LacksTableReaching}
 use Rattle.qcow2_alloc.specs.declared.error.ImageError.TheVariants.{Limit}
 use Rattle.qcow2_image.specs.Refusals.{IsUnlimited}
 use Rattle.qcow2_image.proofs.image.Qcow2.grow_disk.Goals as goal
@@ -406,7 +406,7 @@ returns-clause-freed g c = λ out sound.
     subst (λ (r : Result _ _). IfErr r (FreesRefused new)) (sym c.mark_fault-2.ensures.answer) (if_err c.write_size-written.result (λ e fault. inl fault) c.write_size-written.ensures.cause)
 
 pub returns-in_err-mark_failure-clause-limit : goal.returns-in_err-mark_failure-clause-limit
-returns-in_err-mark_failure-clause-limit g c = λ none out sound.
+returns-in_err-mark_failure-clause-limit g c = λ out sound.
     let view = g.S.Storage.view in
     let below = g.F.BackingDisk.backing in
     let old = c.args.self.now in
@@ -416,21 +416,41 @@ returns-in_err-mark_failure-clause-limit g c = λ none out sound.
     let done : c.renew_l1_table-longer.result ≡ Err c.in_err-mark_failure.field-0.0 = sym c.mark_failure.ensures.answer ∙ c.in_err-mark_failure.was in
     let offset = c.args.size - 1 in
     let why = subst (λ (r : Result _ _). IfErr r (λ x. x ≡ Limit → LacksTableReaching view offset begun mid)) done (c.renew_l1_table-longer.ensures.limit out (first out sound).sound) in
-    subst (λ (r : Result _ _). IfErr r (λ x. x ≡ Limit → LacksTableReaching view offset old c.mark_failure.new.self)) (sym (err_is c.from_residual.result c.from_residual.ensures))
-    (λ is. subst (λ (image : Qcow2 _ _). LacksTableReaching view offset old image) (sym c.mark_failure.ensures.rest) (longer_ended view offset old begun mid (is_failed c.mark_failure.new.self) c.begin.ensures.rest (why is)))
+    subst (λ (r : Result _ _). IfErr r (λ x. x ≡ Limit → CantGrow view below c.args.mode c.args.size old c.mark_failure.new.self out)) (sym (err_is c.from_residual.result c.from_residual.ensures))
+    (λ is. inl (subst (λ (image : Qcow2 _ _). LacksTableReaching view offset old image) (sym c.mark_failure.ensures.rest) (longer_ended view offset old begun mid (is_failed c.mark_failure.new.self) c.begin.ensures.rest (why is))))
 
 pub returns-in_err-mark_fault-clause-limit : goal.returns-in_err-mark_fault-clause-limit
-returns-in_err-mark_fault-clause-limit g c = λ none out sound.
+returns-in_err-mark_fault-clause-limit g c = λ out sound.
     let view = g.S.Storage.view in
+    let below = g.F.BackingDisk.backing in
     let old = c.args.self.now in
+    let begun = c.begin.new.self in
+    let mid = c.renew_l1_table-longer.new.self in
+    let first = begun_call view below old begun (λ out sound. record { keeps = c.begin.ensures.keeps (pending_in view below old out) out sound; list = c.begin.ensures.list }) in
+    let long = c.mark_failure.new.self in
+    let made : c.renew_l1_table-longer.result ≡ Ok c.in_ok-mark_failure.field-0 = sym c.mark_failure.ensures.answer ∙ c.in_ok-mark_failure.was in
+    let kept = subst (λ (r : Result _ _). MayMarkBy r (is_failed mid) (is_failed long)) made (may_mark c.renew_l1_table-longer.new.self c.mark_failure.new.self c.renew_l1_table-longer.result c.mark_failure.ensures.marks) in
+    let same : c.mark_failure.new.self ≡ c.renew_l1_table-longer.new.self = c.mark_failure.ensures.rest ∙ ap (λ f. record mid { is_failed = f }) kept in
+    let begins = first out sound in
+    let lengthens = subst (MakesEntry view below begun mid out) made (c.renew_l1_table-longer.ensures.makes out begins.sound) in
+    let call : UnseenCall view below old c.mark_failure.new.self out = subst (λ (image : Qcow2 _ _). UnseenCall view below old image out) (sym same) (stays_then view below out old begun mid begins lengthens) in
+    let empty : HasNothingToFree c.mark_failure.new.self = subst (λ (i : Qcow2 _ _). HasNothingToFree i) (sym same) (subst (λ (r : Result _ _). OnOk r (HasNothingToFree mid)) made c.renew_l1_table-longer.ensures.emptied) in
+    let length = subst (λ (r : Result _ _). OnOk r (entry_count mid.l1_table ≡ max (entry_count begun.l1_table) (l1_index_of begun.file.header.fields (c.args.size - 1) + 1))) made c.renew_l1_table-longer.ensures.length in
+    let step = c.begin.ensures.keeps (pending_in view below old out) out sound in
+    let told = reaches_begun old.file.header.fields begun.file.header.fields mid.file.header.fields (c.args.size - 1) step.unseen.header
+    (reaches_told view below out (pending_in view below begun out) (pending_in view below mid out) begun mid (c.args.size - 1) begins.sound lengthens.sound length) in
+    let longer = subst (λ (image : Qcow2 _ _). ReachesOffset (c.args.size - 1) old.file.header.fields image.file.header.fields) (sym same) told in
+    let filled = c.fill_grown-filled.new.self in
     let e = c.in_err-mark_fault.field-0.0 in
     let done : c.fill_grown-filled.result ≡ Err c.in_err-mark_fault.field-0.0 = sym c.mark_fault.ensures.answer ∙ c.in_err-mark_fault.was in
-    let offset = c.args.size - 1 in
-    unlimited_all c.from_residual-in_err-mark_fault.result (λ x. LacksTableReaching view offset old c.mark_fault.new.self)
-    (subst (λ (r : Result _ _). IfErr r IsUnlimited) (sym (err_is c.from_residual-in_err-mark_fault.result c.from_residual-in_err-mark_fault.ensures)) (subst (λ (r : Result _ _). IfErr r IsUnlimited) done (c.fill_grown-filled.ensures.limited none)))
+    let refused = subst (FillsGrownOrRefuses view below c.args.size c.args.mode long filled out) done (c.fill_grown-filled.ensures.fills out call.sound) in
+    let alone : e ≡ Limit → c.args.mode ≡ PreallocateNone → ⊥ = λ is none. limited_not e (subst (λ (r : Result _ _). IfErr r IsUnlimited) done (c.fill_grown-filled.ensures.limited none)) is in
+    subst (λ (r : Result _ _). IfErr r (λ x. x ≡ Limit → CantGrow view below c.args.mode c.args.size old c.mark_fault.new.self out)) (sym (err_is c.from_residual-in_err-mark_fault.result c.from_residual-in_err-mark_fault.ensures))
+    (λ is. inr (subst (λ (image : Qcow2 _ _). LacksPlaceBehind view below c.args.mode c.args.size old image out) (sym c.mark_fault.ensures.rest)
+    (behind_lacked view below out old long filled (is_changed_of c.mark_fault.new.self.file.storage) (is_failed c.mark_fault.new.self) c.args.size c.args.mode (alone is) call longer empty (refused.limit is))))
 
 pub returns-clause-limit : goal.returns-clause-limit
-returns-clause-limit g c = λ none out sound.
+returns-clause-limit g c = λ out sound.
     let new = c.mark_fault-2.new.self in
-    unlimited_all c.mark_fault-2.result (λ x. LacksTableReaching g.S.Storage.view (c.args.size - 1) c.args.self.now new)
+    unlimited_all c.mark_fault-2.result (λ x. CantGrow g.S.Storage.view g.F.BackingDisk.backing c.args.mode c.args.size c.args.self.now new out)
     (subst (λ (r : Result _ _). IfErr r IsUnlimited) (sym c.mark_fault-2.ensures.answer) (faults_unlimited c.write_size-written.result c.write_size-written.ensures.cause))

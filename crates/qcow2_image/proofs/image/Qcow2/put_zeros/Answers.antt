@@ -1,7 +1,13 @@
 use Rattle.std.proofs.Common.{ap, replicate}
 use Rattle.qcow2_alloc.proofs.KeptMarks.{notes_none, notes_of_storage, told_kept}
 use Rattle.qcow2_image.proofs.Call.BehindHeader.{behind_guard, behind_none, behind_wrote}
+use Rattle.qcow2_alloc.specs.ImageError.{of_storage}
+use Rattle.qcow2_image.proofs.Call.Unlimited.{storage_unlimited}
+use Rattle.qcow2_image.proofs.Prepare.Lacked.{hands_unlimited}
 use Rattle.qcow2_image.proofs.image.Qcow2.put_zeros.Goals as goal
+
+pub returns-in_err-write-clause-limited : goal.returns-in_err-write-clause-limited
+returns-in_err-write-clause-limited g c = hands_unlimited c.from_residual.result (of_storage c.in_err-write.field-0.0) c.from_residual.ensures (storage_unlimited c.in_err-write.field-0.0)
 
 pub returns-then-host-cluster_size-clause-notes : goal.returns-then-host-cluster_size-clause-notes
 returns-then-host-cluster_size-clause-notes g c = notes_none

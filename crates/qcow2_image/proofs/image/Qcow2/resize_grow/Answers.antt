@@ -47,4 +47,4 @@ pub returns-clause-freed : goal.returns-clause-freed
 returns-clause-freed g c = λ none larger isnt out sound. c.grow_disk.ensures.freed out sound
 
 pub returns-clause-limit : goal.returns-clause-limit
-returns-clause-limit g c = λ none larger alone out sound. c.grow_disk.ensures.limit alone out sound
+returns-clause-limit g c = λ none larger out sound. c.grow_disk.ensures.limit out sound

@@ -17,7 +17,7 @@ returns-in_err-next-clause-fills g c = λ out sound low high whole version.
     let b = c.zero_first.new.self in
     let e = c.in_err-next.field-0.0 in
     handed_on (λ r. FillsOrRefuses view below c.args.from c.args.old c.args.end a b out r) c.from_residual.result e c.from_residual.ensures
-    (refused_after view below out a a b c.args.from c.args.old c.args.end c.args.old c.args.old c.args.from c.args.end (omega arith) (omega (arith, low, high)) low (omega arith) (fills_none view below out a c.args.from c.args.old sound (works_none (abstract_of view below a out) sound)) e
+    (refused_after view below out a a b c.args.from c.args.old c.args.end c.args.old c.args.old c.args.from c.args.end (omega arith) (omega (arith, low, high)) low (omega arith) (fills_none view below out a c.args.from c.args.old sound (works_none (abstract_of view below a out) sound)) 0 (omega arith) (λ none. none) e
     (c.in_err-next.ensures.fills out sound high whole version))
 
 pub returns-in_err-fill_range-clause-fills : goal.returns-in_err-fill_range-clause-fills
@@ -31,7 +31,7 @@ returns-in_err-fill_range-clause-fills g c = λ out sound low high whole version
     let next = c.in_ok-next.ensures.next in
     let first = zeros_from view below out a b c.args.from c.in_ok-next.next whole.0 (c.in_ok-next.ensures.fills out sound high whole version) in
     handed_on (λ r. FillsOrRefuses view below c.args.from c.args.old c.args.end a d out r) c.from_residual-in_err-fill_range.result e c.from_residual-in_err-fill_range.ensures
-    (refused_after view below out a b d c.args.from c.args.old c.args.end c.args.from c.in_ok-next.next c.args.old c.args.from low (omega (arith, next.2, high)) (omega arith) high first e
+    (refused_after view below out a b d c.args.from c.args.old c.args.end c.args.from c.in_ok-next.next c.args.old c.args.from low (omega (arith, next.2, high)) (omega arith) high first c.args.from (omega arith) (λ none. c.in_ok-next.ensures.emptied none) e
     (c.in_err-fill_range.ensures.fills out first.sound low (still_at a.file.header.fields b.file.header.fields c.args.from first.header whole.0)))
 
 pub returns-clause-fills : goal.returns-clause-fills
@@ -46,7 +46,7 @@ returns-clause-fills g c = λ out sound low high whole version.
     let second = c.in_ok-fill_range.ensures.fills out first.sound low (still_at a.file.header.fields b.file.header.fields c.args.from first.header whole.0) in
     let both = fills_before view below out a b d c.args.from c.args.old c.args.from c.in_ok-next.next low next.0 first second in
     let ends = c.in_ok-next.ensures.whole out sound whole in
-    fills_or_refuses view below out a d c.zero_range.new.self c.args.from c.args.old c.in_ok-next.next c.args.end (omega (arith, low, next.0)) (omega (arith, next.2, high)) both next.0 (still_at a.file.header.fields d.file.header.fields c.in_ok-next.next both.header ends) c.zero_range.result
+    fills_or_refuses view below out a d c.zero_range.new.self c.args.from c.args.old c.in_ok-next.next c.args.end (omega (arith, low, next.0)) (omega (arith, next.2, high)) both (λ none. c.in_ok-fill_range.ensures.emptied (c.in_ok-next.ensures.emptied none)) next.0 (still_at a.file.header.fields d.file.header.fields c.in_ok-next.next both.header ends) c.zero_range.result
     (c.zero_range.ensures.fills out both.sound (omega (arith, next.2, high)) (still_at a.file.header.fields d.file.header.fields c.in_ok-next.next both.header ends, still_at a.file.header.fields d.file.header.fields c.args.end both.header whole.1)
     (subst (λ v. 3 ≤ v) (sym (same_version a.file.header.fields d.file.header.fields both.header)) version))
 

@@ -1,17 +1,21 @@
 use Rattle.qcow2_alloc.proofs.KeptMarks.{notes_none, notes_then}
-use Rattle.std.proofs.Common.{◌≡◌, ◌∙◌, ◌+◌, ◌-◌, ◌^◌, ◌<◌, min, ap, subst, sym, arith, rules}
+use Rattle.std.proofs.Common.{◌≡◌, ◌∙◌, ◌+◌, ◌-◌, ◌^◌, ◌<◌, inl, min, ap, subst, sym, arith, rules}
 use Rattle.std.specs.Prelude.{IsTrue}
 use Rattle.qcow2_disk.specs.Found.{rest_of_table}
 use Rattle.qcow2_laws.specs.CrashInvariant.{Pending}
 use Rattle.qcow2_laws.proofs.Places.{Sizes-from}
 use Rattle.qcow2_alloc.proofs.AllocationSteps.{handed_on}
 use Rattle.qcow2_alloc.specs.ImageFile.{contents_in}
+use Rattle.qcow2_image.specs.Clearing.{IsClearable}
+use Rattle.qcow2_image.specs.declared.discarding.Clearance.TheVariants.{KeptZeros}
 use Rattle.qcow2_image.specs.ImageInvariant.{ImageInvariant, abstract_of}
 use Rattle.qcow2_image.specs.Preallocation.{FillsFirst}
 use Rattle.qcow2_image.proofs.Call.Called.{works_none}
 use Rattle.qcow2_image.proofs.Flush.Freeing.{all_listed, beside, freed_refused, tidy_stays}
-use Rattle.qcow2_image.proofs.Preallocate.Filled.{cleared_fills, fill_unseen, fills_none, fills_refused, fills_stays, next_whole, next_within, taken_here}
+use Rattle.qcow2_image.proofs.Preallocate.Filled.{cleared_fills, fill_unseen, fills_none, fills_refused, fills_stays, lacks_here, next_whole, next_within, taken_here}
 use Rattle.qcow2_image.proofs.Call.MetErrors.{tables_met}
+use Rattle.qcow2_image.proofs.Call.Unlimited.{fault_unlimited}
+use Rattle.qcow2_image.proofs.Prepare.Lacked.{emptied_by_limit}
 use Rattle.qcow2_image.proofs.Call.BehindHeader.{behind_none, behind_then}
 use Rattle.qcow2_image.proofs.image.Qcow2.zero_first.Goals as goal
 
@@ -36,15 +40,20 @@ returns-in_err-clear_between-clause-fills g c = λ out sound le whole version.
     let rest = c.rest_of_table.ensures.value in
     let is : c.min-next.result ≡ min c.args.to (min (c.args.from + rest_of_table c.args.self.now.file.header.fields c.args.from) (2 ^ 64 - 1)) = c.min-next.ensures ∙ ap (min to) (c.saturating_add.ensures ∙ ap (λ n. min (from + n) (2 ^ 64 - 1)) rest) in
     let high : c.args.to < 2 ^ 64 = search rules in
+    let lt = c.if-to-from.false in
+    let can : IsClearable c.args.self.now.file.header.fields KeptZeros c.args.from c.min-next.result = record {
+      begins = whole.0;
+      ends = next_whole h sizes.some sizes.entries from to c.min-next.result whole.1 is high;
+      within = next_within h sizes.some sizes.entries from to c.min-next.result whole.1 is high;
+      version = λ _. version;
+    } in
     handed_on (λ r. FillsFirst view below 0 from to old new out r) c.from_residual.result e c.from_residual.ensures
     (record {
-      left = fill_unseen view below out old new from to e (c.in_err-clear_between.ensures.clears out sound (record {
-        begins = whole.0;
-        ends = next_whole h sizes.some sizes.entries from to c.min-next.result whole.1 is high;
-        within = next_within h sizes.some sizes.entries from to c.min-next.result whole.1 is high;
-        version = λ _. version;
-      }));
+      left = fill_unseen view below out old new from to e (c.in_err-clear_between.ensures.clears out sound can);
       taken = λ same. taken_here h from to out c.if-to-from.false (c.in_err-clear_between.ensures.taken out sound same);
+      limit = λ limit.
+          let lacks = c.in_err-clear_between.ensures.limit out sound can limit in
+          lacks_here view below out old new 0 from to (to - from) sound (omega (arith, lt)) (omega (arith, lt)) (inl lacks) (λ _. lacks) (emptied_by_limit new e (c.in_err-clear_between.ensures.freed out sound can) limit);
     })
 
 pub returns-in_err-free_listed-clause-fills : goal.returns-in_err-free_listed-clause-fills
@@ -71,7 +80,7 @@ returns-in_err-free_listed-clause-fills g c = λ out sound le whole version.
     })) in
     let listed = subst (λ (x : Pending). ImageInvariant view below x mid out) (all_listed view below mid out) part.sound in
     handed_on (λ r. FillsFirst view below 0 from to old new out r) c.from_residual-in_err-free_listed.result e c.from_residual-in_err-free_listed.ensures
-    (fills_refused view below out old mid new 0 from next part to e (omega (arith, is)) (tables_met e c.in_err-free_listed.ensures.cause)
+    (fills_refused view below out old mid new 0 from next part to e (omega (arith, is)) (tables_met e c.in_err-free_listed.ensures.cause) (fault_unlimited e (c.in_err-free_listed.ensures.faults (beside view below mid out) out listed))
     (freed_refused view below mid out new e part.sound (c.in_err-free_listed.ensures.frees (beside view below mid out) out listed)))
 
 pub returns-clause-whole : goal.returns-clause-whole
