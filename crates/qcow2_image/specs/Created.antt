@@ -1,5 +1,5 @@
 -- What creating an image makes of a storage, and what a stop may leave of it.
-use Rattle.std.specs.Prelude.{ℕ, ◌≡◌, ◌==◌, ◌&&◌, ◌||◌, ◌⊎◌, ◌*◌, ◌/◌, ◌^◌, ◌<◌, ◌≤◌, Bool, true, false, None, Some, Result, Ok, Err, [], length, nat_lt, if◌then◌else◌}
+use Rattle.std.specs.Prelude.{ℕ, ◌≡◌, ◌==◌, ◌&&◌, ◌||◌, ◌⊎◌, ◌*◌, ◌/◌, ◌^◌, ◌<◌, ◌≤◌, Bool, true, false, List, None, Some, Result, Ok, Err, [], length, nat_lt, if◌then◌else◌}
 use Rattle.image_access.specs.Backing.{BackingView}
 use Rattle.image_access.specs.Moments.{StorageView, EachMomentSince}
 use Rattle.image_access.specs.declared.storage.PreallocateMode.{PreallocateMode}
@@ -16,20 +16,24 @@ use Rattle.qcow2_metadata.specs.RefBlock.{RefBlockView, count_at}
 use Rattle.qcow2_metadata.specs.TableBytes.{entry_at}
 use Rattle.qcow2_metadata.specs.declared.l2_mapping.L2Mapping.{L2Mapping}
 use Rattle.qcow2_metadata.specs.declared.l2_mapping.L2Mapping.TheVariants.{Zero, Uncovered}
-use Rattle.qcow2_disk.specs.AbstractImages.{AbstractImage}
+use Rattle.qcow2_disk.specs.AbstractImages.{AbstractImage, IsOpened}
 use Rattle.qcow2_disk.specs.Disk.{disk}
 use Rattle.qcow2_disk.specs.Mappings.{is_copied_data}
 use Rattle.qcow2_laws.specs.NewImages.{IsNewImage}
 use Rattle.qcow2_laws.specs.Opened.{HasNoLeaks}
+use Rattle.qcow2_alloc.specs.ImageFile.{view_in}
+use Rattle.qcow2_alloc.specs.LoadedTables.{ReftableFits}
 use Rattle.qcow2_alloc.specs.declared.error.ImageError.{ImageError}
 use Rattle.qcow2_alloc.specs.declared.error.ImageError.TheVariants as I
 use Rattle.qcow2_disk.specs.HeaderRest.{KeepsHeaderRest}
 use Rattle.qcow2_image.specs.Opened.{NeedsAnother}
 use Rattle.qcow2_image.specs.Growing.{FitsSize, GrowsDisk, SameFormat, ReachesSize}
+use Rattle.qcow2_image.specs.declared.builder.NoBacking.{NoBacking}
 use Rattle.qcow2_image.specs.declared.builder.Qcow2CreateBuilder.{Qcow2CreateBuilder}
 use Rattle.qcow2_image.specs.declared.image.Qcow2.{Qcow2}
-use Rattle.qcow2_image.specs.Image.{size_of}
+use Rattle.qcow2_image.specs.Image.{HasNothingToFree, size_of}
 use Rattle.qcow2_image.specs.ImageInvariant.{abstract_of}
+use Rattle.qcow2_image.specs.LackedTables.{CantGrow}
 use Rattle.qcow2_image.specs.Refusals.{IsMet}
 use Rattle.qcow2_image.specs.Resizing.{GrowsTables, GrowsTo, IsResized, refuses_to_resize, size_after}
 
@@ -87,6 +91,27 @@ pub record StaysCreating (mode : PreallocateMode) (n : ℕ) (old new : StorageVi
 abbrev pub longest_disk : ℕ → ℕ
 longest_disk size = 4194304 * (size / 8) * size
 
+-- An image with these contents was opened, and nothing was to be freed then. Making its disk larger in a mode was refused for a limit.
+pub record CantEnlarge {S F : Type 0} (view : S → StorageView) (backing : F → BackingView) (mode : PreallocateMode) (size : ℕ) (contents : List ℕ) : Type 0 where
+  pub opened : Qcow2 S F
+  pub is_opened : IsOpened (abstract_of view backing opened [])
+  pub stands : (view_in view opened.file).contents ≡ contents
+  pub emptied : HasNothingToFree opened
+  pub left : Qcow2 S F
+  pub lacks : CantGrow view backing mode size opened left []
+
+-- the disk below where there is none
+abbrev pub none_below : NoBacking → BackingView
+none_below below = record { bytes = []; faults = 0; is_honest = Unit {0} }
+
+-- a new image was written, with the clusters and counts that were asked for, and its disk can't be made larger
+pub record LacksPlaceCreating {S : Type 0} (view : S → StorageView) (builder : Qcow2CreateBuilder S) : Type 0 where
+  pub contents : List ℕ
+  pub new_image : IsNewImage (header (byte_at contents)) (byte_at contents)
+  pub clusters : cluster_size (header (byte_at contents)) ≡ builder.cluster_size
+  pub counts : count_width (header (byte_at contents)) ≡ builder.refcount_width
+  pub lacks : CantEnlarge view none_below builder.preallocate builder.size contents
+
 module _ {S : Type 0} where
   -- clusters and counts that images may have
   pub record IsAllowed (builder : Qcow2CreateBuilder S) : Type 0 where
@@ -98,10 +123,11 @@ module _ {S : Type 0} where
     pub no_larger : cluster_bits ≤ 21
     pub no_wider : refcount_order ≤ 6
 
-  -- Why an image isn't created: 5 only for an option that images don't have, and else what the work meets.
-  abbrev pub IsReasonNotToCreate : Qcow2CreateBuilder S → ImageError → Type 0
-  IsReasonNotToCreate builder I.InvalidOption = ¬ IsAllowed builder
-  IsReasonNotToCreate builder e = IsMet e
+  -- Why an image isn't created: 5 only for an option that images don't have. 13 only for a disk that is too long, or where a place lacks for it. And else what the work meets.
+  abbrev pub IsReasonNotToCreate : (S → StorageView) → Qcow2CreateBuilder S → ImageError → Type 0
+  IsReasonNotToCreate view builder I.InvalidOption = ¬ IsAllowed builder
+  IsReasonNotToCreate view builder I.Limit = (longest_disk builder.cluster_size < builder.size) ⊎ LacksPlaceCreating view builder
+  IsReasonNotToCreate view builder e = IsMet e
 
   -- the image that was asked for stands on an honest storage
   pub record IsCreated (builder : Qcow2CreateBuilder S) (storage : StorageView) : Type 0 where
@@ -120,6 +146,10 @@ module _ {S : Type 0} where
     pub no_compatible : (header (byte_at storage.contents)).compatible ≡ 0
     -- it names no file of its data either
     pub alone : ¬ NeedsAnother storage.contents
+
+  -- Why it isn't created and opened: it isn't created. Or it is, and 64 bits don't hold the end of its reftable.
+  abbrev pub IsReasonNotToCreateOpen : (S → StorageView) → Qcow2CreateBuilder S → ImageError → Type 0
+  IsReasonNotToCreateOpen view builder e = IsReasonNotToCreate view builder e ⊎ ((e ≡ I.Limit) × (made : S) × IsCreated builder (view made) × ¬ ReftableFits (header (byte_at (view made).contents)))
 
 -- ---- its parts
 

@@ -11,13 +11,17 @@ ghost use Rattle.qcow2_alloc.specs.Faults.{CountsFaults, FaultsTold};
 ghost use Rattle.qcow2_image.specs.CountedOpening.{OpeningCounts};
 ghost use Rattle.qcow2_image.specs.BehindHeader.{LiesBehindHeader, NamesTablesBehind};
 ghost use Rattle.qcow2_image.specs.Faults.{CountsImageFaults, IsNotOfStorage};
+ghost use Rattle.qcow2_alloc.specs.declared.error.ImageError.TheVariants.{Limit};
+ghost use Rattle.qcow2_metadata.specs.Header.{header as header_at};
+ghost use Rattle.qcow2_laws.specs.NewImages.{IsNewImage};
+ghost use Rattle.qcow2_image.specs.LackedTables.{CantGrow};
 ghost use Rattle.qcow2_image.specs.Image.{is_failed, is_writable};
-ghost use Rattle.qcow2_image.specs.Refusals.{IsMet, MarksFailed};
+ghost use Rattle.qcow2_image.specs.Refusals.{IsMet, IsUnlimited, MarksFailed};
 ghost use Rattle.qcow2_image.specs.Resizing.{refuses_to_resize};
 ghost use Rattle.qcow2_image.specs.ImageInvariant.{abstract_of};
 ghost use Rattle.qcow2_image.specs.Growing.{KeepsSurplus};
 ghost use Rattle.qcow2_laws.specs.Opened.{HasNoLeaks};
-ghost use Rattle.qcow2_image.specs.Created.{longest_disk, IsUnwritten, IsNewHeader, CountsThree, NamesOne, WritesThree, Enlarges, GrowsBy};
+ghost use Rattle.qcow2_image.specs.Created.{longest_disk, IsUnwritten, IsNewHeader, CountsThree, NamesOne, WritesThree, CantEnlarge, Enlarges, GrowsBy};
 
 use crate::Qcow2;
 use crate::image::Missing;
@@ -89,8 +93,8 @@ fn has_l1_entries(cluster_bits: u32, size: u64) -> bool
 
 impl<S: Storage> Qcow2CreateBuilder<S> {
     ghost use Rattle.std.specs.Prelude.{Err};
-    ghost use Rattle.qcow2_alloc.specs.declared.error.ImageError.TheVariants.{InvalidOption, Limit};
-    ghost use Rattle.qcow2_image.specs.Created.{StopsCreating, IsCreated, IsAllowed, HasLostNone, IsNewDisk, IsReasonNotToCreate};
+    ghost use Rattle.qcow2_alloc.specs.declared.error.ImageError.TheVariants.{InvalidOption};
+    ghost use Rattle.qcow2_image.specs.Created.{StopsCreating, IsCreated, IsAllowed, HasLostNone, IsNewDisk, IsReasonNotToCreate, IsReasonNotToCreateOpen};
     ghost use Rattle.std.specs.Prelude.{true, false};
     ghost use Rattle.qcow2_image.specs.Image.{number_of, storage_of_image};
     ghost use Rattle.qcow2_image.specs.Opened.{storage_after};
@@ -163,7 +167,7 @@ impl<S: Storage> Qcow2CreateBuilder<S> {
         ensures created { (S.view self.image).is_honest → IfOk result.1 (λ done. IsCreated self (S.view result.0)) }
         ensures refused { ¬ IsAllowed self → (result.1 ≡ Err InvalidOption) × (result.0 ≡ self.image) }
         ensures limit { IsAllowed self → longest_disk self.cluster_size < self.size → (result.1 ≡ Err Limit) × (result.0 ≡ self.image) }
-        ensures cause { (S.view self.image).is_honest → IfErr result.1 (IsReasonNotToCreate self) }
+        ensures cause { (S.view self.image).is_honest → IfErr result.1 (IsReasonNotToCreate S.view self) }
         ensures faults { FaultsTold (S.view self.image).faults (S.view result.0).faults result.1 }
     {
         let Qcow2CreateBuilder {
@@ -208,7 +212,7 @@ impl<S: Storage> Qcow2CreateBuilder<S> {
         ensures clusters { (S.view self.image).is_honest → IfOk result (λ image. HasLostNone (abstract_of S.view F.backing image [])) }
         ensures new_disk { (S.view self.image).is_honest → IfOk result (λ image. IsNewDisk self.preallocate self.size (abstract_of S.view F.backing image []).known) }
         ensures ok { IfOk result (λ image. (number_of image ≡ number) × (is_failed image ≡ false) × (is_writable image ≡ true) × (is_some image.backing ≡ false)) }
-        ensures cause { (S.view self.image).is_honest → IfErr result (λ refused. IsReasonNotToCreate self refused.1) }
+        ensures cause { (S.view self.image).is_honest → IfErr result (λ refused. IsReasonNotToCreateOpen S.view self refused.1) }
         ensures faults { OpeningCounts S.view (S.view self.image).faults result }
         ensures header_cluster { IfOk result (λ image. (S.view self.image).is_honest ⊎ NamesTablesBehind image.file.header.fields → LiesBehindHeader image) }
     {
@@ -221,12 +225,13 @@ impl<S: Storage> Qcow2CreateBuilder<S> {
 }
 
 // Nothing stands on the storage any more.
-#[tactic(auto, using(crate::proofs::Call::MetErrors::storage_met, crate::proofs::Call::MetErrors::metadata_met))]
+#[tactic(auto, using(crate::proofs::Call::MetErrors::storage_met, crate::proofs::Call::MetErrors::metadata_met, crate::proofs::Call::Unlimited::storage_unlimited, crate::proofs::Create::Causes::memory_unlimited))]
 fn clear<S: Storage>(storage: &mut ImageStorage<S>) -> Result<(), ImageError>
     ensures honest { (S.view (storage_of storage.old)).is_honest → (S.view (storage_of storage.new)).is_honest }
     ensures time { (S.view (storage_of storage.old)).is_honest → EachMomentSince (S.view (storage_of storage.old)) (S.view (storage_of storage.new)) (λ c. c ≡ []) }
     ensures cleared { (S.view (storage_of storage.old)).is_honest → OnOk result ((S.view (storage_of storage.new)).contents ≡ []) }
     ensures cause { IfErr result IsMet }
+    ensures limited { IfErr result IsUnlimited }
     ensures faults { CountsFaults S.view storage.old storage.new result }
 {
     if storage.size()? == 0 {
@@ -238,10 +243,11 @@ fn clear<S: Storage>(storage: &mut ImageStorage<S>) -> Result<(), ImageError>
 }
 
 // The refblock of a new image, which counts its three clusters.
-#[tactic(auto, using(crate::proofs::Call::MetErrors::storage_met, crate::proofs::Call::MetErrors::metadata_met))]
+#[tactic(auto, using(crate::proofs::Call::MetErrors::storage_met, crate::proofs::Call::MetErrors::metadata_met, crate::proofs::Call::Unlimited::storage_unlimited, crate::proofs::Create::Causes::memory_unlimited))]
 fn first_refblock(alloc: Global, header: &Header) -> Result<RefBlock, ImageError>
     ensures counts { IfOk result (CountsThree header.now.fields) }
     ensures cause { IfErr result IsMet }
+    ensures limited { IfErr result IsUnlimited }
     ensures faults { IfErr result IsNotOfStorage }
 {
     let mut block = RefBlock::new_cleared(alloc, header)?;
@@ -255,10 +261,11 @@ fn first_refblock(alloc: Global, header: &Header) -> Result<RefBlock, ImageError
 }
 
 // The reftable of a new image, which names that refblock.
-#[tactic(auto, using(crate::proofs::Call::MetErrors::storage_met, crate::proofs::Call::MetErrors::metadata_met))]
+#[tactic(auto, using(crate::proofs::Call::MetErrors::storage_met, crate::proofs::Call::MetErrors::metadata_met, crate::proofs::Call::Unlimited::storage_unlimited, crate::proofs::Create::Causes::memory_unlimited))]
 fn first_reftable(alloc: Global, header: &Header) -> Result<RefTable, ImageError>
     ensures names { IfOk result (NamesOne header.now.fields) }
     ensures cause { IfErr result IsMet }
+    ensures limited { IfErr result IsUnlimited }
     ensures faults { IfErr result IsNotOfStorage }
 {
     let mut reftable = RefTable::new_cleared(alloc, header, header.l2_entries())?;
@@ -268,7 +275,7 @@ fn first_reftable(alloc: Global, header: &Header) -> Result<RefTable, ImageError
 }
 
 // The header is cluster 0, the reftable 1, the refblock 2. The header is written last: before it, this is no image.
-#[tactic(auto, using(crate::proofs::Call::MetErrors::storage_met, crate::proofs::Call::MetErrors::metadata_met))]
+#[tactic(auto, using(crate::proofs::Call::MetErrors::storage_met, crate::proofs::Call::MetErrors::metadata_met, crate::proofs::Call::Unlimited::storage_unlimited, crate::proofs::Create::Causes::memory_unlimited))]
 fn write_three<S: Storage>(
     alloc: Global,
     storage: &mut ImageStorage<S>,
@@ -282,6 +289,7 @@ fn write_three<S: Storage>(
         → WritesThree header.now.fields (S.view (storage_of storage.old)) (S.view (storage_of storage.new)) result }
     ensures stands { (S.view (storage_of storage.old)).is_honest → HasNewNames header.now → OnOk result (IsHeaderIn header.now (S.view (storage_of storage.new)).contents) }
     ensures cause { IfErr result IsMet }
+    ensures limited { IfErr result IsUnlimited }
     ensures faults { CountsFaults S.view storage.old storage.new result }
 {
     storage.will_write(WriteKind::Other);
@@ -293,7 +301,7 @@ fn write_three<S: Storage>(
     Ok(())
 }
 
-#[tactic(auto, using(crate::proofs::Call::MetErrors::storage_met, crate::proofs::Call::MetErrors::metadata_met))]
+#[tactic(auto, using(crate::proofs::Call::MetErrors::storage_met, crate::proofs::Call::MetErrors::metadata_met, crate::proofs::Call::Unlimited::storage_unlimited, crate::proofs::Create::Causes::memory_unlimited))]
 fn write_new_image<S: Storage>(
     alloc: Global,
     storage: &mut ImageStorage<S>,
@@ -302,6 +310,7 @@ fn write_new_image<S: Storage>(
     ensures writes { (S.view (storage_of storage.old)).is_honest → IsNewHeader header.now → WritesThree header.now.fields (S.view (storage_of storage.old)) (S.view (storage_of storage.new)) result }
     ensures stands { (S.view (storage_of storage.old)).is_honest → HasNewNames header.now → OnOk result (IsHeaderIn header.now (S.view (storage_of storage.new)).contents) }
     ensures cause { IfErr result IsMet }
+    ensures limited { IfErr result IsUnlimited }
     ensures faults { CountsFaults S.view storage.old storage.new result }
 {
     clear(storage)?;
@@ -319,6 +328,8 @@ fn grow_new_image<S: Storage, F: WrappedFormat<S>>(
     ensures enlarges { (S.view (storage_of storage)).is_honest → IsUnwritten 0 (byte_at (S.view (storage_of storage)).contents) → Enlarges mode size (S.view (storage_of storage)) (S.view result.0) result.1 }
     ensures leaks { (S.view (storage_of storage)).is_honest → IsUnwritten 0 (byte_at (S.view (storage_of storage)).contents) → HasNoLeaks (byte_at (S.view (storage_of storage)).contents) → OnOk result.1 (HasNoLeaks (byte_at (S.view result.0).contents)) }
     ensures cause { (S.view (storage_of storage)).is_honest → IsUnwritten 0 (byte_at (S.view (storage_of storage)).contents) → IfErr result.1 IsMet }
+    ensures limit { (S.view (storage_of storage)).is_honest → IsUnwritten 0 (byte_at (S.view (storage_of storage)).contents) → IsNewImage (header_at (byte_at (S.view (storage_of storage)).contents)) (byte_at (S.view (storage_of storage)).contents) → (header_at (byte_at (S.view (storage_of storage)).contents)).autoclear ≡ 0
+        → IfErr result.1 (λ e. e ≡ Limit → CantEnlarge S.view F.backing mode size (S.view (storage_of storage)).contents) }
     ensures faults { ((below : F) → (F.backing below).faults ≡ 0) → FaultsTold (S.view (storage_of storage)).faults (S.view result.0).faults result.1 }
 {
     match Qcow2::<S, F>::open(alloc, storage, true, 0, Missing::Nothing) {
@@ -340,6 +351,7 @@ fn grow_and_flush<S: Storage, F: WrappedFormat<S>>(
     ensures leaks { IsOpened (abstract_of S.view F.backing image.old []) → IsTrue (is_writable image.old) → ((c : ℕ) → (abstract_of S.view F.backing image.old []).surplus c ≡ 0)
         → OnOk result (HasNoLeaks (byte_at (view_in S.view image.new.file).contents)) }
     ensures cause { refuses_to_resize image.old ≡ None → IsTrue (is_writable image.old) → is_some image.old.backing ≡ false → (abstract_of S.view F.backing image.old []).is_sound → IfErr result IsMet }
+    ensures limit { refuses_to_resize image.old ≡ None → (abstract_of S.view F.backing image.old []).is_sound → IfErr result (λ e. e ≡ Limit → CantGrow S.view F.backing mode size image.old image.new []) }
     ensures faults { CountsImageFaults S.view F.backing image.old image.new result }
 {
     grow_by(image, size, mode)?;
@@ -355,6 +367,7 @@ fn grow_by<S: Storage, F: WrappedFormat<S>>(
     ensures grows { GrowsBy S.view F.backing mode image.old image.new size result }
     ensures surplus { refuses_to_resize image.old ≡ None → (abstract_of S.view F.backing image.old []).is_sound → OnOk result (KeepsSurplus S.view F.backing image.old image.new) }
     ensures cause { refuses_to_resize image.old ≡ None → IsTrue (is_writable image.old) → is_some image.old.backing ≡ false → (abstract_of S.view F.backing image.old []).is_sound → IfErr result IsMet }
+    ensures limit { refuses_to_resize image.old ≡ None → (abstract_of S.view F.backing image.old []).is_sound → IfErr result (λ e. e ≡ Limit → CantGrow S.view F.backing mode size image.old image.new []) }
     ensures marks { MarksFailed image.old image.new result }
     ensures faults { CountsImageFaults S.view F.backing image.old image.new result }
 {

@@ -235,6 +235,7 @@ impl<S: Storage, F: WrappedFormat<S>> Qcow2<S, F> {
         ensures opens { IfOk result (Opens S.view F.backing (S.view (storage_of storage))) }
         ensures since { (S.view (storage_of storage)).is_honest → IsConsistent (byte_at (S.view (storage_of storage)).contents) → IsKeptSince (S.view (storage_of storage)) (S.view (storage_after result)) }
         ensures format { (S.view (storage_of storage)).is_honest → IfOk result (λ image. SameFormat (header (byte_at (S.view (storage_of storage)).contents)) image.file.header.fields) }
+        ensures list { (S.view (storage_of storage)).is_honest → IsConsistent (byte_at (S.view (storage_of storage)).contents) → IfOk result HasNothingToFree }
         ensures ok { IfOk result (λ image. (number_of image ≡ number) × (is_failed image ≡ false) × (is_writable image ≡ writable)) }
         ensures faults { OpeningCounts S.view (S.view (storage_of storage)).faults result }
         ensures unpinned { IfOk result (λ image. ¬ HasPinnedTable image) }

@@ -1,5 +1,5 @@
 -- Why an image isn't created: what its parts meet, and when a storage's failure is told.
-use Rattle.std.proofs.Common.{[], ◌≡◌, ◌⊎◌, ◌≢◌, inl, inr, ⊎_elim, ℕ, ◌+◌, ◌^◌, ◌<◌, ◌≤◌, Bool, true, false, Option, Some, None, Result, Ok, Err, refl, sym, ap, ◌∙◌, subst, arith}
+use Rattle.std.proofs.Common.{[], List, ◌≡◌, ◌⊎◌, ◌≢◌, inl, inr, ⊎_elim, ℕ, ◌+◌, ◌^◌, ◌<◌, ◌≤◌, Bool, true, false, Option, Some, None, Result, Ok, Err, refl, sym, ap, ◌∙◌, subst, arith}
 use Rattle.std.specs.Prelude.{IfErr, IsTrue, is_some, not}
 use Rattle.std.specs.Option.{option_or}
 use Rattle.std.specs.Int.{bit_at, trailing_zeros, w64}
@@ -14,25 +14,34 @@ use Rattle.image_access.specs.declared.storage.PreallocateMode.TheVariants as Mo
 use Rattle.image_access.proofs.EachMomentSince.{rose_since}
 use Rattle.qcow2_alloc.specs.declared.error.ImageError.{ImageError}
 use Rattle.qcow2_alloc.specs.declared.error.ImageError.TheVariants as I
-use Rattle.qcow2_metadata.specs.HeaderWrite.{CanBeNew}
+use Rattle.qcow2_metadata.specs.Bytes.{byte_at}
+use Rattle.qcow2_metadata.specs.Header.{HeaderReads, HeaderView, header}
+use Rattle.qcow2_metadata.specs.HeaderWrite.{CanBeNew, new_header}
+use Rattle.qcow2_metadata.specs.declared.error.MetadataError.{MetadataError}
+use Rattle.qcow2_metadata.specs.declared.error.MetadataError.TheVariants as M
+use Rattle.qcow2_laws.specs.NewImages.{IsNewImage}
 use Rattle.qcow2_disk.specs.AbstractImages.{IsOpened}
 use Rattle.qcow2_alloc.specs.Faults.{FaultsTold}
 use Rattle.qcow2_alloc.proofs.Faults.{told_since}
+use Rattle.qcow2_image.proofs.Prepare.Lacked.{limits_as, other_limit}
 use Rattle.qcow2_image.proofs.Sizes.{sound_is_usable}
-use Rattle.qcow2_alloc.specs.ImageError.{IsFault}
+use Rattle.qcow2_alloc.specs.ImageError.{IsFault, of_metadata}
+use Rattle.qcow2_alloc.specs.LoadedTables.{ReftableFits}
 use Rattle.qcow2_image.specs.declared.image.Missing.TheVariants as N
 use Rattle.qcow2_image.specs.declared.image.Qcow2.{Qcow2}
 use Rattle.qcow2_image.specs.CountedOpening.{OpeningCounts}
 use Rattle.qcow2_image.specs.Faults.{CountsImageFaults, IsNotOfStorage}
 use Rattle.qcow2_image.specs.Image.{is_writable, size_of, storage_of_image}
 use Rattle.qcow2_image.specs.ImageInvariant.{abstract_of, faults_below}
-use Rattle.qcow2_image.specs.Created.{IsAllowed, IsReasonNotToCreate}
+use Rattle.qcow2_image.specs.Created.{CantEnlarge, IsAllowed, IsCreated, IsReasonNotToCreate, IsReasonNotToCreateOpen, LacksPlaceCreating, longest_disk, none_below}
 use Rattle.qcow2_image.specs.declared.builder.Qcow2CreateBuilder.{Qcow2CreateBuilder}
 use Rattle.qcow2_image.specs.Readable.{IsRefusedRightly, OpensRightly}
-use Rattle.qcow2_image.specs.Refusals.{IsMet, IsMetPreparing, refuse_if}
+use Rattle.qcow2_image.specs.LackedTables.{CantGrow}
+use Rattle.qcow2_image.specs.Refusals.{IsMet, IsMetPreparing, IsUnlimited, refuse_if}
 use Rattle.qcow2_image.specs.Preallocation.{IsUnderMappingIn}
 use Rattle.qcow2_image.specs.Resizing.{GrowsTables, refuses_to_resize, takes_over}
 use Rattle.qcow2_metadata.specs.declared.header.HeaderFields.{HeaderFields}
+use Rattle.qcow2_image.proofs.Create.NewDisks.{new_disk_consistent}
 
 fault_met : (e : ImageError) → IsFault e → IsMet e
 fault_met e fault = elim fault [ inl storage ↦ subst IsMet (sym storage) tt | inr memory ↦ subst IsMet (sym memory) tt ]
@@ -50,6 +59,35 @@ opening_met contents writable I.Memory why = tt
 opening_met contents writable I.Storage why = tt
 opening_met contents writable I.Dependency why = absurd (let bad : false ≡ true = why.1.needs in cc)
 opening_met contents writable e why = absurd why
+
+-- want of memory is no limit
+pub memory_unlimited : (e : MetadataError) → e ≡ M.Memory → IsUnlimited (of_metadata e)
+memory_unlimited e is = subst (λ (x : MetadataError). IsUnlimited (of_metadata x)) (sym is) tt
+
+-- an opening is refused for a limit only where 64 bits don't hold the end of the reftable, if the header reads
+limit_far : (contents : _) → HeaderReads (header (byte_at contents)) (byte_at contents) → IsRefusedRightly contents true N.Nothing I.Limit → ReftableFits (header (byte_at contents)) → ⊥
+limit_far contents reads why fits = elim why [
+  | inl limits ↦ limits.1 reads.within_limits
+  | inr refused ↦ elim refused.1 [ inl none ↦ absurd none | inr past ↦ let far = past.2 in absurd (omega (arith, far, fits)) ]
+]
+
+-- a new image's reftable ends within 64 bits
+new_fits : (contents : _) → IsNewImage (header (byte_at contents)) (byte_at contents) → ReftableFits (header (byte_at contents))
+new_fits contents new =
+    let at = new.reftable_offset in
+    let few = new.reads.within_limits.few_reftable_entries in
+    let bits : 2 ^ (header (byte_at contents)).cluster_bits ≤ 2 ^ 21 = pow_mono new.reads.well_formed.in_range.cluster_bits.1 in
+    omega (arith, at, few, bits)
+
+-- a new image isn't refused for a limit
+pub opening_unlimited : (contents : _) (e : ImageError) → IsNewImage (header (byte_at contents)) (byte_at contents) → IsRefusedRightly contents true N.Nothing e → IsUnlimited e
+opening_unlimited contents I.Metadata new why = tt
+opening_unlimited contents I.Limit new why = limit_far contents new.reads why (new_fits contents new)
+opening_unlimited contents I.UnalignedTable new why = tt
+opening_unlimited contents I.Memory new why = tt
+opening_unlimited contents I.Storage new why = tt
+opening_unlimited contents I.Dependency new why = tt
+opening_unlimited contents e new why = absurd why
 
 -- no mode takes clusters over a disk below that isn't there
 takes_none : {S F : Type 0} (image : Qcow2 S F) (mode : PreallocateMode) → is_some image.backing ≡ false → IsTrue (takes_over image mode) → ⊥
@@ -69,6 +107,14 @@ grown_alone view backing old new size mode (Ok x) alone no_larger tables late = 
 grown_alone view backing old new size mode (Err e) alone no_larger tables late = elim (cases_lt (size_of old) size) [
   | inr le ↦ absurd (let bad = (no_larger le).0 in cc)
   | inl lt ↦ elim late [ inl met ↦ ⊎_elim (λ m. m) (λ is. absurd (none_under _ _ _ ((tables lt).taken is))) met | inr over ↦ absurd (takes_none old mode alone over.1) ]
+]
+
+-- a larger size lacks a place only where it is larger
+pub grown_limited : {S F : Type 0} (view : S → StorageView) (backing : F → BackingView) (old new : Qcow2 S F) (size : ℕ) (mode : PreallocateMode) (r : Result (Unit {0}) ImageError) → (size ≤ size_of old → (r ≡ Ok tt) × (new ≡ old))
+    → (size_of old < size → IfErr r (λ e. e ≡ I.Limit → CantGrow view backing mode size old new [])) → IfErr r (λ e. e ≡ I.Limit → CantGrow view backing mode size old new [])
+grown_limited view backing old new size mode r no_larger limit = elim (cases_lt (size_of old) size) [
+  | inl lt ↦ limit lt
+  | inr le ↦ subst (λ (x : Result _ ImageError). IfErr x (λ e. e ≡ I.Limit → CantGrow view backing mode size old new [])) (sym (no_larger le).0) tt
 ]
 
 -- ---- failures of the storage
@@ -147,18 +193,61 @@ module _ {S : Type 0} (builder : Qcow2CreateBuilder S) where
         room = omega (arith, long);
       })
 
-  pub reason_met : (e : ImageError) → IsMet e → IsReasonNotToCreate builder e
-  reason_met I.InvalidOption met = absurd met
-  reason_met e met = met
+  -- the disk is too long, or not
+  pub too_long : (size : ℕ) → builder.cluster_size ≡ size → ¬ (builder.size ≤ longest_disk size) → longest_disk builder.cluster_size < builder.size
+  too_long size is not = subst (λ n. longest_disk n < builder.size) (sym is) (elim (cases_lt (longest_disk size) builder.size) [ inl past ↦ past | inr le ↦ absurd (not le) ])
 
-  pub reasons_met : {T : Type 0} (r : Result T ImageError) → IfErr r IsMet → IfErr r (IsReasonNotToCreate builder)
-  reasons_met (Ok x) met = tt
-  reasons_met (Err e) met = reason_met e met
+  module _ (view : S → StorageView) where
+    reason_met : (e : ImageError) → IsMet e → (e ≡ I.Limit → LacksPlaceCreating view builder) → IsReasonNotToCreate view builder e
+    reason_met I.InvalidOption met lacks = absurd met
+    reason_met I.Limit met lacks = inr (lacks refl)
+    reason_met e met lacks = met
 
-  -- the image that was made is opened
-  pub opening_reasons : {F : Type 0} (storage : StorageView) (r : Result (Qcow2 S F) (S × ImageError)) → storage.is_honest → OpensRightly storage true N.Nothing r → IfErr r (λ refused. IsReasonNotToCreate builder refused.1)
-  opening_reasons storage (Ok image) honest rightly = tt
-  opening_reasons storage (Err refused) honest rightly = reason_met refused.1 (opening_met storage.contents true refused.1 (rightly.1 honest))
+    pub reason_unlimited : (e : ImageError) → IsMet e → IsUnlimited e → IsReasonNotToCreate view builder e
+    reason_unlimited e met unlimited = reason_met e met (other_limit (LacksPlaceCreating view builder) e unlimited)
+
+    pub reasons_met : {T : Type 0} (r : Result T ImageError) → IfErr r IsMet → IfErr r (λ e. e ≡ I.Limit → LacksPlaceCreating view builder) → IfErr r (IsReasonNotToCreate view builder)
+    reasons_met (Ok x) met lacks = tt
+    reasons_met (Err e) met lacks = reason_met e met lacks
+
+    -- a new image stands, and its disk can't be made larger
+    module _ (bits order : ℕ) (v : HeaderView) (is : v ≡ new_header bits order None None None) (contents : List ℕ) (new_image : IsNewImage v.fields (byte_at contents)) where
+      header_new : header (byte_at contents) ≡ (new_header bits order None None None).fields
+      header_new = new_image.header_is ∙ ap (λ (w : HeaderView). w.fields) is
+
+      pub stands_new : IsNewImage (header (byte_at contents)) (byte_at contents)
+      stands_new = subst (λ (h : HeaderFields). IsNewImage h (byte_at contents)) (sym new_image.header_is) new_image
+
+      pub stands_uncleared : (header (byte_at contents)).autoclear ≡ 0
+      stands_uncleared = ap (λ (h : HeaderFields). h.autoclear) header_new
+
+      pub lacks_creating : builder.cluster_size ≡ 2 ^ bits → builder.refcount_width ≡ 2 ^ order → {T : Type 0} (r : Result T ImageError) → IfErr r (λ e. e ≡ I.Limit → CantEnlarge view none_below builder.preallocate builder.size contents)
+          → IfErr r (λ e. e ≡ I.Limit → LacksPlaceCreating view builder)
+      lacks_creating clusters counts r lacks =
+          limits_as (λ e. CantEnlarge view none_below builder.preallocate builder.size contents) (λ e. LacksPlaceCreating view builder) r
+          (λ e cant. record {
+            contents = contents;
+            new_image = stands_new;
+            clusters = ap (λ (h : HeaderFields). 2 ^ h.cluster_bits) header_new ∙ sym clusters;
+            counts = ap (λ (h : HeaderFields). 2 ^ h.refcount_order) header_new ∙ sym counts;
+            lacks = cant;
+          }) lacks
+
+    -- the image that was made is opened
+    opening_reason : (storage : S) → IsCreated builder (view storage) → (e : ImageError) → IsRefusedRightly (view storage).contents true N.Nothing e → IsReasonNotToCreateOpen view builder e
+    opening_reason storage made I.Metadata why = inl tt
+    opening_reason storage made I.Limit why =
+        let consistent = new_disk_consistent builder.preallocate builder.size (byte_at (view storage).contents) made.new_disk in
+        inr (refl, storage, made, limit_far (view storage).contents consistent.header_reads why)
+    opening_reason storage made I.UnalignedTable why = inl tt
+    opening_reason storage made I.Memory why = inl tt
+    opening_reason storage made I.Storage why = inl tt
+    opening_reason storage made I.Dependency why = absurd (let bad : false ≡ true = why.1.needs in cc)
+    opening_reason storage made e why = absurd why
+
+    pub opening_reasons : {F : Type 0} (storage : S) (r : Result (Qcow2 S F) (S × ImageError)) → IsCreated builder (view storage) → OpensRightly (view storage) true N.Nothing r → IfErr r (λ refused. IsReasonNotToCreateOpen view builder refused.1)
+    opening_reasons storage (Ok image) made rightly = tt
+    opening_reasons storage (Err refused) made rightly = opening_reason storage made refused.1 (rightly.1 made.honest)
 
 module _ {S : Type 0} (view : S → StorageView) where
   pub told_created : {T : Type 0} (image start mid wrote last : S) (r : Result T ImageError) → start ≡ image → mid ≡ wrote → (view wrote).faults ≡ (view start).faults → FaultsTold (view mid).faults (view last).faults r → FaultsTold (view image).faults (view last).faults r

@@ -1,9 +1,11 @@
-use Rattle.std.proofs.Common.{[], sym, subst}
+use Rattle.std.proofs.Common.{[], inl, ◌-◌, sym, subst}
 use Rattle.qcow2_image.specs.Created.{GrowsBy}
-use Rattle.qcow2_image.proofs.Create.Causes.{grown_alone}
+use Rattle.qcow2_image.specs.LackedTables.{CantGrow, LacksTableReaching}
+use Rattle.qcow2_image.proofs.Create.Causes.{grown_alone, grown_limited}
 use Rattle.qcow2_image.proofs.Sizing.ShrinkCalls.{resize_works}
 use Rattle.qcow2_image.proofs.Create.Leaks.{surplus_taken}
 use Rattle.qcow2_image.proofs.Create.TakingPlace.{takes_by}
+use Rattle.qcow2_image.proofs.Prepare.Lacked.{limits_as}
 use Rattle.qcow2_image.proofs.builder.grow_by.Goals as goal
 
 pub returns-in-None-clause-grows : goal.returns-in-None-clause-grows
@@ -31,3 +33,15 @@ pub returns-in_default-clause-surplus : goal.returns-in_default-clause-surplus
 returns-in_default-clause-surplus g c = λ usable sound.
     let does = c.resize_grow.ensures in
     surplus_taken g.S.Storage.view g.F.BackingDisk.backing c.args.image.now c.resize_grow.new.self c.args.size c.args.mode c.resize_grow.result sound (does.no_larger usable) does.image does.sees
+
+pub returns-in-None-clause-limit : goal.returns-in-None-clause-limit
+returns-in-None-clause-limit g c = λ usable sound.
+    let view = g.S.Storage.view in
+    let old = c.args.image.now in
+    let new = c.grow.new.self in
+    limits_as (λ e. LacksTableReaching view (c.args.size - 1) old new) (λ e. CantGrow view g.F.BackingDisk.backing c.args.mode c.args.size old new []) c.grow.result (λ e lacks. inl lacks) (c.grow.ensures.limit sound)
+
+pub returns-in_default-clause-limit : goal.returns-in_default-clause-limit
+returns-in_default-clause-limit g c = λ usable sound.
+    let does = c.resize_grow.ensures in
+    grown_limited g.S.Storage.view g.F.BackingDisk.backing c.args.image.now c.resize_grow.new.self c.args.size c.args.mode c.resize_grow.result (does.no_larger usable) (λ lt. does.limit usable lt [] sound)

@@ -1,13 +1,16 @@
-use Rattle.std.proofs.Common.{◌≡◌, ◌∙◌, ℕ, ap, subst, sym, true}
+use Rattle.std.proofs.Common.{◌≡◌, ◌∙◌, [], ℕ, ap, subst, sym, true}
 use Rattle.std.specs.Prelude.{OnOk}
 use Rattle.qcow2_metadata.specs.Bytes.{byte_at}
 use Rattle.qcow2_metadata.specs.Header.{header}
 use Rattle.qcow2_alloc.specs.ImageFile.{view_in}
 use Rattle.qcow2_alloc.specs.ImageStorage.{storage_of}
 use Rattle.qcow2_laws.specs.Opened.{HasNoLeaks}
-use Rattle.qcow2_image.proofs.Create.Causes.{opening_met, told_closed, told_opening, usable_opened}
+use Rattle.qcow2_image.specs.Created.{CantEnlarge}
+use Rattle.qcow2_image.specs.LackedTables.{CantGrow}
+use Rattle.qcow2_image.proofs.Create.Causes.{opening_met, opening_unlimited, told_closed, told_opening, usable_opened}
 use Rattle.qcow2_image.proofs.Create.Creating.{opening_stops, enlarged_so, unwritten_mid}
 use Rattle.qcow2_image.proofs.Open.Left.{opened_none}
+use Rattle.qcow2_image.proofs.Prepare.Lacked.{limits_as, other_limit}
 use Rattle.qcow2_image.proofs.builder.grow_new_image.Goals as goal
 
 pub returns-in-Err-clause-enlarges : goal.returns-in-Err-clause-enlarges
@@ -47,3 +50,29 @@ returns-in-Ok-clause-leaks g c = λ honest unwritten none.
     let opens = c.in-Ok.ensures.opens honest unwritten.consistent in
     let flushed = c.grow_and_flush-done.ensures.leaks opens.opened c.in-Ok.ensures.ok.2 (λ k. ap (λ (f : ℕ → ℕ). f k) opens.surplus ∙ none k) in
     subst (λ s. OnOk c.grow_and_flush-done.result (HasNoLeaks (byte_at (view s).contents))) (sym c.into_storage.ensures) flushed
+
+pub returns-in-Err-clause-limit : goal.returns-in-Err-clause-limit
+returns-in-Err-clause-limit g c = λ honest unwritten new_image uncleared.
+    let view = g.S.Storage.view in
+    let contents = (view (storage_of c.args.storage)).contents in
+    other_limit (CantEnlarge view g.F.BackingDisk.backing c.args.mode c.args.size contents) c.in-Err.refusal (opening_unlimited contents c.in-Err.refusal new_image (c.in-Err.ensures.cause.1 honest))
+
+pub returns-in-Ok-clause-limit : goal.returns-in-Ok-clause-limit
+returns-in-Ok-clause-limit g c = λ honest unwritten new_image uncleared.
+    let view = g.S.Storage.view in
+    let below = g.F.BackingDisk.backing in
+    let contents = (view (storage_of c.args.storage)).contents in
+    let image = c.in-Ok.image in
+    let left = c.grow_and_flush-done.new.image in
+    let is = (c.in-Ok.ensures.opens honest unwritten.consistent).opened in
+    let usable = usable_opened view below image is c.in-Ok.ensures.ok.2 in
+    limits_as (λ e. CantGrow view below c.args.mode c.args.size image left []) (λ e. CantEnlarge view below c.args.mode c.args.size contents) c.grow_and_flush-done.result
+    (λ e lacks. record {
+      opened = image;
+      is_opened = is;
+      stands = (c.in-Ok.ensures.storage.contents honest).contents ∙ opened_none true contents uncleared;
+      emptied = c.in-Ok.ensures.list honest unwritten.consistent;
+      left = left;
+      lacks = lacks;
+    })
+    (c.grow_and_flush-done.ensures.limit usable is.sound)

@@ -1,5 +1,5 @@
-use Rattle.std.proofs.Common.{◌≡◌, ◌∙◌, true, false, sym, subst}
-use Rattle.qcow2_image.proofs.Create.Causes.{no_such_header, reasons_met}
+use Rattle.std.proofs.Common.{inl, ◌≡◌, ◌∙◌, true, false, sym, subst}
+use Rattle.qcow2_image.proofs.Create.Causes.{lacks_creating, no_such_header, reason_unlimited, reasons_met, stands_new, stands_uncleared, too_long}
 use Rattle.qcow2_laws.proofs.NewImages.{new_image_exact}
 use Rattle.qcow2_alloc.specs.ImageStorage.{storage_of}
 use Rattle.qcow2_image.proofs.Create.Creating.{new_header_is, unwritten, creating_stops, created_so}
@@ -49,7 +49,18 @@ returns-clause-cause g c = λ honest.
     let there = c.in_default-write_new_image.ensures.writes (subst (λ s. (view s).is_honest) (sym c.new-storage.ensures.storage) honest) (new_header_is v bits order c.new-header.ensures.value c.new-header.ensures.names) in
     let mid = storage_of c.write_new_image.new.storage in
     let none = unwritten view builder bits order v c.new-header.ensures.value start mid c.grow_new_image.result.0 c.new-storage.ensures.storage there in
-    reasons_met builder c.grow_new_image.result.1 (c.grow_new_image.ensures.cause there.0.honest none)
+    let contents = (view mid).contents in
+    let is = c.new-header.ensures.value in
+    let lacks = c.grow_new_image.ensures.limit there.0.honest none (stands_new builder view bits order v is contents there.1) (stands_uncleared builder view bits order v is contents there.1) in
+    reasons_met builder view c.grow_new_image.result.1 (c.grow_new_image.ensures.cause there.0.honest none)
+    (lacks_creating builder view bits order v is contents there.1 c.in-Some.ensures.some c.in-Some-power_of_two.ensures.some c.grow_new_image.result.1 lacks)
+
+pub returns-in-Err-clause-cause : goal.returns-in-Err-clause-cause
+returns-in-Err-clause-cause g c = λ honest. reason_unlimited c.args.self g.S.Storage.view c.in-Err.refusal c.in-Err.ensures.cause c.in-Err.ensures.limited
+
+pub returns-then-not-has_l1_entries-clause-cause : goal.returns-then-not-has_l1_entries-clause-cause
+returns-then-not-has_l1_entries-clause-cause g c = λ honest.
+    inl (too_long c.args.self _ c.in-Some.ensures.some (λ le. absurd (let so = c.has_l1_entries.ensures.1 le in let bad : true ≡ false = sym so ∙ c.if-not-has_l1_entries.true in cc)))
 
 pub returns-then-not-fits-clause-limit : goal.returns-then-not-fits-clause-limit
 returns-then-not-fits-clause-limit g c = λ allowed past.

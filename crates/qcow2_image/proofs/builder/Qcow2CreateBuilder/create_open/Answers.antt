@@ -1,5 +1,5 @@
 use Rattle.qcow2_alloc.specs.Faults.{FaultsTold}
-use Rattle.std.proofs.Common.{◌≡◌, ◌∙◌, Result, Ok, Err, sym, subst}
+use Rattle.std.proofs.Common.{inl, ◌≡◌, ◌∙◌, Result, Ok, Err, sym, subst}
 use Rattle.std.specs.Prelude.{IfErr, IfOk}
 use Rattle.qcow2_alloc.specs.declared.error.ImageError.{ImageError}
 use Rattle.qcow2_alloc.specs.declared.error.ImageError.TheVariants as I
@@ -18,7 +18,7 @@ returns-clause-new_disk g c = λ honest.
     c.open_image.ensures.since
 
 pub returns-in-Err-clause-cause : goal.returns-in-Err-clause-cause
-returns-in-Err-clause-cause g c = λ honest. subst (λ (r : Result _ _). IfErr r (IsReasonNotToCreate c.args.self)) c.in-Err.is (c.create-storage.ensures.cause honest)
+returns-in-Err-clause-cause g c = λ honest. inl (subst (λ (r : Result _ _). IfErr r (IsReasonNotToCreate g.S.Storage.view c.args.self)) c.in-Err.is (c.create-storage.ensures.cause honest))
 
 pub returns-in-Err-clause-faults : goal.returns-in-Err-clause-faults
 returns-in-Err-clause-faults g c = counts_refused g.S.Storage.view (g.S.Storage.view c.args.self.image).faults c.create-storage.result.0 c.in-Err.refusal c.create-storage.result.1 c.in-Err.is c.create-storage.ensures.faults
@@ -27,7 +27,7 @@ pub returns-clause-cause : goal.returns-clause-cause
 returns-clause-cause g c = λ honest.
     let view = g.S.Storage.view in
     let made = subst (λ (r : Result _ _). IfOk r (λ d. IsCreated c.args.self (view c.create-storage.result.0))) c.in_default.is (c.create-storage.ensures.created honest) in
-    opening_reasons c.args.self (view c.create-storage.result.0) c.open_image.result made.honest c.open_image.ensures.cause
+    opening_reasons c.args.self view c.create-storage.result.0 c.open_image.result made c.open_image.ensures.cause
 
 pub returns-clause-faults : goal.returns-clause-faults
 returns-clause-faults g c = counts_opened g.S.Storage.view (g.S.Storage.view c.args.self.image).faults (g.S.Storage.view c.create-storage.result.0).faults c.open_image.result (subst (λ (r : Result _ _). FaultsTold (g.S.Storage.view c.args.self.image).faults (g.S.Storage.view c.create-storage.result.0).faults r) c.in_default.is c.create-storage.ensures.faults).told c.open_image.ensures.faults

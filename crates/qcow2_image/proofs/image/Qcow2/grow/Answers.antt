@@ -1,11 +1,16 @@
-use Rattle.std.proofs.Common.{◌≡◌, [], ◌<◌, ◌∙◌, Result, sym, subst, arith}
+use Rattle.std.proofs.Common.{◌≡◌, [], ◌-◌, ◌<◌, ◌∙◌, Result, sym, subst, arith}
 use Rattle.std.specs.Prelude.{IfErr}
+use Rattle.qcow2_alloc.specs.declared.error.ImageError.TheVariants.{Limit}
+use Rattle.qcow2_image.specs.declared.image.Qcow2.{Qcow2}
 use Rattle.qcow2_image.specs.Image.{is_failed, size_of}
+use Rattle.qcow2_image.specs.LackedTables.{LacksTableReaching}
 use Rattle.qcow2_image.specs.Refusals.{IsMet, MarksFailed}
 use Rattle.qcow2_image.proofs.Call.FaultCounts.{counted_marked}
 use Rattle.qcow2_image.specs.ImageInvariant.{pending_in}
 use Rattle.qcow2_image.proofs.Call.Marked.{may_mark, marks_since}
 use Rattle.qcow2_image.proofs.Grow.Grown.{grown_so, surplus_grown}
+use Rattle.qcow2_image.proofs.Prepare.Lacked.{limits_as}
+use Rattle.qcow2_image.proofs.Sizing.LackedTables.{longer_ended}
 use Rattle.qcow2_image.proofs.image.Qcow2.grow.Goals as goal
 
 pub returns-clause-grows : goal.returns-clause-grows
@@ -38,3 +43,18 @@ returns-clause-surplus g c = λ sound.
     surplus_grown g.S.Storage.view g.F.BackingDisk.backing old c.begin.new.self c.grow_to-done.new.self sound begun c.begin.ensures.list c.args.size larger (c.grow_to-done.ensures.writable ∙ c.begin.ensures.stays.image.writable) c.mark_failure.new.self c.grow_to-done.result
     c.mark_failure.result c.mark_failure.ensures.answer c.mark_failure.ensures.rest (may_mark c.grow_to-done.new.self c.mark_failure.new.self c.grow_to-done.result c.mark_failure.ensures.marks)
     (c.grow_to-done.ensures.resizes (pending_in g.S.Storage.view g.F.BackingDisk.backing old []) begun.sound) c.grow_to-done.ensures.list
+
+pub returns-clause-limit : goal.returns-clause-limit
+returns-clause-limit g c = λ sound.
+    let view = g.S.Storage.view in
+    let below = g.F.BackingDisk.backing in
+    let old = c.args.self.now in
+    let begun = c.begin.new.self in
+    let mid = c.grow_to-done.new.self in
+    let new = c.mark_failure.new.self in
+    let offset = c.args.size - 1 in
+    let keeps = c.begin.ensures.keeps (pending_in view below old []) [] sound in
+    let why = c.grow_to-done.ensures.limit (pending_in view below old []) keeps.sound in
+    subst (λ (r : Result _ _). IfErr r (λ e. e ≡ Limit → LacksTableReaching view offset old new)) (sym c.mark_failure.ensures.answer)
+    (limits_as (λ e. LacksTableReaching view offset begun mid) (λ e. LacksTableReaching view offset old new) c.grow_to-done.result
+    (λ e lacks. subst (λ (image : Qcow2 _ _). LacksTableReaching view offset old image) (sym c.mark_failure.ensures.rest) (longer_ended view offset old begun mid (is_failed new) c.begin.ensures.rest lacks)) why)

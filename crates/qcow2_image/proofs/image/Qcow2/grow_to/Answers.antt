@@ -2,7 +2,12 @@ use Rattle.qcow2_alloc.proofs.AllocationSteps.{handed_on}
 use Rattle.qcow2_image.specs.declared.image.Qcow2.{Qcow2}
 use Rattle.qcow2_image.specs.Growing.{Resizes}
 use Rattle.qcow2_image.specs.UnseenSteps.{pending_with_listed}
-use Rattle.std.proofs.Common.{arith, [], refl, ap, ◌∙◌, ◌-◌, ◌/◌, ◌^◌}
+use Rattle.std.proofs.Common.{◌≡◌, ◌+◌, arith, [], max, refl, ap, subst, ◌∙◌, ◌-◌, ◌/◌, ◌^◌}
+use Rattle.qcow2_metadata.specs.EntryTable.{entry_count}
+use Rattle.qcow2_image.specs.Found.{l1_index_of}
+use Rattle.qcow2_image.specs.LackedPlaces.{LacksLongerTable}
+use Rattle.qcow2_image.specs.LackedTables.{LacksTableReaching}
+use Rattle.qcow2_image.proofs.Prepare.Lacked.{faults_unlimited, hands_limit, unlimited_all}
 use Rattle.qcow2_image.specs.Image.{is_failed, is_writable}
 use Rattle.qcow2_image.proofs.Call.FaultCounts.{counted_on, counted_since, untouched}
 use Rattle.qcow2_image.proofs.Create.Causes.{faults_met}
@@ -57,3 +62,17 @@ returns-clause-length g c = λ p sound.
     resized_length g.S.Storage.view g.F.BackingDisk.backing p old mid c.write_size.new.self c.args.size c.l1_index.result c.write_size.result sound
     (resized_then g.S.Storage.view g.F.BackingDisk.backing p old mid c.write_size.new.self c.args.size c.write_size.result first (ap (λ (i : Qcow2 _ _). i.file.free_list) c.write_size.ensures.rest) (c.write_size.ensures.resizes (pending_with_listed p old mid) first.sound))
     (c.l1_index.ensures ∙ ap (λ m. m / 2 ^ c.cluster_bits-bits.result / (2 ^ c.cluster_bits-bits.result / 8)) c.new.ensures ∙ ap (λ n. (c.args.size - 1) / 2 ^ n / (2 ^ n / 8)) c.cluster_bits-bits.ensures.value) c.in_ok-grow_l1_table.ensures.length (ap (λ (i : Qcow2 _ _). i.l1_table) c.write_size.ensures.rest)
+
+pub returns-in_err-grow_l1_table-clause-limit : goal.returns-in_err-grow_l1_table-clause-limit
+returns-in_err-grow_l1_table-clause-limit g c = λ p sound.
+    let view = g.S.Storage.view in
+    let old = c.args.self.now in
+    let new = c.grow_l1_table.new.self in
+    let offset = c.args.size - 1 in
+    let idx : c.l1_index.result ≡ l1_index_of c.args.self.now.file.header.fields (c.args.size - 1) =
+    c.l1_index.ensures ∙ ap (λ m. m / 2 ^ c.cluster_bits-bits.result / (2 ^ c.cluster_bits-bits.result / 8)) c.new.ensures ∙ ap (λ n. (c.args.size - 1) / 2 ^ n / (2 ^ n / 8)) c.cluster_bits-bits.ensures.value in
+    hands_limit (λ x. LacksTableReaching view offset old new) c.from_residual.result c.in_err-grow_l1_table.field-0.0 c.from_residual.ensures
+    (λ is. subst (λ i. LacksLongerTable view i (max (entry_count old.l1_table) (i + 1)) old.file.free_list old new) idx (c.in_err-grow_l1_table.ensures.limit p [] sound is))
+
+pub returns-clause-limit : goal.returns-clause-limit
+returns-clause-limit g c = λ p sound. unlimited_all c.write_size.result (λ e. LacksTableReaching g.S.Storage.view (c.args.size - 1) c.args.self.now c.write_size.new.self) (faults_unlimited c.write_size.result c.write_size.ensures.cause)

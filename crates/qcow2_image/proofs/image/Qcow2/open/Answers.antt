@@ -37,6 +37,18 @@ returns-in-Ok-load_tables-clause-opens g c =
     (read.honest honest) (read.same honest) there new.sound new.known new.named_blocks (new.room (omega arith) (omega arith)) new.pins c.new-2.ensures)) in
     record { opened = is.0; surplus = is.1 ∙ ap (λ h. surplus_of h (byte_at contents)) there.fields; leaks = c.in-Ok-load_tables.ensures.leaks }
 
+pub returns-in-Ok-load_tables-clause-list : goal.returns-in-Ok-load_tables-clause-list
+returns-in-Ok-load_tables-clause-list g c =
+    let view = g.S.Storage.view in
+    let below = g.F.BackingDisk.backing in
+    let contents = (view c.args.storage.storage).contents in
+    let read = c.load.ensures.reads in
+    let new = c.in-Ok-new.ensures in
+    λ honest consistent.
+    (c.in-Ok-load_tables.ensures.loaded (nothing_pending (surplus_of c.in-Ok.header.fields (byte_at contents)))
+    (new_tables_new view below contents (record { alloc = c.args.alloc; storage = c.load.new.storage; header = c.in-Ok.header; caches = c.in-Ok-new.caches; free_list = c.new-2.result }) consistent
+    (read.honest honest) (read.same honest) (c.in-Ok.ensures.ok honest) new.sound new.known new.named_blocks (new.room (omega arith) (omega arith)) new.pins c.new-2.ensures)).new_tables.list
+
 pub returns-in-Err-clause-since : goal.returns-in-Err-clause-since
 returns-in-Err-clause-since g c = λ honest consistent.
     let view = g.S.Storage.view in
