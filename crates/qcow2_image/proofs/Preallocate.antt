@@ -1,6 +1,7 @@
 pub mod Zeros
 pub mod Pieces
 pub mod Covers
+pub mod Untaken
 pub mod Filled
 pub mod Piece
 pub mod Turns

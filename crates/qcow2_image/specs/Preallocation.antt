@@ -1,8 +1,10 @@
 -- What preallocation does: zeros stand behind the end of a disk before its size grows.
-use Rattle.std.specs.Prelude.{ℕ, ◌+◌, ◌-◌, ◌%◌, ◌^◌, ◌≡◌, ◌⊎◌, ◌<◌, ◌≤◌, List, [], ◌∷◌, length, replicate, Option, Result, Ok, Err, None, true, IsSome, IsTrue, if◌then◌else◌}
+use Rattle.std.specs.Prelude.{ℕ, ◌+◌, ◌-◌, ◌*◌, ◌%◌, ◌^◌, ◌≡◌, ◌⊎◌, ◌<◌, ◌≤◌, List, [], ◌∷◌, length, replicate, Option, Result, Ok, Err, None, true, false, IsSome, IsTrue, if◌then◌else◌}
 use Rattle.image_access.specs.Backing.{BackingView}
 use Rattle.image_access.specs.Moments.{StorageView}
 use Rattle.image_access.specs.declared.storage.PreallocateMode.{PreallocateMode}
+use Rattle.qcow2_metadata.specs.Bytes.{Bytes}
+use Rattle.qcow2_metadata.specs.Cover.{cover}
 use Rattle.qcow2_metadata.specs.declared.header.HeaderFields.{HeaderFields}
 use Rattle.qcow2_metadata.specs.Guest.{known_byte}
 use Rattle.qcow2_metadata.specs.Header.{cluster_size, rounded_up}
@@ -10,7 +12,7 @@ use Rattle.qcow2_disk.specs.AbstractImages.{guest_of}
 use Rattle.qcow2_disk.specs.Calls.{MayGrow, EffectOnSound, given_by_grow, shows_old, with_disk, with_slot}
 use Rattle.qcow2_disk.specs.Disk.{Disk, zeroed_between}
 pub use Rattle.qcow2_disk.specs.GrownCovers.{Touches, FilledCovers, GrownCovers, first_zeros}
-use Rattle.qcow2_disk.specs.Mappings.{committed, given_by_commit}
+use Rattle.qcow2_disk.specs.Mappings.{committed, given_by_commit, is_copied_data}
 use Rattle.qcow2_disk.specs.Stops.{GivenBytes}
 use Rattle.qcow2_alloc.specs.ImageError.{IsFault as IsFaultOfTables}
 use Rattle.qcow2_alloc.specs.declared.error.ImageError.{ImageError}
@@ -48,6 +50,11 @@ pub record IsUnderMappingIn (h : HeaderFields) (from to : ℕ) (out : List (Opti
   pub high : offset < to
   pub under : IsUnderMapping h offset out
 
+-- In a range that is filled no mapping that is out, and isn't existing, lies in the L2 table of a guest cluster whose entry has to change. That is to say explicit zeros, from a first offset on. Or it wasn't copied data.
+abbrev pub ChangesFree : (size_of_cluster first from to : ℕ) → HeaderFields → Bytes → List (Option Prepared) → Type 0
+ChangesFree size_of_cluster first from to h known out =
+    (g : ℕ) → Touches size_of_cluster from to g → (first ≤ g * size_of_cluster) ⊎ (is_copied_data (cover h known g) ≡ false) → ¬ IsUnderMapping h (g * size_of_cluster) out
+
 -- two offsets are those of clusters
 abbrev pub IsWholeRange : HeaderFields → (from to : ℕ) → Type 0
 IsWholeRange h from to = (from % cluster_size h ≡ 0) × (to % cluster_size h ≡ 0)
@@ -73,6 +80,7 @@ module _ {S F : Type 0} (view : S → StorageView) (backing : F → BackingView)
     pub header : MovesTables old.file.header.fields new.file.header.fields
     pub length : StaysAsLong to old.file.header.fields new.file.header.fields
     pub covers : FilledCovers (cluster_size old.file.header.fields) first from to old.file.header.fields (known_in view old.file) new.file.header.fields (known_in view new.file)
+    pub free : ChangesFree (cluster_size old.file.header.fields) first from to old.file.header.fields (known_in view old.file) out
 
   -- it was refused on its way: all is sound, and any of these bytes may be zeros
   pub record FillsSome (from to : ℕ) (old new : Qcow2 S F) (out : List (Option Prepared)) : Type 0 where
@@ -140,6 +148,7 @@ module _ {S F : Type 0} (view : S → StorageView) (backing : F → BackingView)
     pub header : MovesTables old.file.header.fields new.file.header.fields
     pub length : StaysAsLong (rounded_up (cluster_size old.file.header.fields) size) old.file.header.fields new.file.header.fields
     pub covers : GrownCovers mode (size_of old) size old.file.header.fields (known_in view old.file) new.file.header.fields (known_in view new.file)
+    pub free : shows_old mode ≡ false → ChangesFree (cluster_size old.file.header.fields) (first_zeros (cluster_size old.file.header.fields) (size_of old) size mode) (size_of old) (rounded_up (cluster_size old.file.header.fields) size) old.file.header.fields (known_in view old.file) out
 
   -- it was refused: each byte behind the end is as before or zero, and all others are as before
   pub record FillsGrownInPart (size : ℕ) (mode : PreallocateMode) (old new : Qcow2 S F) (out : List (Option Prepared)) : Type 0 where

@@ -119,7 +119,7 @@ module _ {S F : Type 0} (view : S → StorageView) (backing : F → BackingView)
       larger : 0 < size → size_of old < size
       larger lt = omega (arith, lt, no_bytes)
 
-      leaves : 0 < size → LeavesTables view backing mode size old mid
+      leaves : 0 < size → LeavesTables view backing mode size old mid []
       leaves lt = takes.tables usable (larger lt) opened.sound
 
       size_mid : size_of mid ≡ size

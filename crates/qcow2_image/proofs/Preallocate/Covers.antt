@@ -58,7 +58,7 @@ module _ (cs : ℕ) (some : 0 < cs) where
         absurd (omega (arith, f, b, m, r, before))
   ]
 
-  touches_or : (from to g : ℕ) → Touches cs from to g ⊎ (Touches cs from to g → ⊥)
+  pub touches_or : (from to g : ℕ) → Touches cs from to g ⊎ (Touches cs from to g → ⊥)
   touches_or from to g = elim (cases_lt from to) [
     | inr none ↦ inr (λ t. omega (arith, none, t.0))
     | inl range ↦ elim (cases_lt from (g * cs + cs)) [
@@ -69,7 +69,7 @@ module _ (cs : ℕ) (some : 0 < cs) where
 
   -- a range in two parts
   module _ (from mid to : ℕ) (low : from ≤ mid) (high : mid ≤ to) where
-    in_one : (g : ℕ) → Touches cs from to g → Touches cs from mid g ⊎ Touches cs mid to g
+    pub in_one : (g : ℕ) → Touches cs from to g → Touches cs from mid g ⊎ Touches cs mid to g
     in_one g t = let a = t.0 in let b = t.1 in let c = t.2 in elim (cases_lt mid (g * cs + cs)) [
       | inr before ↦ inl (omega (arith, before, b), b, omega (arith, before, some))
       | inl after ↦ elim (cases_lt mid to) [ inl range ↦ inr (range, after, c) | inr end ↦ inl (omega (arith, end, a), b, omega (arith, end, c)) ]

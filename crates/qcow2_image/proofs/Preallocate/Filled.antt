@@ -26,7 +26,7 @@ use Rattle.qcow2_image.specs.ImageInvariant.{ImageInvariant, abstract_of, disk_o
 use Rattle.qcow2_image.specs.L1Entries.{ReachesOffset}
 use Rattle.qcow2_image.specs.LackedPlaces.{LacksPlaceFor, LacksTableFor}
 use Rattle.qcow2_image.specs.MovedTables.{MovesTables}
-use Rattle.qcow2_image.specs.Preallocation.{FilledCovers, FillsOrRefuses, FillsPart, FillsSome, InterruptedGiving, IsUnderMappingIn, LacksPlaceOnWay, MayBeZero, RefusedFill, given_by_zeros}
+use Rattle.qcow2_image.specs.Preallocation.{ChangesFree, FilledCovers, FillsOrRefuses, FillsPart, FillsSome, InterruptedGiving, IsUnderMappingIn, LacksPlaceOnWay, MayBeZero, RefusedFill, given_by_zeros}
 use Rattle.qcow2_image.specs.Refusals.{IsMet, IsUnlimited}
 use Rattle.qcow2_image.proofs.Call.Called.{works_none}
 use Rattle.qcow2_image.proofs.Clear.ClearCalls.{under_before}
@@ -37,6 +37,7 @@ use Rattle.qcow2_image.proofs.Prepare.Lacked.{other_limit}
 use Rattle.std.proofs.lemmas.Nat.{pow_pos}
 use Rattle.qcow2_image.proofs.Preallocate.Covers.{covers_before, covers_cleared, covers_from, covers_none, covers_stay, covers_then}
 use Rattle.qcow2_image.proofs.Preallocate.Pieces.{none_of}
+use Rattle.qcow2_image.proofs.Preallocate.Untaken.{untaken_before, untaken_none, untaken_then, untaken_zeros}
 use Rattle.qcow2_image.proofs.Preallocate.Zeros.{may_none, may_then, may_wider, may_zeroed, shown_zeros, zeroed_before, zeroed_none, zeroed_then, zeros_wider}
 
 -- what comes where the work meets it isn't that a table is prepared
@@ -101,6 +102,7 @@ module _ {S F : Type 0} (view : S → StorageView) (backing : F → BackingView)
     header = refl;
     length = λ within. refl;
     covers = covers_none (cluster_size image.file.header.fields) (pow_pos image.file.header.fields.cluster_bits) first from image.file.header.fields (known_in view image.file);
+    free = untaken_none (cluster_size image.file.header.fields) (pow_pos image.file.header.fields.cluster_bits) out first from image.file.header.fields (known_in view image.file);
   }
 
   -- a refused part that no guest sees
@@ -151,6 +153,10 @@ module _ {S F : Type 0} (view : S → StorageView) (backing : F → BackingView)
         → FilledCovers (cluster_size a.file.header.fields) zeros x y b.file.header.fields (known_in view b.file) c.file.header.fields (known_in view c.file)
     as_large x y file_step covers = subst (λ size. FilledCovers size zeros x y b.file.header.fields (known_in view b.file) c.file.header.fields (known_in view c.file)) (ap (λ (h : HeaderFields). cluster_size h) file_step) covers
 
+    free_large : (x y : ℕ) → MovesTables a.file.header.fields b.file.header.fields → ChangesFree (cluster_size b.file.header.fields) zeros x y b.file.header.fields (known_in view b.file) out
+        → ChangesFree (cluster_size a.file.header.fields) zeros x y b.file.header.fields (known_in view b.file) out
+    free_large x y file_step free = subst (λ size. ChangesFree size zeros x y b.file.header.fields (known_in view b.file) out) (ap (λ (h : HeaderFields). cluster_size h) file_step) free
+
     pub fills_then : FillsPart view backing zeros from mid a b out → FillsPart view backing zeros mid to b c out → FillsPart view backing zeros from to a c out
     fills_then first then = record {
       works = works_then (abstract_of view backing a out) (abstract_of view backing b out) (abstract_of view backing c out) (given_by_zeros from to ∷ []) [] first.sound (wider_works a b from mid from to (omega arith) high first.works) (wider_works b c mid to from to low (omega arith) then.works);
@@ -160,6 +166,8 @@ module _ {S F : Type 0} (view : S → StorageView) (backing : F → BackingView)
       length = stays_long_then a.file.header.fields b.file.header.fields c.file.header.fields to first.header (stays_long_shorter a.file.header.fields b.file.header.fields mid to high first.length) then.length;
       covers = covers_then (cluster_size a.file.header.fields) (pow_pos a.file.header.fields.cluster_bits) zeros a.file.header.fields (known_in view a.file) b.file.header.fields (known_in view b.file) c.file.header.fields (known_in view c.file) from mid to low high first.covers
           (as_large mid to first.header then.covers);
+      free = untaken_then (cluster_size a.file.header.fields) (pow_pos a.file.header.fields.cluster_bits) out zeros a.file.header.fields (known_in view a.file) b.file.header.fields (known_in view b.file) first.header from mid to low high first.covers first.free
+          (free_large mid to first.header then.free);
     }
 
     -- the later part of the range may come first
@@ -172,6 +180,8 @@ module _ {S F : Type 0} (view : S → StorageView) (backing : F → BackingView)
       length = stays_long_then a.file.header.fields b.file.header.fields c.file.header.fields to first.header first.length (stays_long_shorter b.file.header.fields c.file.header.fields mid to high then.length);
       covers = covers_before (cluster_size a.file.header.fields) (pow_pos a.file.header.fields.cluster_bits) zeros a.file.header.fields (known_in view a.file) b.file.header.fields (known_in view b.file) c.file.header.fields (known_in view c.file) from mid to low high first.covers
           (as_large from mid first.header then.covers);
+      free = untaken_before (cluster_size a.file.header.fields) (pow_pos a.file.header.fields.cluster_bits) out zeros a.file.header.fields (known_in view a.file) b.file.header.fields (known_in view b.file) first.header from mid to low high first.covers first.free
+          (free_large from mid first.header then.free);
     }
 
   -- a part that is refused after one that wasn't, of a range that has both
@@ -231,6 +241,7 @@ module _ {S F : Type 0} (view : S → StorageView) (backing : F → BackingView)
       header = file_step_then a.file.header.fields b.file.header.fields c.file.header.fields first.header then.header;
       length = λ within. same_length b.file.header c.file.header same ∙ first.length within;
       covers = covers_stay (cluster_size a.file.header.fields) (pow_pos a.file.header.fields.cluster_bits) zeros a.file.header.fields (known_in view a.file) b.file.header.fields (known_in view b.file) c.file.header.fields (known_in view c.file) from to first.covers then.covers;
+      free = first.free;
     }
 
     -- that is refused
@@ -242,14 +253,16 @@ module _ {S F : Type 0} (view : S → StorageView) (backing : F → BackingView)
     }
 
   -- whole clusters are cleared
-  pub cleared_fills : (old new : Qcow2 S F) (from to : ℕ) → from < to → ReachesOffset from old.file.header.fields new.file.header.fields → from % cluster_size old.file.header.fields ≡ 0 → ClearsPart view backing KeptZeros from to old new out → FillsPart view backing 0 from to old new out
-  cleared_fills old new from to lt reaches whole part = record {
+  pub cleared_fills : (old new : Qcow2 S F) (from to : ℕ) → from < to → ReachesOffset from old.file.header.fields new.file.header.fields → from % cluster_size old.file.header.fields ≡ 0 → ClearsPart view backing KeptZeros from to old new out
+      → ChangesFree (cluster_size old.file.header.fields) 0 from to old.file.header.fields (known_in view old.file) out → FillsPart view backing 0 from to old new out
+  cleared_fills old new from to lt reaches whole part free = record {
     works = works_less (abstract_of view backing old out) (abstract_of view backing new out) _ (given_by_zeros from to ∷ []) [] (λ o w given. inr (shown_zeros (disk_of view backing old) from to o w given)) part.works;
     sound = part.sound;
     shows = part.shows;
     header = part.header;
     length = reaches_stays old.file.header.fields new.file.header.fields from to lt reaches;
     covers = covers_cleared old.file.header.fields new.file.header.fields (known_in view old.file) (known_in view new.file) from to whole part.covers;
+    free = free;
   }
 
   -- where all are zeros, those from the start on are
@@ -261,6 +274,7 @@ module _ {S F : Type 0} (view : S → StorageView) (backing : F → BackingView)
     header = part.header;
     length = part.length;
     covers = covers_from (cluster_size old.file.header.fields) (pow_pos old.file.header.fields.cluster_bits) from to old.file.header.fields (known_in view old.file) new.file.header.fields (known_in view new.file) whole part.covers;
+    free = untaken_zeros (cluster_size old.file.header.fields) (pow_pos old.file.header.fields.cluster_bits) out from from to old.file.header.fields (known_in view old.file) part.free;
   }
 
   -- where they begin before the range, that may be anywhere before it
@@ -278,6 +292,7 @@ module _ {S F : Type 0} (view : S → StorageView) (backing : F → BackingView)
           zeros = λ g t at. part.covers.zeros g t (omega arith);
           copied = λ g t lt. is.covers.copied g t (omega (arith, lt, le));
         };
+        free = untaken_zeros (cluster_size old.file.header.fields) (pow_pos old.file.header.fields.cluster_bits) out first from to old.file.header.fields (known_in view old.file) part.free;
       }
 
   -- the answer of one part is that of both

@@ -21,7 +21,7 @@ use Rattle.qcow2_image.specs.declared.image.Qcow2.{Qcow2}
 use Rattle.qcow2_image.specs.declared.prepared.Prepared.{Prepared}
 use Rattle.qcow2_image.specs.Image.{size_of}
 use Rattle.qcow2_image.specs.ImageInvariant.{ImageInvariant, abstract_of, disk_of, pending_in}
-use Rattle.qcow2_image.specs.Preallocation.{FilledCovers, first_zeros, FillsGrown, FillsGrownInPart, FillsGrownOrRefuses, FillsOrRefuses, FillsPart, FillsSome, InterruptedGiving, IsUnderMappingIn, LacksPlaceOnWay, RefusedFill, RefusedGrown, filled_to, given_by_zeros, all_given_by_growing}
+use Rattle.qcow2_image.specs.Preallocation.{ChangesFree, FilledCovers, first_zeros, FillsGrown, FillsGrownInPart, FillsGrownOrRefuses, FillsOrRefuses, FillsPart, FillsSome, InterruptedGiving, IsUnderMappingIn, LacksPlaceOnWay, RefusedFill, RefusedGrown, filled_to, given_by_zeros, all_given_by_growing}
 use Rattle.qcow2_image.specs.Refusals.{IsMet, IsUnlimited}
 use Rattle.qcow2_image.proofs.Call.Called.{works_none}
 use Rattle.qcow2_image.proofs.Preallocate.Filled.{met_taken, refused_here}
@@ -80,6 +80,7 @@ module _ {S F : Type 0} (view : S → StorageView) (backing : F → BackingView)
     header = refl;
     length = λ within. refl;
     covers = record { filled = λ hides. absurd (let no : true ≡ false = sym (ap shows_old none) ∙ hides in cc); same = λ _ g. refl };
+    free = λ hides. absurd (let no : true ≡ false = sym (ap shows_old none) ∙ hides in cc);
   }
 
   module _ (hides : shows_old mode ≡ false) where
@@ -102,6 +103,7 @@ module _ {S F : Type 0} (view : S → StorageView) (backing : F → BackingView)
           filled = λ _. subst (λ f. FilledCovers (cluster_size old.file.header.fields) f (size_of old) end old.file.header.fields (known_in view old.file) new.file.header.fields (known_in view new.file)) begins part.covers;
           same = λ shows. absurd (let no : true ≡ false = sym shows ∙ hides in cc);
         };
+        free = λ _. subst (λ f. ChangesFree (cluster_size old.file.header.fields) f (size_of old) end old.file.header.fields (known_in view old.file) out) begins part.free;
       }
 
       in_part : FillsSome view backing (size_of old) end old new out → FillsGrownInPart view backing size mode old new out

@@ -31,16 +31,21 @@ use Rattle.qcow2_image.specs.declared.prepared.Share.TheVariants.{InPlace}
 use Rattle.qcow2_image.specs.ImageInvariant.{ImageInvariant, IsPending, IsReadyWith, cluster_of, abstract_of, disk_of, image_abstraction, meaning, pending_in}
 use Rattle.qcow2_image.specs.L1Entries.{ReachesOffset, StaysAsLong}
 use Rattle.qcow2_image.specs.MovedTables.{CoversStay, MovesTables}
-use Rattle.qcow2_image.specs.Preallocation.{FilledCovers, CommitsWhole, FillsPart, FillsSome, InterruptedGiving, given_by_zeros}
+use Rattle.qcow2_image.specs.Preallocation.{ChangesFree, FilledCovers, Touches, CommitsWhole, FillsPart, FillsSome, InterruptedGiving, given_by_zeros}
+use Rattle.qcow2_alloc.proofs.PlacedBlocks.{file_sizes}
+use Rattle.qcow2_image.specs.Clearing.{IsUnderMapping}
+use Rattle.qcow2_image.specs.Found.{l1_index_of}
 use Rattle.qcow2_image.specs.Preparing.{IsAnswered}
+use Rattle.qcow2_image.proofs.Clear.ClearCalls.{under_after}
 use Rattle.qcow2_image.proofs.Moved.{data_moved}
 use Rattle.qcow2_image.proofs.Call.Slots.{get_set_same, set_set}
 use Rattle.qcow2_image.proofs.Commit.CommitCalls.{all_shown, commit_existing}
 use Rattle.qcow2_image.proofs.Free.{free_places}
 use Rattle.qcow2_image.proofs.Preallocate.Covers.{boundary, covers_own}
-use Rattle.qcow2_image.proofs.Grow.Lengths.{reaches_stays, same_length}
+use Rattle.qcow2_image.proofs.Grow.Lengths.{index_moved, reaches_stays, same_length}
 use Rattle.qcow2_image.proofs.Preallocate.Filled.{given_broken}
 use Rattle.qcow2_image.proofs.Preallocate.Pieces.{filled_shows, filled_sound, filled_works, gone_same, gone_works, none_of}
+use Rattle.qcow2_image.proofs.Preallocate.Untaken.{never_two, same_row}
 use Rattle.qcow2_image.proofs.Preallocate.Zeros.{may_none, zeros_of}
 use Rattle.qcow2_image.proofs.Shares.{never_private}
 use Rattle.qcow2_image.proofs.Write.PutParts.{puts_covers, puts_written}
@@ -215,11 +220,29 @@ module _ {S F : Type 0} (view : S → StorageView) (backing : F → BackingView)
         let was = answered.in_place hit.index hit.within (never_private view backing mid p shares (from + hit.index)) in
         ap is_copied_data (sym (ready.covers g) ∙ ap (cover h (known_in view old.file)) (sym hit.here) ∙ was.1)
 
+    -- a mapping that isn't existing lies under no other's L2 table
+    piece_untaken : 0 < p.length → (first : ℕ) → from + p.length ≤ first → ChangesFree (cluster_size old.file.header.fields) first from (from + p.length) old.file.header.fields (known_in view old.file) out
+    piece_untaken some first high = λ g t change under. elim change [ inl past ↦ let end = t.2 in absurd (omega (arith, past, end, high)) | inr other ↦ by_table p.table refl some g t other under ]
+      where
+        by_table : (x : Option ℕ) → p.table ≡ x → 0 < p.length → (g : ℕ) → Touches (cluster_size old.file.header.fields) from (from + p.length) g → is_copied_data (cover old.file.header.fields (known_in view old.file) g) ≡ false
+            → IsUnderMapping old.file.header.fields (g * cluster_size old.file.header.fields) out → ⊥
+        by_table None none some g t other under = absurd (let no : true ≡ false = sym (existing_copied some none g t.1 t.2) ∙ ap is_copied_data (sym (ready.covers g)) ∙ other in cc)
+        by_table (Some x) is some g t other under =
+            let h = old.file.header.fields in
+            let h' = mid.file.header.fields in
+            let offset = g * cluster_size h in
+            let within = answered.within in
+            let end = t.2 in
+            let sizes = file_sizes view (pending_in view backing old out) old.file sound.file in
+            let from_is : p.guest ≡ from = ready.prepared.from in
+            let row : l1_index_of old.file.header.fields (g * cluster_size old.file.header.fields) ≡ l1_index_of old.file.header.fields from = same_row h sizes from g t.1 (omega (arith, end, within)) in
+            never_two view backing mid p out ready.sound x is offset (under_after h h' offset out ready.header under) (index_moved h h' offset ready.header ∙ row ∙ sym (index_moved h h' from ready.header) ∙ ap (λ n. l1_index_of h' n) (sym from_is))
+
     -- they are there, and the mapping is committed
     pub piece_filled : (mid2 new : Qcow2 S F) → PutsPart view backing mid mid2 (Some p ∷ out) 0 p 0 (zeros_of p.length) (Ok tt) → CommitsWhole view backing mid2 new (Some p ∷ out) 0 p (None ∷ out) → mid2.file.header ≡ mid.file.header → new.file.header ≡ mid2.file.header
         → StaysAsLong (from + p.length) old.file.header.fields mid.file.header.fields → (first : ℕ) → FilledCovers (cluster_size old.file.header.fields) first from (from + p.length) old.file.header.fields (known_in view old.file) new.file.header.fields (known_in view new.file)
-        → FillsPart view backing first from (from + p.length) old new out
-    piece_filled mid2 new put commits header2 header3 long first covers =
+        → ChangesFree (cluster_size old.file.header.fields) first from (from + p.length) old.file.header.fields (known_in view old.file) out → FillsPart view backing first from (from + p.length) old new out
+    piece_filled mid2 new put commits header2 header3 long first covers free =
         let cs = (abstract_of view backing mid2 (Some p ∷ out)).setting.cluster_size in
         record {
           works = filled_works (image_abstraction view backing) (free_places view backing) (λ _. refl) old mid p out (cluster_size old.file.header.fields) from n sound ready.sound ready.works ready.prepared ready.is fits mid2 put.sound put.works put.is new cs commits.sound commits.works commits.shows;
@@ -228,6 +251,7 @@ module _ {S F : Type 0} (view : S → StorageView) (backing : F → BackingView)
           header = subst (λ (h : HeaderFields). MovesTables old.file.header.fields h) (ap (λ x. x.fields) (sym (header3 ∙ header2))) ready.header;
           length = λ within. same_length mid.file.header new.file.header (header3 ∙ header2) ∙ long within;
           covers = covers;
+          free = free;
         }
 
     -- the write was refused, and the mapping is let go; then clusters are freed
@@ -338,3 +362,4 @@ module _ {S F : Type 0} (view : S → StorageView) (backing : F → BackingView)
         let put = all_put mid2 (Ok tt) w in
         let done = commits (Some p ∷ out) 0 refl put.sound in
         piece_filled out old mid p from n sound ready answered all_fits mid2 new put done (all_header mid2 (Ok tt) w) header (reaches_stays old.file.header.fields mid.file.header.fields from (from + p.length) (omega (arith, some)) reaches) to (all_covers some mid2 new w done to all_within)
+        (piece_untaken out old mid p from n sound ready answered all_fits some to all_within)

@@ -83,7 +83,7 @@ module _ {S F : Type 0} (view : S → StorageView) (backing : F → BackingView)
       grows_noted (Err e) grows = λ out. refuses_noted _ image noted out _ _ _ (grows out)
 
       pub tables_noted : (out : List (Option Prepared)) (r : Result (Unit {0}) ImageError) → GrowsTables view backing old image size mode out r → GrowsTables view backing old (with_marks image noted (is_failed image)) size mode out r
-      tables_noted out (Ok done) tables = record { autoclear = tables.autoclear; format = tables.format; reaches = tables.reaches; length = tables.length; covers = tables.covers; emptied = tables.emptied; zeros = tables.zeros }
+      tables_noted out (Ok done) tables = record { autoclear = tables.autoclear; format = tables.format; reaches = tables.reaches; length = tables.length; covers = tables.covers; emptied = tables.emptied; zeros = tables.zeros; free = tables.free }
       tables_noted out (Err e) tables = record { taken = tables.taken; zeros = λ zero lacks. unchanged_noted out e (tables.zeros zero lacks) }
 
   -- ---- the number of faults stays

@@ -31,6 +31,7 @@ use Rattle.qcow2_image.proofs.Grow.Lengths.{reaches_begun, reaches_on, reaches_t
 use Rattle.qcow2_image.proofs.Moved.{file_step_then}
 use Rattle.qcow2_image.proofs.Preallocate.Filled.{met_taken}
 use Rattle.qcow2_image.proofs.Preallocate.Turns.{same_version}
+use Rattle.qcow2_image.proofs.Preallocate.Untaken.{untaken_grown}
 use Rattle.qcow2_image.proofs.Sizing.Growing.{grows_in_part, grows_not, grows_sized, last_in_part, last_not, last_sized, reaches_lengthened, unchanged_not}
 use Rattle.qcow2_image.proofs.Sizing.GrownTables.{leaves_sized, reaches_filled, refuses_version, tables_sized, taken_behind}
 use Rattle.qcow2_image.proofs.Sizing.Noted.{counted_noted, grows_noted, tables_noted, unchanged_noted}
@@ -288,7 +289,8 @@ returns-clause-tables g c = λ out sound.
     (subst (λ (r : Result _ _). GrowsTables view below old (with_marks new (is_changed_of c.mark_fault-2.new.self.file.storage) (is_failed c.mark_fault-2.new.self)) c.args.size c.args.mode out r) (sym c.mark_fault-2.ensures.answer)
     (tables_noted view below old (record new { is_failed = is_failed c.mark_fault-2.new.self }) (is_changed_of c.mark_fault-2.new.self.file.storage) c.args.size c.args.mode out c.write_size-written.result (tables_sized view below out old c.mark_fault.new.self new (is_failed c.mark_fault-2.new.self) c.args.size c.args.mode c.write_size-written.result (file_step_then old.file.header.fields long.file.header.fields c.mark_fault.new.self.file.header.fields call.header grown.header) c.write_size-written.ensures.cause c.write_size-written.ensures.header
     (subst (λ (image : Qcow2 _ _). ReachesSize (with_size image.file.header.fields c.args.size)) (sym whole) reached) as_long
-    (leaves_sized view below out old long c.mark_fault.new.self new c.args.size c.args.mode c.write_size-written.result call grown (c.write_size-written.ensures.writes out grown.sound)) emptied never)))
+    (leaves_sized view below out old long c.mark_fault.new.self new c.args.size c.args.mode c.write_size-written.result call grown (c.write_size-written.ensures.writes out grown.sound)) emptied never
+    (λ hides. untaken_grown view below out old long c.args.size c.args.mode call (grown.free hides)))))
 
 pub returns-in_err-mark_failure-clause-faults : goal.returns-in_err-mark_failure-clause-faults
 returns-in_err-mark_failure-clause-faults g c =

@@ -5,7 +5,7 @@ use Rattle.qcow2_disk.specs.Found.{rest_of_table}
 use Rattle.qcow2_laws.specs.CrashInvariant.{Pending}
 use Rattle.qcow2_laws.proofs.Places.{Sizes-from}
 use Rattle.qcow2_alloc.proofs.AllocationSteps.{handed_on}
-use Rattle.qcow2_alloc.specs.ImageFile.{contents_in}
+use Rattle.qcow2_alloc.specs.ImageFile.{contents_in, known_in}
 use Rattle.qcow2_image.specs.Clearing.{IsClearable}
 use Rattle.qcow2_image.specs.declared.discarding.Clearance.TheVariants.{KeptZeros}
 use Rattle.qcow2_image.specs.ImageInvariant.{ImageInvariant, abstract_of}
@@ -13,6 +13,7 @@ use Rattle.qcow2_image.specs.Preallocation.{FillsFirst}
 use Rattle.qcow2_image.proofs.Call.Called.{works_none}
 use Rattle.qcow2_image.proofs.Flush.Freeing.{all_listed, beside, freed_refused, tidy_stays}
 use Rattle.qcow2_image.proofs.Preallocate.Filled.{cleared_fills, fill_unseen, fills_none, fills_refused, fills_stays, lacks_here, next_whole, next_within, taken_here}
+use Rattle.qcow2_image.proofs.Preallocate.Untaken.{untaken_cleared}
 use Rattle.qcow2_image.proofs.Call.MetErrors.{tables_met}
 use Rattle.qcow2_image.proofs.Call.Unlimited.{fault_unlimited}
 use Rattle.qcow2_image.proofs.Prepare.Lacked.{emptied_by_limit}
@@ -77,7 +78,8 @@ returns-in_err-free_listed-clause-fills g c = λ out sound le whole version.
       ends = next_whole h sizes.some sizes.entries from to next whole.1 is high;
       within = next_within h sizes.some sizes.entries from to next whole.1 is high;
       version = λ _. version;
-    })) in
+    }))
+    (untaken_cleared h (known_in view old.file) sizes out from next (next_within h sizes.some sizes.entries from to next whole.1 is high) (c.in_ok-clear_between.ensures.free out sound)) in
     let listed = subst (λ (x : Pending). ImageInvariant view below x mid out) (all_listed view below mid out) part.sound in
     handed_on (λ r. FillsFirst view below 0 from to old new out r) c.from_residual-in_err-free_listed.result e c.from_residual-in_err-free_listed.ensures
     (fills_refused view below out old mid new 0 from next part to e (omega (arith, is)) (tables_met e c.in_err-free_listed.ensures.cause) (fault_unlimited e (c.in_err-free_listed.ensures.faults (beside view below mid out) out listed))
@@ -116,7 +118,8 @@ returns-clause-fills g c = λ out sound le whole version.
       ends = next_whole h sizes.some sizes.entries from to next whole.1 is high;
       within = next_within h sizes.some sizes.entries from to next whole.1 is high;
       version = λ _. version;
-    })) in
+    }))
+    (untaken_cleared h (known_in view old.file) sizes out from next (next_within h sizes.some sizes.entries from to next whole.1 is high) (c.in_ok-clear_between.ensures.free out sound)) in
     let listed = subst (λ (x : Pending). ImageInvariant view below x mid out) (all_listed view below mid out) part.sound in
     fills_stays view below out old mid new 0 from next part (tidy_stays view below mid out new part.sound (c.in_ok-free_listed.ensures.frees (beside view below mid out) out listed)) c.free_listed.ensures.keeps_rest.header
 
