@@ -33,7 +33,7 @@ use Rattle.qcow2_image.specs.declared.builder.Qcow2CreateBuilder.{Qcow2CreateBui
 use Rattle.qcow2_image.specs.declared.image.Qcow2.{Qcow2}
 use Rattle.qcow2_image.specs.Image.{HasNothingToFree, size_of}
 use Rattle.qcow2_image.specs.ImageInvariant.{abstract_of}
-use Rattle.qcow2_image.specs.LackedTables.{CantGrow}
+use Rattle.qcow2_image.specs.LackedTables.{CantGrowDisk}
 use Rattle.qcow2_image.specs.Refusals.{IsMet}
 use Rattle.qcow2_image.specs.Resizing.{GrowsTables, GrowsTo, IsResized, refuses_to_resize, size_after}
 
@@ -98,7 +98,7 @@ pub record CantEnlarge {S F : Type 0} (view : S → StorageView) (backing : F �
   pub stands : (view_in view opened.file).contents ≡ contents
   pub emptied : HasNothingToFree opened
   pub left : Qcow2 S F
-  pub lacks : CantGrow view backing mode size opened left []
+  pub lacks : CantGrowDisk view backing mode size opened left []
 
 -- the disk below where there is none
 abbrev pub none_below : NoBacking → BackingView

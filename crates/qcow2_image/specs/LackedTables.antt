@@ -30,5 +30,5 @@ pub record LacksPlaceBehind {S F : Type 0} (view : S → StorageView) (backing :
   pub lacks : LacksPlaceOnWay view backing (first_zeros (cluster_size old.file.header.fields) (size_of old) size mode) (size_of old) (rounded_up (cluster_size old.file.header.fields) size) long new out
 
 -- why a larger disk is refused for a limit: one or the other
-abbrev pub CantGrow : {S F : Type 0} → (S → StorageView) → (F → BackingView) → PreallocateMode → ℕ → Qcow2 S F → Qcow2 S F → List (Option Prepared) → Type 0
-CantGrow view backing mode size old new out = LacksTableReaching view (size - 1) old new ⊎ LacksPlaceBehind view backing mode size old new out
+abbrev pub CantGrowDisk : {S F : Type 0} → (S → StorageView) → (F → BackingView) → PreallocateMode → ℕ → Qcow2 S F → Qcow2 S F → List (Option Prepared) → Type 0
+CantGrowDisk view backing mode size old new out = LacksTableReaching view (size - 1) old new ⊎ LacksPlaceBehind view backing mode size old new out

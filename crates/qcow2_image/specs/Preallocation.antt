@@ -50,10 +50,14 @@ pub record IsUnderMappingIn (h : HeaderFields) (from to : ℕ) (out : List (Opti
   pub high : offset < to
   pub under : IsUnderMapping h offset out
 
--- In a range that is filled no mapping that is out, and isn't existing, lies in the L2 table of a guest cluster whose entry has to change. That is to say explicit zeros, from a first offset on. Or it wasn't copied data.
+-- In a range that is filled no mapping that is out, and isn't existing, lies in the L2 table of a guest cluster whose entry has to change. Such a cluster is to be explicit zeros, from a first offset on, or isn't copied data.
 abbrev pub ChangesFree : (size_of_cluster first from to : ℕ) → HeaderFields → Bytes → List (Option Prepared) → Type 0
 ChangesFree size_of_cluster first from to h known out =
     (g : ℕ) → Touches size_of_cluster from to g → (first ≤ g * size_of_cluster) ⊎ (is_copied_data (cover h known g) ≡ false) → ¬ IsUnderMapping h (g * size_of_cluster) out
+
+-- so it is behind the end of a disk that grows, where the mode fills the range there
+abbrev pub GrownFree : PreallocateMode → (old size : ℕ) → HeaderFields → Bytes → List (Option Prepared) → Type 0
+GrownFree mode old size h known out = shows_old mode ≡ false → ChangesFree (cluster_size h) (first_zeros (cluster_size h) old size mode) old (rounded_up (cluster_size h) size) h known out
 
 -- two offsets are those of clusters
 abbrev pub IsWholeRange : HeaderFields → (from to : ℕ) → Type 0
@@ -96,8 +100,8 @@ module _ {S F : Type 0} (view : S → StorageView) (backing : F → BackingView)
     pub noted : e ≡ I.Memory → IsTrue (has_noted_change new)
     pub works : EffectOnSound (abstract_of view backing old out) (abstract_of view backing (record new { is_failed = true }) out) given []
 
-  -- Why a range isn't filled for a limit: what was done so far left an image on which nothing is to be freed, where nothing was before. From there n bytes of the range have no place. They have no L2 table where whole clusters are to be zeros, from an offset on.
-  -- At the return nothing is to be freed.
+  -- Why a range isn't filled for a limit. What was done so far left an image on which nothing is to be freed, where nothing was before. From there n bytes of the range have no place.
+  -- Where whole clusters are to be zeros, from a first offset on, they have no L2 table. At the return nothing is to be freed.
   pub record LacksPlaceOnWay (first from to : ℕ) (old new : Qcow2 S F) (out : List (Option Prepared)) : Type 0 where
     pub mid : Qcow2 S F
     pub so_far : FillsSome from to old mid out
@@ -148,7 +152,7 @@ module _ {S F : Type 0} (view : S → StorageView) (backing : F → BackingView)
     pub header : MovesTables old.file.header.fields new.file.header.fields
     pub length : StaysAsLong (rounded_up (cluster_size old.file.header.fields) size) old.file.header.fields new.file.header.fields
     pub covers : GrownCovers mode (size_of old) size old.file.header.fields (known_in view old.file) new.file.header.fields (known_in view new.file)
-    pub free : shows_old mode ≡ false → ChangesFree (cluster_size old.file.header.fields) (first_zeros (cluster_size old.file.header.fields) (size_of old) size mode) (size_of old) (rounded_up (cluster_size old.file.header.fields) size) old.file.header.fields (known_in view old.file) out
+    pub free : GrownFree mode (size_of old) size old.file.header.fields (known_in view old.file) out
 
   -- it was refused: each byte behind the end is as before or zero, and all others are as before
   pub record FillsGrownInPart (size : ℕ) (mode : PreallocateMode) (old new : Qcow2 S F) (out : List (Option Prepared)) : Type 0 where

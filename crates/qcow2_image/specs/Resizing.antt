@@ -8,9 +8,9 @@ use Rattle.image_access.specs.declared.storage.PreallocateMode.TheVariants as Mo
 use Rattle.qcow2_metadata.specs.Bytes.{byte_at}
 use Rattle.qcow2_metadata.specs.Header.{header, cluster_size, rounded_up}
 use Rattle.qcow2_disk.specs.AbstractImages.{guest_of}
-use Rattle.qcow2_disk.specs.Calls.{AnsweredEffect, RefusedEffect, EffectOnSound, IsSame, IsShrinkEnd, IsShrunk, MayGrow, cleared, given_by_grow, given_by_shrink, given_by_shrunk, grown_to, shows_old, to_backing, with_disk}
+use Rattle.qcow2_disk.specs.Calls.{AnsweredEffect, RefusedEffect, EffectOnSound, IsSame, IsShrinkEnd, IsShrunk, MayGrow, cleared, given_by_grow, given_by_shrink, given_by_shrunk, grown_to, to_backing, with_disk}
 use Rattle.qcow2_disk.specs.Disk.{Disk}
-use Rattle.qcow2_disk.specs.GrownCovers.{GrownCovers, first_zeros}
+use Rattle.qcow2_disk.specs.GrownCovers.{GrownCovers}
 use Rattle.qcow2_disk.specs.Stops.{GivenBytes}
 use Rattle.qcow2_alloc.specs.ImageError.{IsFault as IsFaultOfTables}
 use Rattle.qcow2_alloc.specs.ImageFile.{known_in, view_in}
@@ -29,7 +29,7 @@ use Rattle.qcow2_image.specs.ImageInvariant.{ImageInvariant, abstract_of, disk_o
 use Rattle.qcow2_image.specs.L1Entries.{ReachesOffset}
 use Rattle.qcow2_image.specs.MovedTables.{CoversStay}
 use Rattle.qcow2_image.specs.NewTables.{LacksTable}
-use Rattle.qcow2_image.specs.Preallocation.{ChangesFree, IsUnderMappingIn}
+use Rattle.qcow2_image.specs.Preallocation.{GrownFree, IsUnderMappingIn}
 use Rattle.qcow2_image.specs.Refusals.{refuse_if, unusable}
 
 -- the size that it has afterwards: the one asked for, or the old one where that was refused
@@ -138,7 +138,7 @@ module _ {S F : Type 0} (view : S → StorageView) (backing : F → BackingView)
     pub covers : GrownCovers mode (size_of old) size old.file.header.fields (known_in view old.file) new.file.header.fields (known_in view new.file)
     pub emptied : HasNothingToFree new
     pub zeros : mode ≡ Mode.Zero → ¬ LacksZeros old
-    pub free : shows_old mode ≡ false → ChangesFree (cluster_size old.file.header.fields) (first_zeros (cluster_size old.file.header.fields) (size_of old) size mode) (size_of old) (boundary_in old size) old.file.header.fields (known_in view old.file) out
+    pub free : GrownFree mode (size_of old) size old.file.header.fields (known_in view old.file) out
 
   -- A prepared L2 table refuses it only where one of the range behind the old end is. With `Zero`, where no entry can say that a cluster is zeros, no byte changes.
   pub record RefusesTables (mode : PreallocateMode) (size : ℕ) (old new : Qcow2 S F) (out : List (Option Prepared)) (e : ImageError) : Type 0 where

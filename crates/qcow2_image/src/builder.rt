@@ -14,7 +14,7 @@ ghost use Rattle.qcow2_image.specs.Faults.{CountsImageFaults, IsNotOfStorage};
 ghost use Rattle.qcow2_alloc.specs.declared.error.ImageError.TheVariants.{Limit};
 ghost use Rattle.qcow2_metadata.specs.Header.{header as header_at};
 ghost use Rattle.qcow2_laws.specs.NewImages.{IsNewImage};
-ghost use Rattle.qcow2_image.specs.LackedTables.{CantGrow};
+ghost use Rattle.qcow2_image.specs.LackedTables.{CantGrowDisk};
 ghost use Rattle.qcow2_image.specs.Image.{is_failed, is_writable};
 ghost use Rattle.qcow2_image.specs.Refusals.{IsMet, IsUnlimited, MarksFailed};
 ghost use Rattle.qcow2_image.specs.Resizing.{refuses_to_resize};
@@ -328,7 +328,8 @@ fn grow_new_image<S: Storage, F: WrappedFormat<S>>(
     ensures enlarges { (S.view (storage_of storage)).is_honest → IsUnwritten 0 (byte_at (S.view (storage_of storage)).contents) → Enlarges mode size (S.view (storage_of storage)) (S.view result.0) result.1 }
     ensures leaks { (S.view (storage_of storage)).is_honest → IsUnwritten 0 (byte_at (S.view (storage_of storage)).contents) → HasNoLeaks (byte_at (S.view (storage_of storage)).contents) → OnOk result.1 (HasNoLeaks (byte_at (S.view result.0).contents)) }
     ensures cause { (S.view (storage_of storage)).is_honest → IsUnwritten 0 (byte_at (S.view (storage_of storage)).contents) → IfErr result.1 IsMet }
-    ensures limit { (S.view (storage_of storage)).is_honest → IsUnwritten 0 (byte_at (S.view (storage_of storage)).contents) → IsNewImage (header_at (byte_at (S.view (storage_of storage)).contents)) (byte_at (S.view (storage_of storage)).contents) → (header_at (byte_at (S.view (storage_of storage)).contents)).autoclear ≡ 0
+    ensures limit { (S.view (storage_of storage)).is_honest → IsUnwritten 0 (byte_at (S.view (storage_of storage)).contents)
+        → IsNewImage (header_at (byte_at (S.view (storage_of storage)).contents)) (byte_at (S.view (storage_of storage)).contents) → (header_at (byte_at (S.view (storage_of storage)).contents)).autoclear ≡ 0
         → IfErr result.1 (λ e. e ≡ Limit → CantEnlarge S.view F.backing mode size (S.view (storage_of storage)).contents) }
     ensures faults { ((below : F) → (F.backing below).faults ≡ 0) → FaultsTold (S.view (storage_of storage)).faults (S.view result.0).faults result.1 }
 {
@@ -351,7 +352,7 @@ fn grow_and_flush<S: Storage, F: WrappedFormat<S>>(
     ensures leaks { IsOpened (abstract_of S.view F.backing image.old []) → IsTrue (is_writable image.old) → ((c : ℕ) → (abstract_of S.view F.backing image.old []).surplus c ≡ 0)
         → OnOk result (HasNoLeaks (byte_at (view_in S.view image.new.file).contents)) }
     ensures cause { refuses_to_resize image.old ≡ None → IsTrue (is_writable image.old) → is_some image.old.backing ≡ false → (abstract_of S.view F.backing image.old []).is_sound → IfErr result IsMet }
-    ensures limit { refuses_to_resize image.old ≡ None → (abstract_of S.view F.backing image.old []).is_sound → IfErr result (λ e. e ≡ Limit → CantGrow S.view F.backing mode size image.old image.new []) }
+    ensures limit { refuses_to_resize image.old ≡ None → (abstract_of S.view F.backing image.old []).is_sound → IfErr result (λ e. e ≡ Limit → CantGrowDisk S.view F.backing mode size image.old image.new []) }
     ensures faults { CountsImageFaults S.view F.backing image.old image.new result }
 {
     grow_by(image, size, mode)?;
@@ -367,7 +368,7 @@ fn grow_by<S: Storage, F: WrappedFormat<S>>(
     ensures grows { GrowsBy S.view F.backing mode image.old image.new size result }
     ensures surplus { refuses_to_resize image.old ≡ None → (abstract_of S.view F.backing image.old []).is_sound → OnOk result (KeepsSurplus S.view F.backing image.old image.new) }
     ensures cause { refuses_to_resize image.old ≡ None → IsTrue (is_writable image.old) → is_some image.old.backing ≡ false → (abstract_of S.view F.backing image.old []).is_sound → IfErr result IsMet }
-    ensures limit { refuses_to_resize image.old ≡ None → (abstract_of S.view F.backing image.old []).is_sound → IfErr result (λ e. e ≡ Limit → CantGrow S.view F.backing mode size image.old image.new []) }
+    ensures limit { refuses_to_resize image.old ≡ None → (abstract_of S.view F.backing image.old []).is_sound → IfErr result (λ e. e ≡ Limit → CantGrowDisk S.view F.backing mode size image.old image.new []) }
     ensures marks { MarksFailed image.old image.new result }
     ensures faults { CountsImageFaults S.view F.backing image.old image.new result }
 {

@@ -17,7 +17,7 @@ ghost use Rattle.qcow2_image.specs.declared.prepared.Prepared.{Prepared};
 ghost use Rattle.qcow2_image.specs.Growing.{Resizes};
 ghost use Rattle.qcow2_image.specs.Image.{HasNothingToFree, IsSameImage, ImageStays, has_noted_change, is_failed, is_writable, size_of, with_marks};
 ghost use Rattle.qcow2_image.specs.ImageInvariant.{ImageInvariant, abstract_of, pending_in};
-ghost use Rattle.qcow2_image.specs.LackedTables.{CantGrow, LacksTableReaching};
+ghost use Rattle.qcow2_image.specs.LackedTables.{CantGrowDisk, LacksTableReaching};
 ghost use Rattle.qcow2_image.specs.LongerTables.{MakesEntry};
 ghost use Rattle.qcow2_image.specs.PinnedTables.{HasPinnedTable};
 ghost use Rattle.qcow2_image.specs.Refusals.{FreesRefused, IsMet, IsMetPreparing, MarksFailed, MarksRefused};
@@ -198,7 +198,8 @@ impl<S: Storage, F: WrappedFormat<S>> Qcow2<S, F> {
         ensures no_larger { refuses_to_resize self.old ≡ None → size ≤ size_of self.old → (result ≡ Ok tt) × (self.new ≡ self.old) }
         ensures preallocation { refuses_to_resize self.old ≡ None → size_of self.old < size → IsTrue (takes_over self.old mode) → (result ≡ Err Preallocation) × (self.new ≡ self.old) }
         ensures late { refuses_to_resize self.old ≡ None → IfErr result (λ e. IsMetPreparing e ⊎ ((e ≡ Preallocation) × IsTrue (takes_over self.old mode))) }
-        ensures limit { refuses_to_resize self.old ≡ None → size_of self.old < size → (out : List (Option Prepared)) → (abstract_of S.view F.backing self.old out).is_sound → IfErr result (λ e. e ≡ Limit → CantGrow S.view F.backing mode size self.old self.new out) }
+        ensures limit { refuses_to_resize self.old ≡ None → size_of self.old < size → (out : List (Option Prepared)) → (abstract_of S.view F.backing self.old out).is_sound
+            → IfErr result (λ e. e ≡ Limit → CantGrowDisk S.view F.backing mode size self.old self.new out) }
         ensures marks { MarksFailed self.old self.new result }
         ensures image { size_of self.old < size → IsResized (size_after result (size_of self.old) size) self.old self.new }
         ensures sees { GrowsTo S.view F.backing self.old self.new size mode result }
@@ -237,7 +238,7 @@ impl<S: Storage, F: WrappedFormat<S>> Qcow2<S, F> {
         requires writable { IsTrue (is_writable self.old) }
         requires larger { size_of self.old < size }
         ensures cause { IfErr result IsMetPreparing }
-        ensures limit { (out : List (Option Prepared)) → (abstract_of S.view F.backing self.old out).is_sound → IfErr result (λ e. e ≡ Limit → CantGrow S.view F.backing mode size self.old self.new out) }
+        ensures limit { (out : List (Option Prepared)) → (abstract_of S.view F.backing self.old out).is_sound → IfErr result (λ e. e ≡ Limit → CantGrowDisk S.view F.backing mode size self.old self.new out) }
         ensures marks { MarksFailed self.old self.new result }
         ensures image { IsResized (size_after result (size_of self.old) size) self.old self.new }
         ensures sees { GrowsTo S.view F.backing self.old self.new size mode result }

@@ -36,7 +36,7 @@ use Rattle.qcow2_image.specs.ImageInvariant.{abstract_of, faults_below}
 use Rattle.qcow2_image.specs.Created.{CantEnlarge, IsAllowed, IsCreated, IsReasonNotToCreate, IsReasonNotToCreateOpen, LacksPlaceCreating, longest_disk, none_below}
 use Rattle.qcow2_image.specs.declared.builder.Qcow2CreateBuilder.{Qcow2CreateBuilder}
 use Rattle.qcow2_image.specs.Readable.{IsRefusedRightly, OpensRightly}
-use Rattle.qcow2_image.specs.LackedTables.{CantGrow}
+use Rattle.qcow2_image.specs.LackedTables.{CantGrowDisk}
 use Rattle.qcow2_image.specs.Refusals.{IsMet, IsMetPreparing, IsUnlimited, refuse_if}
 use Rattle.qcow2_image.specs.Preallocation.{IsUnderMappingIn}
 use Rattle.qcow2_image.specs.Resizing.{GrowsTables, refuses_to_resize, takes_over}
@@ -111,10 +111,10 @@ grown_alone view backing old new size mode (Err e) alone no_larger tables late =
 
 -- a larger size lacks a place only where it is larger
 pub grown_limited : {S F : Type 0} (view : S → StorageView) (backing : F → BackingView) (old new : Qcow2 S F) (size : ℕ) (mode : PreallocateMode) (r : Result (Unit {0}) ImageError) → (size ≤ size_of old → (r ≡ Ok tt) × (new ≡ old))
-    → (size_of old < size → IfErr r (λ e. e ≡ I.Limit → CantGrow view backing mode size old new [])) → IfErr r (λ e. e ≡ I.Limit → CantGrow view backing mode size old new [])
+    → (size_of old < size → IfErr r (λ e. e ≡ I.Limit → CantGrowDisk view backing mode size old new [])) → IfErr r (λ e. e ≡ I.Limit → CantGrowDisk view backing mode size old new [])
 grown_limited view backing old new size mode r no_larger limit = elim (cases_lt (size_of old) size) [
   | inl lt ↦ limit lt
-  | inr le ↦ subst (λ (x : Result _ ImageError). IfErr x (λ e. e ≡ I.Limit → CantGrow view backing mode size old new [])) (sym (no_larger le).0) tt
+  | inr le ↦ subst (λ (x : Result _ ImageError). IfErr x (λ e. e ≡ I.Limit → CantGrowDisk view backing mode size old new [])) (sym (no_larger le).0) tt
 ]
 
 -- ---- failures of the storage

@@ -127,11 +127,13 @@ module _ {S F : Type 0} (view : S → StorageView) (backing : F → BackingView)
   }
 
   -- refused before anything was done
-  pub refused_here : (image : Qcow2 S F) (first from to : ℕ) (e : ImageError) → (e ≡ I.TablePrepared → ⊥) → (e ≡ I.Limit → ⊥) → ImageInvariant view backing (pending_in view backing image out) image out → RefusedFill view backing first from to image image out e
+  pub refused_here : (image : Qcow2 S F) (first from to : ℕ) (e : ImageError) → (e ≡ I.TablePrepared → ⊥) → (e ≡ I.Limit → ⊥) → ImageInvariant view backing (pending_in view backing image out) image out
+      → RefusedFill view backing first from to image image out e
   refused_here image first from to e other unlimited sound = record { left = inl (some_none image from to sound); taken = λ is. absurd (other is); limit = λ is. absurd (unlimited is) }
 
   -- the first bytes of a range lack a place
-  pub lacks_here : (old new : Qcow2 S F) (first from to n : ℕ) → ImageInvariant view backing (pending_in view backing old out) old out → 0 < n → from + n ≤ to → LacksPlaceFor view from n old new → (first ≤ from → LacksTableFor view from old new) → HasNothingToFree new
+  pub lacks_here : (old new : Qcow2 S F) (first from to n : ℕ) → ImageInvariant view backing (pending_in view backing old out) old out → 0 < n → from + n ≤ to → LacksPlaceFor view from n old new
+      → (first ≤ from → LacksTableFor view from old new) → HasNothingToFree new
       → LacksPlaceOnWay view backing first from to old new out
   lacks_here old new first from to n sound some high lacks zeros emptied = record {
     mid = old;
@@ -166,8 +168,8 @@ module _ {S F : Type 0} (view : S → StorageView) (backing : F → BackingView)
       length = stays_long_then a.file.header.fields b.file.header.fields c.file.header.fields to first.header (stays_long_shorter a.file.header.fields b.file.header.fields mid to high first.length) then.length;
       covers = covers_then (cluster_size a.file.header.fields) (pow_pos a.file.header.fields.cluster_bits) zeros a.file.header.fields (known_in view a.file) b.file.header.fields (known_in view b.file) c.file.header.fields (known_in view c.file) from mid to low high first.covers
           (as_large mid to first.header then.covers);
-      free = untaken_then (cluster_size a.file.header.fields) (pow_pos a.file.header.fields.cluster_bits) out zeros a.file.header.fields (known_in view a.file) b.file.header.fields (known_in view b.file) first.header from mid to low high first.covers first.free
-          (free_large mid to first.header then.free);
+      free = untaken_then (cluster_size a.file.header.fields) (pow_pos a.file.header.fields.cluster_bits) out zeros a.file.header.fields (known_in view a.file) b.file.header.fields (known_in view b.file)
+          first.header from mid to low high first.covers first.free (free_large mid to first.header then.free);
     }
 
     -- the later part of the range may come first
@@ -180,8 +182,8 @@ module _ {S F : Type 0} (view : S → StorageView) (backing : F → BackingView)
       length = stays_long_then a.file.header.fields b.file.header.fields c.file.header.fields to first.header first.length (stays_long_shorter b.file.header.fields c.file.header.fields mid to high then.length);
       covers = covers_before (cluster_size a.file.header.fields) (pow_pos a.file.header.fields.cluster_bits) zeros a.file.header.fields (known_in view a.file) b.file.header.fields (known_in view b.file) c.file.header.fields (known_in view c.file) from mid to low high first.covers
           (as_large from mid first.header then.covers);
-      free = untaken_before (cluster_size a.file.header.fields) (pow_pos a.file.header.fields.cluster_bits) out zeros a.file.header.fields (known_in view a.file) b.file.header.fields (known_in view b.file) first.header from mid to low high first.covers first.free
-          (free_large from mid first.header then.free);
+      free = untaken_before (cluster_size a.file.header.fields) (pow_pos a.file.header.fields.cluster_bits) out zeros a.file.header.fields (known_in view a.file) b.file.header.fields (known_in view b.file)
+          first.header from mid to low high first.covers first.free (free_large from mid first.header then.free);
     }
 
   -- a part that is refused after one that wasn't, of a range that has both
@@ -204,7 +206,8 @@ module _ {S F : Type 0} (view : S → StorageView) (backing : F → BackingView)
           (wider_works b (record c { is_failed = true }) x' y' from to low' high' then.works);
     }
 
-    left_after : (e : ImageError) → FillsSome view backing x' y' b c out ⊎ InterruptedGiving view backing (given_by_zeros x' y' ∷ []) b c out e → FillsSome view backing from to a c out ⊎ InterruptedGiving view backing (given_by_zeros from to ∷ []) a c out e
+    left_after : (e : ImageError) → FillsSome view backing x' y' b c out ⊎ InterruptedGiving view backing (given_by_zeros x' y' ∷ []) b c out e
+        → FillsSome view backing from to a c out ⊎ InterruptedGiving view backing (given_by_zeros from to ∷ []) a c out e
     left_after e left = ⊎_elim (λ (some : FillsSome view backing x' y' b c out). inl (some_after some)) (λ (broken : InterruptedGiving view backing (given_by_zeros x' y' ∷ []) b c out e). inr (broken_after e broken)) left
 
   -- it lacks a place for a limit
@@ -298,6 +301,7 @@ module _ {S F : Type 0} (view : S → StorageView) (backing : F → BackingView)
   -- the answer of one part is that of both
   module _ (a b c : Qcow2 S F) (zeros from mid to : ℕ) (low : from ≤ mid) (high : mid ≤ to) (first : FillsPart view backing zeros from mid a b out) where
     -- the last part clears whole clusters
-    pub fills_or_refuses : (HasNothingToFree a → HasNothingToFree b) → zeros ≤ mid → mid % cluster_size b.file.header.fields ≡ 0 → (r : Result (Unit {0}) ImageError) → FillsOrRefuses view backing 0 mid to b c out r → FillsOrRefuses view backing zeros from to a c out r
+    pub fills_or_refuses : (HasNothingToFree a → HasNothingToFree b) → zeros ≤ mid → mid % cluster_size b.file.header.fields ≡ 0 → (r : Result (Unit {0}) ImageError) → FillsOrRefuses view backing 0 mid to b c out r
+        → FillsOrRefuses view backing zeros from to a c out r
     fills_or_refuses keeps le whole (Ok done) then = fills_then a b c zeros from mid to low high first (zeros_all b c zeros mid to whole le then)
     fills_or_refuses keeps le whole (Err e) then = refused_after a b c zeros from to from mid mid to (omega arith) high low (omega arith) first 0 (omega arith) keeps e then

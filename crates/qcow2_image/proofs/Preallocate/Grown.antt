@@ -126,7 +126,8 @@ module _ {S F : Type 0} (view : S → StorageView) (backing : F → BackingView)
         works = works_less (abstract_of view backing old out) (abstract_of view backing (record new { is_failed = true }) out) (given_by_zeros (size_of old) end ∷ []) (all_given_by_growing view backing old size mode) [] (λ o w given. inr (given_zeros o w given)) interrupted.works;
       }
 
-      pub grown_refused : (first : ℕ) → first ≡ first_zeros (cluster_size old.file.header.fields) (size_of old) size mode → (e : ImageError) → RefusedFill view backing first (size_of old) end old new out e → RefusedGrown view backing size mode old new out e
+      pub grown_refused : (first : ℕ) → first ≡ first_zeros (cluster_size old.file.header.fields) (size_of old) size mode → (e : ImageError) → RefusedFill view backing first (size_of old) end old new out e
+          → RefusedGrown view backing size mode old new out e
       grown_refused first begins e refused = record {
         left = ⊎_elim (λ (part : FillsSome view backing (size_of old) end old new out). inl (in_part part)) (λ (interrupted : InterruptedGiving view backing (given_by_zeros (size_of old) end ∷ []) old new out e). inr (broken e interrupted)) refused.left;
         taken = λ is. subst (λ n. IsUnderMappingIn old.file.header.fields n end out) size_is (refused.taken is);
@@ -141,4 +142,6 @@ module _ {S F : Type 0} (view : S → StorageView) (backing : F → BackingView)
 
     -- refused before anything was done
     pub early_refused : (e : ImageError) → IsMet e → IsUnlimited e → RefusedGrown view backing size mode old old out e
-    early_refused e met unlimited = let first = first_zeros (cluster_size old.file.header.fields) (size_of old) size mode in grown_refused old first refl e (refused_here view backing out old first (size_of old) end e (λ is. met_taken e met is) (limited_not e unlimited) sound)
+    early_refused e met unlimited =
+        let first = first_zeros (cluster_size old.file.header.fields) (size_of old) size mode in
+        grown_refused old first refl e (refused_here view backing out old first (size_of old) end e (λ is. met_taken e met is) (limited_not e unlimited) sound)

@@ -74,7 +74,8 @@ module _ {S F : Type 0} (view : S → StorageView) (backing : F → BackingView)
 
     pub zeroed_refused : (HasNothingToFree old → HasNothingToFree now) → (e : ImageError)
         → ((out : List (Option Prepared)) → ImageInvariant view backing (pending_in view backing now out) now out → at ≤ to → IsWholeRange now.file.header.fields at to → 3 ≤ now.file.header.fields.version → RefusedFill view backing 0 at to now new out e)
-        → (out : List (Option Prepared)) → ImageInvariant view backing (pending_in view backing old out) old out → from ≤ to → IsWholeRange old.file.header.fields from to → 3 ≤ old.file.header.fields.version → RefusedFill view backing 0 from to old new out e
+        → (out : List (Option Prepared)) → ImageInvariant view backing (pending_in view backing old out) old out → from ≤ to → IsWholeRange old.file.header.fields from to → 3 ≤ old.file.header.fields.version
+        → RefusedFill view backing 0 from to old new out e
     zeroed_refused keeps e refused out sound first whole version =
         let so = before.so_far out sound first whole version in
         let file_step = so.0.header in
@@ -105,7 +106,8 @@ module _ {S F : Type 0} (view : S → StorageView) (backing : F → BackingView)
           fills_then view backing out old now new to from at next low (omega (arith, more)) so (fills out so.sound (still_at old.file.header.fields now.file.header.fields to so.header whole));
     }
 
-    pub filled_refused : (HasNothingToFree old → HasNothingToFree now) → (e : ImageError) → ((out : List (Option Prepared)) → ImageInvariant view backing (pending_in view backing now out) now out → to % cluster_size now.file.header.fields ≡ 0 → RefusedFill view backing to at to now new out e)
+    pub filled_refused : (HasNothingToFree old → HasNothingToFree now) → (e : ImageError)
+        → ((out : List (Option Prepared)) → ImageInvariant view backing (pending_in view backing now out) now out → to % cluster_size now.file.header.fields ≡ 0 → RefusedFill view backing to at to now new out e)
         → (out : List (Option Prepared)) → ImageInvariant view backing (pending_in view backing old out) old out → to % cluster_size old.file.header.fields ≡ 0 → RefusedFill view backing to from to old new out e
     filled_refused keeps e refused out sound whole =
         let so = before.so_far out sound whole in

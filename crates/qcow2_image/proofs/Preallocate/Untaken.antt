@@ -24,7 +24,7 @@ use Rattle.qcow2_image.specs.Found.{l1_index_of}
 use Rattle.qcow2_image.specs.Image.{size_of}
 use Rattle.qcow2_image.specs.ImageInvariant.{ImageInvariant, IsPending, IsReadyWith, pending_in, pins_by}
 use Rattle.qcow2_image.specs.MovedTables.{CoversStay, MovesTables}
-use Rattle.qcow2_image.specs.Preallocation.{ChangesFree, FilledCovers, Touches, first_zeros}
+use Rattle.qcow2_image.specs.Preallocation.{ChangesFree, FilledCovers, GrownFree, Touches, first_zeros}
 use Rattle.qcow2_image.proofs.Apart.{pins_own}
 use Rattle.qcow2_image.proofs.Call.Slots.{over_all_two}
 use Rattle.qcow2_image.proofs.Clear.ClearCalls.{under_after}
@@ -60,7 +60,8 @@ module _ (cs : ℕ) (some : 0 < cs) (out : List (Option Prepared)) where
   untaken_zeros first from to h known free = λ g t change under. free g t (inl (omega arith)) under
 
   module _ (first : ℕ) (a : HeaderFields) (ka : Bytes) (b : HeaderFields) (kb : Bytes) (file_step : MovesTables a b) where
-    both : (x y x' y' from to : ℕ) → ((g : ℕ) → Touches cs from to g → Touches cs x y g ⊎ Touches cs x' y' g) → FilledCovers cs first x y a ka b kb → ChangesFree cs first x y a ka out → ChangesFree cs first x' y' b kb out → ChangesFree cs first from to a ka out
+    both : (x y x' y' from to : ℕ) → ((g : ℕ) → Touches cs from to g → Touches cs x y g ⊎ Touches cs x' y' g) → FilledCovers cs first x y a ka b kb → ChangesFree cs first x y a ka out → ChangesFree cs first x' y' b kb out
+        → ChangesFree cs first from to a ka out
     both x y x' y' from to split covers before then = λ g t change under. elim (touches_or cs some x y g) [
       | inl earlier ↦ before g earlier change under
       | inr none ↦ elim (split g t) [
@@ -92,7 +93,8 @@ module _ {S F : Type 0} (view : S → StorageView) (backing : F → BackingView)
     never_with r place there (Some u) is is_some rows ready =
         let h = image.file.header.fields in
         let pending : IsPending image.file.header.fields (known_in view image.file) (contents_in view image.file) r u = ready in
-        let mine : IsPending image.file.header.fields (known_in view image.file) (contents_in view image.file) p t = subst (IsReadyWith image.file.header.fields (known_in view image.file) (contents_in view image.file) p) table_is (sound.ready 0 p refl).mapped in
+        let mine : IsPending image.file.header.fields (known_in view image.file) (contents_in view image.file) p t =
+        subst (IsReadyWith image.file.header.fields (known_in view image.file) (contents_in view image.file) p) table_is (sound.ready 0 p refl).mapped in
         let places : u * cluster_size image.file.header.fields ≡ t * cluster_size image.file.header.fields = sym pending.named.place ∙ ap (table_at image.file.header.fields (known_in view image.file)) rows ∙ mine.named.place in
         let tables : u ≡ t = sym (own_cluster h.cluster_bits u) ∙ ap (λ o. o / cluster_size image.file.header.fields) places ∙ own_cluster h.cluster_bits t in
         let own = pins_own p t table_is in
@@ -105,13 +107,16 @@ module _ {S F : Type 0} (view : S → StorageView) (backing : F → BackingView)
     never_two offset under row = never_with under.other under.place under.is_out under.other.table refl under.keeps_table (under.same_table ∙ row) (sound.ready (suc under.place) under.other under.is_out).mapped
 
   -- behind a longer L1 table
-  pub untaken_grown : (out : List (Option Prepared)) (old long : Qcow2 S F) (size : ℕ) (mode : PreallocateMode) → UnseenCall view backing old long out
-      → ChangesFree (cluster_size long.file.header.fields) (first_zeros (cluster_size long.file.header.fields) (size_of long) size mode) (size_of long) (rounded_up (cluster_size long.file.header.fields) size) long.file.header.fields (known_in view long.file) out
-      → ChangesFree (cluster_size old.file.header.fields) (first_zeros (cluster_size old.file.header.fields) (size_of old) size mode) (size_of old) (rounded_up (cluster_size old.file.header.fields) size) old.file.header.fields (known_in view old.file) out
-  untaken_grown out old long size mode call free =
+  pub untaken_grown : (out : List (Option Prepared)) (old long : Qcow2 S F) (size : ℕ) (mode : PreallocateMode) → UnseenCall view backing old long out → GrownFree mode (size_of long) size long.file.header.fields (known_in view long.file) out
+      → GrownFree mode (size_of old) size old.file.header.fields (known_in view old.file) out
+  untaken_grown out old long size mode call free hides =
       let h = old.file.header.fields in
+      let h' = long.file.header.fields in
+      let k = known_in view old.file in
+      let k' = known_in view long.file in
       let moved : size_of long ≡ size_of old = ap (λ (x : HeaderFields). x.size) call.header in
       let large : cluster_size long.file.header.fields ≡ cluster_size old.file.header.fields = ap (λ (x : HeaderFields). cluster_size x) call.header in
-      untaken_behind (cluster_size h) (pow_pos h.cluster_bits) out (first_zeros (cluster_size h) (size_of old) size mode) h (known_in view old.file) long.file.header.fields (known_in view long.file) call.header (size_of old) (rounded_up (cluster_size h) size) call.covers
-      (subst (λ cs. ChangesFree cs (first_zeros cs (size_of old) size mode) (size_of old) (rounded_up cs size) long.file.header.fields (known_in view long.file) out) large
-      (subst (λ n. ChangesFree (cluster_size long.file.header.fields) (first_zeros (cluster_size long.file.header.fields) n size mode) n (rounded_up (cluster_size long.file.header.fields) size) long.file.header.fields (known_in view long.file) out) moved free))
+      let first = first_zeros (cluster_size h) (size_of old) size mode in
+      untaken_behind (cluster_size h) (pow_pos h.cluster_bits) out first h k h' k' call.header (size_of old) (rounded_up (cluster_size h) size) call.covers
+      (subst (λ cs. ChangesFree cs (first_zeros cs (size_of old) size mode) (size_of old) (rounded_up cs size) h' k' out) large
+      (subst (λ n. ChangesFree (cluster_size h') (first_zeros (cluster_size h') n size mode) n (rounded_up (cluster_size h') size) h' k' out) moved (free hides)))

@@ -33,8 +33,7 @@ use Rattle.qcow2_image.specs.Image.{HasNothingToFree, is_failed, number_of, size
 use Rattle.qcow2_image.specs.ImageInvariant.{ImageInvariant, disk_of, pending_in}
 use Rattle.qcow2_image.specs.L1Entries.{ReachesOffset}
 use Rattle.qcow2_image.specs.MovedTables.{CoversStay, MovesTables}
-use Rattle.qcow2_disk.specs.Calls.{shows_old}
-use Rattle.qcow2_image.specs.Preallocation.{ChangesFree, FillsGrown, IsUnderMappingIn, RefusedGrown}
+use Rattle.qcow2_image.specs.Preallocation.{FillsGrown, GrownFree, IsUnderMappingIn, RefusedGrown}
 use Rattle.qcow2_image.proofs.Call.Marked.{MayMark}
 use Rattle.qcow2_image.specs.Resizing.{GrowsTables, LacksZeros, RefusesUnchanged, WritesSize, boundary_in}
 use Rattle.qcow2_image.proofs.Call.Refused.{refuses_left}
@@ -150,7 +149,7 @@ module _ {S F : Type 0} (view : S → StorageView) (backing : F → BackingView)
   -- the size is written last
   pub tables_sized : (old filled new : Qcow2 S F) (marked : Bool) (size : ℕ) (mode : PreallocateMode) (r : Result (Unit {0}) ImageError) → MovesTables old.file.header.fields filled.file.header.fields → IfErr r IsFaultOfTables → OnOk r (new.file.header ≡ with_fields filled.file.header (with_size filled.file.header.fields size))
       → ReachesSize (with_size filled.file.header.fields size) → ReachesOffset (size - 1) old.file.header.fields filled.file.header.fields → OnOk r (Leaves old new size mode) → HasNothingToFree new → (mode ≡ Mode.Zero → LacksZeros old → ⊥)
-      → (shows_old mode ≡ false → ChangesFree (cluster_size old.file.header.fields) (first_zeros (cluster_size old.file.header.fields) (size_of old) size mode) (size_of old) (boundary_in old size) old.file.header.fields (known_in view old.file) out) → GrowsTables view backing old (record new { is_failed = marked }) size mode out r
+      → GrownFree mode (size_of old) size old.file.header.fields (known_in view old.file) out → GrowsTables view backing old (record new { is_failed = marked }) size mode out r
   tables_sized old filled new marked size mode (Ok x) file_step cause header reached length covers emptied zeros free = record { free = free; emptied = emptied; zeros = zeros; autoclear = autoclear_sized old.file.header.fields filled.file.header.fields new.file.header.fields size file_step (ap (λ (v : HeaderView). v.fields) header); format = format_sized old.file.header.fields filled.file.header.fields new.file.header.fields size file_step (ap (λ (v : HeaderView). v.fields) header); reaches = subst (λ (v : HeaderView). ReachesSize v.fields) (sym header) reached; length = ap (λ (v : HeaderView). v.fields.l1_entries) header ∙ length; covers = covers }
   tables_sized old filled new marked size mode (Err e) file_step cause header reached length covers emptied zeros free = record {
     taken = λ is. absurd (elim cause [ inl fault ↦ (let no : I.TablePrepared ≡ I.Storage = sym is ∙ fault in cc) | inr fault ↦ (let no : I.TablePrepared ≡ I.Memory = sym is ∙ fault in cc) ]);

@@ -73,8 +73,10 @@ module _ {S F : Type 0} (view : S → StorageView) (backing : F → BackingView)
   }
 
   -- the range has no place once the L1 table was made longer
-  pub behind_lacked : (old long filled : Qcow2 S F) (noted failed : Bool) (size : ℕ) (mode : PreallocateMode) → (mode ≡ Mode.None → ⊥) → UnseenCall view backing old long out → ReachesOffset (size - 1) old.file.header.fields long.file.header.fields → HasNothingToFree long
-      → LacksPlaceOnWay view backing (first_zeros (cluster_size long.file.header.fields) (size_of long) size mode) (size_of long) (rounded_up (cluster_size long.file.header.fields) size) long filled out → LacksPlaceBehind view backing mode size old (with_marks filled noted failed) out
+  pub behind_lacked : (old long filled : Qcow2 S F) (noted failed : Bool) (size : ℕ) (mode : PreallocateMode) → (mode ≡ Mode.None → ⊥) → UnseenCall view backing old long out
+      → ReachesOffset (size - 1) old.file.header.fields long.file.header.fields → HasNothingToFree long
+      → LacksPlaceOnWay view backing (first_zeros (cluster_size long.file.header.fields) (size_of long) size mode) (size_of long) (rounded_up (cluster_size long.file.header.fields) size) long filled out
+      → LacksPlaceBehind view backing mode size old (with_marks filled noted failed) out
   behind_lacked old long filled noted failed size mode fills call reaches empty lacks =
       let moved : size_of long ≡ size_of old = ap (λ (h : HeaderFields). h.size) call.header in
       let marked = with_marks filled noted failed in

@@ -2,7 +2,7 @@ use Rattle.std.proofs.Common.{[], ◌∙◌, Result, Ok, Err, refl, subst}
 use Rattle.std.specs.Prelude.{IfErr}
 use Rattle.qcow2_alloc.specs.ImageError.{IsOfTables}
 use Rattle.qcow2_alloc.specs.declared.error.ImageError.{ImageError}
-use Rattle.qcow2_image.specs.LackedTables.{CantGrow}
+use Rattle.qcow2_image.specs.LackedTables.{CantGrowDisk}
 use Rattle.qcow2_image.specs.Refusals.{IsMet}
 use Rattle.qcow2_image.proofs.Call.MetErrors.{tables_met}
 use Rattle.qcow2_image.proofs.Call.FaultCounts.{counted_on, counted_since, untouched}
@@ -63,9 +63,9 @@ returns-clause-leaks g c = λ opened writable none.
 
 pub returns-in_err-grow_by-clause-limit : goal.returns-in_err-grow_by-clause-limit
 returns-in_err-grow_by-clause-limit g c = λ usable sound.
-    hands_limit (λ e. CantGrow g.S.Storage.view g.F.BackingDisk.backing c.args.mode c.args.size c.args.image.now c.grow_by.new.image []) c.from_residual.result c.in_err-grow_by.field-0.0 c.from_residual.ensures (c.in_err-grow_by.ensures.limit usable sound)
+    hands_limit (λ e. CantGrowDisk g.S.Storage.view g.F.BackingDisk.backing c.args.mode c.args.size c.args.image.now c.grow_by.new.image []) c.from_residual.result c.in_err-grow_by.field-0.0 c.from_residual.ensures (c.in_err-grow_by.ensures.limit usable sound)
 
 pub returns-clause-limit : goal.returns-clause-limit
 returns-clause-limit g c = λ usable sound.
     let grew = c.in_ok-grow_by.ensures.surplus usable sound in
-    unlimited_all c.flush.result (λ e. CantGrow g.S.Storage.view g.F.BackingDisk.backing c.args.mode c.args.size c.args.image.now c.flush.new.self []) (faults_unlimited c.flush.result (c.flush.ensures.fault [] grew.sound))
+    unlimited_all c.flush.result (λ e. CantGrowDisk g.S.Storage.view g.F.BackingDisk.backing c.args.mode c.args.size c.args.image.now c.flush.new.self []) (faults_unlimited c.flush.result (c.flush.ensures.fault [] grew.sound))

@@ -1,6 +1,6 @@
 use Rattle.std.proofs.Common.{[], inl, ◌-◌, sym, subst}
 use Rattle.qcow2_image.specs.Created.{GrowsBy}
-use Rattle.qcow2_image.specs.LackedTables.{CantGrow, LacksTableReaching}
+use Rattle.qcow2_image.specs.LackedTables.{CantGrowDisk, LacksTableReaching}
 use Rattle.qcow2_image.proofs.Create.Causes.{grown_alone, grown_limited}
 use Rattle.qcow2_image.proofs.Sizing.ShrinkCalls.{resize_works}
 use Rattle.qcow2_image.proofs.Create.Leaks.{surplus_taken}
@@ -39,7 +39,7 @@ returns-in-None-clause-limit g c = λ usable sound.
     let view = g.S.Storage.view in
     let old = c.args.image.now in
     let new = c.grow.new.self in
-    limits_as (λ e. LacksTableReaching view (c.args.size - 1) old new) (λ e. CantGrow view g.F.BackingDisk.backing c.args.mode c.args.size old new []) c.grow.result (λ e lacks. inl lacks) (c.grow.ensures.limit sound)
+    limits_as (λ e. LacksTableReaching view (c.args.size - 1) old new) (λ e. CantGrowDisk view g.F.BackingDisk.backing c.args.mode c.args.size old new []) c.grow.result (λ e lacks. inl lacks) (c.grow.ensures.limit sound)
 
 pub returns-in_default-clause-limit : goal.returns-in_default-clause-limit
 returns-in_default-clause-limit g c = λ usable sound.

@@ -6,7 +6,7 @@ use Rattle.qcow2_alloc.specs.ImageFile.{view_in}
 use Rattle.qcow2_alloc.specs.ImageStorage.{storage_of}
 use Rattle.qcow2_laws.specs.Opened.{HasNoLeaks}
 use Rattle.qcow2_image.specs.Created.{CantEnlarge}
-use Rattle.qcow2_image.specs.LackedTables.{CantGrow}
+use Rattle.qcow2_image.specs.LackedTables.{CantGrowDisk}
 use Rattle.qcow2_image.proofs.Create.Causes.{opening_met, opening_unlimited, told_closed, told_opening, usable_opened}
 use Rattle.qcow2_image.proofs.Create.Creating.{opening_stops, enlarged_so, unwritten_mid}
 use Rattle.qcow2_image.proofs.Open.Left.{opened_none}
@@ -66,7 +66,7 @@ returns-in-Ok-clause-limit g c = λ honest unwritten new_image uncleared.
     let left = c.grow_and_flush-done.new.image in
     let is = (c.in-Ok.ensures.opens honest unwritten.consistent).opened in
     let usable = usable_opened view below image is c.in-Ok.ensures.ok.2 in
-    limits_as (λ e. CantGrow view below c.args.mode c.args.size image left []) (λ e. CantEnlarge view below c.args.mode c.args.size contents) c.grow_and_flush-done.result
+    limits_as (λ e. CantGrowDisk view below c.args.mode c.args.size image left []) (λ e. CantEnlarge view below c.args.mode c.args.size contents) c.grow_and_flush-done.result
     (λ e lacks. record {
       opened = image;
       is_opened = is;

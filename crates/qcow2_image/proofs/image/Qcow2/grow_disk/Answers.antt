@@ -44,7 +44,7 @@ use Rattle.qcow2_image.proofs.Call.OnceWritten.{once_written, kept_noted, once_m
 use Rattle.qcow2_image.proofs.Call.BehindHeader.{behind_by, behind_call, behind_none, behind_then}
 use Rattle.qcow2_image.proofs.Prepare.Lacked.{faults_unlimited, limited_not, unlimited_all}
 use Rattle.qcow2_image.proofs.Sizing.LackedTables.{behind_lacked, longer_ended}
-use Rattle.qcow2_image.specs.LackedTables.{CantGrow, LacksPlaceBehind, LacksTableReaching}
+use Rattle.qcow2_image.specs.LackedTables.{CantGrowDisk, LacksPlaceBehind, LacksTableReaching}
 use Rattle.qcow2_alloc.specs.declared.error.ImageError.TheVariants.{Limit}
 use Rattle.qcow2_image.specs.Refusals.{IsUnlimited}
 use Rattle.qcow2_image.proofs.image.Qcow2.grow_disk.Goals as goal
@@ -290,7 +290,7 @@ returns-clause-tables g c = λ out sound.
     (tables_noted view below old (record new { is_failed = is_failed c.mark_fault-2.new.self }) (is_changed_of c.mark_fault-2.new.self.file.storage) c.args.size c.args.mode out c.write_size-written.result (tables_sized view below out old c.mark_fault.new.self new (is_failed c.mark_fault-2.new.self) c.args.size c.args.mode c.write_size-written.result (file_step_then old.file.header.fields long.file.header.fields c.mark_fault.new.self.file.header.fields call.header grown.header) c.write_size-written.ensures.cause c.write_size-written.ensures.header
     (subst (λ (image : Qcow2 _ _). ReachesSize (with_size image.file.header.fields c.args.size)) (sym whole) reached) as_long
     (leaves_sized view below out old long c.mark_fault.new.self new c.args.size c.args.mode c.write_size-written.result call grown (c.write_size-written.ensures.writes out grown.sound)) emptied never
-    (λ hides. untaken_grown view below out old long c.args.size c.args.mode call (grown.free hides)))))
+    (untaken_grown view below out old long c.args.size c.args.mode call grown.free))))
 
 pub returns-in_err-mark_failure-clause-faults : goal.returns-in_err-mark_failure-clause-faults
 returns-in_err-mark_failure-clause-faults g c =
@@ -418,7 +418,7 @@ returns-in_err-mark_failure-clause-limit g c = λ out sound.
     let done : c.renew_l1_table-longer.result ≡ Err c.in_err-mark_failure.field-0.0 = sym c.mark_failure.ensures.answer ∙ c.in_err-mark_failure.was in
     let offset = c.args.size - 1 in
     let why = subst (λ (r : Result _ _). IfErr r (λ x. x ≡ Limit → LacksTableReaching view offset begun mid)) done (c.renew_l1_table-longer.ensures.limit out (first out sound).sound) in
-    subst (λ (r : Result _ _). IfErr r (λ x. x ≡ Limit → CantGrow view below c.args.mode c.args.size old c.mark_failure.new.self out)) (sym (err_is c.from_residual.result c.from_residual.ensures))
+    subst (λ (r : Result _ _). IfErr r (λ x. x ≡ Limit → CantGrowDisk view below c.args.mode c.args.size old c.mark_failure.new.self out)) (sym (err_is c.from_residual.result c.from_residual.ensures))
     (λ is. inl (subst (λ (image : Qcow2 _ _). LacksTableReaching view offset old image) (sym c.mark_failure.ensures.rest) (longer_ended view offset old begun mid (is_failed c.mark_failure.new.self) c.begin.ensures.rest (why is))))
 
 pub returns-in_err-mark_fault-clause-limit : goal.returns-in_err-mark_fault-clause-limit
@@ -447,12 +447,12 @@ returns-in_err-mark_fault-clause-limit g c = λ out sound.
     let done : c.fill_grown-filled.result ≡ Err c.in_err-mark_fault.field-0.0 = sym c.mark_fault.ensures.answer ∙ c.in_err-mark_fault.was in
     let refused = subst (FillsGrownOrRefuses view below c.args.size c.args.mode long filled out) done (c.fill_grown-filled.ensures.fills out call.sound) in
     let alone : e ≡ Limit → c.args.mode ≡ PreallocateNone → ⊥ = λ is none. limited_not e (subst (λ (r : Result _ _). IfErr r IsUnlimited) done (c.fill_grown-filled.ensures.limited none)) is in
-    subst (λ (r : Result _ _). IfErr r (λ x. x ≡ Limit → CantGrow view below c.args.mode c.args.size old c.mark_fault.new.self out)) (sym (err_is c.from_residual-in_err-mark_fault.result c.from_residual-in_err-mark_fault.ensures))
+    subst (λ (r : Result _ _). IfErr r (λ x. x ≡ Limit → CantGrowDisk view below c.args.mode c.args.size old c.mark_fault.new.self out)) (sym (err_is c.from_residual-in_err-mark_fault.result c.from_residual-in_err-mark_fault.ensures))
     (λ is. inr (subst (λ (image : Qcow2 _ _). LacksPlaceBehind view below c.args.mode c.args.size old image out) (sym c.mark_fault.ensures.rest)
     (behind_lacked view below out old long filled (is_changed_of c.mark_fault.new.self.file.storage) (is_failed c.mark_fault.new.self) c.args.size c.args.mode (alone is) call longer empty (refused.limit is))))
 
 pub returns-clause-limit : goal.returns-clause-limit
 returns-clause-limit g c = λ out sound.
     let new = c.mark_fault-2.new.self in
-    unlimited_all c.mark_fault-2.result (λ x. CantGrow g.S.Storage.view g.F.BackingDisk.backing c.args.mode c.args.size c.args.self.now new out)
+    unlimited_all c.mark_fault-2.result (λ x. CantGrowDisk g.S.Storage.view g.F.BackingDisk.backing c.args.mode c.args.size c.args.self.now new out)
     (subst (λ (r : Result _ _). IfErr r IsUnlimited) (sym c.mark_fault-2.ensures.answer) (faults_unlimited c.write_size-written.result c.write_size-written.ensures.cause))
