@@ -51,9 +51,12 @@ module _ {S F : Type 0} (view : S → StorageView) where
     place_marked : (offset n : ℕ) → LacksPlaceFor view offset n old new → LacksPlaceFor view offset n old (with_marks new noted failed)
     place_marked offset n lacks = elim lacks [
       | inl table ↦ inl (table_marked offset table)
-      | inr s ↦ inr (stands_marked
+      | inr s ↦ inr (
+          s.0,
+          stands_marked
           (λ used h allocator. HasNoCluster used h allocator ⊎ CantGoOn (first_of_range view offset old) (offset % cluster_size old.file.header.fields) (bytes_in_table view offset n old) used h allocator)
-          (listed_or_l1 old) s)
+          (listed_or_l1 old) s.1,
+        )
     ]
 
 module _ {S F : Type 0} (view : S → StorageView) (backing : F → BackingView) (out : List (Option Prepared)) where
