@@ -1,5 +1,5 @@
 -- Why a larger disk's L1 table wasn't made, or the range behind its old end has no place: it is so behind the freeing, and once the call ended.
-use Rattle.std.proofs.Common.{◌≡◌, ◌-◌, inl, inr, ℕ, ◌+◌, ◌%◌, ◌⊎◌, Bool, List, Option, max, refl, sym, ap, subst}
+use Rattle.std.proofs.Common.{◌≡◌, ◌-◌, inl, inr, ℕ, ◌+◌, ◌%◌, ◌⊎◌, Bool, List, Option, max, refl, ap, subst}
 use Rattle.image_access.specs.Backing.{BackingView}
 use Rattle.image_access.specs.Moments.{StorageView}
 use Rattle.image_access.specs.declared.storage.PreallocateMode.{PreallocateMode}
