@@ -1,10 +1,11 @@
-use Rattle.std.proofs.Common.{◌≢◌, ℕ, inl, inr, Ok, Err, Some, None, arith, true, refl, sym, ap, ◌∙◌, subst, Result, Option, ◌⊎◌}
+use Rattle.std.proofs.Common.{◌≢◌, ◌/◌, ℕ, inl, inr, Ok, Err, Some, None, arith, true, refl, sym, ap, ◌∙◌, subst, Result, Option, ◌⊎◌}
 use Rattle.qcow2_metadata.specs.Entries.{count}
+use Rattle.qcow2_metadata.specs.Header.{counts_per_block}
 use Rattle.qcow2_laws.specs.Changes.{one_at}
 use Rattle.qcow2_laws.specs.CrashInvariant.{Pending}
 use Rattle.qcow2_alloc.specs.declared.clusters_to_free.ClustersToFreeEntry.{ClustersToFreeEntry}
 use Rattle.qcow2_alloc.specs.declared.image_file.ImageFile.{ImageFile}
-use Rattle.qcow2_alloc.specs.Allocation.{LacksFirst, taken_as, UnseenAllocatorGrowth, AllocatesAt}
+use Rattle.qcow2_alloc.specs.Allocation.{IsUnaligned, LacksFirst, taken_as, UnseenAllocatorGrowth, AllocatesAt}
 use Rattle.qcow2_alloc.specs.FreeList.{pending_then}
 use Rattle.qcow2_alloc.specs.LowestRuns.{IsUsed, KeepsNoFreeBelowHint, StaysUsed}
 use Rattle.qcow2_alloc.proofs.AllocationSteps.{handed_on, on_of, allocator_step_on, allocator_step_cached, is_sound_now, leaves_on, of_equal}
@@ -563,3 +564,29 @@ returns-in-Err-clause-kept g c = λ p sound.
       | inl kept ↦ inr (λ k used. kept k (subst (λ b. count h b k ≢ 0) (sym known) used))
       | inr broke ↦ inl broke.0
     ]
+
+pub returns-in-Ok-true-clause-none : goal.returns-in-Ok-true-clause-none
+returns-in-Ok-true-clause-none g c = λ p sound is. absurd cc
+
+pub returns-then-at-eq0-clause-unaligned : goal.returns-then-at-eq0-clause-unaligned
+returns-then-at-eq0-clause-unaligned g c = λ u some near. absurd (let zero = sym c.value-at.ensures ∙ c.if-at-eq0.true in omega (arith, some, zero))
+
+pub returns-then-not-is_nameable-clause-unaligned : goal.returns-then-not-is_nameable-clause-unaligned
+returns-then-not-is_nameable-clause-unaligned g c = λ u some near.
+    not_both c.is_nameable.result (c.is_nameable.ensures.1 (subst (λ n. IsHostCluster n c.args.cluster) (sym c.cluster_bits.ensures.value) near)) c.if-not-is_nameable.true
+
+pub returns-in_default-clause-unaligned : goal.returns-in_default-clause-unaligned
+returns-in_default-clause-unaligned g c = λ u some near. tt
+
+pub returns-in-Err-clause-unaligned : goal.returns-in-Err-clause-unaligned
+returns-in-Err-clause-unaligned g c = λ u some near. tt
+
+pub returns-in-Ok-true-clause-unaligned : goal.returns-in-Ok-true-clause-unaligned
+returns-in-Ok-true-clause-unaligned g c = λ u some near.
+    let h = c.args.file.now.header.fields in
+    ok_no_err c.in-Ok-true.field-0 I.UnalignedTable (c.in-Ok-true.ensures.unaligned (subst (λ n. IsUnaligned h c.args.self.now.reftable (n / counts_per_block h)) (sym c.value.ensures) u))
+
+pub returns-in-Ok-false-clause-unaligned : goal.returns-in-Ok-false-clause-unaligned
+returns-in-Ok-false-clause-unaligned g c = λ u some near.
+    let h = c.args.file.now.header.fields in
+    ok_no_err c.in-Ok-false.field-0 I.UnalignedTable (c.in-Ok-false.ensures.unaligned (subst (λ n. IsUnaligned h c.args.self.now.reftable (n / counts_per_block h)) (sym c.value.ensures) u))
