@@ -27,11 +27,11 @@ use Rattle.qcow2_alloc.specs.declared.error.ImageError.{ImageError}
 use Rattle.qcow2_alloc.specs.declared.error.ImageError.TheVariants as I
 use Rattle.qcow2_disk.specs.HeaderRest.{KeepsHeaderRest}
 use Rattle.qcow2_image.specs.Opened.{NeedsAnother}
-use Rattle.qcow2_image.specs.Growing.{FitsSize, GrowsDisk, SameFormat, ReachesSize}
+use Rattle.qcow2_image.specs.Growing.{FitsSize, GrowsDisk, KeepsSurplus, LosesNone, SameFormat, ReachesSize}
 use Rattle.qcow2_image.specs.declared.builder.NoBacking.{NoBacking}
 use Rattle.qcow2_image.specs.declared.builder.Qcow2CreateBuilder.{Qcow2CreateBuilder}
 use Rattle.qcow2_image.specs.declared.image.Qcow2.{Qcow2}
-use Rattle.qcow2_image.specs.Image.{HasNothingToFree, size_of}
+use Rattle.qcow2_image.specs.Image.{HasNothingToFree, leaked_in, size_of}
 use Rattle.qcow2_image.specs.ImageInvariant.{abstract_of}
 use Rattle.qcow2_image.specs.LackedTables.{CantGrowDisk}
 use Rattle.qcow2_image.specs.Refusals.{IsMet}
@@ -91,7 +91,7 @@ pub record StaysCreating (mode : PreallocateMode) (n : ℕ) (old new : StorageVi
 abbrev pub longest_disk : ℕ → ℕ
 longest_disk size = 4194304 * (size / 8) * size
 
--- An image with these contents was opened, and nothing was to be freed then. Making its disk larger in a mode was refused for a limit.
+-- An image with these contents was opened, and nothing was to be freed then. Making its disk larger in a mode was refused for a limit. It is sound still then, each surplus is as before, and no cluster was leaked.
 pub record CantEnlarge {S F : Type 0} (view : S → StorageView) (backing : F → BackingView) (mode : PreallocateMode) (size : ℕ) (contents : List ℕ) : Type 0 where
   pub opened : Qcow2 S F
   pub is_opened : IsOpened (abstract_of view backing opened [])
@@ -99,6 +99,8 @@ pub record CantEnlarge {S F : Type 0} (view : S → StorageView) (backing : F �
   pub emptied : HasNothingToFree opened
   pub left : Qcow2 S F
   pub lacks : CantGrowDisk view backing mode size opened left []
+  pub keeps : KeepsSurplus view backing opened left
+  pub leaks : leaked_in left ≡ leaked_in opened
 
 -- the disk below where there is none
 abbrev pub none_below : NoBacking → BackingView
@@ -147,9 +149,14 @@ module _ {S : Type 0} where
     -- it names no file of its data either
     pub alone : ¬ NeedsAnother storage.contents
 
-  -- Why it isn't created and opened: it isn't created. Or it is, and 64 bits don't hold the end of its reftable.
-  abbrev pub IsReasonNotToCreateOpen : (S → StorageView) → Qcow2CreateBuilder S → ImageError → Type 0
-  IsReasonNotToCreateOpen view builder e = IsReasonNotToCreate view builder e ⊎ ((e ≡ I.Limit) × (made : S) × IsCreated builder (view made) × ¬ ReftableFits (header (byte_at (view made).contents)))
+  -- it stands, and 64 bits don't hold the end of its reftable
+  pub record HasFarReftable (builder : Qcow2CreateBuilder S) (storage : StorageView) : Type 0 where
+    pub created : IsCreated builder storage
+    pub far : ¬ ReftableFits (header (byte_at storage.contents))
+
+  -- Why it isn't created and opened: it isn't created. Or it stands on the storage that is handed back, and is refused 13 since 64 bits don't hold the end of its reftable.
+  abbrev pub IsReasonNotToCreateOpen : (S → StorageView) → Qcow2CreateBuilder S → S × ImageError → Type 0
+  IsReasonNotToCreateOpen view builder refused = IsReasonNotToCreate view builder refused.1 ⊎ ((refused.1 ≡ I.Limit) × HasFarReftable builder (view refused.0))
 
 -- ---- its parts
 
@@ -200,6 +207,10 @@ module _ {S F : Type 0} (view : S → StorageView) (backing : F → BackingView)
     pub image : size_of old < size → IsResized (size_after r (size_of old) size) old new
     pub sees : GrowsTo view backing old new size mode r
     pub tables : refuses_to_resize old ≡ None → size_of old < size → (abstract_of view backing old []).is_sound → GrowsTables view backing old new size mode [] r
+
+  -- it isn't made larger for a limit, and loses no cluster by that
+  abbrev pub CantGrowBy : PreallocateMode → ℕ → Qcow2 S F → Qcow2 S F → Type 0
+  CantGrowBy mode size old new = CantGrowDisk view backing mode size old new [] × LosesNone view backing old new
 
   -- it is made larger in a mode
   abbrev pub GrowsBy : PreallocateMode → Qcow2 S F → Qcow2 S F → ℕ → Result (Unit {0}) ImageError → Type 0

@@ -14,14 +14,13 @@ ghost use Rattle.qcow2_image.specs.Faults.{CountsImageFaults, IsNotOfStorage};
 ghost use Rattle.qcow2_alloc.specs.declared.error.ImageError.TheVariants.{Limit};
 ghost use Rattle.qcow2_metadata.specs.Header.{header as header_at};
 ghost use Rattle.qcow2_laws.specs.NewImages.{IsNewImage};
-ghost use Rattle.qcow2_image.specs.LackedTables.{CantGrowDisk};
 ghost use Rattle.qcow2_image.specs.Image.{is_failed, is_writable};
 ghost use Rattle.qcow2_image.specs.Refusals.{IsMet, IsUnlimited, MarksFailed};
 ghost use Rattle.qcow2_image.specs.Resizing.{refuses_to_resize};
 ghost use Rattle.qcow2_image.specs.ImageInvariant.{abstract_of};
 ghost use Rattle.qcow2_image.specs.Growing.{KeepsSurplus};
 ghost use Rattle.qcow2_laws.specs.Opened.{HasNoLeaks};
-ghost use Rattle.qcow2_image.specs.Created.{longest_disk, IsUnwritten, IsNewHeader, CountsThree, NamesOne, WritesThree, CantEnlarge, Enlarges, GrowsBy};
+ghost use Rattle.qcow2_image.specs.Created.{longest_disk, IsUnwritten, IsNewHeader, CountsThree, NamesOne, WritesThree, CantEnlarge, CantGrowBy, Enlarges, GrowsBy};
 
 use crate::Qcow2;
 use crate::image::Missing;
@@ -212,7 +211,7 @@ impl<S: Storage> Qcow2CreateBuilder<S> {
         ensures clusters { (S.view self.image).is_honest → IfOk result (λ image. HasLostNone (abstract_of S.view F.backing image [])) }
         ensures new_disk { (S.view self.image).is_honest → IfOk result (λ image. IsNewDisk self.preallocate self.size (abstract_of S.view F.backing image []).known) }
         ensures ok { IfOk result (λ image. (number_of image ≡ number) × (is_failed image ≡ false) × (is_writable image ≡ true) × (is_some image.backing ≡ false)) }
-        ensures cause { (S.view self.image).is_honest → IfErr result (λ refused. IsReasonNotToCreateOpen S.view self refused.1) }
+        ensures cause { (S.view self.image).is_honest → IfErr result (IsReasonNotToCreateOpen S.view self) }
         ensures faults { OpeningCounts S.view (S.view self.image).faults result }
         ensures header_cluster { IfOk result (λ image. (S.view self.image).is_honest ⊎ NamesTablesBehind image.file.header.fields → LiesBehindHeader image) }
     {
@@ -352,7 +351,7 @@ fn grow_and_flush<S: Storage, F: WrappedFormat<S>>(
     ensures leaks { IsOpened (abstract_of S.view F.backing image.old []) → IsTrue (is_writable image.old) → ((c : ℕ) → (abstract_of S.view F.backing image.old []).surplus c ≡ 0)
         → OnOk result (HasNoLeaks (byte_at (view_in S.view image.new.file).contents)) }
     ensures cause { refuses_to_resize image.old ≡ None → IsTrue (is_writable image.old) → is_some image.old.backing ≡ false → (abstract_of S.view F.backing image.old []).is_sound → IfErr result IsMet }
-    ensures limit { refuses_to_resize image.old ≡ None → (abstract_of S.view F.backing image.old []).is_sound → IfErr result (λ e. e ≡ Limit → CantGrowDisk S.view F.backing mode size image.old image.new []) }
+    ensures limit { refuses_to_resize image.old ≡ None → (abstract_of S.view F.backing image.old []).is_sound → IfErr result (λ e. e ≡ Limit → CantGrowBy S.view F.backing mode size image.old image.new) }
     ensures faults { CountsImageFaults S.view F.backing image.old image.new result }
 {
     grow_by(image, size, mode)?;
@@ -368,7 +367,7 @@ fn grow_by<S: Storage, F: WrappedFormat<S>>(
     ensures grows { GrowsBy S.view F.backing mode image.old image.new size result }
     ensures surplus { refuses_to_resize image.old ≡ None → (abstract_of S.view F.backing image.old []).is_sound → OnOk result (KeepsSurplus S.view F.backing image.old image.new) }
     ensures cause { refuses_to_resize image.old ≡ None → IsTrue (is_writable image.old) → is_some image.old.backing ≡ false → (abstract_of S.view F.backing image.old []).is_sound → IfErr result IsMet }
-    ensures limit { refuses_to_resize image.old ≡ None → (abstract_of S.view F.backing image.old []).is_sound → IfErr result (λ e. e ≡ Limit → CantGrowDisk S.view F.backing mode size image.old image.new []) }
+    ensures limit { refuses_to_resize image.old ≡ None → (abstract_of S.view F.backing image.old []).is_sound → IfErr result (λ e. e ≡ Limit → CantGrowBy S.view F.backing mode size image.old image.new) }
     ensures marks { MarksFailed image.old image.new result }
     ensures faults { CountsImageFaults S.view F.backing image.old image.new result }
 {

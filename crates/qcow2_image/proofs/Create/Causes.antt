@@ -36,11 +36,12 @@ use Rattle.qcow2_image.specs.ImageInvariant.{abstract_of, faults_below}
 use Rattle.qcow2_image.specs.Created.{CantEnlarge, IsAllowed, IsCreated, IsReasonNotToCreate, IsReasonNotToCreateOpen, LacksPlaceCreating, longest_disk, none_below}
 use Rattle.qcow2_image.specs.declared.builder.Qcow2CreateBuilder.{Qcow2CreateBuilder}
 use Rattle.qcow2_image.specs.Readable.{IsRefusedRightly, OpensRightly}
-use Rattle.qcow2_image.specs.LackedTables.{CantGrowDisk}
 use Rattle.qcow2_image.specs.Refusals.{IsMet, IsMetPreparing, IsUnlimited, refuse_if}
 use Rattle.qcow2_image.specs.Preallocation.{IsUnderMappingIn}
 use Rattle.qcow2_image.specs.Resizing.{GrowsTables, refuses_to_resize, takes_over}
 use Rattle.qcow2_metadata.specs.declared.header.HeaderFields.{HeaderFields}
+use Rattle.qcow2_image.specs.Opened.{LeavesStorage, StandsRefused}
+use Rattle.qcow2_image.proofs.Create.Creating.{created_still}
 use Rattle.qcow2_image.proofs.Create.NewDisks.{new_disk_consistent}
 
 fault_met : (e : ImageError) → IsFault e → IsMet e
@@ -107,14 +108,6 @@ grown_alone view backing old new size mode (Ok x) alone no_larger tables late = 
 grown_alone view backing old new size mode (Err e) alone no_larger tables late = elim (cases_lt (size_of old) size) [
   | inr le ↦ absurd (let bad = (no_larger le).0 in cc)
   | inl lt ↦ elim late [ inl met ↦ ⊎_elim (λ m. m) (λ is. absurd (none_under _ _ _ ((tables lt).taken is))) met | inr over ↦ absurd (takes_none old mode alone over.1) ]
-]
-
--- a larger size lacks a place only where it is larger
-pub grown_limited : {S F : Type 0} (view : S → StorageView) (backing : F → BackingView) (old new : Qcow2 S F) (size : ℕ) (mode : PreallocateMode) (r : Result (Unit {0}) ImageError) → (size ≤ size_of old → (r ≡ Ok tt) × (new ≡ old))
-    → (size_of old < size → IfErr r (λ e. e ≡ I.Limit → CantGrowDisk view backing mode size old new [])) → IfErr r (λ e. e ≡ I.Limit → CantGrowDisk view backing mode size old new [])
-grown_limited view backing old new size mode r no_larger limit = elim (cases_lt (size_of old) size) [
-  | inl lt ↦ limit lt
-  | inr le ↦ subst (λ (x : Result _ ImageError). IfErr x (λ e. e ≡ I.Limit → CantGrowDisk view backing mode size old new [])) (sym (no_larger le).0) tt
 ]
 
 -- ---- failures of the storage
@@ -234,20 +227,24 @@ module _ {S : Type 0} (builder : Qcow2CreateBuilder S) where
           }) lacks
 
     -- the image that was made is opened
-    opening_reason : (storage : S) → IsCreated builder (view storage) → (e : ImageError) → IsRefusedRightly (view storage).contents true N.Nothing e → IsReasonNotToCreateOpen view builder e
-    opening_reason storage made I.Metadata why = inl tt
-    opening_reason storage made I.Limit why =
-        let consistent = new_disk_consistent builder.preallocate builder.size (byte_at (view storage).contents) made.new_disk in
-        inr (refl, storage, made, limit_far (view storage).contents consistent.header_reads why)
-    opening_reason storage made I.UnalignedTable why = inl tt
-    opening_reason storage made I.Memory why = inl tt
-    opening_reason storage made I.Storage why = inl tt
-    opening_reason storage made I.Dependency why = absurd (let bad : false ≡ true = why.1.needs in cc)
-    opening_reason storage made e why = absurd why
+    module _ (storage last : S) (made : IsCreated builder (view storage)) (honest : (view last).is_honest) where
+      opening_reason : (e : ImageError) → StandsRefused true (view storage) (view last) e → IsRefusedRightly (view storage).contents true N.Nothing e → IsReasonNotToCreateOpen view builder (last, e)
+      opening_reason I.Metadata stands why = inl tt
+      opening_reason I.Limit stands why =
+          let consistent = new_disk_consistent builder.preallocate builder.size (byte_at (view storage).contents) made.new_disk in
+          let same : (view last).contents ≡ (view storage).contents = elim stands [ inl same ↦ same | inr fault ↦ absurd (let no : I.Limit ≡ I.Storage = fault.0 in cc) ] in
+          let far = limit_far (view storage).contents consistent.header_reads why in
+          inr (refl, record { created = created_still builder (view storage) (view last) made honest same; far = λ fits. far (subst (λ (l : List ℕ). ReftableFits (header (byte_at l))) same fits) })
+      opening_reason I.UnalignedTable stands why = inl tt
+      opening_reason I.Memory stands why = inl tt
+      opening_reason I.Storage stands why = inl tt
+      opening_reason I.Dependency stands why = absurd (let bad : false ≡ true = why.1.needs in cc)
+      opening_reason e stands why = absurd why
 
-    pub opening_reasons : {F : Type 0} (storage : S) (r : Result (Qcow2 S F) (S × ImageError)) → IsCreated builder (view storage) → OpensRightly (view storage) true N.Nothing r → IfErr r (λ refused. IsReasonNotToCreateOpen view builder refused.1)
-    opening_reasons storage (Ok image) made rightly = tt
-    opening_reasons storage (Err refused) made rightly = opening_reason storage made refused.1 (rightly.1 made.honest)
+    pub opening_reasons : {F : Type 0} (storage : S) (r : Result (Qcow2 S F) (S × ImageError)) → IsCreated builder (view storage) → LeavesStorage view true (view storage) r → OpensRightly (view storage) true N.Nothing r
+        → IfErr r (IsReasonNotToCreateOpen view builder)
+    opening_reasons storage (Ok image) made left rightly = tt
+    opening_reasons storage (Err refused) made left rightly = opening_reason storage refused.0 made (left.honest made.honest) refused.1 (left.contents made.honest) (rightly.1 made.honest)
 
 module _ {S : Type 0} (view : S → StorageView) where
   pub told_created : {T : Type 0} (image start mid wrote last : S) (r : Result T ImageError) → start ≡ image → mid ≡ wrote → (view wrote).faults ≡ (view start).faults → FaultsTold (view mid).faults (view last).faults r → FaultsTold (view image).faults (view last).faults r

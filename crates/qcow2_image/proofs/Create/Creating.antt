@@ -230,7 +230,7 @@ opening_new_stops : (mode : PreallocateMode) (n : ℕ) (old new : StorageView) �
 opening_new_stops mode n old new disk_is since =
     passes_if (λ c. IsStopOfCreating mode n (byte_at c)) (λ c kept. inr (inr (new_still mode n (byte_at old.contents) (byte_at c) disk_is (λ backing m ok. kept backing m ok ok)))) since.moments
 
-created_still : {S : Type 0} (builder : Qcow2CreateBuilder S) (old new : StorageView) → IsCreated builder old → new.is_honest → new.contents ≡ old.contents → IsCreated builder new
+pub created_still : {S : Type 0} (builder : Qcow2CreateBuilder S) (old new : StorageView) → IsCreated builder old → new.is_honest → new.contents ≡ old.contents → IsCreated builder new
 created_still builder old new made honest same =
     let still : (P : Bytes → Type 0) → P (byte_at old.contents) → P (byte_at new.contents) = λ P there. subst (λ (l : List ℕ). P (byte_at l)) (sym same) there in record {
       honest = honest;

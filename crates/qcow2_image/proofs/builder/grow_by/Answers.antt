@@ -1,9 +1,10 @@
 use Rattle.std.proofs.Common.{[], inl, ◌-◌, sym, subst}
-use Rattle.qcow2_image.specs.Created.{GrowsBy}
-use Rattle.qcow2_image.specs.LackedTables.{CantGrowDisk, LacksTableReaching}
-use Rattle.qcow2_image.proofs.Create.Causes.{grown_alone, grown_limited}
+use Rattle.qcow2_image.specs.Created.{CantGrowBy, GrowsBy}
+use Rattle.qcow2_image.specs.Growing.{LosesNone}
+use Rattle.qcow2_image.specs.LackedTables.{LacksTableReaching}
+use Rattle.qcow2_image.proofs.Create.Causes.{grown_alone}
 use Rattle.qcow2_image.proofs.Sizing.ShrinkCalls.{resize_works}
-use Rattle.qcow2_image.proofs.Create.Leaks.{surplus_taken}
+use Rattle.qcow2_image.proofs.Create.Leaks.{surplus_taken, taking_limited}
 use Rattle.qcow2_image.proofs.Create.TakingPlace.{takes_by}
 use Rattle.qcow2_image.proofs.Prepare.Lacked.{limits_as}
 use Rattle.qcow2_image.proofs.builder.grow_by.Goals as goal
@@ -39,9 +40,10 @@ returns-in-None-clause-limit g c = λ usable sound.
     let view = g.S.Storage.view in
     let old = c.args.image.now in
     let new = c.grow.new.self in
-    limits_as (λ e. LacksTableReaching view (c.args.size - 1) old new) (λ e. CantGrowDisk view g.F.BackingDisk.backing c.args.mode c.args.size old new []) c.grow.result (λ e lacks. inl lacks) (c.grow.ensures.limit sound)
+    let below = g.F.BackingDisk.backing in
+    limits_as (λ e. LacksTableReaching view (c.args.size - 1) old new × LosesNone view below old new) (λ e. CantGrowBy view below c.args.mode c.args.size old new) c.grow.result (λ e lacks. (inl lacks.0, lacks.1)) (c.grow.ensures.limit sound)
 
 pub returns-in_default-clause-limit : goal.returns-in_default-clause-limit
 returns-in_default-clause-limit g c = λ usable sound.
     let does = c.resize_grow.ensures in
-    grown_limited g.S.Storage.view g.F.BackingDisk.backing c.args.image.now c.resize_grow.new.self c.args.size c.args.mode c.resize_grow.result (does.no_larger usable) (λ lt. does.limit usable lt [] sound)
+    taking_limited g.S.Storage.view g.F.BackingDisk.backing c.args.image.now c.resize_grow.new.self c.args.size c.args.mode c.resize_grow.result sound (does.no_larger usable) does.image does.sees (λ lt. does.limit usable lt [] sound)

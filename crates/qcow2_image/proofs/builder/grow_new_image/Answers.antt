@@ -1,12 +1,11 @@
-use Rattle.std.proofs.Common.{◌≡◌, ◌∙◌, [], ℕ, ap, subst, sym, true}
+use Rattle.std.proofs.Common.{◌≡◌, ◌∙◌, ℕ, ap, subst, sym, true}
 use Rattle.std.specs.Prelude.{OnOk}
 use Rattle.qcow2_metadata.specs.Bytes.{byte_at}
 use Rattle.qcow2_metadata.specs.Header.{header}
 use Rattle.qcow2_alloc.specs.ImageFile.{view_in}
 use Rattle.qcow2_alloc.specs.ImageStorage.{storage_of}
 use Rattle.qcow2_laws.specs.Opened.{HasNoLeaks}
-use Rattle.qcow2_image.specs.Created.{CantEnlarge}
-use Rattle.qcow2_image.specs.LackedTables.{CantGrowDisk}
+use Rattle.qcow2_image.specs.Created.{CantEnlarge, CantGrowBy}
 use Rattle.qcow2_image.proofs.Create.Causes.{opening_met, opening_unlimited, told_closed, told_opening, usable_opened}
 use Rattle.qcow2_image.proofs.Create.Creating.{opening_stops, enlarged_so, unwritten_mid}
 use Rattle.qcow2_image.proofs.Open.Left.{opened_none}
@@ -66,13 +65,15 @@ returns-in-Ok-clause-limit g c = λ honest unwritten new_image uncleared.
     let left = c.grow_and_flush-done.new.image in
     let is = (c.in-Ok.ensures.opens honest unwritten.consistent).opened in
     let usable = usable_opened view below image is c.in-Ok.ensures.ok.2 in
-    limits_as (λ e. CantGrowDisk view below c.args.mode c.args.size image left []) (λ e. CantEnlarge view below c.args.mode c.args.size contents) c.grow_and_flush-done.result
+    limits_as (λ e. CantGrowBy view below c.args.mode c.args.size image left) (λ e. CantEnlarge view below c.args.mode c.args.size contents) c.grow_and_flush-done.result
     (λ e lacks. record {
       opened = image;
       is_opened = is;
       stands = (c.in-Ok.ensures.storage.contents honest).contents ∙ opened_none true contents uncleared;
       emptied = c.in-Ok.ensures.list honest unwritten.consistent;
       left = left;
-      lacks = lacks;
+      lacks = lacks.0;
+      keeps = lacks.1.0;
+      leaks = lacks.1.1;
     })
     (c.grow_and_flush-done.ensures.limit usable is.sound)

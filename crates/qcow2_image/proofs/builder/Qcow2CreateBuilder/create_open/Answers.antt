@@ -27,7 +27,7 @@ pub returns-clause-cause : goal.returns-clause-cause
 returns-clause-cause g c = λ honest.
     let view = g.S.Storage.view in
     let made = subst (λ (r : Result _ _). IfOk r (λ d. IsCreated c.args.self (view c.create-storage.result.0))) c.in_default.is (c.create-storage.ensures.created honest) in
-    opening_reasons c.args.self view c.create-storage.result.0 c.open_image.result made c.open_image.ensures.cause
+    opening_reasons c.args.self view c.create-storage.result.0 c.open_image.result made c.open_image.ensures.storage c.open_image.ensures.cause
 
 pub returns-clause-faults : goal.returns-clause-faults
 returns-clause-faults g c = counts_opened g.S.Storage.view (g.S.Storage.view c.args.self.image).faults (g.S.Storage.view c.create-storage.result.0).faults c.open_image.result (subst (λ (r : Result _ _). FaultsTold (g.S.Storage.view c.args.self.image).faults (g.S.Storage.view c.create-storage.result.0).faults r) c.in_default.is c.create-storage.ensures.faults).told c.open_image.ensures.faults

@@ -1,6 +1,5 @@
 use Rattle.std.proofs.Common.{◌≡◌, [], ◌-◌, ◌<◌, ◌∙◌, Result, sym, subst, arith}
 use Rattle.std.specs.Prelude.{IfErr}
-use Rattle.qcow2_alloc.specs.declared.error.ImageError.TheVariants.{Limit}
 use Rattle.qcow2_image.specs.declared.image.Qcow2.{Qcow2}
 use Rattle.qcow2_image.specs.Image.{is_failed, size_of}
 use Rattle.qcow2_image.specs.LackedTables.{LacksTableReaching}
@@ -8,8 +7,7 @@ use Rattle.qcow2_image.specs.Refusals.{IsMet, MarksFailed}
 use Rattle.qcow2_image.proofs.Call.FaultCounts.{counted_marked}
 use Rattle.qcow2_image.specs.ImageInvariant.{pending_in}
 use Rattle.qcow2_image.proofs.Call.Marked.{may_mark, marks_since}
-use Rattle.qcow2_image.proofs.Grow.Grown.{grown_so, surplus_grown}
-use Rattle.qcow2_image.proofs.Prepare.Lacked.{limits_as}
+use Rattle.qcow2_image.proofs.Grow.Grown.{grown_so, limited_so, surplus_grown}
 use Rattle.qcow2_image.proofs.Sizing.LackedTables.{longer_ended}
 use Rattle.qcow2_image.proofs.image.Qcow2.grow.Goals as goal
 
@@ -54,7 +52,9 @@ returns-clause-limit g c = λ sound.
     let new = c.mark_failure.new.self in
     let offset = c.args.size - 1 in
     let keeps = c.begin.ensures.keeps (pending_in view below old []) [] sound in
-    let why = c.grow_to-done.ensures.limit (pending_in view below old []) keeps.sound in
-    subst (λ (r : Result _ _). IfErr r (λ e. e ≡ Limit → LacksTableReaching view offset old new)) (sym c.mark_failure.ensures.answer)
-    (limits_as (λ e. LacksTableReaching view offset begun mid) (λ e. LacksTableReaching view offset old new) c.grow_to-done.result
-    (λ e lacks. subst (λ (image : Qcow2 _ _). LacksTableReaching view offset old image) (sym c.mark_failure.ensures.rest) (longer_ended view offset old begun mid (is_failed new) c.begin.ensures.rest lacks)) why)
+    let larger : size_of old < c.args.size = omega (arith, c.if-size.false, c.size.ensures) in
+    limited_so view below old begun mid sound keeps c.begin.ensures.list c.args.size larger (LacksTableReaching view offset begun mid) (LacksTableReaching view offset old new)
+    (c.grow_to-done.ensures.writable ∙ c.begin.ensures.stays.image.writable) new c.grow_to-done.result c.mark_failure.result c.mark_failure.ensures.answer c.mark_failure.ensures.rest
+    (may_mark mid new c.grow_to-done.result c.mark_failure.ensures.marks)
+    (λ lacks. subst (λ (image : Qcow2 _ _). LacksTableReaching view offset old image) (sym c.mark_failure.ensures.rest) (longer_ended view offset old begun mid (is_failed new) c.begin.ensures.rest lacks))
+    (c.grow_to-done.ensures.limit (pending_in view below old []) keeps.sound)

@@ -1,7 +1,7 @@
 use Rattle.qcow2_alloc.proofs.AllocationSteps.{handed_on}
 use Rattle.qcow2_image.specs.declared.image.Qcow2.{Qcow2}
 use Rattle.qcow2_image.specs.Growing.{Resizes}
-use Rattle.qcow2_image.specs.UnseenSteps.{pending_with_listed}
+use Rattle.qcow2_image.specs.UnseenSteps.{UnseenStep, pending_with_listed}
 use Rattle.std.proofs.Common.{◌≡◌, ◌+◌, arith, [], max, refl, ap, subst, ◌∙◌, ◌-◌, ◌/◌, ◌^◌}
 use Rattle.qcow2_metadata.specs.EntryTable.{entry_count}
 use Rattle.qcow2_image.specs.Found.{l1_index_of}
@@ -11,7 +11,7 @@ use Rattle.qcow2_image.proofs.Prepare.Lacked.{faults_unlimited, hands_limit, unl
 use Rattle.qcow2_image.specs.Image.{is_failed, is_writable}
 use Rattle.qcow2_image.proofs.Call.FaultCounts.{counted_on, counted_since, untouched}
 use Rattle.qcow2_image.proofs.Create.Causes.{faults_met}
-use Rattle.qcow2_image.proofs.Grow.Grown.{extends_moving, lasts_more, lasts_refused, resized_length, resized_then, resized_reaches}
+use Rattle.qcow2_image.proofs.Grow.Grown.{extends_moving, lasts_more, lasts_refused, resized_length, resized_then, resized_reaches, unseen_limited}
 use Rattle.qcow2_image.proofs.image.Qcow2.grow_to.Goals as goal
 
 pub returns-in_err-grow_l1_table-clause-resizes : goal.returns-in_err-grow_l1_table-clause-resizes
@@ -71,8 +71,17 @@ returns-in_err-grow_l1_table-clause-limit g c = λ p sound.
     let offset = c.args.size - 1 in
     let idx : c.l1_index.result ≡ l1_index_of c.args.self.now.file.header.fields (c.args.size - 1) =
     c.l1_index.ensures ∙ ap (λ m. m / 2 ^ c.cluster_bits-bits.result / (2 ^ c.cluster_bits-bits.result / 8)) c.new.ensures ∙ ap (λ n. (c.args.size - 1) / 2 ^ n / (2 ^ n / 8)) c.cluster_bits-bits.ensures.value in
-    hands_limit (λ x. LacksTableReaching view offset old new) c.from_residual.result c.in_err-grow_l1_table.field-0.0 c.from_residual.ensures
-    (λ is. subst (λ i. LacksLongerTable view i (max (entry_count old.l1_table) (i + 1)) old.file.free_list old new) idx (c.in_err-grow_l1_table.ensures.limit p [] sound is))
+    let e = c.in_err-grow_l1_table.field-0.0 in
+    let ensures = c.in_err-grow_l1_table.ensures in
+    hands_limit (λ x. LacksTableReaching view offset old new × UnseenStep view g.F.BackingDisk.backing p (pending_with_listed p old new) old new []) c.from_residual.result e c.from_residual.ensures
+    (λ is. (
+      subst (λ i. LacksLongerTable view i (max (entry_count old.l1_table) (i + 1)) old.file.free_list old new) idx (ensures.limit p [] sound is),
+      unseen_limited view g.F.BackingDisk.backing p old new e (ensures.lengthens p [] sound) is,
+    ))
 
 pub returns-clause-limit : goal.returns-clause-limit
-returns-clause-limit g c = λ p sound. unlimited_all c.write_size.result (λ e. LacksTableReaching g.S.Storage.view (c.args.size - 1) c.args.self.now c.write_size.new.self) (faults_unlimited c.write_size.result c.write_size.ensures.cause)
+returns-clause-limit g c = λ p sound.
+    let view = g.S.Storage.view in
+    let old = c.args.self.now in
+    let new = c.write_size.new.self in
+    unlimited_all c.write_size.result (λ e. LacksTableReaching view (c.args.size - 1) old new × UnseenStep view g.F.BackingDisk.backing p (pending_with_listed p old new) old new []) (faults_unlimited c.write_size.result c.write_size.ensures.cause)
