@@ -66,3 +66,15 @@ returns-in_err-write-clause-faults g c =
 
 pub returns-clause-faults : goal.returns-clause-faults
 returns-clause-faults g c = converted _ _ _ _ _ _ _ (c.in_ok-read_into.ensures.faults.told) (c.in_ok-write.ensures.calls.cause.told)
+
+pub returns-in_err-read_into-clause-quiet : goal.returns-in_err-read_into-clause-quiet
+returns-in_err-read_into-clause-quiet g c = c.read_into.ensures.quiet
+
+pub returns-then-is_same-clause-quiet : goal.returns-then-is_same-clause-quiet
+returns-then-is_same-clause-quiet g c = c.read_into.ensures.quiet
+
+pub returns-in_err-write-clause-quiet : goal.returns-in_err-write-clause-quiet
+returns-in_err-write-clause-quiet g c = c.read_into.ensures.quiet
+
+pub returns-clause-quiet : goal.returns-clause-quiet
+returns-clause-quiet g c = c.read_into.ensures.quiet
