@@ -1,5 +1,5 @@
 -- Why a call on a sound image is refused for a limit, 13: an L1 table would be too long, or clusters have no place. What the call itself frees counts as in use.
-use Rattle.std.specs.Prelude.{ℕ, ◌+◌, ◌-◌, ◌*◌, ◌/◌, ◌<◌, ◌≤◌, ◌≡◌, ◌⊎◌, ◌%◌, ◌++◌, min, List, Some, true}
+use Rattle.std.specs.Prelude.{ℕ, ◌+◌, ◌-◌, ◌*◌, ◌/◌, ◌<◌, ◌≤◌, ◌≡◌, ◌≢◌, ◌⊎◌, ◌%◌, ◌++◌, min, List, Some, true}
 use Rattle.image_access.specs.Moments.{StorageView}
 use Rattle.qcow2_metadata.specs.declared.header.HeaderFields.{HeaderFields}
 use Rattle.qcow2_metadata.specs.EntryTable.{EntryTableView, entry_count, HasRoomIfPlaced}
@@ -37,6 +37,10 @@ l1_clusters h entries = (8 * entries + cluster_size h - 1) / cluster_size h
 abbrev pub HasNoCluster : (ℕ → Type 0) → HeaderFields → Allocator → Type 0
 HasNoCluster used h allocator = HasNoPlace used h allocator 1
 
+-- a guest cluster needs a new host cluster for what stands for it: that isn't copied data, nor zeros that keep a host cluster marked copied
+abbrev pub NeedsCluster : L2Mapping → Type 0
+NeedsCluster mapping = (place : ℕ) → (mapping ≢ Data place true) × (mapping ≢ Zero (Some (place, true)))
+
 -- a mapping may begin in a cluster: what stands for the range's first cluster stands there, or zeros keep it; or it is the lowest free one
 abbrev pub MayBeginIn : L2Mapping → ℕ → (ℕ → Type 0) → HeaderFields → Type 0
 MayBeginIn first cluster used h = (first ≡ Data (cluster * cluster_size h) true) ⊎ ((first ≡ Zero (Some (cluster * cluster_size h, true))) ⊎ IsLowestRun used cluster 1)
@@ -51,6 +55,10 @@ pub record CantGoOnFrom (first : L2Mapping) (start n cluster taken : ℕ) (used 
 -- so it is of some cluster
 abbrev pub CantGoOn : (first : L2Mapping) → (start n : ℕ) → (ℕ → Type 0) → HeaderFields → Allocator → Type 0
 CantGoOn first start n used h allocator = (cluster taken : ℕ) × CantGoOnFrom first start n cluster taken used h allocator
+
+-- A range can't be prepared from what stands for its first cluster: that needs a new one, and one cluster has no place. Or a mapping that begins can't go on.
+abbrev pub CantPrepare : (first : L2Mapping) → (start n : ℕ) → (ℕ → Type 0) → HeaderFields → Allocator → Type 0
+CantPrepare first start n used h allocator = (NeedsCluster first × HasNoCluster used h allocator) ⊎ CantGoOn first start n used h allocator
 
 -- an L1 table of so many entries has none
 abbrev pub HasNoTablePlace : ℕ → (ℕ → Type 0) → HeaderFields → Allocator → Type 0
@@ -122,6 +130,14 @@ module _ {S F : Type 0} where
     abbrev pub bytes_in_table : ℕ → ℕ → Qcow2 S F → ℕ
     bytes_in_table offset n image = min n (rest_of_table image.file.header.fields offset)
 
+    -- what stands for a guest cluster needs a new one, and one cluster has no place
+    abbrev pub LacksFirst : L2Mapping → List ClustersToFreeEntry → Qcow2 S F → Qcow2 S F → Type 0
+    LacksFirst first runs old new = NeedsCluster first × StandsInWay HasNoCluster runs old new
+
+    -- a refusal for a limit has that cause
+    abbrev pub IsLimitedByFirst : L2Mapping → Qcow2 S F → Qcow2 S F → ImageError → Type 0
+    IsLimitedByFirst first old new e = e ≡ Limit → LacksFirst first old.file.free_list old new
+
     -- just this cluster can't be counted; all that was in use is, and behind what was listed are clusters of reftables
     pub record CantTake (cluster : ℕ) (old new : Qcow2 S F) : Type 0 where
       pub former : ListsFormer old new
@@ -142,10 +158,10 @@ module _ {S F : Type 0} where
       pub own : (k : ℕ) → IsListed released k → 0 < run_at cluster taken k
       pub behind : StandsInWay (CantGoOnFrom first start n cluster taken) (runs ++ released) old new
 
-    -- there is no cluster for the first bytes of a range, or the mapping can't go on
+    -- the first bytes of a range need a new cluster and there is none, or the mapping can't go on
     abbrev pub LacksData : ℕ → ℕ → List ClustersToFreeEntry → Qcow2 S F → Qcow2 S F → Type 0
     LacksData offset n runs old new =
-        StandsInWay HasNoCluster runs old new ⊎ LacksBehind (first_of_range offset old) (offset % cluster_size old.file.header.fields) (bytes_in_table offset n old) runs old new
+        LacksFirst (first_of_range offset old) runs old new ⊎ LacksBehind (first_of_range offset old) (offset % cluster_size old.file.header.fields) (bytes_in_table offset n old) runs old new
 
     -- not all of a range may be written where it is
     abbrev pub IsWrittenNowhere : ℕ → ℕ → Qcow2 S F → Type 0
@@ -155,8 +171,8 @@ module _ {S F : Type 0} where
     abbrev pub LacksRange : ℕ → ℕ → Qcow2 S F → Qcow2 S F → Type 0
     LacksRange offset n old new = LacksTableFor offset old new ⊎ (IsWrittenNowhere offset n old × LacksData offset n (listed_or_l1 old) old new)
 
-    -- Why a range isn't prepared: there is no L2 table of the image's own for it. Or it can't be written where it is, and one cluster for its first bytes has no place, or a mapping that begins can't go on.
+    -- Why a range isn't prepared: there is no L2 table of the image's own for it. Or it can't be written where it is, and its first bytes need a new cluster, which has no place, or a mapping that begins can't go on.
     abbrev pub LacksPlaceFor : ℕ → ℕ → Qcow2 S F → Qcow2 S F → Type 0
     LacksPlaceFor offset n old new =
         LacksTableFor offset old new
-        ⊎ IsWrittenNowhere offset n old × StandsInWay (λ used h allocator. HasNoCluster used h allocator ⊎ CantGoOn (first_of_range offset old) (offset % cluster_size old.file.header.fields) (bytes_in_table offset n old) used h allocator) (listed_or_l1 old) old new
+        ⊎ IsWrittenNowhere offset n old × StandsInWay (CantPrepare (first_of_range offset old) (offset % cluster_size old.file.header.fields) (bytes_in_table offset n old)) (listed_or_l1 old) old new

@@ -1,5 +1,5 @@
 -- Why a part of a call was refused for a limit: it is so of parts before and behind it, though clusters are freed.
-use Rattle.std.proofs.Common.{◌≡◌, ◌⊎◌, inl, inr, ℕ, ◌+◌, ◌<◌, ◌≤◌, Bool, List, [], ◌∷◌, ◌++◌, Option, Some, Result, Ok, Err, refl, sym, ap, ◌∙◌, subst, arith}
+use Rattle.std.proofs.Common.{◌≡◌, ◌≢◌, ◌⊎◌, inl, inr, true, false, ℕ, ◌+◌, ◌<◌, ◌≤◌, Bool, List, [], ◌∷◌, ◌++◌, Option, Some, Result, Ok, Err, refl, sym, ap, ◌∙◌, subst, arith}
 use Rattle.std.proofs.lemmas.Bool.{cases_lt}
 use Rattle.std.proofs.lemmas.Nat.{le-div, pow_pos}
 use Rattle.std.specs.Prelude.{IfErr, IfSome, IsErr, IsErrAnd, IsSome, None, OnOk, max, length, ◌-◌, ◌*◌, ◌/◌, ◌^◌}
@@ -10,6 +10,9 @@ use Rattle.qcow2_metadata.specs.Entries.{count}
 use Rattle.qcow2_metadata.specs.EntryTable.{EntryTableView, HasRoomIfPlaced, IsL1TableOf, IsRefTableOf, entry_count}
 use Rattle.qcow2_metadata.specs.L2Mapping.{IsHostCluster, greatest_offset}
 use Rattle.qcow2_metadata.specs.Header.{HeaderView, cluster_size}
+use Rattle.qcow2_metadata.specs.declared.l2_mapping.L2Mapping.{L2Mapping}
+use Rattle.qcow2_metadata.specs.declared.l2_mapping.L2Mapping.TheVariants.{Zero}
+use Rattle.qcow2_disk.specs.Mappings.{is_copied_data}
 use Rattle.qcow2_metadata.specs.declared.header.HeaderFields.{HeaderFields}
 use Rattle.qcow2_laws.specs.CrashInvariant.{CrashInvariant, Pending, SameCovers}
 use Rattle.qcow2_alloc.specs.declared.allocation.Allocator.{Allocator}
@@ -32,7 +35,7 @@ use Rattle.qcow2_image.specs.CallParts.{RefusedCall}
 use Rattle.qcow2_image.specs.declared.image.Qcow2.{Qcow2}
 use Rattle.qcow2_image.specs.declared.prepared.Prepared.{Prepared}
 use Rattle.qcow2_image.specs.ImageInvariant.{ImageInvariant, pending_in}
-use Rattle.qcow2_image.specs.LackedPlaces.{CantTakeAt, EndsBefore, FreesJustListed, HasNearEntry, HasNoCluster, HasNoTablePlace, IsListed, IsPlacedNear, LacksLongerTable, LacksTableFor, StandsInWay, l1_clusters, listed_or_l1}
+use Rattle.qcow2_image.specs.LackedPlaces.{CantTakeAt, EndsBefore, FreesJustListed, HasNearEntry, HasNoCluster, HasNoTablePlace, IsListed, IsPlacedNear, LacksLongerTable, LacksTableFor, NeedsCluster, StandsInWay, l1_clusters, listed_or_l1}
 use Rattle.qcow2_image.specs.Image.{HasNothingToFree}
 use Rattle.qcow2_image.specs.LongerTables.{IsLongerL1, clusters_of, listed, run_of_table}
 use Rattle.qcow2_image.specs.Found.{l1_index_of}
@@ -66,6 +69,10 @@ faults_unlimited (Err e) fault = fault_unlimited e fault
 -- a refusal for a limit that isn't a fault has its cause
 pub cause_of : (C : Type 0) (e : ImageError) → IsFaultOr C e → e ≡ I.Limit → C
 cause_of C e why is = elim why [ inl fault ↦ other_limit C e (fault_unlimited e fault) is | inr cause ↦ cause.1 ]
+
+-- what is neither copied data nor keeps a host cluster marked copied needs a new one
+pub needs_new : (mapping : L2Mapping) → is_copied_data mapping ≡ false → ((place : ℕ) → mapping ≢ Zero (Some (place, true))) → NeedsCluster mapping
+needs_new mapping other none place = (λ is. absurd (let no : true ≡ false = subst (λ (x : L2Mapping). is_copied_data x ≡ false) is other in cc), none place)
 
 -- ---- runs of a list
 any : ClusterKind → ℕ → ℕ

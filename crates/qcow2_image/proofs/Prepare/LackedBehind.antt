@@ -24,7 +24,7 @@ use Rattle.qcow2_alloc.specs.declared.clusters_to_free.ClustersToFreeEntry.{Clus
 use Rattle.qcow2_alloc.proofs.Limits.{count_more, lowest_more}
 use Rattle.qcow2_alloc.proofs.Runs.{run_after, run_before, run_in}
 use Rattle.qcow2_image.specs.ImageInvariant.{begin_of, cluster_of, host_begin_of, new_data_in, IsNewAt, IsPending, IsShareAt}
-use Rattle.qcow2_image.specs.LackedPlaces.{CantGoOn, CantGoOnFrom, CantTakeAt, FreesJustListed, HasNoCluster, IsListed, LacksBehind, LacksData, IsWrittenNowhere, LacksPlaceFor, LacksRange, MayBeginIn, StandsInWay, bytes_in_table, first_of_range, listed_or_l1}
+use Rattle.qcow2_image.specs.LackedPlaces.{CantGoOnFrom, CantPrepare, CantTakeAt, FreesJustListed, HasNoCluster, IsListed, LacksBehind, LacksData, IsWrittenNowhere, LacksPlaceFor, LacksRange, MayBeginIn, NeedsCluster, StandsInWay, bytes_in_table, first_of_range, listed_or_l1}
 use Rattle.qcow2_disk.specs.Found.{rest_of_table}
 use Rattle.qcow2_image.specs.ListedClusters.{GaveWayMeanwhile, ListsFormer, ListsSinceTable}
 use Rattle.qcow2_image.specs.MovedTables.{CoversStay, MovesTables}
@@ -269,7 +269,7 @@ module _ {S F : Type 0} (view : S → StorageView) where
 
   -- in the end what was taken doesn't count beside the mapping's own
   pub behind_ended : (first : L2Mapping) (start n : ℕ) (runs : List ClustersToFreeEntry) (old new : Qcow2 S F) → new.file.free_list ≡ [] → LacksBehind view first start n runs old new
-      → StandsInWay view (λ used h allocator. HasNoCluster used h allocator ⊎ CantGoOn first start n used h allocator) runs old new
+      → StandsInWay view (CantPrepare first start n) runs old new
   behind_ended first start n runs old new empty lacks =
       let s = lacks.behind in
       record {
@@ -296,7 +296,7 @@ module _ {S F : Type 0} (view : S → StorageView) where
   pub data_then : (offset n : ℕ) (went : List ClustersToFreeEntry) (old mid new : Qcow2 S F) → first_of_range view offset mid ≡ first_of_range view offset old → cluster_size mid.file.header.fields ≡ cluster_size old.file.header.fields → bytes_in_table view offset n mid ≡ bytes_in_table view offset n old → GaveWayMeanwhile went old mid
       → ((k : ℕ) → IsListed mid.file.free_list k → IsListed (listed_or_l1 old ++ went) k) → LacksData view offset n mid.file.free_list mid new → LacksData view offset n (listed_or_l1 old) old new
   data_then offset n went old mid new same size bounded gave wide lacks = elim lacks [
-    | inl s ↦ inl (stands_then view HasNoCluster cluster_more mid.file.free_list (listed_or_l1 old) went old mid new gave wide s)
+    | inl none ↦ inl (subst NeedsCluster same none.0, stands_then view HasNoCluster cluster_more mid.file.free_list (listed_or_l1 old) went old mid new gave wide none.1)
     | inr behind ↦ inr (subst (λ (x : L2Mapping). LacksBehind view x (offset % cluster_size old.file.header.fields) (bytes_in_table view offset n old) (listed_or_l1 old) old new) same
         (subst (λ s. LacksBehind view (first_of_range view offset mid) (offset % s) (bytes_in_table view offset n old) (listed_or_l1 old) old new) size
         (subst (λ m. LacksBehind view (first_of_range view offset mid) (offset % cluster_size mid.file.header.fields) m (listed_or_l1 old) old new) bounded
@@ -312,8 +312,8 @@ module _ {S F : Type 0} (view : S → StorageView) where
       elim lacks [
         | inl table ↦ inl (lacks_freed view offset old mid new header just table)
         | inr lacks_data ↦ inr (lacks_data.0, elim lacks_data.1 [
-          | inl s ↦ stands_as view HasNoCluster (λ used h allocator. HasNoCluster used h allocator ⊎ CantGoOn first start bytes used h allocator) (listed_or_l1 old) old new (λ A a none. inl none)
-              (stands_after view HasNoCluster cluster_more (listed_or_l1 old) old mid new header just s)
+          | inl none ↦ stands_as view HasNoCluster (CantPrepare first start bytes) (listed_or_l1 old) old new (λ A a full. inl (none.0, full))
+              (stands_after view HasNoCluster cluster_more (listed_or_l1 old) old mid new header just none.1)
           | inr behind ↦ behind_ended first start bytes (listed_or_l1 old) old new empty (record {
             cluster = behind.cluster;
             taken = behind.taken;
@@ -335,10 +335,10 @@ module _ {S F : Type 0} (view : S → StorageView) where
         let bytes = bytes_in_table view offset n old in
         let header = ap (λ (i : Qcow2 S F). i.file.header) rest in
         let runs = ap (λ (i : Qcow2 S F). listed_or_l1 i) rest in
-        let it = subst (λ l. StandsInWay view (λ used h allocator. HasNoCluster used h allocator ⊎ CantGoOn (first_of_range view offset old) start bytes used h allocator) l begun new) runs
-        (subst (λ (v : HeaderView). StandsInWay view (λ used h allocator. HasNoCluster used h allocator ⊎ CantGoOn (first_of_range view offset old) (offset % cluster_size v.fields) (min n (rest_of_table v.fields offset)) used h allocator) (listed_or_l1 begun) begun new) header
-        (subst (λ (x : L2Mapping). StandsInWay view (λ used h allocator. HasNoCluster used h allocator ⊎ CantGoOn x (offset % cluster_size begun.file.header.fields) (bytes_in_table view offset n begun) used h allocator) (listed_or_l1 begun) begun new) same s)) in
-        inr (nowhere place.0, stands_ended view (λ used h allocator. HasNoCluster used h allocator ⊎ CantGoOn (first_of_range view offset old) start bytes used h allocator) (listed_or_l1 old) old begun new failed (ap (λ (i : Qcow2 S F). i.allocator) rest) it)
+        let it = subst (λ l. StandsInWay view (CantPrepare (first_of_range view offset old) start bytes) l begun new) runs
+        (subst (λ (v : HeaderView). StandsInWay view (CantPrepare (first_of_range view offset old) (offset % cluster_size v.fields) (min n (rest_of_table v.fields offset))) (listed_or_l1 begun) begun new) header
+        (subst (λ (x : L2Mapping). StandsInWay view (CantPrepare x (offset % cluster_size begun.file.header.fields) (bytes_in_table view offset n begun)) (listed_or_l1 begun) begun new) same s)) in
+        inr (nowhere place.0, stands_ended view (CantPrepare (first_of_range view offset old) start bytes) (listed_or_l1 old) old begun new failed (ap (λ (i : Qcow2 S F). i.allocator) rest) it)
   ]
 
   -- the same stands for the range once the call began

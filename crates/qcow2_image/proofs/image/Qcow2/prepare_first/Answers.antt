@@ -1,8 +1,9 @@
 use Rattle.std.proofs.Common.{rules, refl, ◌/◌, sym, ap, ◌∙◌, subst, List, length}
 use Rattle.qcow2_metadata.specs.Cover.{cover}
-use Rattle.std.specs.Prelude.{vec_capacity}
+use Rattle.std.specs.Prelude.{IfErr, vec_capacity}
 use Rattle.qcow2_image.specs.declared.prepared.Share.{Share}
 use Rattle.qcow2_metadata.specs.Header.{cluster_size}
+use Rattle.qcow2_metadata.specs.declared.l2_mapping.L2Mapping.{L2Mapping}
 use Rattle.qcow2_alloc.specs.ImageFile.{known_in}
 use Rattle.qcow2_alloc.proofs.AllocationSteps.{handed_on}
 use Rattle.qcow2_image.specs.declared.prepared.Prepared.{Prepared}
@@ -25,7 +26,7 @@ use Rattle.qcow2_alloc.proofs.KeptTables.Turning.{always_ok}
 use Rattle.qcow2_alloc.specs.CachePins.{l2_pins}
 use Rattle.qcow2_image.proofs.Clear.Between.{no_pins}
 use Rattle.qcow2_image.proofs.Prepare.Lacked.{hands_limit, other_limit}
-use Rattle.qcow2_image.specs.LackedPlaces.{HasNoCluster, StandsInWay}
+use Rattle.qcow2_image.specs.LackedPlaces.{IsLimitedByFirst, LacksFirst, first_of_range}
 use Rattle.qcow2_image.proofs.image.Qcow2.prepare_first.Goals as goal
 
 pub returns-then-l2_is_pinned-clause-readies : goal.returns-then-l2_is_pinned-clause-readies
@@ -147,4 +148,12 @@ returns-in-None-clause-unpinned g c = always_ok c.prepare_private.result (no_pin
 
 pub returns-in_err-old-clause-limit : goal.returns-in_err-old-clause-limit
 returns-in_err-old-clause-limit g c = λ out sound holds.
-    hands_limit (λ x. StandsInWay g.S.Storage.view HasNoCluster c.args.self.now.file.free_list c.args.self.now c.args.self.now) c.from_residual-in_err-old.result c.in_err-old.field-0.0 c.from_residual-in_err-old.ensures (other_limit _ c.in_err-old.field-0.0 c.in_err-old.ensures.limited)
+    hands_limit (λ x. LacksFirst g.S.Storage.view (first_of_range g.S.Storage.view c.args.offset c.args.self.now) c.args.self.now.file.free_list c.args.self.now c.args.self.now) c.from_residual-in_err-old.result c.in_err-old.field-0.0 c.from_residual-in_err-old.ensures (other_limit _ c.in_err-old.field-0.0 c.in_err-old.ensures.limited)
+
+pub returns-in-None-clause-limit : goal.returns-in-None-clause-limit
+returns-in-None-clause-limit g c = λ out sound holds.
+    let view = g.S.Storage.view in
+    let old = c.args.self.now in
+    let p = pending_in view g.F.BackingDisk.backing old out in
+    let covered = first_stands view g.F.BackingDisk.backing old p c.args.offset c.args.table c.new.result c.cluster_bits.result c.cluster-cluster.result c.in_ok-old.old c.cluster-cluster.ensures c.new.ensures c.cluster_bits.ensures.value holds (c.in_ok-old.ensures.says p (l1_index_of old.file.header.fields c.args.offset) sound.file) in
+    subst (λ (x : L2Mapping). IfErr c.prepare_private.result (IsLimitedByFirst view x old c.prepare_private.new.self)) (sym covered) (c.prepare_private.ensures.limit out sound holds)
