@@ -19,6 +19,7 @@ use Rattle.qcow2_alloc.specs.declared.clusters_to_free.ClustersToFreeEntry.{Clus
 use Rattle.qcow2_alloc.specs.declared.error.ImageError.{ImageError}
 use Rattle.qcow2_alloc.specs.declared.error.ImageError.TheVariants.{Limit}
 use Rattle.qcow2_image.specs.declared.image.Qcow2.{Qcow2}
+use Rattle.qcow2_image.specs.declared.prepared.Prepared.{Prepared}
 use Rattle.qcow2_image.specs.Found.{l1_index_of}
 use Rattle.qcow2_image.specs.L1Entries.{HasOwnTable}
 use Rattle.qcow2_image.specs.ListedClusters.{GaveWayMeanwhile, KeepsReftable, ListsFormer}
@@ -45,20 +46,25 @@ NeedsCluster mapping = (place : ℕ) → (mapping ≢ Data place true) × (mappi
 abbrev pub MayBeginIn : L2Mapping → ℕ → (ℕ → Type 0) → HeaderFields → Type 0
 MayBeginIn first cluster used h = (first ≡ Data (cluster * cluster_size h) true) ⊎ ((first ≡ Zero (Some (cluster * cluster_size h, true))) ⊎ IsLowestRun used cluster 1)
 
--- A mapping of n bytes that begins so far behind the start of its first cluster may begin in a cluster. Behind that one and others, which were taken, the next can't be counted, though bytes of the range would go there.
-pub record CantGoOnFrom (first : L2Mapping) (start n cluster taken : ℕ) (used : ℕ → Type 0) (h : HeaderFields) (allocator : Allocator) : Type 0 where
+-- a guest cluster would go on into a place as a new one: it is neither copied data, nor zeros that keep that place
+abbrev pub IsNewThere : L2Mapping → ℕ → Type 0
+IsNewThere mapping place = ((other : ℕ) → mapping ≢ Data other true) × (mapping ≢ Zero (Some (place, true)))
+
+-- A mapping of n bytes that begins so far behind the start of its first cluster may begin in a cluster. Behind that one and others, which were taken, the next can't be counted, though bytes of the range would go there, as into a new one.
+pub record CantGoOnFrom (first next : L2Mapping) (start n cluster taken : ℕ) (used : ℕ → Type 0) (h : HeaderFields) (allocator : Allocator) : Type 0 where
   pub some : 0 < taken
   pub within : taken * cluster_size h < start + n
   pub begins : MayBeginIn first cluster used h
+  pub behind : IsNewThere next ((cluster + taken) * cluster_size h)
   pub uncounted : CantCount used h (run_at cluster taken) allocator (cluster + taken)
 
--- so it is of some cluster
-abbrev pub CantGoOn : (first : L2Mapping) → (start n : ℕ) → (ℕ → Type 0) → HeaderFields → Allocator → Type 0
-CantGoOn first start n used h allocator = (cluster taken : ℕ) × CantGoOnFrom first start n cluster taken used h allocator
+-- so it is of some cluster, by what stands for the first guest cluster and for those behind it
+abbrev pub CantGoOn : (first : L2Mapping) → (behind : ℕ → L2Mapping) → (start n : ℕ) → (ℕ → Type 0) → HeaderFields → Allocator → Type 0
+CantGoOn first behind start n used h allocator = (cluster taken : ℕ) × CantGoOnFrom first (behind taken) start n cluster taken used h allocator
 
 -- A range can't be prepared from what stands for its first cluster: that needs a new one, and one cluster has no place. Or a mapping that begins can't go on.
-abbrev pub CantPrepare : (first : L2Mapping) → (start n : ℕ) → (ℕ → Type 0) → HeaderFields → Allocator → Type 0
-CantPrepare first start n used h allocator = (NeedsCluster first × HasNoCluster used h allocator) ⊎ CantGoOn first start n used h allocator
+abbrev pub CantPrepare : (first : L2Mapping) → (behind : ℕ → L2Mapping) → (start n : ℕ) → (ℕ → Type 0) → HeaderFields → Allocator → Type 0
+CantPrepare first behind start n used h allocator = (NeedsCluster first × HasNoCluster used h allocator) ⊎ CantGoOn first behind start n used h allocator
 
 -- an L1 table of so many entries has none
 abbrev pub HasNoTablePlace : ℕ → (ℕ → Type 0) → HeaderFields → Allocator → Type 0
@@ -126,6 +132,10 @@ module _ {S F : Type 0} where
     abbrev pub first_of_range : ℕ → Qcow2 S F → L2Mapping
     first_of_range offset image = cover image.file.header.fields (known_in view image.file) (offset / cluster_size image.file.header.fields)
 
+    -- what stands for the guest cluster so many behind it
+    abbrev pub behind_first : ℕ → Qcow2 S F → ℕ → L2Mapping
+    behind_first offset image k = cover image.file.header.fields (known_in view image.file) (offset / cluster_size image.file.header.fields + k)
+
     -- how many bytes of a range lie within its first L2 table
     abbrev pub bytes_in_table : ℕ → ℕ → Qcow2 S F → ℕ
     bytes_in_table offset n image = min n (rest_of_table image.file.header.fields offset)
@@ -150,18 +160,22 @@ module _ {S F : Type 0} where
     abbrev pub CantTakeAt : ℕ → Qcow2 S F → Qcow2 S F → Type 0
     CantTakeAt host old new = (cluster : ℕ) × (cluster * cluster_size old.file.header.fields ≡ host) × CantTake cluster old new
 
+    -- so it is of the one behind a mapping, where the guest cluster behind it would go on as into a new one
+    abbrev pub CantGoBehind : Prepared → Qcow2 S F → Qcow2 S F → Type 0
+    CantGoBehind p old new = CantTakeAt (p.offset + p.length) old new × IsNewThere (first_of_range (p.guest + p.length) old) (p.offset + p.length)
+
     -- a mapping can't go on behind a cluster; of those that were taken for it some are listed
-    pub record LacksBehind (first : L2Mapping) (start n : ℕ) (runs : List ClustersToFreeEntry) (old new : Qcow2 S F) : Type 0 where
+    pub record LacksBehind (first : L2Mapping) (behind_it : ℕ → L2Mapping) (start n : ℕ) (runs : List ClustersToFreeEntry) (old new : Qcow2 S F) : Type 0 where
       pub cluster : ℕ
       pub taken : ℕ
       pub released : List ClustersToFreeEntry
       pub own : (k : ℕ) → IsListed released k → 0 < run_at cluster taken k
-      pub behind : StandsInWay (CantGoOnFrom first start n cluster taken) (runs ++ released) old new
+      pub behind : StandsInWay (CantGoOnFrom first (behind_it taken) start n cluster taken) (runs ++ released) old new
 
     -- the first bytes of a range need a new cluster and there is none, or the mapping can't go on
     abbrev pub LacksData : ℕ → ℕ → List ClustersToFreeEntry → Qcow2 S F → Qcow2 S F → Type 0
     LacksData offset n runs old new =
-        LacksFirst (first_of_range offset old) runs old new ⊎ LacksBehind (first_of_range offset old) (offset % cluster_size old.file.header.fields) (bytes_in_table offset n old) runs old new
+        LacksFirst (first_of_range offset old) runs old new ⊎ LacksBehind (first_of_range offset old) (behind_first offset old) (offset % cluster_size old.file.header.fields) (bytes_in_table offset n old) runs old new
 
     -- not all of a range may be written where it is
     abbrev pub IsWrittenNowhere : ℕ → ℕ → Qcow2 S F → Type 0
@@ -175,4 +189,4 @@ module _ {S F : Type 0} where
     abbrev pub LacksPlaceFor : ℕ → ℕ → Qcow2 S F → Qcow2 S F → Type 0
     LacksPlaceFor offset n old new =
         LacksTableFor offset old new
-        ⊎ IsWrittenNowhere offset n old × StandsInWay (CantPrepare (first_of_range offset old) (offset % cluster_size old.file.header.fields) (bytes_in_table offset n old)) (listed_or_l1 old) old new
+        ⊎ IsWrittenNowhere offset n old × StandsInWay (CantPrepare (first_of_range offset old) (behind_first offset old) (offset % cluster_size old.file.header.fields) (bytes_in_table offset n old)) (listed_or_l1 old) old new

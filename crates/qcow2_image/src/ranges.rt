@@ -1,5 +1,5 @@
 //! The clusters of a prepared range behind its first one.
-ghost use Rattle.qcow2_image.specs.LackedPlaces.{CantTake, CantTakeAt};
+ghost use Rattle.qcow2_image.specs.LackedPlaces.{CantGoBehind, CantTake, CantTakeAt};
 ghost use Rattle.qcow2_alloc.specs.declared.error.ImageError.TheVariants.{Limit};
 ghost use Rattle.qcow2_image.specs.BehindHeader.{StaysBehindHeader};
 ghost use Rattle.qcow2_alloc.specs.KeptMarks.{KeepsFileNotes};
@@ -59,7 +59,7 @@ impl<S: Storage, F: WrappedFormat<S>> Qcow2<S, F> {
         ensures header_cluster { StaysBehindHeader S.view self.old self.new }
         ensures cause { IfErr result IsMet }
         ensures limit { (start : Qcow2 S F) (out : List (Option Prepared)) (k : ℕ) → slice_get out k ≡ Some None → prepared.old.table ≡ Some table
-            → IsReadied S.view F.backing start self.old out k prepared.old.guest length overwrite prepared.old → IfErr result (λ e. e ≡ Limit → (prepared.new.length < min length (rest_of_table self.old.file.header.fields prepared.old.guest)) × CantTakeAt S.view (prepared.new.offset + prepared.new.length) self.old self.new) }
+            → IsReadied S.view F.backing start self.old out k prepared.old.guest length overwrite prepared.old → IfErr result (λ e. e ≡ Limit → (prepared.new.length < min length (rest_of_table self.old.file.header.fields prepared.old.guest)) × CantGoBehind S.view prepared.new self.old self.new) }
         ensures longer { IsLongerMapping self.old.file.header.fields length prepared.old prepared.new }
         ensures image_step { (start : Qcow2 S F) (out : List (Option Prepared)) (k : ℕ) → slice_get out k ≡ Some None → prepared.old.table ≡ Some table
             → IsReadied S.view F.backing start self.old out k prepared.old.guest length overwrite prepared.old → GoesOn S.view F.backing start self.new out k length overwrite prepared.new result }
@@ -92,7 +92,7 @@ impl<S: Storage, F: WrappedFormat<S>> Qcow2<S, F> {
         ensures notes { KeepsFileNotes S.view self.old.file self.new.file }
         ensures header_cluster { StaysBehindHeader S.view self.old self.new }
         ensures cause { IfErr result IsMet }
-        ensures limit { (out : List (Option Prepared)) (k : ℕ) → slice_get out k ≡ Some (Some prepared.old) → MayGoOn self.old.file.header.fields length table prepared.old → ImageInvariant S.view F.backing (pending_in S.view F.backing self.old out) self.old out → IfErr result (λ e. e ≡ Limit → CantTakeAt S.view (prepared.old.offset + prepared.old.length) self.old self.new) }
+        ensures limit { (out : List (Option Prepared)) (k : ℕ) → slice_get out k ≡ Some (Some prepared.old) → MayGoOn self.old.file.header.fields length table prepared.old → ImageInvariant S.view F.backing (pending_in S.view F.backing self.old out) self.old out → IfErr result (λ e. e ≡ Limit → CantGoBehind S.view prepared.old self.old self.new) }
         ensures same { result ≢ Ok true → prepared.new ≡ prepared.old }
         ensures room { vec_capacity prepared.new.shares ≡ vec_capacity prepared.old.shares }
         ensures next { result ≡ Ok true → IsNext self.old.file.header.fields length prepared.old prepared.new }
@@ -126,7 +126,7 @@ impl<S: Storage, F: WrappedFormat<S>> Qcow2<S, F> {
         ensures notes { KeepsFileNotes S.view self.old.file self.new.file }
         ensures header_cluster { StaysBehindHeader S.view self.old self.new }
         ensures cause { IfErr result IsMet }
-        ensures limit { (out : List (Option Prepared)) (k : ℕ) → slice_get out k ≡ Some (Some prepared.now) → MayGoOn self.old.file.header.fields length table prepared.now → ImageInvariant S.view F.backing (pending_in S.view F.backing self.old out) self.old out → IfErr result (λ e. e ≡ Limit → CantTakeAt S.view (prepared.now.offset + prepared.now.length) self.old self.new) }
+        ensures limit { (out : List (Option Prepared)) (k : ℕ) → slice_get out k ≡ Some (Some prepared.now) → MayGoOn self.old.file.header.fields length table prepared.now → ImageInvariant S.view F.backing (pending_in S.view F.backing self.old out) self.old out → IfErr result (λ e. e ≡ Limit → CantGoBehind S.view prepared.now self.old self.new) }
         ensures finds { (out : List (Option Prepared)) (k : ℕ) → slice_get out k ≡ Some (Some prepared.now) → MayGoOn self.old.file.header.fields length table prepared.now
             → ImageInvariant S.view F.backing (pending_in S.view F.backing self.old out) self.old out → FindsBehind S.view F.backing self.old self.new out length overwrite prepared.now result }
         ensures former { OnOk result (ListsFormer self.old self.new) }

@@ -11,7 +11,7 @@ use Rattle.qcow2_metadata.specs.EntryTable.{EntryTableView, HasRoomIfPlaced, IsL
 use Rattle.qcow2_metadata.specs.L2Mapping.{IsHostCluster, greatest_offset}
 use Rattle.qcow2_metadata.specs.Header.{HeaderView, cluster_size}
 use Rattle.qcow2_metadata.specs.declared.l2_mapping.L2Mapping.{L2Mapping}
-use Rattle.qcow2_metadata.specs.declared.l2_mapping.L2Mapping.TheVariants.{Zero}
+use Rattle.qcow2_metadata.specs.declared.l2_mapping.L2Mapping.TheVariants.{Data, Zero}
 use Rattle.qcow2_disk.specs.Mappings.{is_copied_data}
 use Rattle.qcow2_metadata.specs.declared.header.HeaderFields.{HeaderFields}
 use Rattle.qcow2_laws.specs.CrashInvariant.{CrashInvariant, Pending, SameCovers}
@@ -71,8 +71,11 @@ pub cause_of : (C : Type 0) (e : ImageError) → IsFaultOr C e → e ≡ I.Limit
 cause_of C e why is = elim why [ inl fault ↦ other_limit C e (fault_unlimited e fault) is | inr cause ↦ cause.1 ]
 
 -- what is neither copied data nor keeps a host cluster marked copied needs a new one
+pub not_copied : (mapping : L2Mapping) → is_copied_data mapping ≡ false → (place : ℕ) → mapping ≢ Data place true
+not_copied mapping other place is = absurd (let no : true ≡ false = subst (λ (x : L2Mapping). is_copied_data x ≡ false) is other in cc)
+
 pub needs_new : (mapping : L2Mapping) → is_copied_data mapping ≡ false → ((place : ℕ) → mapping ≢ Zero (Some (place, true))) → NeedsCluster mapping
-needs_new mapping other none place = (λ is. absurd (let no : true ≡ false = subst (λ (x : L2Mapping). is_copied_data x ≡ false) is other in cc), none place)
+needs_new mapping other none place = (not_copied mapping other place, none place)
 
 -- ---- runs of a list
 any : ClusterKind → ℕ → ℕ

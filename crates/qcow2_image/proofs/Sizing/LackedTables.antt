@@ -15,7 +15,7 @@ use Rattle.qcow2_image.specs.CallParts.{UnseenCall}
 use Rattle.qcow2_image.specs.Found.{l1_index_of}
 use Rattle.qcow2_image.specs.Image.{HasNothingToFree, size_of, with_marks}
 use Rattle.qcow2_image.specs.L1Entries.{ReachesOffset}
-use Rattle.qcow2_image.specs.LackedPlaces.{CantPrepare, FreesJustListed, HasNoCluster, HasNoTablePlace, LacksLongerTable, LacksPlaceFor, LacksTableFor, StandsInWay, bytes_in_table, first_of_range, listed_or_l1}
+use Rattle.qcow2_image.specs.LackedPlaces.{CantPrepare, FreesJustListed, HasNoCluster, HasNoTablePlace, LacksLongerTable, LacksPlaceFor, LacksTableFor, StandsInWay, behind_first, bytes_in_table, first_of_range, listed_or_l1}
 use Rattle.qcow2_image.specs.LackedTables.{LacksPlaceBehind, LacksTableReaching}
 use Rattle.qcow2_image.specs.Preallocation.{LacksPlaceOnWay, first_zeros}
 use Rattle.qcow2_image.proofs.Preallocate.Turns.{same_size}
@@ -54,7 +54,7 @@ module _ {S F : Type 0} (view : S → StorageView) where
       | inr s ↦ inr (
           s.0,
           stands_marked
-          (CantPrepare (first_of_range view offset old) (offset % cluster_size old.file.header.fields) (bytes_in_table view offset n old))
+          (CantPrepare (first_of_range view offset old) (behind_first view offset old) (offset % cluster_size old.file.header.fields) (bytes_in_table view offset n old))
           (listed_or_l1 old) s.1,
         )
     ]

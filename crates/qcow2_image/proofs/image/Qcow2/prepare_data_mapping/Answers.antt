@@ -28,7 +28,7 @@ use Rattle.qcow2_image.proofs.Prepare.Pinned.{begun_own, unpinned_begun}
 use Rattle.qcow2_image.specs.PinnedTables.{PreparesUnpinned}
 use Rattle.qcow2_image.specs.LowestPlaces.{BeginsLowest}
 use Rattle.qcow2_image.proofs.Prepare.Lacked.{limits_as}
-use Rattle.qcow2_image.proofs.Prepare.LackedBehind.{first_begun, place_ended}
+use Rattle.qcow2_image.proofs.Prepare.LackedBehind.{behind_begun, first_begun, place_ended}
 use Rattle.qcow2_image.specs.LackedPlaces.{LacksPlaceFor}
 use Rattle.qcow2_alloc.specs.declared.error.ImageError.TheVariants.{Limit}
 use Rattle.qcow2_image.proofs.image.Qcow2.prepare_data_mapping.Goals as goal
@@ -196,4 +196,4 @@ returns-clause-limit g c = λ may some out sound.
     subst (λ (r : Result _ _). IfErr r (λ x. x ≡ Limit → LacksPlaceFor view c.args.offset c.args.length old c.mark_failure.new.self)) (sym c.mark_failure.ensures.answer)
     (subst (λ (image : Qcow2 _ _). IfErr c.prepare-prepared.result (λ x. x ≡ Limit → LacksPlaceFor view c.args.offset c.args.length old image)) (sym c.mark_failure.ensures.rest)
     (limits_as (λ x. LacksPlaceFor view c.args.offset c.args.length mid new) (λ x. LacksPlaceFor view c.args.offset c.args.length old (record new { is_failed = failed })) c.prepare-prepared.result
-    (λ e lacks. place_ended view c.args.offset c.args.length old mid new failed c.begin.ensures.rest same (nowhere_before view old mid c.args.offset c.args.length stays.header stays.covers) lacks) (c.prepare-prepared.ensures.limit some out stays.sound)))
+    (λ e lacks. place_ended view c.args.offset c.args.length old mid new failed c.begin.ensures.rest same (behind_begun view c.args.offset old mid stays.header stays.covers) (nowhere_before view old mid c.args.offset c.args.length stays.header stays.covers) lacks) (c.prepare-prepared.ensures.limit some out stays.sound)))

@@ -3,6 +3,7 @@ use Rattle.std.specs.Prelude.{None, Err}
 use Rattle.qcow2_metadata.specs.Cover.{cover}
 use Rattle.qcow2_metadata.specs.Header.{cluster_size}
 use Rattle.qcow2_metadata.specs.declared.header.HeaderFields.{HeaderFields}
+use Rattle.qcow2_metadata.specs.declared.l2_mapping.L2Mapping.{L2Mapping}
 use Rattle.qcow2_alloc.specs.ImageFile.{KeepsHeader, known_in}
 use Rattle.qcow2_alloc.proofs.AllocationSteps.{handed_on}
 use Rattle.qcow2_alloc.proofs.ListedAfter.{header_format, header_then}
@@ -17,13 +18,13 @@ use Rattle.qcow2_alloc.proofs.KeptMarks.{notes_then}
 use Rattle.qcow2_image.proofs.Call.BehindHeader.{behind_then}
 use Rattle.qcow2_image.proofs.Prepare.InUse.{first_of, longer_lowest}
 use Rattle.qcow2_image.proofs.Prepare.Lacked.{hands_limit}
-use Rattle.qcow2_image.proofs.Prepare.LackedBehind.{cant_go_on, first_cluster, lacks_uncounted, own_released}
+use Rattle.qcow2_image.proofs.Prepare.LackedBehind.{cant_go_on, first_begun, first_cluster, lacks_uncounted, own_released}
 use Rattle.std.proofs.Common.{inl, inr, ℕ, length, ◌<◌, ◌*◌, ◌^◌, Some, Option}
 use Rattle.std.specs.Prelude.{slice_get}
 use Rattle.std.proofs.lemmas.Nat.{pow_pos}
 use Rattle.qcow2_disk.specs.Found.{rest_of_table}
 use Rattle.std.proofs.Common.{min}
-use Rattle.qcow2_image.specs.LackedPlaces.{LacksData, bytes_in_table, first_of_range}
+use Rattle.qcow2_image.specs.LackedPlaces.{IsNewThere, LacksData, behind_first, bytes_in_table, first_of_range}
 use Rattle.qcow2_image.specs.ImageInvariant.{IsPending, IsReadyWith}
 use Rattle.qcow2_image.specs.Ranges.{EndsWithCluster}
 use Rattle.qcow2_image.proofs.Call.Slots.{get_set_same}
@@ -181,7 +182,8 @@ returns-in-Err-clause-limit g c = λ out sound holds some is.
     let why = c.in-Err.ensures.limit old (None ∷ out) 0 refl first.under ready is in
     let bounded : bytes_in_table view c.args.offset c.args.length mid ≡ bytes_in_table view c.args.offset c.args.length old = ap (λ (x : HeaderFields). min c.args.length (rest_of_table x c.args.offset)) (header_format old.file.header mid.file.header c.in_ok-prepared.ensures.header) in
     let short : q.length < bytes_in_table view c.args.offset c.args.length old = subst (λ m. q.length < m) (ap (λ o. min c.args.length (rest_of_table mid.file.header.fields o)) first.guest ∙ bounded) why.0 in
-    let cant = why.1 in
+    let cant = why.1.0 in
+    let new_there = subst (λ (x : L2Mapping). IsNewThere x (q.offset + q.length)) (first_begun view (q.guest + q.length) old mid ready.header ready.covers) why.1.1 in
     let m = broken.mid in
     let h = m.file.header.fields in
     let size_old : cluster_size old.file.header.fields ≡ cluster_size h = sym (ap (λ (x : HeaderFields). cluster_size x) broken.readied.header) in
@@ -196,10 +198,10 @@ returns-in-Err-clause-limit g c = λ out sound holds some is.
     let share = first_of p.shares.items first.one in
     let it = cant.2 in
     let h_new = ap (λ (i : Qcow2 _ _). i.file.header) c.release_prepared.ensures.rest.rest in
-    inr (lacks_uncounted view (first_of_range view c.args.offset old) (c.args.offset % cluster_size old.file.header.fields) (bytes_in_table view c.args.offset c.args.length old) cluster (length q.shares.items) old mid rest new (freed_by q.shares.items) c.in_ok-prepared.ensures.former it.former
+    inr (lacks_uncounted view (first_of_range view c.args.offset old) (behind_first view c.args.offset old) (c.args.offset % cluster_size old.file.header.fields) (bytes_in_table view c.args.offset c.args.length old) cluster (length q.shares.items) old mid rest new (freed_by q.shares.items) c.in_ok-prepared.ensures.former it.former
     (ap (λ (i : Qcow2 _ _). i.allocator) c.release_prepared.ensures.rest.rest) h_new
     (λ k used. subst (λ (v : HeaderView). count v.fields (known_in view new.file) k ≢ 0) (sym h_new) (subst (λ (b : Bytes). count rest.file.header.fields b k ≢ 0) (sym c.release_prepared.ensures.rest.known) used)) c.release_prepared.ensures.list
     (own_released h (known_in view m.file) (contents_in view m.file) q c.args.table positive pending cant.0 at whole)
-    it.allocator it.is (cant_go_on view old m rest q c.args.table positive pending cant.0 at whole c.args.offset (bytes_in_table view c.args.offset c.args.length old) it.allocator share.0 size_old size_rest (longer.guest ∙ first.guest) short broken.readied.covers (longer.first share.0 share.1)
+    it.allocator it.is (cant_go_on view old m rest q c.args.table positive pending cant.0 at whole c.args.offset (bytes_in_table view c.args.offset c.args.length old) it.allocator share.0 size_old size_rest (longer.guest ∙ first.guest) short broken.readied.covers (longer.first share.0 share.1) new_there
     (λ taken old_data new_share k lt. it.uses k (c.in_ok-prepared.ensures.lowest out sound taken old_data (share.1 ∙ sym (longer.first share.0 share.1) ∙ new_share) k (subst (λ n. k < n) (ap (λ o. o / cluster_size h) longer.place ∙ ap (λ s. p.offset / s) (sym size_mid)) lt)))
     it.uncounted))

@@ -7,7 +7,7 @@ use Rattle.qcow2_image.specs.declared.prepared.Prepared.{Prepared}
 use Rattle.qcow2_image.specs.Ranges.{FindsBehind, IsExtended}
 use Rattle.qcow2_image.proofs.Prepare.Extending.{extended}
 use Rattle.qcow2_image.proofs.Prepare.Lacked.{hands_limit}
-use Rattle.qcow2_image.specs.LackedPlaces.{CantTakeAt}
+use Rattle.qcow2_image.specs.LackedPlaces.{CantGoBehind}
 use Rattle.qcow2_image.proofs.image.Qcow2.prepare_next.Goals as goal
 
 pub returns-in_default-clause-image_step : goal.returns-in_default-clause-image_step
@@ -50,4 +50,4 @@ returns-clause-uses g c = λ out k at may sound. c.in_ok-share.ensures.uses out 
 
 pub returns-in_err-share-clause-limit : goal.returns-in_err-share-clause-limit
 returns-in_err-share-clause-limit g c = λ out k at may sound.
-    hands_limit (λ x. CantTakeAt g.S.Storage.view (c.args.prepared.now.offset + c.args.prepared.now.length) c.args.self.now c.share_behind.new.self) c.from_residual.result c.in_err-share.field-0.0 c.from_residual.ensures (c.in_err-share.ensures.limit out k at may sound)
+    hands_limit (λ x. CantGoBehind g.S.Storage.view c.args.prepared.now c.args.self.now c.share_behind.new.self) c.from_residual.result c.in_err-share.field-0.0 c.from_residual.ensures (c.in_err-share.ensures.limit out k at may sound)

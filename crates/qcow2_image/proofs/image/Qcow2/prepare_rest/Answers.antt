@@ -12,9 +12,10 @@ use Rattle.qcow2_image.proofs.Call.FaultCounts.{counted_ok, counted_on, faults_t
 use Rattle.qcow2_image.proofs.Prepare.Listing.{lists_none, lists_then}
 use Rattle.qcow2_alloc.proofs.KeptMarks.{notes_none, notes_then}
 use Rattle.qcow2_image.proofs.Call.BehindHeader.{behind_none, behind_then}
-use Rattle.qcow2_image.proofs.Prepare.Lacked.{cant_after, hands_limit}
+use Rattle.qcow2_image.proofs.Prepare.Lacked.{hands_limit}
+use Rattle.qcow2_image.proofs.Prepare.LackedBehind.{cant_go_behind}
 use Rattle.qcow2_disk.specs.Found.{rest_of_table}
-use Rattle.qcow2_image.specs.LackedPlaces.{CantTakeAt}
+use Rattle.qcow2_image.specs.LackedPlaces.{CantGoBehind}
 use Rattle.std.proofs.Common.{◌+◌}
 use Rattle.qcow2_image.proofs.image.Qcow2.prepare_rest.Goals as goal
 
@@ -172,10 +173,10 @@ returns-in_err-prepare_next-clause-limit g c = λ start out k free under is.
     let may = may_go_on view below old now p q n c.min-end.result c.args.table c.args.overwrite so bound c.loop-prepared-test.true start out k under is in
     let before = so.image_step start out k free under is in
     let most = min n (rest_of_table old.file.header.fields p.guest) in
-    hands_limit (λ x. (c.prepare_next.new.prepared.length < most) × CantTakeAt view (c.prepare_next.new.prepared.offset + c.prepare_next.new.prepared.length) old new) c.from_residual.result e c.from_residual.ensures
+    hands_limit (λ x. (c.prepare_next.new.prepared.length < most) × CantGoBehind view c.prepare_next.new.prepared old new) c.from_residual.result e c.from_residual.ensures
     (λ limit.
-    subst (λ (x : Prepared). (x.length < most) × CantTakeAt view (x.offset + x.length) old new) (sym same) (
+    subst (λ (x : Prepared). (x.length < most) × CantGoBehind view x old new) (sym same) (
       subst (λ m. q.length < m) bound c.loop-prepared-test.true,
-      cant_after view (q.offset + q.length) old now new (so.header) c.loop-prepared.invariant.former (c.loop-prepared.invariant.uses start out k free under is)
+      cant_go_behind view q start old now new is.header is.covers before.header before.covers so.header c.loop-prepared.invariant.former (c.loop-prepared.invariant.uses start out k free under is)
           (c.in_err-prepare_next.ensures.limit (slice_set out k (Some q)) k (get_set_same out k (Some q) None free) may before.sound limit),
     ))

@@ -1,5 +1,6 @@
-use Rattle.std.proofs.Common.{◌≡◌, ◌+◌, ◌-◌, ◌/◌, ◌^◌, Some, true, false, arith, inl, refl, sym, ap, ◌∙◌, subst}
+use Rattle.std.proofs.Common.{◌≡◌, ◌≢◌, ◌+◌, ◌-◌, ◌/◌, ◌^◌, Some, true, false, arith, inl, refl, sym, ap, ◌∙◌, subst}
 use Rattle.qcow2_metadata.specs.Header.{cluster_size}
+use Rattle.qcow2_metadata.specs.declared.l2_mapping.L2Mapping.{L2Mapping}
 use Rattle.qcow2_metadata.specs.declared.l2_mapping.L2Mapping.TheVariants.{Data, Zero}
 use Rattle.qcow2_image.specs.ImageInvariant.{pending_in}
 use Rattle.qcow2_image.specs.Found.{l1_index_of}
@@ -17,8 +18,8 @@ use Rattle.qcow2_image.proofs.Prepare.Listing.{lists_none, lists_still}
 use Rattle.qcow2_alloc.proofs.KeptMarks.{notes_none}
 use Rattle.qcow2_image.proofs.Call.BehindHeader.{behind_none}
 use Rattle.qcow2_image.proofs.Prepare.InUse.{used_stays}
-use Rattle.qcow2_image.proofs.Prepare.Lacked.{hands_limit, limits_as, other_limit}
-use Rattle.qcow2_image.specs.LackedPlaces.{CantTakeAt}
+use Rattle.qcow2_image.proofs.Prepare.Lacked.{hands_limit, limits_as, not_copied, other_limit}
+use Rattle.qcow2_image.specs.LackedPlaces.{CantGoBehind, CantTakeAt, IsNewThere}
 use Rattle.qcow2_image.proofs.image.Qcow2.share_behind.Goals as goal
 
 pub returns-in-Some-copied_place-clause-finds : goal.returns-in-Some-copied_place-clause-finds
@@ -179,16 +180,29 @@ returns-in_ok-fill_kept-in-None-clause-uses g c = λ out k at may sound.
 
 pub returns-in_err-old-clause-limit : goal.returns-in_err-old-clause-limit
 returns-in_err-old-clause-limit g c = λ out k at may sound.
-    hands_limit (λ x. CantTakeAt g.S.Storage.view (c.args.prepared.now.offset + c.args.prepared.now.length) c.args.self.now c.args.self.now) c.from_residual.result c.in_err-old.field-0.0 c.from_residual.ensures (other_limit _ c.in_err-old.field-0.0 c.in_err-old.ensures.limited)
+    hands_limit (λ x. CantGoBehind g.S.Storage.view c.args.prepared.now c.args.self.now c.args.self.now) c.from_residual.result c.in_err-old.field-0.0 c.from_residual.ensures (other_limit _ c.in_err-old.field-0.0 c.in_err-old.ensures.limited)
 
 pub returns-in_err-fill_kept-in-None-clause-limit : goal.returns-in_err-fill_kept-in-None-clause-limit
 returns-in_err-fill_kept-in-None-clause-limit g c = λ out k at may sound.
-    hands_limit (λ x. CantTakeAt g.S.Storage.view (c.args.prepared.now.offset + c.args.prepared.now.length) c.args.self.now c.fill_kept.new.self) c.from_residual-in_err-fill_kept-in-None.result c.in_err-fill_kept-in-None.field-0.0 c.from_residual-in_err-fill_kept-in-None.ensures
+    hands_limit (λ x. CantGoBehind g.S.Storage.view c.args.prepared.now c.args.self.now c.fill_kept.new.self) c.from_residual-in_err-fill_kept-in-None.result c.in_err-fill_kept-in-None.field-0.0 c.from_residual-in_err-fill_kept-in-None.ensures
     (other_limit _ c.in_err-fill_kept-in-None.field-0.0 c.in_err-fill_kept-in-None.ensures.limited)
 
 pub returns-in-None-2-clause-limit : goal.returns-in-None-2-clause-limit
 returns-in-None-2-clause-limit g c = λ out k at may sound.
     let view = g.S.Storage.view in
-    limits_as (λ x. CantTakeAt view c.in-Some-checked_add.host c.args.self.now c.share_at.new.self) (λ x. CantTakeAt view (c.args.prepared.now.offset + c.args.prepared.now.length) c.args.self.now c.share_at.new.self) c.share_at.result
-    (λ e cant. subst (λ n. CantTakeAt view n c.args.self.now c.share_at.new.self) c.in-Some-checked_add.ensures.1 cant)
-    (c.share_at.ensures.limit (pending_in view g.F.BackingDisk.backing c.args.self.now out) out sound (λ m. omega arith))
+    let below = g.F.BackingDisk.backing in
+    let old = c.args.self.now in
+    let new = c.share_at.new.self in
+    let p = c.args.prepared.now in
+    let h = old.file.header.fields in
+    let cluster : c.cluster-cluster.result ≡ (p.guest + p.length) / cluster_size h = c.cluster-cluster.ensures ∙ ap (λ o. o / 2 ^ c.cluster_bits.result) (c.new.ensures ∙ c.in-Some.ensures.1) ∙ ap (λ b. (p.guest + p.length) / 2 ^ b) c.cluster_bits.ensures.value in
+    let covered = next_says view below old out k p at c.args.length c.args.table c.args.overwrite may sound c.cluster-cluster.result c.in_ok-old.old cluster (c.in_ok-old.ensures.says (pending_in view below old out) (l1_index_of h p.guest) sound.file) in
+    let here : cover h (known_in view old.file) ((p.guest + p.length) / cluster_size h) ≡ c.in_ok-old.old = ap (cover h (known_in view old.file)) (next_cluster view below old out k p at c.args.length c.args.table c.args.overwrite may sound) ∙ covered in
+    let own_not : c.in_ok-old.old ≢ Zero (Some (p.offset + p.length, true)) =
+    λ own. let yes = c.keeps.ensures.answer.1 (own ∙ ap (λ b. Zero (Some (b, true))) (sym c.in-Some-checked_add.ensures.1)) in absurd (let e : true ≡ false = sym yes ∙ c.if-keeps.false in cc) in
+    limits_as (λ x. CantTakeAt view c.in-Some-checked_add.host old new) (λ x. CantGoBehind view p old new) c.share_at.result
+    (λ e cant. (
+      subst (λ n. CantTakeAt view n old new) c.in-Some-checked_add.ensures.1 cant,
+      subst (λ (x : L2Mapping). IsNewThere x (p.offset + p.length)) (sym here) (not_copied c.in_ok-old.old (c.in-None-2.ensures.none refl), own_not),
+    ))
+    (c.share_at.ensures.limit (pending_in view below old out) out sound (λ m. omega arith))
