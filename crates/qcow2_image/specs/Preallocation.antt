@@ -162,10 +162,10 @@ module _ {S F : Type 0} (view : S → StorageView) (backing : F → BackingView)
     pub may : MayGrow (setting_of view backing old) (disk_of view backing old) size mode now
     pub shows : guest_of (abstract_of view backing new out) ≡ with_disk (guest_of (abstract_of view backing old out)) now
 
-  -- Or it broke off. That a table is prepared refuses it only where one of the range behind the end is, and a limit only where a place lacks for that.
+  -- Or it broke off. That a table is prepared refuses it only where zeros are asked for, and one of the range behind the end is; a limit only where a place lacks for that.
   pub record RefusedGrown (size : ℕ) (mode : PreallocateMode) (old new : Qcow2 S F) (out : List (Option Prepared)) (e : ImageError) : Type 0 where
     pub left : FillsGrownInPart size mode old new out ⊎ InterruptedGiving (all_given_by_growing old size mode) old new out e
-    pub taken : e ≡ I.TablePrepared → IsUnderMappingIn old.file.header.fields (disk_of view backing old).size (rounded_up (cluster_size old.file.header.fields) size) out
+    pub taken : e ≡ I.TablePrepared → (shows_old mode ≡ false) × IsUnderMappingIn old.file.header.fields (disk_of view backing old).size (rounded_up (cluster_size old.file.header.fields) size) out
     pub limit : e ≡ I.Limit → LacksPlaceOnWay (first_zeros (cluster_size old.file.header.fields) (size_of old) size mode) (size_of old) (rounded_up (cluster_size old.file.header.fields) size) old new out
 
   abbrev pub FillsGrownOrRefuses : ℕ → PreallocateMode → Qcow2 S F → Qcow2 S F → List (Option Prepared) → Result (Unit {0}) ImageError → Type 0

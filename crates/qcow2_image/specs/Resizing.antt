@@ -8,7 +8,7 @@ use Rattle.image_access.specs.declared.storage.PreallocateMode.TheVariants as Mo
 use Rattle.qcow2_metadata.specs.Bytes.{byte_at}
 use Rattle.qcow2_metadata.specs.Header.{header, cluster_size, rounded_up}
 use Rattle.qcow2_disk.specs.AbstractImages.{guest_of}
-use Rattle.qcow2_disk.specs.Calls.{AnsweredEffect, RefusedEffect, EffectOnSound, IsSame, IsShrinkEnd, IsShrunk, MayGrow, cleared, given_by_grow, given_by_shrink, given_by_shrunk, grown_to, to_backing, with_disk}
+use Rattle.qcow2_disk.specs.Calls.{AnsweredEffect, RefusedEffect, EffectOnSound, IsSame, IsShrinkEnd, IsShrunk, MayGrow, cleared, given_by_grow, given_by_shrink, given_by_shrunk, grown_to, shows_old, to_backing, with_disk}
 use Rattle.qcow2_disk.specs.Disk.{Disk}
 use Rattle.qcow2_disk.specs.GrownCovers.{GrownCovers}
 use Rattle.qcow2_disk.specs.Stops.{GivenBytes}
@@ -140,9 +140,9 @@ module _ {S F : Type 0} (view : S → StorageView) (backing : F → BackingView)
     pub zeros : mode ≡ Mode.Zero → ¬ LacksZeros old
     pub free : GrownFree mode (size_of old) size old.file.header.fields (known_in view old.file) out
 
-  -- A prepared L2 table refuses it only where one of the range behind the old end is. With `Zero`, where no entry can say that a cluster is zeros, no byte changes.
+  -- A prepared L2 table refuses it only where zeros are asked for, and one of the range behind the old end is. With `Zero`, where no entry can say that a cluster is zeros, no byte changes.
   pub record RefusesTables (mode : PreallocateMode) (size : ℕ) (old new : Qcow2 S F) (out : List (Option Prepared)) (e : ImageError) : Type 0 where
-    pub taken : e ≡ I.TablePrepared → IsUnderMappingIn old.file.header.fields (size_of old) (boundary_in old size) out
+    pub taken : e ≡ I.TablePrepared → (shows_old mode ≡ false) × IsUnderMappingIn old.file.header.fields (size_of old) (boundary_in old size) out
     pub zeros : mode ≡ Mode.Zero → LacksZeros old → RefusesUnchanged old new out e
 
   -- one or the other

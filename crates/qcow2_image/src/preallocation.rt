@@ -97,9 +97,8 @@ impl<S: Storage, F: WrappedFormat<S>> Qcow2<S, F> {
         requires larger { old < size }
         ensures stays { ImageStays self.old self.new }
         ensures cause { IfErr result IsMetPreparing }
-        ensures limited { mode ≡ PreallocateNone → IfErr result IsUnlimited }
         ensures emptied { HasNothingToFree self.old → OnOk result (HasNothingToFree self.new) }
-        ensures unfilled { mode ≡ PreallocateNone → self.new ≡ self.old }
+        ensures unfilled { mode ≡ PreallocateNone → (result ≡ Ok tt) × (self.new ≡ self.old) }
         ensures version { HasNothingToFree self.old → mode ≡ Zero → self.old.file.header.fields.version < 3 → (result ≡ Err Version) × (self.new ≡ self.old) }
         ensures fills { (out : List (Option Prepared)) → ImageInvariant S.view F.backing (pending_in S.view F.backing self.old out) self.old out
             → FillsGrownOrRefuses S.view F.backing size mode self.old self.new out result }

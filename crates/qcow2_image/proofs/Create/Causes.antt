@@ -107,7 +107,7 @@ pub grown_alone : {S F : Type 0} (view : S → StorageView) (backing : F → Bac
 grown_alone view backing old new size mode (Ok x) alone no_larger tables late = tt
 grown_alone view backing old new size mode (Err e) alone no_larger tables late = elim (cases_lt (size_of old) size) [
   | inr le ↦ absurd (let bad = (no_larger le).0 in cc)
-  | inl lt ↦ elim late [ inl met ↦ ⊎_elim (λ m. m) (λ is. absurd (none_under _ _ _ ((tables lt).taken is))) met | inr over ↦ absurd (takes_none old mode alone over.1) ]
+  | inl lt ↦ elim late [ inl met ↦ ⊎_elim (λ m. m) (λ is. absurd (none_under _ _ _ ((tables lt).taken is).1)) met | inr over ↦ absurd (takes_none old mode alone over.1) ]
 ]
 
 -- ---- failures of the storage

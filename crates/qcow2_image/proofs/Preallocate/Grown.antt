@@ -130,7 +130,7 @@ module _ {S F : Type 0} (view : S → StorageView) (backing : F → BackingView)
           → RefusedGrown view backing size mode old new out e
       grown_refused first begins e refused = record {
         left = ⊎_elim (λ (part : FillsSome view backing (size_of old) end old new out). inl (in_part part)) (λ (interrupted : InterruptedGiving view backing (given_by_zeros (size_of old) end ∷ []) old new out e). inr (broken e interrupted)) refused.left;
-        taken = λ is. subst (λ n. IsUnderMappingIn old.file.header.fields n end out) size_is (refused.taken is);
+        taken = λ is. (hides, subst (λ n. IsUnderMappingIn old.file.header.fields n end out) size_is (refused.taken is));
         limit = λ is. subst (λ f. LacksPlaceOnWay view backing f (size_of old) end old new out) begins (refused.limit is);
       }
 

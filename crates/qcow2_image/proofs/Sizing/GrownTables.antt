@@ -14,6 +14,7 @@ use Rattle.qcow2_metadata.specs.declared.header.HeaderFields.{HeaderFields}
 use Rattle.qcow2_metadata.specs.declared.l2_mapping.L2Mapping.{L2Mapping}
 use Rattle.qcow2_metadata.specs.declared.l2_mapping.L2Mapping.TheVariants.{Uncovered}
 use Rattle.qcow2_metadata.specs.Header.{HeaderView, cluster_size, rounded_up, with_fields, with_size, with_tables_of}
+use Rattle.qcow2_disk.specs.Calls.{shows_old}
 use Rattle.qcow2_disk.specs.GrownCovers.{FilledCovers, GrownCovers, first_zeros}
 use Rattle.qcow2_disk.specs.Mappings.{is_copied_data}
 use Rattle.qcow2_laws.specs.Guests.{guests}
@@ -137,14 +138,15 @@ module _ {S F : Type 0} (view : S → StorageView) (backing : F → BackingView)
   leaves_sized old long filled new size mode (Err e) call fills refused = tt
 
   -- a table that is prepared is one of the range, by the header of the call's begin
-  pub taken_behind : (old long filled : Qcow2 S F) (size : ℕ) (mode : PreallocateMode) (e : ImageError) → UnseenCall view backing old long out → RefusedGrown view backing size mode long filled out e → e ≡ I.TablePrepared → IsUnderMappingIn old.file.header.fields (size_of old) (boundary_in old size) out
+  pub taken_behind : (old long filled : Qcow2 S F) (size : ℕ) (mode : PreallocateMode) (e : ImageError) → UnseenCall view backing old long out → RefusedGrown view backing size mode long filled out e → e ≡ I.TablePrepared → (shows_old mode ≡ false) × IsUnderMappingIn old.file.header.fields (size_of old) (boundary_in old size) out
   taken_behind old long filled size mode e call refused is =
       let d = disk_of view backing long in
       let end = rounded_up (cluster_size long.file.header.fields) size in
       let shown = disk_size view backing long out call.sound in
       let moved : size_of long ≡ size_of old = ap (λ (h : HeaderFields). h.size) call.header in
       let last : end ≡ boundary_in old size = ap (λ n. rounded_up n size) (same_size old.file.header.fields long.file.header.fields call.header) in
-      taken_wider old.file.header.fields long.file.header.fields d.size end (size_of old) (boundary_in old size) out call.header (omega (arith, shown, moved)) (omega (arith, last)) (refused.taken is)
+      let taken = refused.taken is in
+      (taken.0, taken_wider old.file.header.fields long.file.header.fields d.size end (size_of old) (boundary_in old size) out call.header (omega (arith, shown, moved)) (omega (arith, last)) taken.1)
 
   -- the size is written last
   pub tables_sized : (old filled new : Qcow2 S F) (marked : Bool) (size : ℕ) (mode : PreallocateMode) (r : Result (Unit {0}) ImageError) → MovesTables old.file.header.fields filled.file.header.fields → IfErr r IsFaultOfTables → OnOk r (new.file.header ≡ with_fields filled.file.header (with_size filled.file.header.fields size))

@@ -55,7 +55,7 @@ pub returns-in-Err-clause-unfilled : goal.returns-in-Err-clause-unfilled
 returns-in-Err-clause-unfilled g c = λ none. absurd (let no : Ok tt ≡ Err c.in-Err.refusal = sym (c.fill_behind.ensures.unfilled none).0 ∙ c.in-Err.is in cc)
 
 pub returns-in-Ok-clause-unfilled : goal.returns-in-Ok-clause-unfilled
-returns-in-Ok-clause-unfilled g c = λ none. (c.fill_behind.ensures.unfilled none).1
+returns-in-Ok-clause-unfilled g c = λ none. (refl, (c.fill_behind.ensures.unfilled none).1)
 
 pub returns-in-Err-clause-faults : goal.returns-in-Err-clause-faults
 returns-in-Err-clause-faults g c =
@@ -76,6 +76,3 @@ returns-in-Ok-clause-notes g c = c.fill_behind.ensures.notes
 
 pub returns-in-Err-clause-notes : goal.returns-in-Err-clause-notes
 returns-in-Err-clause-notes g c = notes_then c.fill_behind.ensures.notes c.free_after.ensures.notes
-
-pub returns-in-Err-clause-limited : goal.returns-in-Err-clause-limited
-returns-in-Err-clause-limited g c = λ none. absurd (let no : Ok tt ≡ Err c.in-Err.refusal = sym (c.fill_behind.ensures.unfilled none).0 ∙ c.in-Err.is in cc)

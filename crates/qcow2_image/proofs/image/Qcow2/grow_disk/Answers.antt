@@ -42,7 +42,7 @@ use Rattle.qcow2_alloc.proofs.Outcomes.{err_as}
 use Rattle.qcow2_image.specs.Noted.{FailsOnceWritten}
 use Rattle.qcow2_image.proofs.Call.OnceWritten.{once_written, kept_noted, once_marked}
 use Rattle.qcow2_image.proofs.Call.BehindHeader.{behind_by, behind_call, behind_none, behind_then}
-use Rattle.qcow2_image.proofs.Prepare.Lacked.{faults_unlimited, limited_not, unlimited_all}
+use Rattle.qcow2_image.proofs.Prepare.Lacked.{faults_unlimited, unlimited_all}
 use Rattle.qcow2_image.proofs.Sizing.LackedTables.{behind_lacked, longer_ended}
 use Rattle.qcow2_image.specs.LackedTables.{CantGrowDisk, LacksPlaceBehind, LacksTableReaching}
 use Rattle.qcow2_alloc.specs.declared.error.ImageError.TheVariants.{Limit}
@@ -270,7 +270,7 @@ returns-clause-tables g c = λ out sound.
     let length = subst (λ (r : Result _ _). OnOk r (entry_count mid.l1_table ≡ max (entry_count begun.l1_table) (l1_index_of begun.file.header.fields (c.args.size - 1) + 1))) made c.renew_l1_table-longer.ensures.length in
     let reach : l1_index_of c.begin.new.self.file.header.fields (c.args.size - 1) < entry_count c.renew_l1_table-longer.new.self.l1_table = omega (arith, length) in
     let lengthened = subst (λ (image : Qcow2 _ _). ReachesSize (with_size image.file.header.fields c.args.size)) (sym same) (reaches_lengthened view below out begun mid c.args.size lengthens reach) in
-    let reached = reaches_filled view below out long filled c.args.size call.sound (let l = c.requires.larger in let s = ap (λ (h : HeaderFields). h.size) call.header in omega (arith, l, s)) c.args.mode c.fill_grown-filled.ensures.unfilled lengthened fills in
+    let reached = reaches_filled view below out long filled c.args.size call.sound (let l = c.requires.larger in let s = ap (λ (h : HeaderFields). h.size) call.header in omega (arith, l, s)) c.args.mode (λ none. (c.fill_grown-filled.ensures.unfilled none).1) lengthened fills in
     let grown = subst (λ (image : Qcow2 _ _). FillsGrown view below c.args.size c.args.mode long image out) (sym whole) fills in
     let step = c.begin.ensures.keeps (pending_in view below old out) out sound in
     let told = reaches_begun old.file.header.fields begun.file.header.fields mid.file.header.fields (c.args.size - 1) step.unseen.header
@@ -446,10 +446,10 @@ returns-in_err-mark_fault-clause-limit g c = λ out sound.
     let e = c.in_err-mark_fault.field-0.0 in
     let done : c.fill_grown-filled.result ≡ Err c.in_err-mark_fault.field-0.0 = sym c.mark_fault.ensures.answer ∙ c.in_err-mark_fault.was in
     let refused = subst (FillsGrownOrRefuses view below c.args.size c.args.mode long filled out) done (c.fill_grown-filled.ensures.fills out call.sound) in
-    let alone : e ≡ Limit → c.args.mode ≡ PreallocateNone → ⊥ = λ is none. limited_not e (subst (λ (r : Result _ _). IfErr r IsUnlimited) done (c.fill_grown-filled.ensures.limited none)) is in
+    let fails : c.args.mode ≡ PreallocateNone → ⊥ = λ none. absurd (let no : Err e ≡ Ok tt = sym done ∙ (c.fill_grown-filled.ensures.unfilled none).0 in cc) in
     subst (λ (r : Result _ _). IfErr r (λ x. x ≡ Limit → CantGrowDisk view below c.args.mode c.args.size old c.mark_fault.new.self out)) (sym (err_is c.from_residual-in_err-mark_fault.result c.from_residual-in_err-mark_fault.ensures))
     (λ is. inr (subst (λ (image : Qcow2 _ _). LacksPlaceBehind view below c.args.mode c.args.size old image out) (sym c.mark_fault.ensures.rest)
-    (behind_lacked view below out old long filled (is_changed_of c.mark_fault.new.self.file.storage) (is_failed c.mark_fault.new.self) c.args.size c.args.mode (alone is) call longer empty (refused.limit is))))
+    (behind_lacked view below out old long filled (is_changed_of c.mark_fault.new.self.file.storage) (is_failed c.mark_fault.new.self) c.args.size c.args.mode fails call longer empty (refused.limit is))))
 
 pub returns-clause-limit : goal.returns-clause-limit
 returns-clause-limit g c = λ out sound.
