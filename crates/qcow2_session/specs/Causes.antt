@@ -147,13 +147,14 @@ module _ {S F : Type 0} (view : S → StorageView) (backing : F → BackingView)
   ReadsLookedUp found slot at n (R.Bytes bytes) = 0 < n → (m : Mapping) × (found slot ≡ Some m) × IsFoundWhole view old (m.offset + at) (further_by at m.kind) n
   ReadsLookedUp found slot at n reply = refusal_in reply ≡ Some I.OutdatedMapping → (m : Mapping) × (found slot ≡ Some m) × (¬ IsFoundWhole view new (m.offset + at) (further_by at m.kind) n)
 
-  -- What a prepared mapping refuses, and nothing else: a range of its L2 table (9), a smaller disk (17). What is put, or read as it was looked up, is refused as outdated (10) only where it is. A commit is refused for a fault alone.
+  -- What a prepared mapping refuses, and nothing else: a range of its L2 table (9), a smaller disk (17). What is put, or read as it was looked up, is refused as outdated (10) only where it is. A commit and a flush are refused for a fault alone.
   abbrev pub HeedsPrepared : (found : ℕ → Option Mapping) → Command → Reply → Type 0
   HeedsPrepared found (C.Write offset bytes) reply = refusal_in reply ≡ Some I.TablePrepared → IsUnderMappingIn old.file.header.fields offset (offset + length bytes.items) before
   HeedsPrepared found (C.PrepareDataMapping slot offset n overwrite) reply = IsUntakenIn offset n reply
   HeedsPrepared found (C.ReadMapped slot at n) reply = ReadsLookedUp found slot at n reply
   HeedsPrepared found (C.WriteMapped slot at bytes) reply = refusal_in reply ≡ Some I.OutdatedMapping → IsOutdatedAt slot at (length bytes.items)
   HeedsPrepared found (C.CommitDataMapping slot) reply = IfSome (refusal_in reply) IsFault
+  HeedsPrepared found C.Flush reply = IfSome (refusal_in reply) IsFault
   HeedsPrepared found (C.EnsureZeroMapping offset n) reply = IsUntouchedUnder offset n reply
   HeedsPrepared found (C.DiscardToZero offset n) reply = IsUntouchedUnder offset n reply
   HeedsPrepared found (C.DiscardToAny offset n) reply = IsUntouchedUnder offset n reply
