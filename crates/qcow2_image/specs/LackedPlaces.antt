@@ -141,12 +141,12 @@ module _ {S F : Type 0} where
     bytes_in_table offset n image = min n (rest_of_table image.file.header.fields offset)
 
     -- what stands for a guest cluster needs a new one, and one cluster has no place
-    abbrev pub LacksFirst : L2Mapping → List ClustersToFreeEntry → Qcow2 S F → Qcow2 S F → Type 0
-    LacksFirst first runs old new = NeedsCluster first × StandsInWay HasNoCluster runs old new
+    abbrev pub LacksFirstCluster : L2Mapping → List ClustersToFreeEntry → Qcow2 S F → Qcow2 S F → Type 0
+    LacksFirstCluster first runs old new = NeedsCluster first × StandsInWay HasNoCluster runs old new
 
     -- a refusal for a limit has that cause
     abbrev pub IsLimitedByFirst : L2Mapping → Qcow2 S F → Qcow2 S F → ImageError → Type 0
-    IsLimitedByFirst first old new e = e ≡ Limit → LacksFirst first old.file.free_list old new
+    IsLimitedByFirst first old new e = e ≡ Limit → LacksFirstCluster first old.file.free_list old new
 
     -- just this cluster can't be counted; all that was in use is, and behind what was listed are clusters of reftables
     pub record CantTake (cluster : ℕ) (old new : Qcow2 S F) : Type 0 where
@@ -175,7 +175,7 @@ module _ {S F : Type 0} where
     -- the first bytes of a range need a new cluster and there is none, or the mapping can't go on
     abbrev pub LacksData : ℕ → ℕ → List ClustersToFreeEntry → Qcow2 S F → Qcow2 S F → Type 0
     LacksData offset n runs old new =
-        LacksFirst (first_of_range offset old) runs old new ⊎ LacksBehind (first_of_range offset old) (behind_first offset old) (offset % cluster_size old.file.header.fields) (bytes_in_table offset n old) runs old new
+        LacksFirstCluster (first_of_range offset old) runs old new ⊎ LacksBehind (first_of_range offset old) (behind_first offset old) (offset % cluster_size old.file.header.fields) (bytes_in_table offset n old) runs old new
 
     -- not all of a range may be written where it is
     abbrev pub IsWrittenNowhere : ℕ → ℕ → Qcow2 S F → Type 0

@@ -26,7 +26,7 @@ use Rattle.qcow2_alloc.proofs.KeptTables.Turning.{always_ok}
 use Rattle.qcow2_alloc.specs.CachePins.{l2_pins}
 use Rattle.qcow2_image.proofs.Clear.Between.{no_pins}
 use Rattle.qcow2_image.proofs.Prepare.Lacked.{hands_limit, other_limit}
-use Rattle.qcow2_image.specs.LackedPlaces.{IsLimitedByFirst, LacksFirst, first_of_range}
+use Rattle.qcow2_image.specs.LackedPlaces.{IsLimitedByFirst, LacksFirstCluster, first_of_range}
 use Rattle.qcow2_image.proofs.image.Qcow2.prepare_first.Goals as goal
 
 pub returns-then-l2_is_pinned-clause-readies : goal.returns-then-l2_is_pinned-clause-readies
@@ -148,7 +148,7 @@ returns-in-None-clause-unpinned g c = always_ok c.prepare_private.result (no_pin
 
 pub returns-in_err-old-clause-limit : goal.returns-in_err-old-clause-limit
 returns-in_err-old-clause-limit g c = λ out sound holds.
-    hands_limit (λ x. LacksFirst g.S.Storage.view (first_of_range g.S.Storage.view c.args.offset c.args.self.now) c.args.self.now.file.free_list c.args.self.now c.args.self.now) c.from_residual-in_err-old.result c.in_err-old.field-0.0 c.from_residual-in_err-old.ensures (other_limit _ c.in_err-old.field-0.0 c.in_err-old.ensures.limited)
+    hands_limit (λ x. LacksFirstCluster g.S.Storage.view (first_of_range g.S.Storage.view c.args.offset c.args.self.now) c.args.self.now.file.free_list c.args.self.now c.args.self.now) c.from_residual-in_err-old.result c.in_err-old.field-0.0 c.from_residual-in_err-old.ensures (other_limit _ c.in_err-old.field-0.0 c.in_err-old.ensures.limited)
 
 pub returns-in-None-clause-limit : goal.returns-in-None-clause-limit
 returns-in-None-clause-limit g c = λ out sound holds.

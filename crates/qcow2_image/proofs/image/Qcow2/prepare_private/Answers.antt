@@ -4,7 +4,7 @@ use Rattle.qcow2_image.proofs.Prepare.KeptShares.{begins_kept}
 use Rattle.qcow2_alloc.proofs.KeptTables.Turning.{always_ok}
 use Rattle.qcow2_image.proofs.Prepare.Listing.{lists_none, lists_still}
 use Rattle.qcow2_image.proofs.Prepare.Lacked.{limits_as, needs_new, unlimited_all}
-use Rattle.qcow2_image.specs.LackedPlaces.{HasNoCluster, LacksFirst, StandsInWay}
+use Rattle.qcow2_image.specs.LackedPlaces.{HasNoCluster, LacksFirstCluster, StandsInWay}
 use Rattle.qcow2_image.proofs.image.Qcow2.prepare_private.Goals as goal
 
 pub returns-in-Some-clause-readies : goal.returns-in-Some-clause-readies
@@ -39,12 +39,12 @@ returns-in-None-clause-lowest g c = λ out sound. c.prepare_new.ensures.lowest o
 
 pub returns-in-Some-clause-limit : goal.returns-in-Some-clause-limit
 returns-in-Some-clause-limit g c = λ out sound holds.
-    unlimited_all c.prepare_kept.result (λ e. LacksFirst g.S.Storage.view c.args.old.now c.args.self.now.file.free_list c.args.self.now c.prepare_kept.new.self) c.prepare_kept.ensures.limited
+    unlimited_all c.prepare_kept.result (λ e. LacksFirstCluster g.S.Storage.view c.args.old.now c.args.self.now.file.free_list c.args.self.now c.prepare_kept.new.self) c.prepare_kept.ensures.limited
 
 pub returns-in-None-clause-limit : goal.returns-in-None-clause-limit
 returns-in-None-clause-limit g c = λ out sound holds.
     let view = g.S.Storage.view in
     let old = c.args.self.now in
     let new = c.prepare_new.new.self in
-    limits_as (λ x. StandsInWay view HasNoCluster old.file.free_list old new) (λ x. LacksFirst view c.args.old.now old.file.free_list old new) c.prepare_new.result
+    limits_as (λ x. StandsInWay view HasNoCluster old.file.free_list old new) (λ x. LacksFirstCluster view c.args.old.now old.file.free_list old new) c.prepare_new.result
     (λ e full. (needs_new c.args.old.now c.requires.other (c.in-None.ensures.none refl), full)) (c.prepare_new.ensures.limit out sound holds)
