@@ -38,7 +38,7 @@ l1_clusters h entries = (8 * entries + cluster_size h - 1) / cluster_size h
 abbrev pub HasNoCluster : (ℕ → Type 0) → HeaderFields → Allocator → Type 0
 HasNoCluster used h allocator = HasNoPlace used h allocator 1
 
--- a guest cluster needs a new host cluster for what stands for it: that isn't copied data, nor zeros that keep a host cluster marked copied
+-- a guest cluster needs a new host cluster: what stands for it is neither copied data, nor zeros that keep a host cluster marked copied
 abbrev pub NeedsCluster : L2Mapping → Type 0
 NeedsCluster mapping = (place : ℕ) → (mapping ≢ Data place true) × (mapping ≢ Zero (Some (place, true)))
 
@@ -46,11 +46,11 @@ NeedsCluster mapping = (place : ℕ) → (mapping ≢ Data place true) × (mappi
 abbrev pub MayBeginIn : L2Mapping → ℕ → (ℕ → Type 0) → HeaderFields → Type 0
 MayBeginIn first cluster used h = (first ≡ Data (cluster * cluster_size h) true) ⊎ ((first ≡ Zero (Some (cluster * cluster_size h, true))) ⊎ IsLowestRun used cluster 1)
 
--- a guest cluster would go on into a place as a new one: it is neither copied data, nor zeros that keep that place
+-- a guest cluster would take a place as a new cluster: what stands for it is neither copied data, nor zeros that keep that place
 abbrev pub IsNewThere : L2Mapping → ℕ → Type 0
 IsNewThere mapping place = ((other : ℕ) → mapping ≢ Data other true) × (mapping ≢ Zero (Some (place, true)))
 
--- A mapping of n bytes that begins so far behind the start of its first cluster may begin in a cluster. Behind that one and others, which were taken, the next can't be counted, though bytes of the range would go there, as into a new one.
+-- A mapping of n bytes that begins so far behind the start of its first cluster may begin in a cluster. Behind that one and others, which were taken, the next can't be counted, though bytes of the range would go there, as into a new cluster.
 pub record CantGoOnFrom (first next : L2Mapping) (start n cluster taken : ℕ) (used : ℕ → Type 0) (h : HeaderFields) (allocator : Allocator) : Type 0 where
   pub some : 0 < taken
   pub within : taken * cluster_size h < start + n
@@ -62,7 +62,7 @@ pub record CantGoOnFrom (first next : L2Mapping) (start n cluster taken : ℕ) (
 abbrev pub CantGoOn : (first : L2Mapping) → (behind : ℕ → L2Mapping) → (start n : ℕ) → (ℕ → Type 0) → HeaderFields → Allocator → Type 0
 CantGoOn first behind start n used h allocator = (cluster taken : ℕ) × CantGoOnFrom first (behind taken) start n cluster taken used h allocator
 
--- A range can't be prepared from what stands for its first cluster: that needs a new one, and one cluster has no place. Or a mapping that begins can't go on.
+-- A range can't be prepared: its first guest cluster needs a new host cluster, and one cluster has no place. Or a mapping that begins can't go on.
 abbrev pub CantPrepare : (first : L2Mapping) → (behind : ℕ → L2Mapping) → (start n : ℕ) → (ℕ → Type 0) → HeaderFields → Allocator → Type 0
 CantPrepare first behind start n used h allocator = (NeedsCluster first × HasNoCluster used h allocator) ⊎ CantGoOn first behind start n used h allocator
 
@@ -140,7 +140,7 @@ module _ {S F : Type 0} where
     abbrev pub bytes_in_table : ℕ → ℕ → Qcow2 S F → ℕ
     bytes_in_table offset n image = min n (rest_of_table image.file.header.fields offset)
 
-    -- what stands for a guest cluster needs a new one, and one cluster has no place
+    -- a guest cluster needs a new host cluster, by what stands for it, and one cluster has no place
     abbrev pub LacksFirstCluster : L2Mapping → List ClustersToFreeEntry → Qcow2 S F → Qcow2 S F → Type 0
     LacksFirstCluster first runs old new = NeedsCluster first × StandsInWay HasNoCluster runs old new
 
@@ -160,7 +160,7 @@ module _ {S F : Type 0} where
     abbrev pub CantTakeAt : ℕ → Qcow2 S F → Qcow2 S F → Type 0
     CantTakeAt host old new = (cluster : ℕ) × (cluster * cluster_size old.file.header.fields ≡ host) × CantTake cluster old new
 
-    -- so it is of the one behind a mapping, where the guest cluster behind it would go on as into a new one
+    -- so it is of the one behind a mapping, which the guest cluster behind it would take as a new one
     abbrev pub CantGoBehind : Prepared → Qcow2 S F → Qcow2 S F → Type 0
     CantGoBehind p old new = CantTakeAt (p.offset + p.length) old new × IsNewThere (first_of_range (p.guest + p.length) old) (p.offset + p.length)
 

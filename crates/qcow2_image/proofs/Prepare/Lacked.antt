@@ -8,7 +8,7 @@ use Rattle.image_access.specs.Moments.{StorageView}
 use Rattle.qcow2_metadata.specs.Bytes.{Bytes}
 use Rattle.qcow2_metadata.specs.Entries.{count}
 use Rattle.qcow2_metadata.specs.EntryTable.{EntryTableView, HasRoomIfPlaced, IsL1TableOf, IsRefTableOf, entry_count}
-use Rattle.qcow2_metadata.specs.L2Mapping.{IsHostCluster, greatest_offset}
+use Rattle.qcow2_metadata.specs.L2Mapping.{IsHostCluster}
 use Rattle.qcow2_metadata.specs.Header.{HeaderView, cluster_size}
 use Rattle.qcow2_metadata.specs.declared.l2_mapping.L2Mapping.{L2Mapping}
 use Rattle.qcow2_metadata.specs.declared.l2_mapping.L2Mapping.TheVariants.{Data, Zero}
@@ -42,7 +42,7 @@ use Rattle.qcow2_image.specs.Found.{l1_index_of}
 use Rattle.qcow2_image.specs.L1Entries.{HasFarEntry}
 use Rattle.qcow2_image.specs.ListedClusters.{GaveWayMeanwhile, KeepsReftable, ListsFormer}
 use Rattle.qcow2_image.specs.Refusals.{FreesRefused, IsUnlimited}
-use Rattle.qcow2_image.specs.UnseenSteps.{FreesListed, UnseenFreeingStep}
+use Rattle.qcow2_image.specs.UnseenSteps.{FreesListed}
 use Rattle.qcow2_image.proofs.Call.Unlimited.{fault_unlimited, in_use_unlimited}
 use Rattle.qcow2_alloc.proofs.AllocationSteps.{handed_on}
 use Rattle.qcow2_alloc.specs.CachePins.{IsInUseOrFault}

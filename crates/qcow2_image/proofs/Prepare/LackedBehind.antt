@@ -1,10 +1,9 @@
 -- Why a mapping that begins can't go on: the cluster behind it can't be counted. Those that were taken for it are let go then.
-use Rattle.std.proofs.Common.{◌≡◌, ◌⊎◌, inl, inr, ℕ, zero, suc, ◌+◌, ◌-◌, ◌*◌, ◌/◌, ◌%◌, ◌<◌, ◌≤◌, Bool, List, [], ◌∷◌, ◌++◌, length, Option, Some, Result, Ok, Err, refl, sym, ap, ◌∙◌, subst, arith, true, append_assoc}
+use Rattle.std.proofs.Common.{◌≡◌, ◌⊎◌, inl, inr, ℕ, zero, suc, ◌+◌, ◌-◌, ◌*◌, ◌/◌, ◌%◌, ◌<◌, ◌≤◌, Bool, List, [], ◌∷◌, ◌++◌, length, Some, refl, sym, ap, ◌∙◌, subst, arith, true, append_assoc}
 use Rattle.std.proofs.lemmas.Bool.{cases_lt}
 use Rattle.std.proofs.lemmas.Nat.{div-add-mod', div-mul-add, mod_below}
 use Rattle.std.proofs.Math.Nat.{mul-le-mul_right}
-use Rattle.std.specs.Prelude.{None, min, slice_get, slice_set}
-use Rattle.image_access.specs.Backing.{BackingView}
+use Rattle.std.specs.Prelude.{min, slice_get}
 use Rattle.image_access.specs.Moments.{StorageView}
 use Rattle.qcow2_metadata.specs.Bytes.{Bytes}
 use Rattle.qcow2_metadata.specs.Cover.{cover}
@@ -15,21 +14,21 @@ use Rattle.qcow2_metadata.specs.declared.l2_mapping.L2Mapping.{L2Mapping}
 use Rattle.qcow2_metadata.specs.declared.l2_mapping.L2Mapping.TheVariants.{Data, Zero}
 use Rattle.qcow2_alloc.specs.Allocation.{run_at}
 use Rattle.qcow2_alloc.specs.ClustersToFree.{data_entry}
-use Rattle.qcow2_alloc.specs.FreeList.{of_data, of_tables, run_of, to_free}
+use Rattle.qcow2_alloc.specs.FreeList.{of_data, to_free}
 use Rattle.qcow2_alloc.specs.ImageFile.{KeepsHeader, contents_in, known_in}
 use Rattle.qcow2_alloc.specs.Limits.{CantCount}
-use Rattle.qcow2_alloc.specs.LowestRuns.{IsLowestRun, IsUsed, StaysUsed}
+use Rattle.qcow2_alloc.specs.LowestRuns.{IsUsed, StaysUsed}
 use Rattle.qcow2_alloc.specs.declared.allocation.Allocator.{Allocator}
 use Rattle.qcow2_alloc.specs.declared.clusters_to_free.ClustersToFreeEntry.{ClustersToFreeEntry}
 use Rattle.qcow2_alloc.proofs.Limits.{count_more, lowest_more}
 use Rattle.qcow2_alloc.proofs.Runs.{run_after, run_before, run_in}
-use Rattle.qcow2_image.specs.ImageInvariant.{begin_of, cluster_of, host_begin_of, new_data_in, IsNewAt, IsPending, IsShareAt}
+use Rattle.qcow2_image.specs.ImageInvariant.{begin_of, cluster_of, host_begin_of, new_data_in, IsNewAt, IsPending}
 use Rattle.qcow2_image.specs.LackedPlaces.{CantGoOnFrom, CantGoBehind, CantPrepare, FreesJustListed, HasNoCluster, IsListed, IsNewThere, LacksBehind, LacksData, IsWrittenNowhere, LacksPlaceFor, LacksRange, MayBeginIn, NeedsCluster, StandsInWay, behind_first, bytes_in_table, first_of_range, listed_or_l1}
 use Rattle.qcow2_disk.specs.Found.{rest_of_table}
 use Rattle.qcow2_image.specs.ListedClusters.{GaveWayMeanwhile, ListsFormer, ListsSinceTable}
 use Rattle.qcow2_image.specs.MovedTables.{CoversStay, MovesTables}
 use Rattle.qcow2_image.specs.LongerTables.{listed, run_of_table}
-use Rattle.qcow2_image.specs.Ranges.{EndsWithCluster, ReleasesOneMapping}
+use Rattle.qcow2_image.specs.Ranges.{EndsWithCluster}
 use Rattle.qcow2_image.specs.UnseenSteps.{freed_by}
 use Rattle.qcow2_image.specs.declared.image.Qcow2.{Qcow2}
 use Rattle.qcow2_image.specs.declared.prepared.Prepared.{Prepared}

@@ -19,8 +19,7 @@ use Rattle.qcow2_image.proofs.Call.BehindHeader.{behind_then}
 use Rattle.qcow2_image.proofs.Prepare.InUse.{first_of, longer_lowest}
 use Rattle.qcow2_image.proofs.Prepare.Lacked.{hands_limit}
 use Rattle.qcow2_image.proofs.Prepare.LackedBehind.{cant_go_on, first_begun, first_cluster, lacks_uncounted, own_released}
-use Rattle.std.proofs.Common.{inl, inr, ℕ, length, ◌<◌, ◌*◌, ◌^◌, Some, Option}
-use Rattle.std.specs.Prelude.{slice_get}
+use Rattle.std.proofs.Common.{inl, inr, length, ◌<◌, ◌*◌, ◌^◌, Some}
 use Rattle.std.proofs.lemmas.Nat.{pow_pos}
 use Rattle.qcow2_disk.specs.Found.{rest_of_table}
 use Rattle.std.proofs.Common.{min}
@@ -29,7 +28,6 @@ use Rattle.qcow2_image.specs.ImageInvariant.{IsPending, IsReadyWith}
 use Rattle.qcow2_image.specs.Ranges.{EndsWithCluster}
 use Rattle.qcow2_image.proofs.Call.Slots.{get_set_same}
 use Rattle.qcow2_alloc.specs.ImageFile.{contents_in}
-use Rattle.qcow2_alloc.specs.LowestRuns.{IsUsed}
 use Rattle.qcow2_metadata.specs.Bytes.{Bytes}
 use Rattle.qcow2_metadata.specs.Entries.{count}
 use Rattle.std.proofs.Common.{◌≢◌}
