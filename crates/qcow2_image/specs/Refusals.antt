@@ -66,6 +66,10 @@ abbrev pub IsUnlimited : ImageError → Type 0
 IsUnlimited I.Limit = ⊥
 IsUnlimited e = Unit {0}
 
+-- a fault, or that a limit was met
+abbrev pub IsFaultOrLimit : ImageError → Type 0
+IsFaultOrLimit e = IsFault e ⊎ (e ≡ I.Limit)
+
 -- What a refused preparation leaves: no cluster is to be freed then, but after a fault, and where a table is kept as it is for another mapping.
 abbrev pub FreesRefused : {S F : Type 0} → Qcow2 S F → ImageError → Type 0
 FreesRefused new e = IsFault e ⊎ ((e ≡ I.TablePrepared) ⊎ HasNothingToFree new)

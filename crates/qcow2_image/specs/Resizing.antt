@@ -14,6 +14,7 @@ use Rattle.qcow2_disk.specs.GrownCovers.{GrownCovers}
 use Rattle.qcow2_disk.specs.Stops.{GivenBytes}
 use Rattle.qcow2_alloc.specs.ImageError.{IsFault as IsFaultOfTables}
 use Rattle.qcow2_alloc.specs.ImageFile.{known_in, view_in}
+use Rattle.qcow2_alloc.specs.Limits.{IsFaultOr}
 use Rattle.qcow2_alloc.specs.declared.error.ImageError.{ImageError}
 use Rattle.qcow2_alloc.specs.declared.error.ImageError.TheVariants as I
 use Rattle.qcow2_image.specs.Backings.{HasPrepared}
@@ -27,6 +28,7 @@ use Rattle.qcow2_image.specs.Growing.{ReachesSize, SameFormat}
 use Rattle.qcow2_image.specs.Image.{HasNothingToFree, is_external, is_failed, is_writable, number_of, size_of}
 use Rattle.qcow2_image.specs.ImageInvariant.{ImageInvariant, abstract_of, disk_of, pending_in}
 use Rattle.qcow2_image.specs.L1Entries.{ReachesOffset}
+use Rattle.qcow2_image.specs.LackedTables.{LacksTableReaching}
 use Rattle.qcow2_image.specs.MovedTables.{CoversStay}
 use Rattle.qcow2_image.specs.NewTables.{LacksTable}
 use Rattle.qcow2_image.specs.Preallocation.{GrownFree, IsUnderMappingIn}
@@ -140,10 +142,12 @@ module _ {S F : Type 0} (view : S → StorageView) (backing : F → BackingView)
     pub zeros : mode ≡ Mode.Zero → ¬ LacksZeros old
     pub free : GrownFree mode (size_of old) size old.file.header.fields (known_in view old.file) out
 
-  -- A prepared L2 table refuses it only where zeros are asked for, and one of the range behind the old end is. With `Zero`, where no entry can say that a cluster is zeros, no byte changes.
+  -- A prepared L2 table refuses it only where zeros are asked for, and one of the range behind the old end is.
+  -- With `Zero`, where no entry can say that a cluster is zeros, no byte changes. Then it is refused for the version, but for a fault, and where an L1 table that is long enough lacks.
   pub record RefusesTables (mode : PreallocateMode) (size : ℕ) (old new : Qcow2 S F) (out : List (Option Prepared)) (e : ImageError) : Type 0 where
     pub taken : e ≡ I.TablePrepared → (shows_old mode ≡ false) × IsUnderMappingIn old.file.header.fields (size_of old) (boundary_in old size) out
     pub zeros : mode ≡ Mode.Zero → LacksZeros old → RefusesUnchanged old new out e
+    pub version : mode ≡ Mode.Zero → LacksZeros old → (e ≡ I.Version) ⊎ IsFaultOr (LacksTableReaching view (size - 1) old new) e
 
   -- one or the other
   abbrev pub GrowsTables : Qcow2 S F → Qcow2 S F → ℕ → PreallocateMode → List (Option Prepared) → Result (Unit {0}) ImageError → Type 0

@@ -1,5 +1,6 @@
 //! A longer L1 table, in the place of the former one.
 ghost use Rattle.qcow2_image.specs.BehindHeader.{KeepsL1TableBehind, StaysBehindHeader};
+ghost use Rattle.qcow2_alloc.specs.ImageError.{IsFault};
 ghost use Rattle.qcow2_alloc.specs.KeptMarks.{KeepsFileNotes};
 ghost use Rattle.std.specs.Prelude.{ℕ, List, Option, ◌≡◌, ◌<◌, ◌≤◌, ◌++◌, ◌∷◌, [], ◌+◌, max, Some, IfErr, IfOk, IsTrue, OnErr, OnOk};
 ghost use Rattle.qcow2_metadata.specs.EntryTable.{entry_count};
@@ -14,7 +15,7 @@ ghost use Rattle.qcow2_image.specs.LongerTables.{run_of_table, listed, with_tabl
 ghost use Rattle.qcow2_image.specs.NewTables.{IsFaultOrLacksTable};
 ghost use Rattle.qcow2_alloc.specs.declared.error.ImageError.TheVariants.{Limit};
 ghost use Rattle.qcow2_image.specs.LackedPlaces.{EndsBefore, HasNoTablePlace, IsPlacedNear, LacksLongerTable, StandsInWay};
-ghost use Rattle.qcow2_image.specs.Refusals.{IsMet, IsUnlimited};
+ghost use Rattle.qcow2_image.specs.Refusals.{IsFaultOrLimit, IsMet};
 ghost use Rattle.qcow2_image.specs.UnseenSteps.{ListGrows};
 ghost use Rattle.qcow2_image.specs.Faults.{CountsImageFaults, IsNotOfStorage};
 
@@ -60,6 +61,7 @@ impl<S: Storage, F: WrappedFormat<S>> Qcow2<S, F> {
         ensures header_cluster { StaysBehindHeader S.view self.old self.new }
         ensures cause { IsTrue (is_writable self.old) → IfErr result IsMet }
         ensures limit { (p : Pending) (out : List (Option Prepared)) → ImageInvariant S.view F.backing p self.old out → IfErr result (λ e. e ≡ Limit → LacksLongerTable S.view index (max (entry_count self.old.l1_table) (index + 1)) self.old.file.free_list self.old self.new) }
+        ensures fault { IsTrue (is_writable self.old) → (p : Pending) (out : List (Option Prepared)) → ImageInvariant S.view F.backing p self.old out → IfErr result IsFaultOrLimit }
         ensures former { OnOk result (SomeGaveWay self.old self.new) }
         ensures lengthens { (p : Pending) (out : List (Option Prepared)) → ImageInvariant S.view F.backing p self.old out → Lengthens S.view F.backing p self.old self.new out result }
         ensures length { OnOk result (entry_count self.new.l1_table ≡ max (entry_count self.old.l1_table) (index + 1)) }
@@ -88,7 +90,7 @@ impl<S: Storage, F: WrappedFormat<S>> Qcow2<S, F> {
     // Room on the list of clusters to be freed for those of the L1 table.
     fn former_l1_table(&self) -> Result<Option<PendingClusters>, ImageError>
         ensures cause { IfErr result IsMet }
-        ensures limited { IfErr result IsUnlimited }
+        ensures fault { IfErr result IsFault }
         ensures run { IfOk result (λ former. former ≡ run_of_table self.now.l1_table self.now.l1_table.cluster) }
         ensures faults { IfErr result IsNotOfStorage }
     {
@@ -108,6 +110,7 @@ impl<S: Storage, F: WrappedFormat<S>> Qcow2<S, F> {
         ensures header_cluster { table.cluster_bits ≡ self.old.l1_table.cluster_bits → StaysBehindHeader S.view self.old self.new }
         ensures cause { IsTrue (is_writable self.old) → IfErr result IsMet }
         ensures limit { (p : Pending) (out : List (Option Prepared)) → ImageInvariant S.view F.backing p self.old out → IsLongerL1 self.old table → 0 < entry_count table → IfErr result (λ e. e ≡ Limit → StandsInWay S.view (HasNoTablePlace (entry_count table)) self.old.file.free_list self.old self.new) }
+        ensures fault { IsTrue (is_writable self.old) → (p : Pending) (out : List (Option Prepared)) → ImageInvariant S.view F.backing p self.old out → IsLongerL1 self.old table → 0 < entry_count table → IfErr result IsFaultOrLimit }
         ensures former { OnOk result (SomeGaveWay self.old self.new) }
         ensures takes { (p : Pending) (out : List (Option Prepared)) → ImageInvariant S.view F.backing p self.old out → IsLongerL1 self.old table → TakesTable S.view F.backing p self.old self.new out result }
         ensures entries { OnOk result (entry_count self.new.l1_table ≡ entry_count table) }
@@ -129,7 +132,7 @@ impl<S: Storage, F: WrappedFormat<S>> Qcow2<S, F> {
         ensures notes { KeepsFileNotes S.view self.old.file self.new.file }
         ensures header_cluster { table.cluster_bits ≡ self.old.l1_table.cluster_bits → 0 < taken.first_cluster → StaysBehindHeader S.view self.old self.new }
         ensures cause { IfErr result IsMet }
-        ensures limited { (p : Pending) (out : List (Option Prepared)) → ImageInvariant S.view F.backing (with_table p table taken.first_cluster) self.old out → IsLongerL1 self.old table → IfErr result IsUnlimited }
+        ensures fault { (p : Pending) (out : List (Option Prepared)) → ImageInvariant S.view F.backing (with_table p table taken.first_cluster) self.old out → IsLongerL1 self.old table → IfErr result IsFault }
         ensures allocator { self.new.allocator ≡ self.old.allocator }
         ensures names { (p : Pending) (out : List (Option Prepared)) → ImageInvariant S.view F.backing (with_table p table taken.first_cluster) self.old out → IsTrue self.old.file.caches.is_changed → IsLongerL1 self.old table
             → NamesTaken S.view F.backing p self.old self.new out table taken result }
@@ -150,7 +153,7 @@ impl<S: Storage, F: WrappedFormat<S>> Qcow2<S, F> {
         ensures notes { KeepsFileNotes S.view self.old.file self.new.file }
         ensures header_cluster { table.cluster_bits ≡ self.old.l1_table.cluster_bits → 0 < cluster → StaysBehindHeader S.view self.old self.new }
         ensures cause { IfErr result IsMet }
-        ensures limited { (p : Pending) (out : List (Option Prepared)) → ImageInvariant S.view F.backing (with_table p table cluster) self.old out → IsLongerL1 self.old table → IfErr result IsUnlimited }
+        ensures fault { (p : Pending) (out : List (Option Prepared)) → ImageInvariant S.view F.backing (with_table p table cluster) self.old out → IsLongerL1 self.old table → IfErr result IsFault }
         ensures allocator { self.new.allocator ≡ self.old.allocator }
         ensures names { (p : Pending) (out : List (Option Prepared)) → ImageInvariant S.view F.backing (with_table p table cluster) self.old out → IsTrue self.old.file.caches.is_changed → IsLongerL1 self.old table
             → NamesTable S.view F.backing p self.old self.new out table cluster result }
@@ -172,7 +175,7 @@ impl<S: Storage, F: WrappedFormat<S>> Qcow2<S, F> {
         ensures notes { KeepsFileNotes S.view self.old.file self.new.file }
         ensures header_cluster { table.old.cluster_bits ≡ self.old.l1_table.cluster_bits → 0 < cluster → StaysBehindHeader S.view self.old self.new }
         ensures cause { IfErr result IsMet }
-        ensures limited { (p : Pending) (out : List (Option Prepared)) → ImageInvariant S.view F.backing (with_table p table.old cluster) self.old out → IsHostCluster table.old.cluster_bits cluster → IfErr result IsUnlimited }
+        ensures fault { (p : Pending) (out : List (Option Prepared)) → ImageInvariant S.view F.backing (with_table p table.old cluster) self.old out → IsHostCluster table.old.cluster_bits cluster → IfErr result IsFault }
         ensures rest { self.new ≡ record self.old { file = record self.old.file { storage = self.new.file.storage; caches = self.new.file.caches } } }
         ensures noted { IsTrue self.old.file.caches.is_changed → IsTrue self.new.file.caches.is_changed }
         ensures places { (p : Pending) (out : List (Option Prepared)) → ImageInvariant S.view F.backing (with_table p table.old cluster) self.old out → IsLongerL1 self.old table.old
@@ -197,7 +200,7 @@ impl<S: Storage, F: WrappedFormat<S>> Qcow2<S, F> {
         ensures notes { KeepsFileNotes S.view self.old.file self.new.file }
         ensures header_cluster { KeepsL1TableBehind self.old.l1_table table → StaysBehindHeader S.view self.old self.new }
         ensures cause { IfErr result IsMet }
-        ensures limited { IfErr result IsUnlimited }
+        ensures fault { IfErr result IsFault }
         ensures allocator { self.new.allocator ≡ self.old.allocator }
         ensures names { (p : Pending) (out : List (Option Prepared)) → ImageInvariant S.view F.backing (with_table p table cluster) self.old out → IsTrue self.old.file.caches.is_changed → StandsWhole S.view self.old table cluster
             → NamesTable S.view F.backing p self.old self.new out table cluster result }

@@ -20,7 +20,7 @@ ghost use Rattle.qcow2_image.specs.ImageInvariant.{ImageInvariant, abstract_of, 
 ghost use Rattle.qcow2_image.specs.LackedTables.{CantGrowDisk, LacksTableReaching};
 ghost use Rattle.qcow2_image.specs.LongerTables.{MakesEntry};
 ghost use Rattle.qcow2_image.specs.PinnedTables.{HasPinnedTable};
-ghost use Rattle.qcow2_image.specs.Refusals.{FreesRefused, IsMet, IsMetPreparing, MarksFailed, MarksRefused};
+ghost use Rattle.qcow2_image.specs.Refusals.{FreesRefused, IsFaultOrLimit, IsMet, IsMetPreparing, MarksFailed, MarksRefused};
 ghost use Rattle.qcow2_image.specs.Resizing.{CantUncover, EndsTail, FreesTurn, GrowsTables, GrowsTo, IsFaultOrCantUncover, IsMetShrinking, IsResized, Shrinks, UncoversNext, UncoversTail, WritesSize, WritesSizeLast, boundary_in, refuses_to_resize, size_after, takes_over};
 ghost use Rattle.qcow2_image.specs.Faults.{CountsImageFaults, NoFewerFaults, TellsEachIn, TellsFault};
 
@@ -283,6 +283,7 @@ impl<S: Storage, F: WrappedFormat<S>> Qcow2<S, F> {
         ensures header_cluster { StaysBehindHeader S.view self.old self.new }
         ensures cause { IfErr result IsMet }
         ensures limit { (out : List (Option Prepared)) → ImageInvariant S.view F.backing (pending_in S.view F.backing self.old out) self.old out → IfErr result (λ e. e ≡ Limit → LacksTableReaching S.view offset self.old self.new) }
+        ensures fault { (out : List (Option Prepared)) → ImageInvariant S.view F.backing (pending_in S.view F.backing self.old out) self.old out → IfErr result IsFaultOrLimit }
         ensures length { OnOk result (entry_count self.new.l1_table ≡ max (entry_count self.old.l1_table) (l1_index_of self.old.file.header.fields offset + 1)) }
         ensures emptied { OnOk result (HasNothingToFree self.new) }
         ensures makes { (out : List (Option Prepared)) → ImageInvariant S.view F.backing (pending_in S.view F.backing self.old out) self.old out → MakesEntry S.view F.backing self.old self.new out result }
@@ -305,6 +306,7 @@ impl<S: Storage, F: WrappedFormat<S>> Qcow2<S, F> {
         ensures header_cluster { StaysBehindHeader S.view self.old self.new }
         ensures cause { IfErr result IsMet }
         ensures limit { (out : List (Option Prepared)) → ImageInvariant S.view F.backing (pending_in S.view F.backing self.old out) self.old out → IfErr result (λ e. e ≡ Limit → LacksTableReaching S.view offset self.old self.new) }
+        ensures fault { (out : List (Option Prepared)) → ImageInvariant S.view F.backing (pending_in S.view F.backing self.old out) self.old out → IfErr result IsFaultOrLimit }
         ensures length { OnOk result (entry_count self.new.l1_table ≡ max (entry_count self.old.l1_table) (l1_index_of self.old.file.header.fields offset + 1)) }
         ensures emptied { OnOk result (HasNothingToFree self.new) }
         ensures makes { (out : List (Option Prepared)) → ImageInvariant S.view F.backing (pending_in S.view F.backing self.old out) self.old out → MakesEntry S.view F.backing self.old self.new out result }

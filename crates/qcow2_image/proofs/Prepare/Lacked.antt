@@ -41,7 +41,7 @@ use Rattle.qcow2_image.specs.LongerTables.{IsLongerL1, clusters_of, listed, run_
 use Rattle.qcow2_image.specs.Found.{l1_index_of}
 use Rattle.qcow2_image.specs.L1Entries.{HasFarEntry}
 use Rattle.qcow2_image.specs.ListedClusters.{GaveWayMeanwhile, KeepsReftable, ListsFormer}
-use Rattle.qcow2_image.specs.Refusals.{FreesRefused, IsUnlimited}
+use Rattle.qcow2_image.specs.Refusals.{FreesRefused, IsFaultOrLimit, IsUnlimited}
 use Rattle.qcow2_image.specs.UnseenSteps.{FreesListed}
 use Rattle.qcow2_image.proofs.Call.Unlimited.{fault_unlimited, in_use_unlimited}
 use Rattle.qcow2_alloc.proofs.AllocationSteps.{handed_on}
@@ -65,6 +65,10 @@ unlimited_all (Err e) C none = other_limit (C e) e none
 pub faults_unlimited : {A : Type 0} (r : Result A ImageError) → IfErr r IsFault → IfErr r IsUnlimited
 faults_unlimited (Ok x) fault = tt
 faults_unlimited (Err e) fault = fault_unlimited e fault
+
+pub faults_or_limit : {A : Type 0} (r : Result A ImageError) → IfErr r IsFault → IfErr r IsFaultOrLimit
+faults_or_limit (Ok x) fault = tt
+faults_or_limit (Err e) fault = inl fault
 
 -- a refusal for a limit that isn't a fault has its cause
 pub cause_of : (C : Type 0) (e : ImageError) → IsFaultOr C e → e ≡ I.Limit → C
@@ -230,6 +234,12 @@ hands_limit C r e on why = handed_on (λ (x : Result _ _). IfErr x (λ y. y ≡ 
 pub hands_unlimited : {A : Type 0} (r : Result A ImageError) (e : ImageError) → IsErr r × IsErrAnd r (λ x. x ≡ e) → IsUnlimited e → IfErr r IsUnlimited
 hands_unlimited r e on none = handed_on (λ (x : Result _ _). IfErr x IsUnlimited) r e on none
 
+pub hands_fault : {A : Type 0} (r : Result A ImageError) (e : ImageError) → IsErr r × IsErrAnd r (λ x. x ≡ e) → IsFault e → IfErr r IsFault
+hands_fault r e on fault = handed_on (λ (x : Result _ _). IfErr x IsFault) r e on fault
+
+pub hands_either : {A : Type 0} (r : Result A ImageError) (e : ImageError) → IsErr r × IsErrAnd r (λ x. x ≡ e) → IsFaultOrLimit e → IfErr r IsFaultOrLimit
+hands_either r e on why = handed_on (λ (x : Result _ _). IfErr x IsFaultOrLimit) r e on why
+
 pub in_use_all : {S A : Type 0} (caches : MetadataCaches S) (r : Result A ImageError) → IfErr r (IsInUseOrFault caches) → IfErr r IsUnlimited
 in_use_all caches (Ok x) cause = tt
 in_use_all caches (Err e) cause = in_use_unlimited caches e cause
@@ -368,6 +378,13 @@ module _ {S F : Type 0} (view : S → StorageView) (backing : F → BackingView)
   limited_frees old mid new e e' left fault frees is = elim left [
     | inl stays ↦ frees stays.sound is
     | inr broken ↦ absurd (limited_not e (fault_unlimited e broken.fault) (sym (fault broken.fault).0 ∙ is))
+  ]
+
+  pub either_frees : (old mid new : Qcow2 S F) (e e' : ImageError) → RefusedCall view backing old mid out e → (IsFault e → (e' ≡ e) × (new ≡ mid))
+      → (ImageInvariant view backing (pending_in view backing mid out) mid out → (e' ≡ e) ⊎ IsFault e') → IsFaultOrLimit e → IsFaultOrLimit e'
+  either_frees old mid new e e' left fault told why = elim left [
+    | inl stays ↦ elim (told stays.sound) [ inl same ↦ subst IsFaultOrLimit (sym same) why | inr now ↦ inl now ]
+    | inr broken ↦ inl (subst IsFault (sym (fault broken.fault).0) broken.fault)
   ]
 
 -- what an allocation that is refused for a limit says, as its call does

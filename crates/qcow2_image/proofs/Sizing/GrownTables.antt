@@ -156,6 +156,7 @@ module _ {S F : Type 0} (view : S → StorageView) (backing : F → BackingView)
   tables_sized old filled new marked size mode (Err e) file_step cause header reached length covers emptied zeros free = record {
     taken = λ is. absurd (elim cause [ inl fault ↦ (let no : I.TablePrepared ≡ I.Storage = sym is ∙ fault in cc) | inr fault ↦ (let no : I.TablePrepared ≡ I.Memory = sym is ∙ fault in cc) ]);
     zeros = λ zero lacks. absurd (zeros zero lacks);
+    version = λ zero lacks. absurd (zeros zero lacks);
   }
 
   -- ---- the entries can't tell zeros

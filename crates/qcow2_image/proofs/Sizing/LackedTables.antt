@@ -40,6 +40,12 @@ module _ {S F : Type 0} (view : S → StorageView) where
     stands_marked : (way : (ℕ → Type 0) → HeaderFields → Allocator → Type 0) (runs : List ClustersToFreeEntry) → StandsInWay view way runs old new → StandsInWay view way runs old (with_marks new noted failed)
     stands_marked way runs s = record { allocator = s.allocator; is = s.is; went = s.went; gone = record { before = s.gone.before; after = s.gone.after; was = s.gone.was; is = s.gone.is; gone = s.gone.gone }; stands = s.stands; left = s.left }
 
+    pub reaching_marked : (offset : ℕ) → LacksTableReaching view offset old new → LacksTableReaching view offset old (with_marks new noted failed)
+    reaching_marked offset lacks = elim lacks [
+      | inl long ↦ inl long
+      | inr s ↦ inr (stands_marked (HasNoTablePlace (max (entry_count old.l1_table) (l1_index_of old.file.header.fields offset + 1))) old.file.free_list s)
+    ]
+
     table_marked : (offset : ℕ) → LacksTableFor view offset old new → LacksTableFor view offset old (with_marks new noted failed)
     table_marked offset lacks =
         let runs = listed_or_l1 old in

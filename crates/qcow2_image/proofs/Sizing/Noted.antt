@@ -1,5 +1,5 @@
 -- What a call noted is seen by no guest: what it did, it did also to the image with other notes.
-use Rattle.std.proofs.Common.{◌≡◌, Bool, Option, Some, None, List, ℕ, inl, inr, refl, sym, subst, arith}
+use Rattle.std.proofs.Common.{◌≡◌, ◌-◌, Bool, Option, Some, None, List, ℕ, inl, inr, refl, sym, subst, arith}
 use Rattle.std.specs.Prelude.{IfSome, Result, Ok, Err}
 use Rattle.image_access.specs.Backing.{BackingView}
 use Rattle.image_access.specs.Moments.{StorageView}
@@ -18,6 +18,7 @@ use Rattle.qcow2_image.specs.Image.{is_failed, with_marks}
 use Rattle.qcow2_image.specs.ImageInvariant.{ImageInvariant, abstract_of, pending_in}
 use Rattle.qcow2_image.specs.Resizing.{GrowsTables, GrowsTo, RefusesUnchanged, Shrinks}
 use Rattle.qcow2_image.proofs.Call.FaultCounts.{counted_since, counted_still}
+use Rattle.qcow2_image.proofs.Sizing.LackedTables.{reaching_marked}
 
 module _ {S F : Type 0} (view : S → StorageView) (backing : F → BackingView) where
   reftable_noted : (image : Qcow2 S F) (noted : Bool) (o : Option Allocator) → IfSome o (IsAllocatorOf view image.file) → IfSome o (IsAllocatorOf view (with_marks image noted (is_failed image)).file)
@@ -84,7 +85,14 @@ module _ {S F : Type 0} (view : S → StorageView) (backing : F → BackingView)
 
       pub tables_noted : (out : List (Option Prepared)) (r : Result (Unit {0}) ImageError) → GrowsTables view backing old image size mode out r → GrowsTables view backing old (with_marks image noted (is_failed image)) size mode out r
       tables_noted out (Ok done) tables = record { autoclear = tables.autoclear; format = tables.format; reaches = tables.reaches; length = tables.length; covers = tables.covers; emptied = tables.emptied; zeros = tables.zeros; free = tables.free }
-      tables_noted out (Err e) tables = record { taken = tables.taken; zeros = λ zero lacks. unchanged_noted out e (tables.zeros zero lacks) }
+      tables_noted out (Err e) tables = record {
+        taken = tables.taken;
+        zeros = λ zero lacks. unchanged_noted out e (tables.zeros zero lacks);
+        version = λ zero lacks. elim (tables.version zero lacks) [
+          | inl is ↦ inl is
+          | inr other ↦ elim other [ inl fault ↦ inr (inl fault) | inr limit ↦ inr (inr (limit.0, reaching_marked view old image noted (is_failed image) (size - 1) limit.1)) ]
+        ];
+      }
 
   -- ---- the number of faults stays
   pub same_noted : (last new : Qcow2 S F) (noted failed : Bool) → new ≡ with_marks last noted failed → SameFaults view backing last new

@@ -12,8 +12,8 @@ use Rattle.qcow2_alloc.proofs.KeptMarks.{notes_none, notes_then, notes_of_marks}
 use Rattle.qcow2_image.proofs.Call.BehindHeader.{behind_allocated, behind_none, behind_then}
 use Rattle.qcow2_image.proofs.Prepare.Listing.{gave_former, gave_still}
 use Rattle.qcow2_alloc.proofs.KeptTables.Turning.{always_ok}
-use Rattle.qcow2_image.proofs.Prepare.Lacked.{cause_of, hands_limit, placed_near, stands_untaken, table_clusters, table_more, unlimited_all}
-use Rattle.std.proofs.Common.{ap, arith, sym, ◌<◌}
+use Rattle.qcow2_image.proofs.Prepare.Lacked.{cause_of, faults_or_limit, faults_unlimited, hands_either, hands_limit, placed_near, stands_untaken, table_clusters, table_more, unlimited_all}
+use Rattle.std.proofs.Common.{ap, arith, inl, inr, sym, ◌<◌}
 use Rattle.qcow2_metadata.specs.Header.{HeaderView}
 use Rattle.qcow2_metadata.specs.EntryTable.{entry_count}
 use Rattle.qcow2_metadata.specs.L2Mapping.{IsHostCluster}
@@ -105,7 +105,32 @@ returns-clause-limit g c = λ p out sound longer some.
     let hint = c.in_ok-pending.ensures.hint p (record { sound = record { sound = sound.file; reftable = own.reftable }; hint = own.hint }) in
     let keeps = keeps_taken view below out p old sound file c.allocate_meta.new.self c.allocate_meta.ensures.marks.pins c.allocate_meta.ensures.list c.allocate_meta.ensures.header (leaked_still old c.in-Some.allocator c.allocate_meta.new.self c.in-Some.is (c.allocate_meta.ensures.leaks p (record { sound = sound.file; reftable = own.reftable }))) c.args.table c.in_ok-pending.pending.first_cluster c.cluster_count.result c.cluster_count.ensures took.2 hint longer in
     let there = longer_taken view below out p old sound file c.allocate_meta.new.self c.allocate_meta.ensures.marks.pins c.allocate_meta.ensures.list c.allocate_meta.ensures.header (leaked_still old c.in-Some.allocator c.allocate_meta.new.self c.in-Some.is (c.allocate_meta.ensures.leaks p (record { sound = sound.file; reftable = own.reftable }))) c.args.table c.in_ok-pending.pending.first_cluster c.cluster_count.result c.cluster_count.ensures took.2 hint longer in
-    unlimited_all c.write_taken.result (λ e. StandsInWay view (HasNoTablePlace (entry_count c.args.table)) old.file.free_list old c.write_taken.new.self) (c.write_taken.ensures.limited since out keeps.sound there)
+    unlimited_all c.write_taken.result (λ e. StandsInWay view (HasNoTablePlace (entry_count c.args.table)) old.file.free_list old c.write_taken.new.self) (faults_unlimited c.write_taken.result (c.write_taken.ensures.fault since out keeps.sound there))
+
+pub returns-in_err-pending-clause-fault : goal.returns-in_err-pending-clause-fault
+returns-in_err-pending-clause-fault g c = λ writable p out sound longer some.
+    let view = g.S.Storage.view in
+    let old = c.args.self.now in
+    let file = c.allocate_meta.new.file in
+    let own = subst (λ o. IfSome o (IsAllocatorOf view old.file)) c.in-Some.is sound.reftable in
+    let e = c.in_err-pending.field-0.0 in
+    let many = table_clusters view g.F.BackingDisk.backing out p old sound c.args.table longer file.header c.allocate_meta.ensures.header c.cluster_count.result c.cluster_count.ensures in
+    hands_either c.from_residual.result e c.from_residual.ensures
+    (elim (c.in_err-pending.ensures.limit p (record { sound = record { sound = sound.file; reftable = own.reftable }; hint = own.hint }) (many.1 some)) [ inl fault ↦ inl fault | inr cause ↦ inr cause.0 ])
+
+pub returns-clause-fault : goal.returns-clause-fault
+returns-clause-fault g c = λ writable p out sound longer some.
+    let view = g.S.Storage.view in
+    let below = g.F.BackingDisk.backing in
+    let old = c.args.self.now in
+    let file = c.allocate_meta.new.file in
+    let own = subst (λ o. IfSome o (IsAllocatorOf view old.file)) c.in-Some.is sound.reftable in
+    let took = c.in_ok-pending.ensures.sound p (record { sound = sound.file; reftable = own.reftable }) in
+    let since = pending_then p old.file.free_list file.free_list in
+    let hint = c.in_ok-pending.ensures.hint p (record { sound = record { sound = sound.file; reftable = own.reftable }; hint = own.hint }) in
+    let keeps = keeps_taken view below out p old sound file c.allocate_meta.new.self c.allocate_meta.ensures.marks.pins c.allocate_meta.ensures.list c.allocate_meta.ensures.header (leaked_still old c.in-Some.allocator c.allocate_meta.new.self c.in-Some.is (c.allocate_meta.ensures.leaks p (record { sound = sound.file; reftable = own.reftable }))) c.args.table c.in_ok-pending.pending.first_cluster c.cluster_count.result c.cluster_count.ensures took.2 hint longer in
+    let there = longer_taken view below out p old sound file c.allocate_meta.new.self c.allocate_meta.ensures.marks.pins c.allocate_meta.ensures.list c.allocate_meta.ensures.header (leaked_still old c.in-Some.allocator c.allocate_meta.new.self c.in-Some.is (c.allocate_meta.ensures.leaks p (record { sound = sound.file; reftable = own.reftable }))) c.args.table c.in_ok-pending.pending.first_cluster c.cluster_count.result c.cluster_count.ensures took.2 hint longer in
+    faults_or_limit c.write_taken.result (c.write_taken.ensures.fault since out keeps.sound there)
 
 pub returns-clause-placed : goal.returns-clause-placed
 returns-clause-placed g c = λ few bits. placed_near c.args.table c.in_ok-pending.pending.first_cluster c.args.self.now.file.header.fields.cluster_bits few bits c.in_ok-pending.ensures.nameable c.write_taken.new.self.l1_table c.write_taken.result c.write_taken.ensures.placed

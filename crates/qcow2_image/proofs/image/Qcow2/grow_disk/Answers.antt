@@ -20,7 +20,7 @@ use Rattle.qcow2_image.specs.ImageInvariant.{ImageInvariant, pending_in}
 use Rattle.qcow2_image.specs.LongerTables.{MakesEntry}
 use Rattle.qcow2_image.specs.L1Entries.{ReachesOffset}
 use Rattle.qcow2_image.specs.Preallocation.{FillsGrown, FillsGrownOrRefuses}
-use Rattle.qcow2_image.specs.Refusals.{FreesRefused, IsMet}
+use Rattle.qcow2_image.specs.Refusals.{FreesRefused, IsFaultOrLimit, IsMet}
 use Rattle.qcow2_image.proofs.Prepare.Taken.{if_err}
 use Rattle.qcow2_image.proofs.Call.Marked.{MayMarkBy, marks_memory, may_mark}
 use Rattle.qcow2_image.specs.Resizing.{GrowsTables, GrowsTo, LacksZeros, RefusesUnchanged, WritesSizeLast}
@@ -213,6 +213,14 @@ returns-in_err-mark_failure-clause-tables g c = λ out sound.
           (c.renew_l1_table-longer.ensures.stays.image.number ∙ c.begin.ensures.stays.image.number)
           (subst (λ (r : Result _ _). MayMarkBy r (is_failed mid) marked) done (may_mark c.renew_l1_table-longer.new.self c.mark_failure.new.self c.renew_l1_table-longer.result c.mark_failure.ensures.marks))
           (subst (λ (r : Result _ _). IfErr r (λ x. x ≡ Memory → IsTrue (has_noted_change mid) → IsTrue marked)) done (marks_memory c.renew_l1_table-longer.new.self c.mark_failure.new.self c.renew_l1_table-longer.new.self c.renew_l1_table-longer.result c.mark_failure.ensures.marks (ap (λ (i : Qcow2 _ _). i.file) c.mark_failure.ensures.rest))) out);
+      version = λ zero lacks.
+          let offset = c.args.size - 1 in
+          let why = subst (λ (r : Result _ _). IfErr r IsFaultOrLimit) done (c.renew_l1_table-longer.ensures.fault out (first out sound).sound) in
+          let limit = subst (λ (r : Result _ _). IfErr r (λ x. x ≡ Limit → LacksTableReaching view offset begun mid)) done (c.renew_l1_table-longer.ensures.limit out (first out sound).sound) in
+          elim why [
+            | inl fault ↦ inr (inl fault)
+            | inr is ↦ inr (inr (is, subst (λ (image : Qcow2 _ _). LacksTableReaching view offset old image) (sym c.mark_failure.ensures.rest) (longer_ended view offset old begun mid marked c.begin.ensures.rest (limit is))))
+          ];
     })
 
 pub returns-in_err-mark_fault-clause-tables : goal.returns-in_err-mark_fault-clause-tables
@@ -234,18 +242,21 @@ returns-in_err-mark_fault-clause-tables g c = λ out sound.
     let e = c.in_err-mark_fault.field-0.0 in
     let marked = is_failed c.mark_fault.new.self in
     let done : c.fill_grown-filled.result ≡ Err c.in_err-mark_fault.field-0.0 = sym c.mark_fault.ensures.answer ∙ c.in_err-mark_fault.was in
+    let empty : HasNothingToFree c.mark_failure.new.self = subst (λ (i : Qcow2 _ _). HasNothingToFree i) (sym same) (subst (λ (r : Result _ _). OnOk r (HasNothingToFree mid)) made c.renew_l1_table-longer.ensures.emptied) in
+    let none : c.args.mode ≡ Zero → LacksZeros old → (c.fill_grown-filled.result ≡ Err Version) × (filled ≡ long) = λ zero lacks.
+    c.fill_grown-filled.ensures.version empty zero (subst (λ n. n < 3) (sym (same_version old.file.header.fields long.file.header.fields call.header)) lacks) in
     subst (λ (r : Result _ _). GrowsTables view below old c.mark_fault.new.self c.args.size c.args.mode out r) (sym (err_is c.from_residual-in_err-mark_fault.result c.from_residual-in_err-mark_fault.ensures))
     (record {
       taken = taken_behind view below out old long filled c.args.size c.args.mode e call
           (subst (FillsGrownOrRefuses view below c.args.size c.args.mode long filled out) done (c.fill_grown-filled.ensures.fills out call.sound));
       zeros = λ zero lacks.
-          let empty : HasNothingToFree c.mark_failure.new.self = subst (λ (i : Qcow2 _ _). HasNothingToFree i) (sym same) (subst (λ (r : Result _ _). OnOk r (HasNothingToFree mid)) made c.renew_l1_table-longer.ensures.emptied) in
-          let refused = c.fill_grown-filled.ensures.version empty zero (subst (λ n. n < 3) (sym (same_version old.file.header.fields long.file.header.fields call.header)) lacks) in
+          let refused = none zero lacks in
           let fault : Err e ≡ Err Version = sym done ∙ refused.0 in
           subst (λ (image : Qcow2 _ _). RefusesUnchanged view below old image out e) (sym c.mark_fault.ensures.rest)
           (unchanged_noted view below old (record filled { is_failed = marked }) (is_changed_of c.mark_fault.new.self.file.storage) c.args.size out e (refuses_version view below out old long filled e marked c.requires.usable call refused.1 (let is : e ≡ Version = cc in is)
           (c.fill_grown-filled.ensures.stays.image.number ∙ c.mark_failure.ensures.image.number ∙ c.renew_l1_table-longer.ensures.stays.image.number ∙ c.begin.ensures.stays.image.number)
           (subst (λ (r : Result _ _). MayMarkBy r (is_failed filled) marked) done (may_mark c.fill_grown-filled.new.self c.mark_fault.new.self c.fill_grown-filled.result c.mark_fault.ensures.marks))));
+      version = λ zero lacks. inl (let fault : Err e ≡ Err Version = sym done ∙ (none zero lacks).0 in let is : e ≡ Version = cc in is);
     })
 
 pub returns-clause-tables : goal.returns-clause-tables

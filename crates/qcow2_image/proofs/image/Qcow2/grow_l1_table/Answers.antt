@@ -7,8 +7,8 @@ use Rattle.qcow2_image.proofs.Prepare.Owning.{refused}
 use Rattle.qcow2_alloc.proofs.KeptMarks.{notes_none}
 use Rattle.qcow2_image.proofs.Call.BehindHeader.{behind_none}
 use Rattle.qcow2_image.proofs.Prepare.Listing.{some_still}
-use Rattle.qcow2_image.proofs.Prepare.Lacked.{hands_limit, other_limit}
-use Rattle.qcow2_image.proofs.Call.Unlimited.{short_unlimited}
+use Rattle.qcow2_image.proofs.Prepare.Lacked.{hands_either, hands_limit, other_limit}
+use Rattle.qcow2_image.proofs.Call.Unlimited.{fault_unlimited, short_fault, short_unlimited}
 use Rattle.std.proofs.lemmas.Bool.Decides.{nat_tests}
 use Rattle.qcow2_alloc.specs.ImageError.{of_metadata}
 use Rattle.std.proofs.Common.{◌≡◌, ◌<◌, ◌+◌, max, inl, inr, ◌∙◌, subst, sym}
@@ -95,7 +95,7 @@ returns-in_err-table-clause-limit g c = λ p out sound.
 pub returns-in_err-old-clause-limit : goal.returns-in_err-old-clause-limit
 returns-in_err-old-clause-limit g c = λ p out sound.
     hands_limit (λ x. LacksLongerTable g.S.Storage.view c.args.index (max (entry_count c.args.self.now.l1_table) (c.args.index + 1)) c.args.self.now.file.free_list c.args.self.now c.args.self.now) c.from_residual-in_err-old.result c.in_err-old.field-0.0 c.from_residual-in_err-old.ensures
-    (other_limit _ c.in_err-old.field-0.0 c.in_err-old.ensures.limited)
+    (other_limit _ c.in_err-old.field-0.0 (fault_unlimited c.in_err-old.field-0.0 c.in_err-old.ensures.fault))
 
 pub returns-in-Err-clause-limit : goal.returns-in-Err-clause-limit
 returns-in-Err-clause-limit g c = λ p out sound is.
@@ -111,3 +111,25 @@ pub returns-in-Ok-clause-placed : goal.returns-in-Ok-clause-placed
 returns-in-Ok-clause-placed g c = λ bits.
     let few : c.max-entries.result ≤ 4194304 = let low = c.if-index-ge-MAX_L1_ENTRIES.false in let index : c.args.index < 4194304 = grind (arith, nat_tests) in omega (arith, index, c.max-entries.ensures, c.len.ensures.value, c.len.ensures.limit) in
     c.in-Ok.ensures.placed (omega (arith, few, c.in_ok-table.ensures.length)) (ap (λ (t : EntryTableView). t.cluster_bits) c.in_ok-table.ensures.table ∙ bits)
+
+pub returns-then-index-ge-MAX_L1_ENTRIES-clause-fault : goal.returns-then-index-ge-MAX_L1_ENTRIES-clause-fault
+returns-then-index-ge-MAX_L1_ENTRIES-clause-fault g c = λ writable p out sound. inr refl
+
+pub returns-in_err-table-clause-fault : goal.returns-in_err-table-clause-fault
+returns-in_err-table-clause-fault g c = λ writable p out sound.
+    let few : c.max-entries.result ≤ 4194304 = let low = c.if-index-ge-MAX_L1_ENTRIES.false in let index : c.args.index < 4194304 = grind (arith, nat_tests) in omega (arith, index, c.max-entries.ensures, c.len.ensures.value, c.len.ensures.limit) in
+    hands_either c.from_residual.result (of_metadata c.in_err-table.field-0.0) c.from_residual.ensures
+    (inl (short_fault (4194304 < c.max-entries.result) (λ past. omega (arith, few, past)) c.in_err-table.field-0.0 c.in_err-table.ensures.err))
+
+pub returns-in_err-old-clause-fault : goal.returns-in_err-old-clause-fault
+returns-in_err-old-clause-fault g c = λ writable p out sound. hands_either c.from_residual-in_err-old.result c.in_err-old.field-0.0 c.from_residual-in_err-old.ensures (inl c.in_err-old.ensures.fault)
+
+pub returns-in-Err-clause-fault : goal.returns-in-Err-clause-fault
+returns-in-Err-clause-fault g c = λ writable p out sound.
+    let view = g.S.Storage.view in
+    let old = c.args.self.now in
+    let t = c.in_ok-table.table in
+    let enough : entry_count old.l1_table ≤ c.max-entries.result = omega (arith, c.max-entries.ensures, c.len.ensures.value) in
+    let longer = is_longer view g.F.BackingDisk.backing out p old sound t _ c.max-entries.result c.in_ok-table.ensures.table c.in_ok-table.ensures.length enough c.in_ok-table.ensures.entries in
+    let many : entry_count t ≡ max (entry_count old.l1_table) (c.args.index + 1) = omega (arith, c.in_ok-table.ensures.length, c.max-entries.ensures, c.len.ensures.value) in
+    c.in-Err.ensures.fault writable p out sound longer (omega (arith, many))

@@ -12,7 +12,7 @@ use Rattle.qcow2_image.proofs.Grow.Lengthened.{freed_then, refused_moved, stays_
 use Rattle.qcow2_alloc.proofs.KeptMarks.{notes_then}
 use Rattle.qcow2_alloc.proofs.Outcomes.{on_no_ok, on_ok}
 use Rattle.qcow2_image.proofs.Call.BehindHeader.{behind_then}
-use Rattle.qcow2_image.proofs.Prepare.Lacked.{faults_unlimited, hands_limit, unlimited_all}
+use Rattle.qcow2_image.proofs.Prepare.Lacked.{faults_or_limit, faults_unlimited, hands_either, hands_limit, unlimited_all}
 use Rattle.qcow2_image.specs.LackedPlaces.{LacksLongerTable}
 use Rattle.qcow2_image.specs.LackedTables.{LacksTableReaching}
 use Rattle.qcow2_image.proofs.image.Qcow2.lengthen_l1_table.Goals as goal
@@ -85,3 +85,17 @@ returns-clause-limit g c = λ out sound.
     let first = stays_moved view below out old mid sound (c.in_ok-grow_l1_table.ensures.lengthens (pending_in view below old out) out sound) in
     let listed = subst (λ (x : Pending). ImageInvariant view below x mid out) (all_listed view below mid out) first.sound in
     unlimited_all c.free_listed.result (λ e. LacksTableReaching view c.args.offset old new) (faults_unlimited c.free_listed.result (c.free_listed.ensures.faults (beside view below mid out) out listed))
+
+pub returns-in_err-grow_l1_table-clause-fault : goal.returns-in_err-grow_l1_table-clause-fault
+returns-in_err-grow_l1_table-clause-fault g c = λ out sound.
+    hands_either c.from_residual.result c.in_err-grow_l1_table.field-0.0 c.from_residual.ensures
+    (c.in_err-grow_l1_table.ensures.fault c.requires.writable (pending_in g.S.Storage.view g.F.BackingDisk.backing c.args.self.now out) out sound)
+
+pub returns-clause-fault : goal.returns-clause-fault
+returns-clause-fault g c = λ out sound.
+    let view = g.S.Storage.view in
+    let below = g.F.BackingDisk.backing in
+    let mid = c.grow_l1_table.new.self in
+    let first = stays_moved view below out c.args.self.now mid sound (c.in_ok-grow_l1_table.ensures.lengthens (pending_in view below c.args.self.now out) out sound) in
+    let listed = subst (λ (x : Pending). ImageInvariant view below x mid out) (all_listed view below mid out) first.sound in
+    faults_or_limit c.free_listed.result (c.free_listed.ensures.faults (beside view below mid out) out listed)

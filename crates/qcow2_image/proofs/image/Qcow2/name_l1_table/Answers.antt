@@ -9,8 +9,8 @@ use Rattle.qcow2_alloc.proofs.KeptMarks.{notes_none, notes_of_storage}
 use Rattle.qcow2_alloc.proofs.KeptMarks.{told_kept}
 use Rattle.qcow2_image.proofs.Call.BehindHeader.{behind_bits, behind_l1, behind_pointer, behind_then}
 use Rattle.qcow2_metadata.specs.Header.{HeaderView}
-use Rattle.qcow2_image.proofs.Prepare.Lacked.{hands_unlimited}
-use Rattle.qcow2_image.proofs.Call.Unlimited.{storage_unlimited}
+use Rattle.qcow2_image.proofs.Prepare.Lacked.{hands_fault}
+use Rattle.qcow2_image.proofs.Call.Unlimited.{storage_fault}
 use Rattle.qcow2_image.proofs.image.Qcow2.name_l1_table.Goals as goal
 
 pub returns-in_err-write_l1_table_pointer-clause-names : goal.returns-in_err-write_l1_table_pointer-clause-names
@@ -53,9 +53,9 @@ returns-in_err-write_l1_table_pointer-clause-header_cluster g c = λ keeps. behi
 pub returns-clause-header_cluster : goal.returns-clause-header_cluster
 returns-clause-header_cluster g c = λ keeps. behind_then (behind_then (behind_pointer c.write_l1_table_pointer.result c.set_l1_table.new.self.fields (ap g.S.Storage.view c.will_write.ensures.storage) c.write_l1_table_pointer.ensures.written c.write_l1_table_pointer.ensures.calls) (behind_bits (ap (λ (v : HeaderView). v.fields.cluster_bits) c.in_ok-set_l1_table.ensures.ok))) (behind_l1 keeps)
 
-pub returns-in_err-set_l1_table-clause-limited : goal.returns-in_err-set_l1_table-clause-limited
-returns-in_err-set_l1_table-clause-limited g c = absurd (let past = c.in_err-set_l1_table.ensures.err.1 in omega (arith, past, c.len.ensures.limit))
+pub returns-in_err-set_l1_table-clause-fault : goal.returns-in_err-set_l1_table-clause-fault
+returns-in_err-set_l1_table-clause-fault g c = absurd (let past = c.in_err-set_l1_table.ensures.err.1 in omega (arith, past, c.len.ensures.limit))
 
-pub returns-in_err-write_l1_table_pointer-clause-limited : goal.returns-in_err-write_l1_table_pointer-clause-limited
-returns-in_err-write_l1_table_pointer-clause-limited g c =
-    hands_unlimited c.from_residual-in_err-write_l1_table_pointer.result (of_storage c.in_err-write_l1_table_pointer.field-0.0) c.from_residual-in_err-write_l1_table_pointer.ensures (storage_unlimited c.in_err-write_l1_table_pointer.field-0.0)
+pub returns-in_err-write_l1_table_pointer-clause-fault : goal.returns-in_err-write_l1_table_pointer-clause-fault
+returns-in_err-write_l1_table_pointer-clause-fault g c =
+    hands_fault c.from_residual-in_err-write_l1_table_pointer.result (of_storage c.in_err-write_l1_table_pointer.field-0.0) c.from_residual-in_err-write_l1_table_pointer.ensures (storage_fault c.in_err-write_l1_table_pointer.field-0.0)

@@ -11,8 +11,8 @@ use Rattle.qcow2_alloc.proofs.KeptMarks.{notes_none, notes_then, notes_of_both, 
 use Rattle.qcow2_alloc.proofs.KeptMarks.{placed_kept}
 use Rattle.qcow2_metadata.specs.EntryTable.{EntryTableView}
 use Rattle.qcow2_image.proofs.Call.BehindHeader.{behind_caches, behind_none, begins_behind, behind_placed, behind_then, l1_placed}
-use Rattle.qcow2_image.proofs.Prepare.Lacked.{hands_unlimited}
-use Rattle.qcow2_image.proofs.Call.Unlimited.{fault_unlimited, storage_unlimited}
+use Rattle.qcow2_image.proofs.Prepare.Lacked.{hands_fault}
+use Rattle.qcow2_image.proofs.Call.Unlimited.{storage_fault}
 use Rattle.qcow2_alloc.proofs.Outcomes.{not_both}
 use Rattle.qcow2_metadata.specs.L2Mapping.{IsHostCluster}
 use Rattle.qcow2_image.proofs.image.Qcow2.place_l1_table.Goals as goal
@@ -99,15 +99,15 @@ returns-clause-header_cluster g c = λ as_wide some.
     (behind_placed c.write_l1_table.result c.set_cluster.new.self.cluster (λ k. k * 2 ^ c.set_cluster.new.self.cluster_bits) _ (ap g.S.Storage.view c.will_write.ensures.storage) (subst (λ (x : EntryTableView). IsSome x.cluster) (sym c.set_cluster.ensures) refl)
     (λ bits lies. begins_behind c.set_cluster.new.self bits (l1_placed c.args.self.now.l1_table c.args.self.now.l1_table c.args.table.now c.set_cluster.new.self c.args.cluster refl c.set_cluster.ensures as_wide some bits lies.l1)) c.write_l1_table.ensures.written c.write_l1_table.ensures.calls)
 
-pub returns-then-not-is_nameable-clause-limited : goal.returns-then-not-is_nameable-clause-limited
-returns-then-not-is_nameable-clause-limited g c = λ p out sound near. not_both c.is_nameable.result (c.is_nameable.ensures.1 (subst (λ n. IsHostCluster n c.args.cluster) (sym c.cluster_bits.ensures.value) near)) c.if-not-is_nameable.true
+pub returns-then-not-is_nameable-clause-fault : goal.returns-then-not-is_nameable-clause-fault
+returns-then-not-is_nameable-clause-fault g c = λ p out sound near. absurd (not_both c.is_nameable.result (c.is_nameable.ensures.1 (subst (λ n. IsHostCluster n c.args.cluster) (sym c.cluster_bits.ensures.value) near)) c.if-not-is_nameable.true)
 
-pub returns-in_err-flush_rb-clause-limited : goal.returns-in_err-flush_rb-clause-limited
-returns-in_err-flush_rb-clause-limited g c = λ p out sound near.
+pub returns-in_err-flush_rb-clause-fault : goal.returns-in_err-flush_rb-clause-fault
+returns-in_err-flush_rb-clause-fault g c = λ p out sound near.
     let old = c.args.self.now in
-    hands_unlimited c.from_residual.result c.in_err-flush_rb.field-0.0 c.from_residual.ensures
-    (fault_unlimited c.in_err-flush_rb.field-0.0 (c.in_err-flush_rb.ensures.faults old.file.header.fields (with_table p c.args.table.now c.args.cluster) sound.file.honest sound.file.caches sound.file.named_blocks))
+    hands_fault c.from_residual.result c.in_err-flush_rb.field-0.0 c.from_residual.ensures
+    (c.in_err-flush_rb.ensures.faults old.file.header.fields (with_table p c.args.table.now c.args.cluster) sound.file.honest sound.file.caches sound.file.named_blocks)
 
-pub returns-in_err-write_l1_table-clause-limited : goal.returns-in_err-write_l1_table-clause-limited
-returns-in_err-write_l1_table-clause-limited g c = λ p out sound near.
-    hands_unlimited c.from_residual-in_err-write_l1_table.result (of_storage c.in_err-write_l1_table.field-0.0) c.from_residual-in_err-write_l1_table.ensures (storage_unlimited c.in_err-write_l1_table.field-0.0)
+pub returns-in_err-write_l1_table-clause-fault : goal.returns-in_err-write_l1_table-clause-fault
+returns-in_err-write_l1_table-clause-fault g c = λ p out sound near.
+    hands_fault c.from_residual-in_err-write_l1_table.result (of_storage c.in_err-write_l1_table.field-0.0) c.from_residual-in_err-write_l1_table.ensures (storage_fault c.in_err-write_l1_table.field-0.0)

@@ -5,7 +5,7 @@ use Rattle.qcow2_image.proofs.Call.BehindHeader.{behind_then}
 use Rattle.qcow2_image.proofs.Call.FaultCounts.{counted_as, counted_of, untouched}
 use Rattle.qcow2_image.proofs.Call.FreedBehind.{met_freed, refused_freed}
 use Rattle.qcow2_image.proofs.Call.Refused.{back_then_freed}
-use Rattle.qcow2_image.proofs.Prepare.Lacked.{limited_frees}
+use Rattle.qcow2_image.proofs.Prepare.Lacked.{either_frees, limited_frees}
 use Rattle.qcow2_image.proofs.Sizing.LackedTables.{longer_freed}
 use Rattle.qcow2_image.proofs.image.Qcow2.renew_l1_table.Goals as goal
 
@@ -55,3 +55,8 @@ returns-in-Err-clause-limit g c = λ out sound is.
     let mid = c.lengthen_l1_table.new.self in
     let freed = limited_frees view below out old mid c.free_after.new.self c.in-Err.refusal c.free_after.result (c.in-Err.ensures.makes out sound) c.free_after.ensures.fault (c.free_after.ensures.limit out) is in
     longer_freed view _ _ old.file.free_list old mid c.free_after.new.self c.free_after.ensures.keeps_rest.header freed.1 (c.in-Err.ensures.limit out sound freed.0)
+
+pub returns-in-Err-clause-fault : goal.returns-in-Err-clause-fault
+returns-in-Err-clause-fault g c = λ out sound.
+    either_frees g.S.Storage.view g.F.BackingDisk.backing out c.args.self.now c.lengthen_l1_table.new.self c.free_after.new.self c.in-Err.refusal c.free_after.result (c.in-Err.ensures.makes out sound) c.free_after.ensures.fault (c.free_after.ensures.told out)
+    (c.in-Err.ensures.fault out sound)

@@ -29,6 +29,7 @@ pub returns-then-takes_over-clause-tables : goal.returns-then-takes_over-clause-
 returns-then-takes_over-clause-tables g c = λ none larger out sound. record {
   taken = λ is. absurd cc;
   zeros = λ zero lacks. absurd (let no : true ≡ false = sym c.if-takes_over.true ∙ c.takes_over.ensures ∙ ap (takes_over c.args.self.now) zero in cc);
+  version = λ zero lacks. absurd (let no : true ≡ false = sym c.if-takes_over.true ∙ c.takes_over.ensures ∙ ap (takes_over c.args.self.now) zero in cc);
 }
 
 pub returns-in_err-check_resize-clause-once_written : goal.returns-in_err-check_resize-clause-once_written

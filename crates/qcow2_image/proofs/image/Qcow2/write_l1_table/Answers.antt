@@ -8,7 +8,7 @@ use Rattle.qcow2_alloc.proofs.KeptMarks.{notes_then}
 use Rattle.qcow2_image.proofs.Call.BehindHeader.{behind_then, l1_placed}
 use Rattle.qcow2_image.proofs.Call.FaultCounts.{counted_since, same_of}
 use Rattle.qcow2_image.specs.declared.image.Qcow2.{Qcow2}
-use Rattle.qcow2_image.proofs.Prepare.Lacked.{hands_unlimited}
+use Rattle.qcow2_image.proofs.Prepare.Lacked.{hands_fault}
 use Rattle.qcow2_metadata.specs.EntryTable.{EntryTableView}
 use Rattle.qcow2_metadata.specs.L2Mapping.{IsHostCluster}
 use Rattle.std.proofs.Common.{sym}
@@ -55,12 +55,12 @@ returns-clause-faults g c =
     counted_since view below c.args.self.now c.place_l1_table.new.self c.name_l1_table.new.self c.name_l1_table.result
     (same_of view below c.args.self.now c.place_l1_table.new.self c.place_l1_table.result c.in_ok-place_l1_table.field-0 c.place_l1_table.ensures.faults c.in_ok-place_l1_table.was) c.name_l1_table.ensures.faults
 
-pub returns-in_err-place_l1_table-clause-limited : goal.returns-in_err-place_l1_table-clause-limited
-returns-in_err-place_l1_table-clause-limited g c = λ p out sound longer.
-    hands_unlimited c.from_residual.result c.in_err-place_l1_table.field-0.0 c.from_residual.ensures (c.in_err-place_l1_table.ensures.limited p out sound (subst (λ n. IsHostCluster n c.args.cluster) (sym longer.bits) c.requires))
+pub returns-in_err-place_l1_table-clause-fault : goal.returns-in_err-place_l1_table-clause-fault
+returns-in_err-place_l1_table-clause-fault g c = λ p out sound longer.
+    hands_fault c.from_residual.result c.in_err-place_l1_table.field-0.0 c.from_residual.ensures (c.in_err-place_l1_table.ensures.fault p out sound (subst (λ n. IsHostCluster n c.args.cluster) (sym longer.bits) c.requires))
 
-pub returns-clause-limited : goal.returns-clause-limited
-returns-clause-limited g c = λ p out sound longer. c.name_l1_table.ensures.limited
+pub returns-clause-fault : goal.returns-clause-fault
+returns-clause-fault g c = λ p out sound longer. c.name_l1_table.ensures.fault
 
 pub returns-clause-placed : goal.returns-clause-placed
 returns-clause-placed g c = subst (λ (t : EntryTableView). OnOk c.name_l1_table.result (c.name_l1_table.new.self.l1_table ≡ t)) c.in_ok-place_l1_table.ensures.table c.name_l1_table.ensures.table

@@ -3,7 +3,7 @@ use Rattle.qcow2_image.specs.ImageInvariant.{ImageInvariant}
 use Rattle.qcow2_image.specs.LongerTables.{with_table, NamesTable}
 use Rattle.std.specs.Prelude.{IfErr, OnOk, Result, Some}
 use Rattle.std.proofs.Common.{◌≡◌}
-use Rattle.qcow2_image.specs.Refusals.{IsUnlimited}
+use Rattle.qcow2_alloc.specs.ImageError.{IsFault}
 use Rattle.qcow2_image.proofs.image.Qcow2.write_taken.Goals as goal
 
 pub returns-clause-names : goal.returns-clause-names
@@ -29,13 +29,13 @@ returns-clause-header_cluster g c = λ as_wide some. c.write_l1_table-done.ensur
 pub returns-clause-allocator : goal.returns-clause-allocator
 returns-clause-allocator g c = c.write_l1_table-done.ensures.allocator
 
-pub returns-clause-limited : goal.returns-clause-limited
-returns-clause-limited g c = λ p out sound longer.
+pub returns-clause-fault : goal.returns-clause-fault
+returns-clause-fault g c = λ p out sound longer.
     let view = g.S.Storage.view in
     let below = g.F.BackingDisk.backing in
     let old = c.args.self.now in
-    subst (λ (r : Result _ _). IfErr r IsUnlimited) (sym c.keep_or_list.ensures.answer)
-    (c.write_l1_table-done.ensures.limited p out (subst (λ n. ImageInvariant view below (with_table p c.args.table n) old out) (sym c.cluster.ensures) sound) longer)
+    subst (λ (r : Result _ _). IfErr r IsFault) (sym c.keep_or_list.ensures.answer)
+    (c.write_l1_table-done.ensures.fault p out (subst (λ n. ImageInvariant view below (with_table p c.args.table n) old out) (sym c.cluster.ensures) sound) longer)
 
 pub returns-clause-placed : goal.returns-clause-placed
 returns-clause-placed g c =
