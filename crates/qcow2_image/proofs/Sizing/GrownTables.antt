@@ -138,7 +138,8 @@ module _ {S F : Type 0} (view : S → StorageView) (backing : F → BackingView)
   leaves_sized old long filled new size mode (Err e) call fills refused = tt
 
   -- a table that is prepared is one of the range, by the header of the call's begin
-  pub taken_behind : (old long filled : Qcow2 S F) (size : ℕ) (mode : PreallocateMode) (e : ImageError) → UnseenCall view backing old long out → RefusedGrown view backing size mode long filled out e → e ≡ I.TablePrepared → (shows_old mode ≡ false) × IsUnderMappingIn old.file.header.fields (size_of old) (boundary_in old size) out
+  pub taken_behind : (old long filled : Qcow2 S F) (size : ℕ) (mode : PreallocateMode) (e : ImageError) → UnseenCall view backing old long out → RefusedGrown view backing size mode long filled out e
+      → e ≡ I.TablePrepared → (shows_old mode ≡ false) × IsUnderMappingIn old.file.header.fields (size_of old) (boundary_in old size) out
   taken_behind old long filled size mode e call refused is =
       let d = disk_of view backing long in
       let end = rounded_up (cluster_size long.file.header.fields) size in
