@@ -11,7 +11,7 @@ use Rattle.qcow2_disk.specs.Calls.{Clearing}
 use Rattle.qcow2_alloc.specs.declared.error.ImageError.{ImageError}
 use Rattle.qcow2_alloc.specs.declared.error.ImageError.TheVariants as I
 use Rattle.qcow2_image.specs.Clearing.{IsUnderMapping, from_in, to_in}
-use Rattle.qcow2_image.specs.Image.{is_external, is_failed, number_of}
+use Rattle.qcow2_image.specs.Image.{is_external, is_failed, number_of, size_of}
 use Rattle.qcow2_image.specs.ImageInvariant.{abstract_of}
 use Rattle.qcow2_image.specs.declared.image.Qcow2.{Qcow2}
 use Rattle.qcow2_image.specs.declared.mapping.Mapping.{Mapping}
@@ -20,7 +20,7 @@ use Rattle.qcow2_image.specs.declared.prepared.CommitRefused.TheVariants.{Kept}
 use Rattle.qcow2_image.specs.declared.prepared.Prepared.{Prepared}
 use Rattle.qcow2_image.specs.Preallocation.{IsUnderMappingIn}
 use Rattle.qcow2_image.specs.Prepared.{IsHandedBackBy}
-use Rattle.qcow2_image.specs.Refusals.{IsMet, IsMetPreparing, passes, refuse_if, refuses_mapping, refuses_to_prepare, refuses_to_read, unusable}
+use Rattle.qcow2_image.specs.Refusals.{IsMet, IsMetPreparing, IsUnlimited, passes, refuse_if, refuses_mapping, refuses_to_prepare, refuses_to_read, unusable}
 use Rattle.qcow2_session.specs.Causes.{HasNothingToDo, HeedsPrepared, IsRightlyRefused, IsUntouchedUnder, MayMeet, TellsMisuse, first_cause, refuses_clearing}
 use Rattle.qcow2_session.specs.Commands.{reply_of_clearing}
 use Rattle.qcow2_session.specs.CountedFaults.{refusal_in}
@@ -108,6 +108,24 @@ module _ {S F : Type 0} (view : S → StorageView) (backing : F → BackingView)
     heeds = heeds;
   }
 
+-- what refuses a read before any work is no limit
+pub reads_unlimited : {S F : Type 0} (image : Qcow2 S F) (offset n : ℕ) (r : Result (Unit {0}) ImageError) → MatchOption (refuses_to_read image offset n) (r ≡ Ok tt) (λ e. r ≡ Err e) → IfErr r IsUnlimited
+reads_unlimited image offset n r why = by (is_failed image) (is_external image) (passes (size_of image) offset n) why
+  where
+    by : (a b c : Bool) → MatchOption (option_or (option_or (refuse_if a I.Failed) (refuse_if b I.Dependency)) (refuse_if c I.BeyondSize)) (r ≡ Ok tt) (λ e. r ≡ Err e) → IfErr r IsUnlimited
+    by true b c is = subst (λ (q : Result (Unit {0}) ImageError). IfErr q IsUnlimited) (sym is) tt
+    by false true c is = subst (λ (q : Result (Unit {0}) ImageError). IfErr q IsUnlimited) (sym is) tt
+    by false false true is = subst (λ (q : Result (Unit {0}) ImageError). IfErr q IsUnlimited) (sym is) tt
+    by false false false is = subst (λ (q : Result (Unit {0}) ImageError). IfErr q IsUnlimited) (sym is) tt
+
+-- a refusal for no limit is handed on
+pub hands_unlimited : {A : Type 0} (r : Result A ImageError) (e : ImageError) → r ≡ Err e → IsUnlimited e → IfErr r IsUnlimited
+hands_unlimited {A = A} r e is none = subst (λ (q : Result A ImageError). IfErr q IsUnlimited) (sym is) none
+
+-- nor is want of memory one
+pub memory_unlimited : (e : ImageError) → e ≡ I.Memory → IsUnlimited e
+memory_unlimited e is = subst IsUnlimited (sym is) tt
+
 -- the refusal that an image's call began with
 pub begun_with : (A Same : Type 0) (e : ImageError) (o : Option ImageError) → IfSome o (λ x. (◌≡◌ {A = Result A ImageError} (Err e) (Err x)) × Same) → IfSome o (λ x. (e ≡ x) × Same)
 begun_with A Same e o early = if_some_to o (λ x h. (same_error h.0, h.1)) early
@@ -126,8 +144,10 @@ module _ {S F : Type 0} (view : S → StorageView) (backing : F → BackingView)
   read_answered Same offset n bytes early = is_answered view backing old new before (C.Read offset n) Same bytes (R.Bytes bytes) (λ is. absurd cc) (λ is. absurd cc, λ is. absurd is) refl early (λ _ _. tt)
 
   pub read_refused : (offset n : ℕ) (e : ImageError) → IfSome (refuses_to_read old offset n) (λ x. (◌≡◌ {A = Result (Vec ℕ Global) ImageError} (Err e) (Err x)) × (new ≡ old)) → (refuses_to_read old offset n ≡ None → IsMet e × (0 < n))
-      → IsRightlyRefused view backing old new before found (C.Read offset n) (R.Refused e)
-  read_refused offset n e early late = is_refused view backing old new before (C.Read offset n) e (R.Refused e) (λ is. absurd cc) (λ is. absurd cc, λ is. absurd is) refl (begun_with (Vec ℕ Global) (new ≡ old) e (refuses_to_read old offset n) early) (λ none. (late none).0) (λ none empty. let some = (late none).1 in omega (arith, some, empty)) (λ _ _. tt)
+      → ((out : List (Option Prepared)) → (abstract_of view backing old out).is_sound → IsUnlimited e) → IsRightlyRefused view backing old new before found (C.Read offset n) (R.Refused e)
+  read_refused offset n e early late limited =
+      is_refused view backing old new before (C.Read offset n) e (R.Refused e) (λ is. absurd cc) (λ is. absurd cc, λ is. absurd is) refl (begun_with (Vec ℕ Global) (new ≡ old) e (refuses_to_read old offset n) early)
+      (λ none. (late none).0) (λ none empty. let some = (late none).1 in omega (arith, some, empty)) (λ _ sound. limited before sound)
 
   pub write_answered : (Same : Type 0) (offset : ℕ) (bytes : Vec ℕ Global) → IfSome (refuses_to_prepare old offset (length bytes.items)) (λ x. (◌≡◌ {A = Result (Unit {0}) (ImageError × ℕ)} (Ok tt) (Err (x, 0))) × Same) → IsRightlyRefused view backing old new before found (C.Write offset bytes) R.Done
   write_answered Same offset bytes early = is_done view backing old new before (C.Write offset bytes) R.Done (λ is. absurd cc) (λ is. absurd cc, λ is. absurd is) refl

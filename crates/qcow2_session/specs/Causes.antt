@@ -19,7 +19,7 @@ use Rattle.qcow2_image.specs.ImageInvariant.{abstract_of}
 use Rattle.qcow2_image.specs.Preallocation.{IsUnderMappingIn}
 use Rattle.qcow2_image.specs.Prepared.{length_of, table_of}
 use Rattle.qcow2_image.specs.Preparing.{IsTaken}
-use Rattle.qcow2_image.specs.Refusals.{IsMet, IsMetPreparing, passes, refuse_if, refuses_to_prepare, refuses_to_read, unusable}
+use Rattle.qcow2_image.specs.Refusals.{IsMet, IsMetPreparing, IsUnlimited, passes, refuse_if, refuses_to_prepare, refuses_to_read, unusable}
 use Rattle.qcow2_image.specs.Resizing.{boundary_in, refuses_to_resize, takes_over}
 use Rattle.qcow2_image.specs.declared.image.Qcow2.{Qcow2}
 use Rattle.qcow2_image.specs.declared.mapping.Mapping.{Mapping}
@@ -148,10 +148,13 @@ module _ {S F : Type 0} (view : S → StorageView) (backing : F → BackingView)
   ReadsLookedUp found slot at n reply = refusal_in reply ≡ Some I.OutdatedMapping → (m : Mapping) × (found slot ≡ Some m) × (¬ IsFoundWhole view new (m.offset + at) (further_by at m.kind) n)
 
   -- What a prepared mapping refuses, and nothing else: a range of its L2 table (9), a smaller disk (17). What is put, or read as it was looked up, is refused as outdated (10) only where it is. A commit and a flush are refused for a fault alone.
+  -- What is read or looked up is refused for no limit (13).
   abbrev pub HeedsPrepared : (found : ℕ → Option Mapping) → Command → Reply → Type 0
+  HeedsPrepared found (C.Read offset n) reply = IfSome (refusal_in reply) IsUnlimited
   HeedsPrepared found (C.Write offset bytes) reply = refusal_in reply ≡ Some I.TablePrepared → IsUnderMappingIn old.file.header.fields offset (offset + length bytes.items) before
   HeedsPrepared found (C.PrepareDataMapping slot offset n overwrite) reply = IsUntakenIn offset n reply
-  HeedsPrepared found (C.ReadMapped slot at n) reply = ReadsLookedUp found slot at n reply
+  HeedsPrepared found (C.GetMapping slot offset max) reply = IfSome (refusal_in reply) IsUnlimited
+  HeedsPrepared found (C.ReadMapped slot at n) reply = ReadsLookedUp found slot at n reply × IfSome (refusal_in reply) IsUnlimited
   HeedsPrepared found (C.WriteMapped slot at bytes) reply = refusal_in reply ≡ Some I.OutdatedMapping → IsOutdatedAt slot at (length bytes.items)
   HeedsPrepared found (C.CommitDataMapping slot) reply = IfSome (refusal_in reply) IsFault
   HeedsPrepared found C.Flush reply = IfSome (refusal_in reply) IsFault
@@ -159,6 +162,8 @@ module _ {S F : Type 0} (view : S → StorageView) (backing : F → BackingView)
   HeedsPrepared found (C.DiscardToZero offset n) reply = IsUntouchedUnder offset n reply
   HeedsPrepared found (C.DiscardToAny offset n) reply = IsUntouchedUnder offset n reply
   HeedsPrepared found (C.DiscardToBacking offset n) reply = IsUntouchedUnder offset n reply
+  HeedsPrepared found (C.ReadvSpecial offset n) reply = IfSome (refusal_in reply) IsUnlimited
+  HeedsPrepared found (C.TryReadvSpecial offset n) reply = IfSome (refusal_in reply) IsUnlimited
   HeedsPrepared found (C.ResizeGrow size mode) reply = size_of old < size → refusal_in reply ≡ Some I.TablePrepared → IsUnderMappingIn old.file.header.fields (size_of old) (boundary_in old size) before
   HeedsPrepared found (C.ResizeShrink size) reply = size < size_of old → (refusal_in reply ≡ Some I.MappingPrepared) ↔ HasPrepared before
   HeedsPrepared found command reply = Unit {0}

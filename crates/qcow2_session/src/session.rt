@@ -9,7 +9,7 @@ ghost use Rattle.qcow2_image.specs.Image.{IsSameImage, is_failed, is_writable, n
 ghost use Rattle.qcow2_image.specs.Prepared.{image_of};
 ghost use Rattle.qcow2_image.specs.ImageInvariant.{abstract_of};
 ghost use Rattle.qcow2_image.specs.Calls.{Discards};
-ghost use Rattle.qcow2_image.specs.Refusals.{IsMet, IsMetPreparing, unusable, refuses_mapping, refuses_to_read, refuses_to_prepare};
+ghost use Rattle.qcow2_image.specs.Refusals.{IsMet, IsMetPreparing, IsUnlimited, unusable, refuses_mapping, refuses_to_read, refuses_to_prepare};
 ghost use Rattle.qcow2_image.specs.Faults.{CountsImageFaults, NoFewerFaults, SameFaults, TellsEachBy, TellsFault};
 ghost use Rattle.qcow2_session.specs.Causes.{IsRightlyRefused};
 ghost use Rattle.qcow2_session.specs.CountedFaults.{CommandCounts, FailsAs, FailsBy, RunCounts, refusal_in};
@@ -171,6 +171,7 @@ pub fn read<S: Storage, F: WrappedFormat<S>>(
     ensures marks { FailsAs result (is_failed image.old) (is_failed image.new) }
     ensures early { IfSome (refuses_to_read image.old offset length) (λ e. (result ≡ Err e) × (image.new ≡ image.old)) }
     ensures late { refuses_to_read image.old offset length ≡ None → IfErr result (λ e. IsMet e × (0 < length)) }
+    ensures limited { (out : List (Option Prepared)) → (abstract_of S.view F.backing image.old out).is_sound → IfErr result IsUnlimited }
     ensures beyond { IfErr result (IsRightlyBeyond image.old offset length) }
     ensures cause { IfErr result IsOfReading }
     ensures sees { Reads S.view F.backing image.old image.new offset length result }
@@ -212,6 +213,7 @@ pub fn read_into<S: Storage, F: WrappedFormat<S>>(
     ensures marks { FailsAs result (is_failed image.old) (is_failed image.new) }
     ensures early { IfSome (refuses_to_read image.old offset (length bytes.old)) (λ e. (result ≡ Err e) × (image.new ≡ image.old)) }
     ensures late { refuses_to_read image.old offset (length bytes.old) ≡ None → IfErr result (λ e. IsMet e × (0 < length bytes.old)) }
+    ensures limited { (out : List (Option Prepared)) → (abstract_of S.view F.backing image.old out).is_sound → IfErr result IsUnlimited }
     ensures beyond { IfErr result (IsRightlyBeyond image.old offset (length bytes.old)) }
     ensures cause { IfErr result IsOfReading }
     ensures sees { ReadsInto S.view F.backing image.old image.new offset bytes.new result }
@@ -242,6 +244,7 @@ fn read_some<S: Storage, F: WrappedFormat<S>>(
     ensures some { IfOk result (λ n. 0 < n) }
     ensures within { IfOk result (λ n. n ≤ length bytes.old) }
     ensures late { refuses_to_read image.old offset (length bytes.old) ≡ None → 0 < length bytes.old → IfErr result IsMet }
+    ensures limited { (out : List (Option Prepared)) → (abstract_of S.view F.backing image.old out).is_sound → IfErr result IsUnlimited }
     ensures beyond { 0 < length bytes.old → IfErr result (IsRightlyBeyond image.old offset (length bytes.old)) }
     ensures cause { IfErr result IsOfReading }
     ensures sees { ReadsFirst S.view F.backing image.old image.new offset bytes.new result }
@@ -525,6 +528,7 @@ fn read_range<S: Storage, F: WrappedFormat<S>>(
     ensures marks { FailsAs result (is_failed image.old) (is_failed image.new) }
     ensures early { IfSome (unusable image.old) (λ e. (result ≡ Err e) × (image.new ≡ image.old)) }
     ensures late { refuses_mapping image.old mapping.now.image ≡ None → IfErr result (λ e. IsMet e × (0 < length)) }
+    ensures limited { (out : List (Option Prepared)) → (abstract_of S.view F.backing image.old out).is_sound → IfErr result IsUnlimited }
     ensures outdated { (out : List (Option Prepared)) → (abstract_of S.view F.backing image.old out).is_sound → result ≡ Err OutdatedMapping
         → ¬ IsFoundWhole S.view image.new (mapping.now.offset + at) (further_by at mapping.now.kind) length }
     ensures mapped { 0 < length → (out : List (Option Prepared)) → (abstract_of S.view F.backing image.old out).is_sound → OnOk result (IsFoundWhole S.view image.old (mapping.now.offset + at) (further_by at mapping.now.kind) length) }

@@ -5,8 +5,9 @@ use Rattle.qcow2_disk.specs.AbstractImages.{guest_of}
 use Rattle.qcow2_image.specs.ImageInvariant.{abstract_of}
 use Rattle.qcow2_session.specs.Sessions.{Reads}
 use Rattle.qcow2_session.proofs.Turns.{refused_is, does_if}
-use Rattle.std.specs.Prelude.{IfErr}
+use Rattle.std.specs.Prelude.{Err, IfErr}
 use Rattle.qcow2_image.specs.Refusals.{IsMet}
+use Rattle.qcow2_session.proofs.Causing.{hands_unlimited, memory_unlimited, reads_unlimited}
 use Rattle.qcow2_session.proofs.Marking.{hands_on, memory_marks, unmarked}
 use Rattle.qcow2_image.proofs.Call.BehindHeader.{behind_none}
 use Rattle.qcow2_session.proofs.session.read.Goals as goal
@@ -43,3 +44,14 @@ returns-in_err-bytes-clause-header_cluster g c = behind_none
 
 pub returns-in_err-check_read-clause-header_cluster : goal.returns-in_err-check_read-clause-header_cluster
 returns-in_err-check_read-clause-header_cluster g c = behind_none
+
+pub returns-in_err-check_read-clause-limited : goal.returns-in_err-check_read-clause-limited
+returns-in_err-check_read-clause-limited g c = λ out sound.
+    hands_unlimited _ c.in_err-check_read.field-0.0 (refused_is _ c.in_err-check_read.field-0.0 c.from_residual.ensures)
+    (reads_unlimited c.args.image.now c.args.offset c.args.length (Err c.in_err-check_read.field-0.0) c.in_err-check_read.ensures.refusal)
+
+pub returns-in_err-bytes-clause-limited : goal.returns-in_err-bytes-clause-limited
+returns-in_err-bytes-clause-limited g c = λ out sound. hands_unlimited _ c.in_err-bytes.field-0.0 (refused_is _ c.in_err-bytes.field-0.0 c.from_residual-in_err-bytes.ensures) (memory_unlimited c.in_err-bytes.field-0.0 c.in_err-bytes.ensures.cause.0)
+
+pub returns-in_err-read_into-clause-limited : goal.returns-in_err-read_into-clause-limited
+returns-in_err-read_into-clause-limited g c = λ out sound. hands_unlimited _ c.in_err-read_into.field-0.0 (refused_is _ c.in_err-read_into.field-0.0 c.from_residual-in_err-read_into.ensures) (c.in_err-read_into.ensures.limited out sound)

@@ -1,4 +1,4 @@
-use Rattle.std.proofs.Common.{◌≡◌, ◌<◌, ◌∙◌, ◌+◌, ◌-◌, refl, length, IfErr, sym, subst, ap, [], take, drop, arith}
+use Rattle.std.proofs.Common.{◌≡◌, ◌<◌, ◌∙◌, ◌+◌, ◌-◌, refl, length, Err, IfErr, sym, subst, ap, [], take, drop, arith}
 use Rattle.std.proofs.lemmas.Grind.{common_steps}
 use Rattle.qcow2_disk.specs.Calls.{another, Shows}
 use Rattle.qcow2_disk.specs.AbstractImages.{Guest, guest_of}
@@ -15,6 +15,7 @@ use Rattle.qcow2_image.proofs.Call.FaultCounts.{counted_on, faults_then}
 use Rattle.qcow2_image.specs.Refusals.{IsMet}
 use Rattle.qcow2_session.proofs.Parts.{part_reads}
 use Rattle.std.proofs.Common.{Some}
+use Rattle.qcow2_session.proofs.Causing.{hands_unlimited, reads_unlimited}
 use Rattle.qcow2_session.proofs.Marking.{fails_behind, hands_on, unmarked}
 use Rattle.qcow2_session.proofs.Counting.{none_counted}
 use Rattle.qcow2_session.proofs.Converting.{does_nothing}
@@ -131,3 +132,12 @@ loop-done-init g c = record {
 
 pub returns-in_err-done-clause-quiet : goal.returns-in_err-done-clause-quiet
 returns-in_err-done-clause-quiet g c = written_then g.S.Storage.view c.loop-done.invariant.quiet c.read_some.ensures.quiet
+
+pub returns-in_err-check_read-clause-limited : goal.returns-in_err-check_read-clause-limited
+returns-in_err-check_read-clause-limited g c = λ out sound.
+    hands_unlimited _ c.in_err-check_read.field-0.0 (refused_is _ c.in_err-check_read.field-0.0 c.from_residual.ensures)
+    (reads_unlimited c.args.image.now c.args.offset (length c.args.bytes.now) (Err c.in_err-check_read.field-0.0) c.in_err-check_read.ensures.refusal)
+
+pub returns-in_err-done-clause-limited : goal.returns-in_err-done-clause-limited
+returns-in_err-done-clause-limited g c = λ out sound.
+    hands_unlimited _ c.in_err-done.field-0.0 (refused_is _ c.in_err-done.field-0.0 c.from_residual-in_err-done.ensures) (c.in_err-done.ensures.limited out ((c.loop-done.invariant.shown out).answer sound).0)

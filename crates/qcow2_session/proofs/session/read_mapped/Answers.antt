@@ -58,7 +58,7 @@ pub returns-in_default-clause-causes : goal.returns-in_default-clause-causes
 returns-in_default-clause-causes g c =
     let here = mapped_here c.args.slots.now.mappings.items c.args.slot c.from.result c.index.result.now c.from.ensures (omega (arith, c.args.slots.now.all_mappings, c.ranges.slot)) c.index.ensures in
     is_misused g.S.Storage.view g.F.BackingDisk.backing c.args.image.now c.args.image.now c.args.slots.now.prepared.items (C.ReadMapped c.args.slot c.args.at c.args.length)
-    (λ _. passes_mapped c.args.at c.args.length (here ∙ c.in_default.is) tt, λ _. refl) refl (λ is. absurd cc)
+    (λ _. passes_mapped c.args.at c.args.length (here ∙ c.in_default.is) tt, λ _. refl) refl (λ is. absurd cc, tt)
 
 pub returns-then-at-mapping-clause-causes : goal.returns-then-at-mapping-clause-causes
 returns-then-at-mapping-clause-causes g c =
@@ -68,7 +68,7 @@ returns-then-at-mapping-clause-causes g c =
       | then-at-mapping-via-else-at-mapping+then-length-mapping w ↦ omega (arith, w.if-at-mapping.false, w.if-length-mapping.true)
     ] in
     is_misused g.S.Storage.view g.F.BackingDisk.backing c.args.image.now c.args.image.now c.args.slots.now.prepared.items (C.ReadMapped c.args.slot c.args.at c.args.length)
-    (λ _. passes_mapped c.args.at c.args.length (here ∙ c.in-Some.is) past, λ _. refl) refl (λ is. absurd cc)
+    (λ _. passes_mapped c.args.at c.args.length (here ∙ c.in-Some.is) past, λ _. refl) refl (λ is. absurd cc, tt)
 
 pub returns-in-Ok-clause-causes : goal.returns-in-Ok-clause-causes
 returns-in-Ok-clause-causes g c =
@@ -76,7 +76,7 @@ returns-in-Ok-clause-causes g c =
     let within : c.args.at + c.args.length ≤ c.in-Some.mapping.length = omega (arith, c.if-at-mapping.false, c.if-length-mapping.false) in
     is_answered g.S.Storage.view g.F.BackingDisk.backing c.args.image.now c.read_range.new.image c.args.slots.now.prepared.items (C.ReadMapped c.args.slot c.args.at c.args.length) _ _ (R.Bytes c.in-Ok.bytes) (λ is. absurd cc)
     (λ is. absurd cc, λ is. absurd (isnt_beyond c.in-Some.mapping c.args.at c.args.length (here ∙ c.in-Some.is) within is)) refl c.in-Ok.ensures.early
-    (λ _ sound some. (c.in-Some.mapping, here ∙ c.in-Some.is, c.in-Ok.ensures.mapped some c.args.slots.now.prepared.items sound))
+    (λ _ sound. (λ some. (c.in-Some.mapping, here ∙ c.in-Some.is, c.in-Ok.ensures.mapped some c.args.slots.now.prepared.items sound), tt))
 
 pub returns-in-Err-clause-causes : goal.returns-in-Err-clause-causes
 returns-in-Err-clause-causes g c =
@@ -88,7 +88,7 @@ returns-in-Err-clause-causes g c =
     is_refused g.S.Storage.view g.F.BackingDisk.backing c.args.image.now c.read_range.new.image c.args.slots.now.prepared.items (C.ReadMapped c.args.slot c.args.at c.args.length) c.in-Err.refusal (R.Refused c.in-Err.refusal) (λ is. absurd cc)
     (λ is. absurd cc, λ is. absurd (isnt_beyond c.in-Some.mapping c.args.at c.args.length (ap mapping_at (there ∙ ap Some c.in-Some.is)) within is)) refl
     (begun_with _ _ _ (unusable c.args.image.now) c.in-Err.ensures.early) (λ none. (late none).0) (λ none empty. let some = (late none).1 in omega (arith, some, empty))
-    (λ _ sound is. (c.in-Some.mapping, ap mapping_at (there ∙ ap Some c.in-Some.is), c.in-Err.ensures.outdated c.args.slots.now.prepared.items sound (ap Err (some_error is))))
+    (λ _ sound. (λ is. (c.in-Some.mapping, ap mapping_at (there ∙ ap Some c.in-Some.is), c.in-Err.ensures.outdated c.args.slots.now.prepared.items sound (ap Err (some_error is))), c.in-Err.ensures.limited c.args.slots.now.prepared.items sound))
 
 pub returns-in_default-clause-header_cluster : goal.returns-in_default-clause-header_cluster
 returns-in_default-clause-header_cluster g c = behind_none

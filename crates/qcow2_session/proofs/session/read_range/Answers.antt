@@ -12,7 +12,7 @@ use Rattle.qcow2_session.proofs.Marking.{hands_on, memory_marks, none_answered, 
 use Rattle.qcow2_alloc.specs.declared.error.ImageError.TheVariants.{Memory, OutdatedMapping}
 use Rattle.qcow2_image.proofs.Sizes.{sound_is_usable}
 use Rattle.qcow2_image.specs.Refusals.{unusable}
-use Rattle.qcow2_session.proofs.Causing.{same_error}
+use Rattle.qcow2_session.proofs.Causing.{same_error, hands_unlimited, memory_unlimited, reads_unlimited}
 use Rattle.qcow2_image.proofs.Call.BehindHeader.{behind_none}
 use Rattle.qcow2_session.proofs.session.read_range.Goals as goal
 
@@ -91,3 +91,13 @@ returns-in_err-read_mapped-clause-quiet g c = c.read_mapped.ensures.quiet
 
 pub returns-clause-quiet : goal.returns-clause-quiet
 returns-clause-quiet g c = c.read_mapped.ensures.quiet
+
+pub returns-in_err-check_read-clause-limited : goal.returns-in_err-check_read-clause-limited
+returns-in_err-check_read-clause-limited g c = λ out sound.
+    hands_unlimited _ c.in_err-check_read.field-0.0 (refused_is _ c.in_err-check_read.field-0.0 c.from_residual.ensures) (reads_unlimited c.args.image.now 0 0 (Err c.in_err-check_read.field-0.0) c.in_err-check_read.ensures.refusal)
+
+pub returns-in_err-bytes-clause-limited : goal.returns-in_err-bytes-clause-limited
+returns-in_err-bytes-clause-limited g c = λ out sound. hands_unlimited _ c.in_err-bytes.field-0.0 (refused_is _ c.in_err-bytes.field-0.0 c.from_residual-in_err-bytes.ensures) (memory_unlimited c.in_err-bytes.field-0.0 c.in_err-bytes.ensures.cause.0)
+
+pub returns-in_err-read_mapped-clause-limited : goal.returns-in_err-read_mapped-clause-limited
+returns-in_err-read_mapped-clause-limited g c = λ out sound. hands_unlimited _ c.in_err-read_mapped.field-0.0 (refused_is _ c.in_err-read_mapped.field-0.0 c.from_residual-in_err-read_mapped.ensures) (c.in_err-read_mapped.ensures.limited out sound)

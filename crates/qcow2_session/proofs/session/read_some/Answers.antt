@@ -11,7 +11,7 @@ use Rattle.std.specs.Prelude.{IfErr, length}
 use Rattle.qcow2_image.specs.Image.{size_of}
 use Rattle.qcow2_image.specs.Refusals.{IsMet, unusable, passes}
 use Rattle.qcow2_alloc.specs.declared.error.ImageError.TheVariants.{BeyondSize}
-use Rattle.qcow2_session.proofs.Causing.{mapping_reading, fits_below, then_none}
+use Rattle.qcow2_session.proofs.Causing.{mapping_reading, fits_below, then_none, hands_unlimited}
 use Rattle.qcow2_session.proofs.Parts.{mapping_usable}
 use Rattle.qcow2_image.proofs.Call.MetErrors.{tables_met}
 use Rattle.qcow2_session.proofs.Marking.{fails_behind, hands_on, refused_marks}
@@ -117,3 +117,10 @@ pub returns-in_err-read_mapped-clause-faults : goal.returns-in_err-read_mapped-c
 returns-in_err-read_mapped-clause-faults g c =
     counted_on g.S.Storage.view g.F.BackingDisk.backing c.args.image.now c.get_mapping.new.self c.read_mapped.new.self c.read_mapped.result c.in_err-read_mapped.field-0.0 c.from_residual-in_err-read_mapped.result c.in_ok-mapping.ensures.faults.told
     c.read_mapped.ensures.faults c.in_err-read_mapped.was c.from_residual-in_err-read_mapped.ensures
+
+pub returns-in_err-mapping-clause-limited : goal.returns-in_err-mapping-clause-limited
+returns-in_err-mapping-clause-limited g c = λ out sound. hands_unlimited _ c.in_err-mapping.field-0.0 (refused_is _ c.in_err-mapping.field-0.0 c.from_residual.ensures) (c.in_err-mapping.ensures.limited out sound)
+
+pub returns-in_err-read_mapped-clause-limited : goal.returns-in_err-read_mapped-clause-limited
+returns-in_err-read_mapped-clause-limited g c = λ out sound.
+    hands_unlimited _ c.in_err-read_mapped.field-0.0 (refused_is _ c.in_err-read_mapped.field-0.0 c.from_residual-in_err-read_mapped.ensures) (c.in_err-read_mapped.ensures.limited out ((c.in_ok-mapping.ensures.sees out).answer sound).0)

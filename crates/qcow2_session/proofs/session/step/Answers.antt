@@ -198,7 +198,9 @@ pub returns-in-Ok-clause-causes : goal.returns-in-Ok-clause-causes
 returns-in-Ok-clause-causes g c = subst (λ q. IsRightlyRefused g.S.Storage.view g.F.BackingDisk.backing c.args.image.now c.read.new.image c.args.slots.now.prepared.items (mappings_in c.args.slots.now.mappings.items) q (Bytes c.in-Ok.bytes)) (sym c.in-Read.is) (read_answered g.S.Storage.view g.F.BackingDisk.backing c.args.image.now c.read.new.image c.args.slots.now.prepared.items _ _ _ _ c.in-Ok.ensures.early)
 
 pub returns-in-Err-clause-causes : goal.returns-in-Err-clause-causes
-returns-in-Err-clause-causes g c = subst (λ q. IsRightlyRefused g.S.Storage.view g.F.BackingDisk.backing c.args.image.now c.read.new.image c.args.slots.now.prepared.items (mappings_in c.args.slots.now.mappings.items) q (Refused c.in-Err.refusal)) (sym c.in-Read.is) (read_refused g.S.Storage.view g.F.BackingDisk.backing c.args.image.now c.read.new.image c.args.slots.now.prepared.items _ _ _ c.in-Err.ensures.early c.in-Err.ensures.late)
+returns-in-Err-clause-causes g c =
+    subst (λ q. IsRightlyRefused g.S.Storage.view g.F.BackingDisk.backing c.args.image.now c.read.new.image c.args.slots.now.prepared.items (mappings_in c.args.slots.now.mappings.items) q (Refused c.in-Err.refusal))
+    (sym c.in-Read.is) (read_refused g.S.Storage.view g.F.BackingDisk.backing c.args.image.now c.read.new.image c.args.slots.now.prepared.items _ _ _ c.in-Err.ensures.early c.in-Err.ensures.late c.in-Err.ensures.limited)
 
 pub returns-in-Ok-write-clause-causes : goal.returns-in-Ok-write-clause-causes
 returns-in-Ok-write-clause-causes g c = subst (λ q. IsRightlyRefused g.S.Storage.view g.F.BackingDisk.backing c.args.image.now c.write.new.image c.args.slots.now.prepared.items (mappings_in c.args.slots.now.mappings.items) q Done) (sym c.in-Write.is) (write_answered g.S.Storage.view g.F.BackingDisk.backing c.args.image.now c.write.new.image c.args.slots.now.prepared.items _ _ _ (rw c.deref.ensures.value at c.in-Ok-write.ensures.early))
