@@ -1,6 +1,5 @@
-use Rattle.std.proofs.Common.{◌≡◌, ◌∙◌, inr, ap, refl, sym, subst, [], None, Option, Some}
+use Rattle.std.proofs.Common.{◌∙◌, refl, sym, subst, []}
 use Rattle.std.specs.Prelude.{IsErr, Result}
-use Rattle.qcow2_alloc.specs.declared.error.ImageError.{ImageError}
 use Rattle.qcow2_image.specs.Backings.{IsOver}
 use Rattle.qcow2_image.specs.declared.image.Qcow2.{Qcow2}
 use Rattle.qcow2_session.specs.Sessions.{RunRefinesDisk}
