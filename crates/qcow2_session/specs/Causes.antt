@@ -1,11 +1,11 @@
 -- Why the commands of a run are refused: what is asked before any work, in order, and what the work meets.
-use Rattle.std.specs.Prelude.{ℕ, ◌+◌, ◌<◌, ◌≤◌, ◌≡◌, ◌↔◌, ◌⊎◌, ◌&&◌, not, nat_lt, true, length, List, Option, Some, None, IfSome, IsNone, MatchOption, slice_get}
+use Rattle.std.specs.Prelude.{ℕ, ◌+◌, ◌<◌, ◌≤◌, ◌≡◌, ◌↔◌, ◌⊎◌, ◌&&◌, not, nat_lt, true, false, length, List, Option, Some, None, IfSome, IsNone, MatchOption, slice_get}
 use Rattle.std.specs.Option.{option_or}
 use Rattle.image_access.specs.Backing.{BackingView}
 use Rattle.image_access.specs.Moments.{StorageView}
 use Rattle.image_access.specs.declared.storage.PreallocateMode.{PreallocateMode}
 use Rattle.qcow2_metadata.specs.Header.{cluster_size}
-use Rattle.qcow2_disk.specs.Calls.{Clearing, to_backing, to_kept_zero, to_zero}
+use Rattle.qcow2_disk.specs.Calls.{Clearing, shows_old, to_backing, to_kept_zero, to_zero}
 use Rattle.qcow2_disk.specs.ClearedCovers.{needs_zeros, rounds_past}
 use Rattle.qcow2_alloc.specs.ImageError.{IsFault, IsOfTables}
 use Rattle.qcow2_alloc.specs.ImageFile.{known_in}
@@ -164,7 +164,7 @@ module _ {S F : Type 0} (view : S → StorageView) (backing : F → BackingView)
   HeedsPrepared found (C.DiscardToBacking offset n) reply = IsUntouchedUnder offset n reply
   HeedsPrepared found (C.ReadvSpecial offset n) reply = IfSome (refusal_in reply) IsUnlimited
   HeedsPrepared found (C.TryReadvSpecial offset n) reply = IfSome (refusal_in reply) IsUnlimited
-  HeedsPrepared found (C.ResizeGrow size mode) reply = size_of old < size → refusal_in reply ≡ Some I.TablePrepared → IsUnderMappingIn old.file.header.fields (size_of old) (boundary_in old size) before
+  HeedsPrepared found (C.ResizeGrow size mode) reply = size_of old < size → refusal_in reply ≡ Some I.TablePrepared → (shows_old mode ≡ false) × IsUnderMappingIn old.file.header.fields (size_of old) (boundary_in old size) before
   HeedsPrepared found (C.ResizeShrink size) reply = size < size_of old → (refusal_in reply ≡ Some I.MappingPrepared) ↔ HasPrepared before
   HeedsPrepared found command reply = Unit {0}
 
