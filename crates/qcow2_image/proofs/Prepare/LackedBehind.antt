@@ -335,17 +335,20 @@ module _ {S F : Type 0} (view : S → StorageView) where
       let bytes = bytes_in_table view offset n old in
       elim lacks [
         | inl table ↦ inl (lacks_freed view offset old mid new header just table)
-        | inr lacks_data ↦ inr (lacks_data.0, elim lacks_data.1 [
-          | inl none ↦ stands_as view HasNoCluster (CantPrepare first next start bytes) (listed_or_l1 old) old new (λ A a full. inl (none.0, full))
-              (stands_after view HasNoCluster cluster_more (listed_or_l1 old) old mid new header just none.1)
-          | inr behind ↦ behind_ended first next start bytes (listed_or_l1 old) old new empty (record {
-            cluster = behind.cluster;
-            taken = behind.taken;
-            released = behind.released;
-            own = behind.own;
-            behind = stands_after view (CantGoOnFrom first (next behind.taken) start bytes behind.cluster behind.taken) (behind_more first (next behind.taken) start bytes behind.cluster behind.taken) (listed_or_l1 old ++ behind.released) old mid new header just behind.behind;
-          })
-        ])
+        | inr lacks_data ↦ inr (
+          lacks_data.0,
+          elim lacks_data.1 [
+            | inl none ↦ stands_as view HasNoCluster (CantPrepare first next start bytes) (listed_or_l1 old) old new (λ A a full. inl (none.0, full))
+                (stands_after view HasNoCluster cluster_more (listed_or_l1 old) old mid new header just none.1)
+            | inr behind ↦ behind_ended first next start bytes (listed_or_l1 old) old new empty (record {
+              cluster = behind.cluster;
+              taken = behind.taken;
+              released = behind.released;
+              own = behind.own;
+              behind = stands_after view (CantGoOnFrom first (next behind.taken) start bytes behind.cluster behind.taken) (behind_more first (next behind.taken) start bytes behind.cluster behind.taken) (listed_or_l1 old ++ behind.released) old mid new header just behind.behind;
+            })
+          ],
+        )
       ]
 
   prepare_as : (first : L2Mapping) (to from : ℕ → L2Mapping) (start n : ℕ) (runs : List ClustersToFreeEntry) (old new : Qcow2 S F) → ((k : ℕ) → from k ≡ to k) → StandsInWay view (CantPrepare first from start n) runs old new → StandsInWay view (CantPrepare first to start n) runs old new

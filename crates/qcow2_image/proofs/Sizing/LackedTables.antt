@@ -58,11 +58,11 @@ module _ {S F : Type 0} (view : S → StorageView) where
     place_marked offset n lacks = elim lacks [
       | inl table ↦ inl (table_marked offset table)
       | inr s ↦ inr (
-          s.0,
-          stands_marked
-          (CantPrepare (first_of_range view offset old) (behind_first view offset old) (offset % cluster_size old.file.header.fields) (bytes_in_table view offset n old))
-          (listed_or_l1 old) s.1,
-        )
+        s.0,
+        stands_marked
+            (CantPrepare (first_of_range view offset old) (behind_first view offset old) (offset % cluster_size old.file.header.fields) (bytes_in_table view offset n old))
+            (listed_or_l1 old) s.1,
+      )
     ]
 
 module _ {S F : Type 0} (view : S → StorageView) (backing : F → BackingView) (out : List (Option Prepared)) where
