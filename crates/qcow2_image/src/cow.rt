@@ -1,7 +1,10 @@
 //! Filling a new cluster with the bytes that the guest saw there before.
 ghost use Rattle.qcow2_image.specs.BehindHeader.{StaysBehindHeader};
 ghost use Rattle.qcow2_alloc.specs.KeptMarks.{KeepsFileNotes};
-ghost use Rattle.std.specs.Prelude.{◌≡◌, ◌/◌, ◌^◌, ◌<◌, ◌≤◌, ℕ, List, Option, Some, true, false, replicate, IfOk, IfErr, IfSome};
+ghost use Rattle.std.specs.Prelude.{◌≡◌, ◌/◌, ◌^◌, ◌<◌, ◌≤◌, ℕ, List, Option, Some, true, false, replicate, IfOk, IfErr, IfSome, ◌⊎◌};
+ghost use Rattle.qcow2_disk.specs.Found.{IsCompressed};
+ghost use Rattle.qcow2_alloc.specs.ImageError.{IsFault};
+ghost use Rattle.qcow2_image.specs.MetAlone.{IsMetReading};
 ghost use Rattle.qcow2_laws.specs.CrashInvariant.{Pending};
 ghost use Rattle.qcow2_alloc.specs.ImageFile.{known_in};
 ghost use Rattle.qcow2_image.specs.CallParts.{WritesBytes};
@@ -41,6 +44,7 @@ impl<S: Storage, F: WrappedFormat<S>> Qcow2<S, F> {
         ensures notes { KeepsFileNotes S.view self.old.file self.new.file }
         ensures header_cluster { StaysBehindHeader S.view self.old self.new }
         ensures cause { IfErr result IsMet }
+        ensures met { 0 < cluster → IfErr result (λ e. IsFault e ⊎ ((e ≡ ImageError.Compressed) × IsCompressed old.now)) }
         ensures limited { IfErr result IsUnlimited }
         ensures image_step { (p : Pending) (out : List (Option Prepared)) → ImageInvariant S.view F.backing p self.old out → HoldsAll S.view F.backing p out → 0 < p.new_data cluster → over_all new_data_by out cluster ≡ 0 → UnseenFillingStep S.view F.backing p p self.old self.new out }
         ensures allocator { self.new.allocator ≡ self.old.allocator }
@@ -76,6 +80,7 @@ impl<S: Storage, F: WrappedFormat<S>> Qcow2<S, F> {
         ensures notes { KeepsFileNotes S.view self.old.file self.new.file }
         ensures header_cluster { StaysBehindHeader S.view self.old self.new }
         ensures cause { IfErr result IsMet }
+        ensures fault { cluster_size self.old.file.header.fields ≤ host → IfErr result IsFault }
         ensures limited { IfErr result IsUnlimited }
         ensures rest { self.new ≡ record self.old { file = record self.old.file { storage = self.new.file.storage } } }
         ensures image_step { (p : Pending) (out : List (Option Prepared)) → ImageInvariant S.view F.backing p self.old out → HoldsAll S.view F.backing p out → IsKeptAlone S.view F.backing self.old out offset host → UnseenFillingStep S.view F.backing p p self.old self.new out }
@@ -116,6 +121,7 @@ impl<S: Storage, F: WrappedFormat<S>> Qcow2<S, F> {
         ensures notes { KeepsFileNotes S.view self.old.file self.new.file }
         ensures header_cluster { StaysBehindHeader S.view self.old self.new }
         ensures cause { IfErr result IsMet }
+        ensures met { cluster_size self.old.file.header.fields ≤ at → IfErr result (IsMetReading kind.now) }
         ensures limited { IfErr result IsUnlimited }
         ensures image_step { (p : Pending) (out : List (Option Prepared)) (cluster : ℕ) → ImageInvariant S.view F.backing p self.old out → HoldsAll S.view F.backing p out → IsInHeldCluster S.view F.backing p self.old out cluster at length → UnseenFillingStep S.view F.backing p p self.old self.new out }
         ensures allocator { self.new.allocator ≡ self.old.allocator }
@@ -139,6 +145,7 @@ impl<S: Storage, F: WrappedFormat<S>> Qcow2<S, F> {
         ensures notes { KeepsFileNotes S.view self.old.file self.new.file }
         ensures header_cluster { StaysBehindHeader S.view self.old self.new }
         ensures cause { IfErr result IsMet }
+        ensures fault { cluster_size self.old.file.header.fields ≤ at → IfErr result IsFault }
         ensures limited { IfErr result IsUnlimited }
         ensures written { WritesBytes S.view self.old self.new at (replicate length 0) result }
         ensures faults { CountsImageFaults S.view F.backing self.old self.new result }

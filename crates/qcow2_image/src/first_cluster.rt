@@ -4,6 +4,10 @@ ghost use Rattle.qcow2_metadata.specs.TableBytes.{HasPlace};
 ghost use Rattle.qcow2_image.specs.BehindHeader.{StaysBehindHeader};
 ghost use Rattle.qcow2_alloc.specs.KeptMarks.{KeepsFileNotes};
 ghost use Rattle.std.specs.Prelude.{List, Option, ◌≡◌, ◌+◌, ◌-◌, ◌/◌, ◌%◌, ◌^◌, ◌<◌, ◌≤◌, true, false, Some, [], ◌∷◌, vec_capacity, IfOk, IfErr, IsSome, IsTrue, OnOk};
+ghost use Rattle.qcow2_image.specs.Backings.{HasPrepared};
+ghost use Rattle.qcow2_disk.specs.Found.{IsCompressed};
+ghost use Rattle.qcow2_alloc.specs.ImageError.{IsFault};
+ghost use Rattle.qcow2_image.specs.MetAlone.{IsMetAlone};
 ghost use Rattle.qcow2_metadata.specs.L2Mapping.{IsHostCluster, IsInReach, greatest_offset};
 ghost use Rattle.qcow2_metadata.specs.Header.{cluster_size};
 ghost use Rattle.qcow2_metadata.specs.Cover.{cover};
@@ -18,7 +22,7 @@ ghost use Rattle.qcow2_image.specs.Image.{ImageStays, is_writable, number_of};
 ghost use Rattle.qcow2_image.specs.ListedClusters.{KeepsList, ListsFormer};
 ghost use Rattle.qcow2_image.specs.LowestPlaces.{BeginsLowest, IsUsedBelow};
 ghost use Rattle.qcow2_image.specs.Prepared.{image_of, length_of, offset_of};
-ghost use Rattle.qcow2_image.specs.Refusals.{IsMet, IsMetPreparing, IsUnlimited};
+ghost use Rattle.qcow2_image.specs.Refusals.{IsMet, IsMetPreparing, IsUnlimited, IsFaultOrLimit};
 ghost use Rattle.qcow2_image.specs.declared.prepared.Prepared.{Prepared};
 ghost use Rattle.qcow2_image.specs.declared.mapping.Place.TheVariants.{Image};
 ghost use Rattle.qcow2_image.specs.CallParts.{Readies};
@@ -60,6 +64,7 @@ impl<S: Storage, F: WrappedFormat<S>> Qcow2<S, F> {
         ensures notes { KeepsFileNotes S.view self.old.file self.new.file }
         ensures header_cluster { 0 < table → StaysBehindHeader S.view self.old self.new }
         ensures cause { IfErr result IsMetPreparing }
+        ensures met { (out : List (Option Prepared)) → ImageInvariant S.view F.backing (pending_in S.view F.backing self.old out) self.old out → (HasPrepared out → ⊥) → HoldsTable S.view F.backing self.old offset table → IfErr result (IsMetAlone (IsCompressed (cover self.old.file.header.fields (known_in S.view self.old.file) (offset / cluster_size self.old.file.header.fields))) ⊥) }
         ensures limit { (out : List (Option Prepared)) → ImageInvariant S.view F.backing (pending_in S.view F.backing self.old out) self.old out → HoldsTable S.view F.backing self.old offset table → IfErr result (IsLimitedByFirst S.view (first_of_range S.view offset self.old) self.old self.new) }
         ensures taken { IfErr result (λ e. e ≡ TablePrepared → 0 < l2_pins self.old.file.caches table) }
         ensures unpinned { OnOk result (l2_pins self.old.file.caches table ≡ 0) }
@@ -105,6 +110,7 @@ impl<S: Storage, F: WrappedFormat<S>> Qcow2<S, F> {
         ensures notes { KeepsFileNotes S.view self.old.file self.new.file }
         ensures header_cluster { 0 < table → StaysBehindHeader S.view self.old self.new }
         ensures cause { IfErr result IsMet }
+        ensures met { (out : List (Option Prepared)) → ImageInvariant S.view F.backing (pending_in S.view F.backing self.old out) self.old out → (HasPrepared out → ⊥) → HoldsTable S.view F.backing self.old offset table → cover self.old.file.header.fields (known_in S.view self.old.file) (offset / cluster_size self.old.file.header.fields) ≡ old.now → IfErr result (IsMetAlone (IsCompressed old.now) ⊥) }
         ensures limit { (out : List (Option Prepared)) → ImageInvariant S.view F.backing (pending_in S.view F.backing self.old out) self.old out → HoldsTable S.view F.backing self.old offset table → IfErr result (IsLimitedByFirst S.view old.now self.old self.new) }
         ensures own { IfOk result (λ p. image_of p ≡ number_of self.old) }
         ensures first { IfOk result (IsFirst self.old.file.header.fields offset table) }
@@ -141,6 +147,7 @@ impl<S: Storage, F: WrappedFormat<S>> Qcow2<S, F> {
         ensures notes { KeepsFileNotes S.view self.old.file self.new.file }
         ensures header_cluster { StaysBehindHeader S.view self.old self.new }
         ensures cause { IfErr result IsMet }
+        ensures fault { (out : List (Option Prepared)) → ImageInvariant S.view F.backing (pending_in S.view F.backing self.old out) self.old out → cover self.old.file.header.fields (known_in S.view self.old.file) (offset / cluster_size self.old.file.header.fields) ≡ L2Mapping.Zero (Some (host, true)) → IfErr result IsFault }
         ensures limited { IfErr result IsUnlimited }
         ensures own { IfOk result (λ p. image_of p ≡ number_of self.old) }
         ensures first { IfOk result (IsFirst self.old.file.header.fields offset table) }
@@ -178,6 +185,7 @@ impl<S: Storage, F: WrappedFormat<S>> Qcow2<S, F> {
         ensures notes { KeepsFileNotes S.view self.old.file self.new.file }
         ensures header_cluster { 0 < table → StaysBehindHeader S.view self.old self.new }
         ensures cause { IfErr result IsMet }
+        ensures met { (out : List (Option Prepared)) → ImageInvariant S.view F.backing (pending_in S.view F.backing self.old out) self.old out → (HasPrepared out → ⊥) → HoldsTable S.view F.backing self.old offset table → IfErr result (IsMetAlone (IsCompressed old.now) ⊥) }
         ensures limit { (out : List (Option Prepared)) → ImageInvariant S.view F.backing (pending_in S.view F.backing self.old out) self.old out → HoldsTable S.view F.backing self.old offset table → IfErr result (IsLimitedByCluster S.view self.old self.new) }
         ensures own { IfOk result (λ p. image_of p ≡ number_of self.old) }
         ensures first { IfOk result (IsFirst self.old.file.header.fields offset table) }
@@ -215,6 +223,7 @@ impl<S: Storage, F: WrappedFormat<S>> Qcow2<S, F> {
         ensures notes { KeepsFileNotes S.view self.old.file self.new.file }
         ensures header_cluster { 0 < table → StaysBehindHeader S.view self.old self.new }
         ensures cause { IfErr result IsMet }
+        ensures fault { (p : Pending) (out : List (Option Prepared)) → ImageInvariant S.view F.backing p self.old out → (HasPrepared out → ⊥) → HasPlace self.old.file.header.fields.cluster_bits table → IfErr result IsFault }
         ensures limited { (p : Pending) (out : List (Option Prepared)) → ImageInvariant S.view F.backing p self.old out → HasPlace self.old.file.header.fields.cluster_bits table → IfErr result IsUnlimited }
         ensures allocator { self.new.allocator ≡ self.old.allocator }
         ensures table { self.new.l1_table ≡ self.old.l1_table }
@@ -286,6 +295,7 @@ impl<S: Storage, F: WrappedFormat<S>> Qcow2<S, F> {
         ensures notes { KeepsFileNotes S.view self.old.file self.new.file }
         ensures header_cluster { StaysBehindHeader S.view self.old self.new }
         ensures cause { IfErr result IsMet }
+        ensures met { (p : Pending) (out : List (Option Prepared)) → ImageInvariant S.view F.backing p self.old out → HoldsAll S.view F.backing p out → IfErr result (IsMetAlone (IsCompressed old.now) ⊥) }
         ensures limit { (p : Pending) (out : List (Option Prepared)) → ImageInvariant S.view F.backing p self.old out → IfErr result (IsLimitedByCluster S.view self.old self.new) }
         ensures gains { (p : Pending) (out : List (Option Prepared)) → ImageInvariant S.view F.backing p self.old out → HoldsAll S.view F.backing p out → Gains S.view F.backing p self.old self.new out offset length overwrite old.now result }
         ensures former { OnOk result (ListsFormer self.old self.new) }
@@ -312,6 +322,7 @@ impl<S: Storage, F: WrappedFormat<S>> Qcow2<S, F> {
         ensures notes { KeepsFileNotes S.view self.old.file self.new.file }
         ensures header_cluster { StaysBehindHeader S.view self.old self.new }
         ensures cause { IfErr result IsMet }
+        ensures fault { (p : Pending) (out : List (Option Prepared)) → ImageInvariant S.view F.backing p self.old out → IfErr result IsFaultOrLimit }
         ensures limit { (p : Pending) (out : List (Option Prepared)) → ImageInvariant S.view F.backing p self.old out → IfErr result (IsLimitedByCluster S.view self.old self.new) }
         ensures takes { (p : Pending) (out : List (Option Prepared)) → ImageInvariant S.view F.backing p self.old out → HoldsAll S.view F.backing p out → TakesData S.view F.backing p self.old self.new out result }
         ensures former { ListsFormer self.old self.new }

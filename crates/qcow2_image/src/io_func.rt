@@ -1,6 +1,9 @@
 //! Reading and writing what is mapped.
 ghost use Rattle.qcow2_image.specs.BehindHeader.{StaysBehindHeader};
 ghost use Rattle.std.specs.Prelude.{◌≡◌, ◌≢◌, ◌+◌, ◌^◌, ◌<◌, ◌≤◌, ℕ, List, [], Option, length, slice_get, ◌⊎◌, IfOk, IfErr, IfSome, OnOk, IsErr, IsSome, IsTrue, MatchOption, Ok, Err, Some, None, is_some, true, false};
+ghost use Rattle.qcow2_metadata.specs.Header.{cluster_size};
+ghost use Rattle.qcow2_alloc.specs.ImageError.{IsFault};
+ghost use Rattle.qcow2_image.specs.MetAlone.{IsMetReading};
 ghost use Rattle.qcow2_disk.specs.Calls.{Shows};
 ghost use Rattle.qcow2_laws.specs.CrashInvariant.{Pending};
 ghost use Rattle.qcow2_image.specs.Calls.{AnswersCall, Puts};
@@ -169,6 +172,7 @@ impl<S: Storage, F: WrappedFormat<S>> Qcow2<S, F> {
         ensures stays { ImageStays self.old self.new }
         ensures header { self.new.file.header ≡ self.old.file.header }
         ensures cause { IfErr result IsMet }
+        ensures met { IfErr result (IsMetReading kind.now) }
         ensures limited { IfErr result IsUnlimited }
         ensures allocator { self.new.allocator ≡ self.old.allocator }
         ensures table { self.new.l1_table ≡ self.old.l1_table }
@@ -207,6 +211,7 @@ impl<S: Storage, F: WrappedFormat<S>> Qcow2<S, F> {
     pub(crate) fn read_backing(&mut self, offset: u64, bytes: &mut [u8]) -> Result<(), ImageError>
         ensures stays { ImageStays self.old self.new }
         ensures cause { IfErr result IsMet }
+        ensures fault { IfErr result IsFault }
         ensures limited { IfErr result IsUnlimited }
         ensures current { result ≢ Err OutdatedMapping }
         ensures file { self.new.file ≡ self.old.file }
@@ -417,6 +422,7 @@ impl<S: Storage, F: WrappedFormat<S>> Qcow2<S, F> {
     pub(crate) fn write_data(&mut self, host: u64, bytes: &[u8]) -> Result<(), ImageError>
         ensures stays { ImageStays self.old self.new }
         ensures cause { IfErr result IsMet }
+        ensures fault { cluster_size self.old.file.header.fields ≤ host → IfErr result IsFault }
         ensures limited { IfErr result IsUnlimited }
         ensures current { result ≢ Err OutdatedMapping }
         ensures written { WritesBytes S.view self.old self.new host bytes.now result }

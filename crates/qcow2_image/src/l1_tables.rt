@@ -35,6 +35,7 @@ impl<S: Storage, F: WrappedFormat<S>> Qcow2<S, F> {
         ensures notes { KeepsFileNotes S.view self.old.file self.new.file }
         ensures header_cluster { StaysBehindHeader S.view self.old self.new }
         ensures cause { IfErr result IsMet }
+        ensures fault { (out : List (Option Prepared)) → ImageInvariant S.view F.backing (pending_in S.view F.backing self.old out) self.old out → IfErr result IsFaultOrLimit }
         ensures limit { (out : List (Option Prepared)) → ImageInvariant S.view F.backing (pending_in S.view F.backing self.old out) self.old out → IfErr result (λ e. e ≡ Limit → EndsBefore offset self.old × LacksLongerTable S.view (l1_index_of self.old.file.header.fields offset) (l1_index_of self.old.file.header.fields offset + 1) self.old.file.free_list self.old self.new) }
         ensures former { OnOk result (SomeGaveWay self.old self.new) }
         ensures lacks { (out : List (Option Prepared)) → ImageInvariant S.view F.backing (pending_in S.view F.backing self.old out) self.old out → IfErr result (IsFaultOrLacksTable S.view self.new offset) }

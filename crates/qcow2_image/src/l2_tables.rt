@@ -1,7 +1,8 @@
 //! The L2 table of a range: found, made, or put in the place of one that others may name too.
 ghost use Rattle.qcow2_image.specs.BehindHeader.{StaysBehindHeader};
 ghost use Rattle.qcow2_alloc.specs.KeptMarks.{KeepsFileNotes};
-ghost use Rattle.std.specs.Prelude.{ℕ, List, Option, is_some, ◌≡◌, ◌≢◌, ◌-◌, ◌*◌, ◌/◌, Some, ◌^◌, ◌<◌, ◌↔◌, IfOk, IfErr, OnOk, IsSome, IsTrue, Ok, Err, length};
+ghost use Rattle.std.specs.Prelude.{ℕ, List, Option, is_some, ◌≡◌, ◌≢◌, ◌-◌, ◌*◌, ◌/◌, Some, ◌^◌, ◌<◌, ◌↔◌, IfOk, IfErr, OnOk, IsSome, IsTrue, Ok, Err, length, ◌⊎◌};
+ghost use Rattle.qcow2_image.specs.MetAlone.{IsMetAlone, KeepsL1Place};
 ghost use Rattle.qcow2_metadata.specs.L2Mapping.{IsHostCluster};
 ghost use Rattle.qcow2_metadata.specs.EntryTable.{entry_count, HasRoomIfPlaced};
 ghost use Rattle.qcow2_alloc.specs.ImageError.{IsFault};
@@ -26,7 +27,7 @@ ghost use Rattle.qcow2_laws.specs.Changes.{one_at, with_new_tables};
 ghost use Rattle.qcow2_metadata.specs.L2Table.{L2TableView};
 ghost use Rattle.qcow2_image.specs.PinnedTables.{FindsOwn, own_table};
 ghost use Rattle.qcow2_image.specs.LackedPlaces.{HasNearEntry, IsLimitedByCluster, IsLimitedByTable};
-ghost use Rattle.qcow2_image.specs.Refusals.{IsMet, IsUnlimited};
+ghost use Rattle.qcow2_image.specs.Refusals.{IsMet, IsUnlimited, IsFaultOrLimit};
 ghost use Rattle.qcow2_image.specs.Faults.{CountsImageFaults};
 
 use crate::Qcow2;
@@ -45,6 +46,8 @@ impl<S: Storage, F: WrappedFormat<S>> Qcow2<S, F> {
         ensures elsewhere { IfOk result (λ table. 0 < table) }
         ensures header_cluster { StaysBehindHeader S.view self.old self.new }
         ensures cause { IfErr result IsMet }
+        ensures met { (out : List (Option Prepared)) → ImageInvariant S.view F.backing (pending_in S.view F.backing self.old out) self.old out → (HasPrepared out → ⊥) → IfErr result (IsMetAlone ⊥ (NeedsFarEntry self.old offset)) }
+        ensures l1_place { l1_index_of self.old.file.header.fields offset < entry_count self.old.l1_table → OnOk result (KeepsL1Place self.old.file.header.fields self.new.file.header.fields) }
         ensures limit { (out : List (Option Prepared)) → ImageInvariant S.view F.backing (pending_in S.view F.backing self.old out) self.old out → IfErr result (IsLimitedByTable S.view offset self.old self.new) }
         ensures lacks { (out : List (Option Prepared)) → ImageInvariant S.view F.backing (pending_in S.view F.backing self.old out) self.old out → (HasPrepared out → ⊥) → IfErr result (IsFaultOrLacksTable S.view self.new offset) }
         ensures cached { IfOk result (λ table. IsSome (l2_at self.new.file.caches table)) }
@@ -95,6 +98,7 @@ impl<S: Storage, F: WrappedFormat<S>> Qcow2<S, F> {
         ensures elsewhere { IfOk result (λ table. 0 < table) }
         ensures header_cluster { StaysBehindHeader S.view self.old self.new }
         ensures cause { IfErr result IsMet }
+        ensures fault { (p : Pending) (out : List (Option Prepared)) → ImageInvariant S.view F.backing p self.old out → (HasPrepared out → ⊥) → (HasOwnTable self.old offset ⊎ HasNearEntry self.old (l1_index_of self.old.file.header.fields offset)) → IfErr result IsFaultOrLimit }
         ensures limited { (p : Pending) (out : List (Option Prepared)) → ImageInvariant S.view F.backing p self.old out → HasOwnTable self.old offset → IfErr result IsUnlimited }
         ensures lacks { (p : Pending) (out : List (Option Prepared)) → ImageInvariant S.view F.backing p self.old out → (HasPrepared out → ⊥) → IfErr result (IsFaultOrLacksTable S.view self.new offset) }
         ensures cached { IfOk result (λ table. IsSome (l2_at self.new.file.caches table)) }
@@ -119,6 +123,7 @@ impl<S: Storage, F: WrappedFormat<S>> Qcow2<S, F> {
         ensures elsewhere { IfOk result (λ table. 0 < table) }
         ensures header_cluster { StaysBehindHeader S.view self.old self.new }
         ensures cause { IfErr result IsMet }
+        ensures fault { (p : Pending) (out : List (Option Prepared)) → ImageInvariant S.view F.backing p self.old out → (HasPrepared out → ⊥) → (HasOwnTable self.old offset ⊎ HasNearEntry self.old (l1_index_of self.old.file.header.fields offset)) → IfErr result IsFaultOrLimit }
         ensures limited { (p : Pending) (out : List (Option Prepared)) → ImageInvariant S.view F.backing p self.old out → HasOwnTable self.old offset → IfErr result IsUnlimited }
         ensures limit { (p : Pending) (out : List (Option Prepared)) → ImageInvariant S.view F.backing p self.old out → HasNearEntry self.old (l1_index_of self.old.file.header.fields offset) → IfErr result (IsLimitedByCluster S.view self.old self.new) }
         ensures former { OnOk result (SomeGaveWay self.old self.new) }
@@ -155,6 +160,7 @@ impl<S: Storage, F: WrappedFormat<S>> Qcow2<S, F> {
         ensures elsewhere { IfOk result (λ table. 0 < table) }
         ensures header_cluster { 0 < old → StaysBehindHeader S.view self.old self.new }
         ensures cause { IfErr result IsMet }
+        ensures fault { (p : Pending) (out : List (Option Prepared)) → ImageInvariant S.view F.backing p self.old out → (HasPrepared out → ⊥) → NamesShared S.view self.old index old → HasNearEntry self.old index → IfErr result IsFaultOrLimit }
         ensures limit { (p : Pending) (out : List (Option Prepared)) → ImageInvariant S.view F.backing p self.old out → NamesShared S.view self.old index old → HasNearEntry self.old index → IfErr result (IsLimitedByCluster S.view self.old self.new) }
         ensures former { OnOk result (SomeGaveWay self.old self.new) }
         ensures l1_table { IfErr result (IsFaultOrKeepsL1Table self.old self.new) }
@@ -185,6 +191,7 @@ impl<S: Storage, F: WrappedFormat<S>> Qcow2<S, F> {
         ensures elsewhere { IfOk result (λ table. 0 < table) }
         ensures header_cluster { StaysBehindHeader S.view self.old self.new }
         ensures cause { IfErr result IsMet }
+        ensures fault { (p : Pending) (out : List (Option Prepared)) → ImageInvariant S.view F.backing p self.old out → (HasPrepared out → ⊥) → NamesShared S.view self.old index old → SaysKnown self.old.file.header.fields (known_in S.view self.old.file) index table → HasNearEntry self.old index → IfErr result IsFaultOrLimit }
         ensures limit { (p : Pending) (out : List (Option Prepared)) → ImageInvariant S.view F.backing p self.old out → NamesShared S.view self.old index old → SaysKnown self.old.file.header.fields (known_in S.view self.old.file) index table → HasNearEntry self.old index → IfErr result (IsLimitedByCluster S.view self.old self.new) }
         ensures former { OnOk result (SomeGaveWay self.old self.new) }
         ensures l1_table { IfErr result (IsFaultOrKeepsL1Table self.old self.new) }
@@ -214,6 +221,7 @@ impl<S: Storage, F: WrappedFormat<S>> Qcow2<S, F> {
         ensures elsewhere { IfOk result (λ table. 0 < table) }
         ensures header_cluster { StaysBehindHeader S.view self.old self.new }
         ensures cause { IfErr result IsMet }
+        ensures fault { (p : Pending) (out : List (Option Prepared)) → ImageInvariant S.view F.backing p self.old out → (HasPrepared out → ⊥) → MayName S.view self.old index → SaysKnown self.old.file.header.fields (known_in S.view self.old.file) index table → HasNearEntry self.old index → IfErr result IsFaultOrLimit }
         ensures limit { (p : Pending) (out : List (Option Prepared)) → ImageInvariant S.view F.backing p self.old out → MayName S.view self.old index → SaysKnown self.old.file.header.fields (known_in S.view self.old.file) index table → HasNearEntry self.old index → IfErr result (IsLimitedByCluster S.view self.old self.new) }
         ensures former { OnOk result (SomeGaveWay self.old self.new) }
         ensures l1_table { IfErr result (IsFaultOrKeepsL1Table self.old self.new) }
@@ -249,6 +257,7 @@ impl<S: Storage, F: WrappedFormat<S>> Qcow2<S, F> {
         ensures notes { KeepsFileNotes S.view self.old.file self.new.file }
         ensures header_cluster { 0 < cluster → StaysBehindHeader S.view self.old self.new }
         ensures cause { IfErr result IsMet }
+        ensures fault { (p : Pending) (out : List (Option Prepared)) → ImageInvariant S.view F.backing (with_new_tables p (one_at cluster)) self.old out → (HasPrepared out → ⊥) → SaysKnown self.old.file.header.fields (known_in S.view self.old.file) index table → HasNearEntry self.old index → IsHostCluster self.old.file.header.fields.cluster_bits cluster → IfErr result IsFault }
         ensures limited { (p : Pending) (out : List (Option Prepared)) → ImageInvariant S.view F.backing (with_new_tables p (one_at cluster)) self.old out → SaysKnown self.old.file.header.fields (known_in S.view self.old.file) index table
             → HasNearEntry self.old index → IsHostCluster self.old.file.header.fields.cluster_bits cluster → IfErr result IsUnlimited }
         ensures allocator { self.new.allocator ≡ self.old.allocator }
@@ -273,6 +282,7 @@ impl<S: Storage, F: WrappedFormat<S>> Qcow2<S, F> {
         ensures notes { KeepsFileNotes S.view self.old.file self.new.file }
         ensures header_cluster { StaysBehindHeader S.view self.old self.new }
         ensures cause { IfErr result IsMet }
+        ensures fault { (p : Pending) (out : List (Option Prepared)) → ImageInvariant S.view F.backing p self.old out → IfErr result IsFault }
         ensures limited { (p : Pending) (out : List (Option Prepared)) → ImageInvariant S.view F.backing p self.old out → IfErr result IsUnlimited }
         ensures rest { self.new ≡ record self.old { file = record self.old.file { storage = self.new.file.storage; caches = self.new.file.caches } } }
         ensures noted { IsTrue self.old.file.caches.is_changed → IsTrue self.new.file.caches.is_changed }
@@ -290,6 +300,7 @@ impl<S: Storage, F: WrappedFormat<S>> Qcow2<S, F> {
         ensures notes { KeepsFileNotes S.view self.old.file self.new.file }
         ensures header_cluster { 0 < cluster → StaysBehindHeader S.view self.old self.new }
         ensures cause { IfErr result IsMet }
+        ensures fault { (p : Pending) (out : List (Option Prepared)) → ImageInvariant S.view F.backing p self.old out → (HasPrepared out → ⊥) → 0 < p.new_tables cluster → IsTableOf self.old.file.header.fields table → IsStored S.view self.old → IsHostCluster table.cluster_bits cluster → IfErr result IsFault }
         ensures limited { (p : Pending) (out : List (Option Prepared)) → ImageInvariant S.view F.backing p self.old out → 0 < p.new_tables cluster → IsTableOf self.old.file.header.fields table → IsStored S.view self.old → IsHostCluster table.cluster_bits cluster → IfErr result IsUnlimited }
         ensures rest { self.new ≡ record self.old { file = record self.old.file { storage = self.new.file.storage; caches = self.new.file.caches } } }
         ensures noted { IsTrue self.old.file.caches.is_changed → IsTrue self.new.file.caches.is_changed }

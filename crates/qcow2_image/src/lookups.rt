@@ -184,6 +184,7 @@ impl<S: Storage, F: WrappedFormat<S>> Qcow2<S, F> {
         requires near { max ≤ 2 ^ 40 }
         requires cached { IsSome (l2_at self.now.file.caches table) }
         ensures cause { IfErr result IsOfTables }
+        ensures reads { (p : Pending) → FileInvariant S.view p self.now.file → IsEntryAt self.now.file.header.fields (known_in S.view self.now.file) (l1_index_of self.now.file.header.fields offset) table (l2_index_of self.now.file.header.fields offset) → max ≤ rest_of_table self.now.file.header.fields offset → IsOk result }
         ensures limited { IfErr result IsUnlimited }
         ensures within { IfOk result (λ (kind, n). n ≤ max) }
         ensures some { IfOk result (λ (kind, n). 0 < max → 0 < n) }

@@ -4,7 +4,7 @@ ghost use Rattle.qcow2_alloc.specs.declared.error.ImageError.TheVariants.{Limit}
 ghost use Rattle.qcow2_alloc.specs.ImageFile.{view_in};
 ghost use Rattle.qcow2_image.specs.Faults.{CountsImageFaults};
 ghost use Rattle.qcow2_image.specs.Image.{is_failed, is_writable};
-ghost use Rattle.qcow2_image.specs.Refusals.{IsMet, MarksFailed};
+ghost use Rattle.qcow2_image.specs.Refusals.{IsMet, MarksFailed, IsFaultOrLimit};
 ghost use Rattle.qcow2_laws.specs.CrashInvariant.{Pending};
 ghost use Rattle.qcow2_image.specs.Growing.{Resizes, GrowsDisk, KeepsSurplus, LosesNone, ReachesSize};
 ghost use Rattle.qcow2_image.specs.L1Entries.{ReachesOffset};
@@ -23,6 +23,7 @@ impl<S: Storage, F: WrappedFormat<S>> Qcow2<S, F> {
         ensures grows { (abstract_of S.view F.backing self.old []).is_sound → GrowsDisk S.view F.backing self.old self.new size result }
         ensures surplus { (abstract_of S.view F.backing self.old []).is_sound → OnOk result (KeepsSurplus S.view F.backing self.old self.new) }
         ensures cause { is_failed self.old ≡ false → IsTrue (is_writable self.old) → IfErr result IsMet }
+        ensures fault { is_failed self.old ≡ false → IsTrue (is_writable self.old) → (abstract_of S.view F.backing self.old []).is_sound → IfErr result IsFaultOrLimit }
         ensures limit { (abstract_of S.view F.backing self.old []).is_sound → IfErr result (λ e. e ≡ Limit → LacksTableReaching S.view (size - 1) self.old self.new × LosesNone S.view F.backing self.old self.new) }
         ensures marks { MarksFailed self.old self.new result }
         ensures faults { CountsImageFaults S.view F.backing self.old self.new result }
@@ -45,6 +46,7 @@ impl<S: Storage, F: WrappedFormat<S>> Qcow2<S, F> {
         ensures reaches { (p : Pending) → ImageInvariant S.view F.backing p self.old [] → OnOk result (ReachesSize self.new.file.header.fields) }
         ensures length { (p : Pending) → ImageInvariant S.view F.backing p self.old [] → OnOk result (ReachesOffset (size - 1) self.old.file.header.fields self.new.file.header.fields) }
         ensures cause { IsTrue (is_writable self.old) → IfErr result IsMet }
+        ensures fault { IsTrue (is_writable self.old) → (p : Pending) → ImageInvariant S.view F.backing p self.old [] → IfErr result IsFaultOrLimit }
         ensures limit { (p : Pending) → ImageInvariant S.view F.backing p self.old []
             → IfErr result (λ e. e ≡ Limit → LacksTableReaching S.view (size - 1) self.old self.new × UnseenStep S.view F.backing p (pending_with_listed p self.old self.new) self.old self.new []) }
         ensures failed { is_failed self.new ≡ is_failed self.old }

@@ -3,14 +3,16 @@ ghost use Rattle.qcow2_image.specs.BehindHeader.{StaysBehindHeader};
 ghost use Rattle.qcow2_image.specs.Noted.{ChangesRose, FailsOnceWritten, NotesChanges, NotesPart};
 ghost use Rattle.qcow2_alloc.specs.KeptMarks.{HaveRisen, KeepsFileNotes};
 ghost use Rattle.std.specs.Prelude.{ℕ, List, Option, ◌≡◌, ◌↔◌, ◌⊎◌, ◌+◌, ◌-◌, ◌<◌, ◌≤◌, max, nat_lt, [], Some, None, Ok, Err, IfOk, IfErr, IfSome, OnOk, OnErr, IsTrue, MatchOption, false};
+ghost use Rattle.qcow2_image.specs.LackedPlaces.{IsPlacedNear};
+ghost use Rattle.qcow2_image.specs.MetAlone.{IsMetFilling};
 ghost use Rattle.image_access.specs.Moments.{EachMomentSince};
 ghost use Rattle.qcow2_metadata.specs.EntryTable.{entry_count};
 ghost use Rattle.qcow2_image.specs.Found.{l1_index_of};
-ghost use Rattle.qcow2_metadata.specs.Header.{cluster_size, rounded_up as rounded_up_to, with_fields, with_size};
+ghost use Rattle.qcow2_metadata.specs.Header.{cluster_size, rounded_up as rounded_up_to, with_fields, with_size, rounded_up};
 ghost use Rattle.qcow2_laws.specs.CrashInvariant.{Pending};
 ghost use Rattle.qcow2_alloc.specs.declared.error.ImageError.TheVariants.{Limit, MappingPrepared, Preallocation};
 ghost use Rattle.qcow2_alloc.specs.ImageError.{IsFault};
-ghost use Rattle.qcow2_alloc.specs.ImageFile.{view_in};
+ghost use Rattle.qcow2_alloc.specs.ImageFile.{view_in, known_in};
 ghost use Rattle.qcow2_alloc.specs.ImageStorage.{is_changed_of};
 ghost use Rattle.qcow2_image.specs.Backings.{HasPrepared};
 ghost use Rattle.qcow2_image.specs.declared.prepared.Prepared.{Prepared};
@@ -198,6 +200,7 @@ impl<S: Storage, F: WrappedFormat<S>> Qcow2<S, F> {
         ensures no_larger { refuses_to_resize self.old ≡ None → size ≤ size_of self.old → (result ≡ Ok tt) × (self.new ≡ self.old) }
         ensures preallocation { refuses_to_resize self.old ≡ None → size_of self.old < size → IsTrue (takes_over self.old mode) → (result ≡ Err Preallocation) × (self.new ≡ self.old) }
         ensures late { refuses_to_resize self.old ≡ None → IfErr result (λ e. IsMetPreparing e ⊎ ((e ≡ Preallocation) × IsTrue (takes_over self.old mode))) }
+        ensures met { refuses_to_resize self.old ≡ None → size_of self.old < size → (out : List (Option Prepared)) → (abstract_of S.view F.backing self.old out).is_sound → (HasPrepared out → ⊥) → IfErr result (λ e. IsMetFilling mode (size_of self.old) (rounded_up (cluster_size self.old.file.header.fields) size) self.old.file.header.fields (known_in S.view self.old.file) e ⊎ ((e ≡ Preallocation) × IsTrue (takes_over self.old mode))) }
         ensures limit { refuses_to_resize self.old ≡ None → size_of self.old < size → (out : List (Option Prepared)) → (abstract_of S.view F.backing self.old out).is_sound
             → IfErr result (λ e. e ≡ Limit → CantGrowDisk S.view F.backing mode size self.old self.new out) }
         ensures marks { MarksFailed self.old self.new result }
@@ -238,6 +241,7 @@ impl<S: Storage, F: WrappedFormat<S>> Qcow2<S, F> {
         requires writable { IsTrue (is_writable self.old) }
         requires larger { size_of self.old < size }
         ensures cause { IfErr result IsMetPreparing }
+        ensures met { (out : List (Option Prepared)) → (abstract_of S.view F.backing self.old out).is_sound → (HasPrepared out → ⊥) → IfErr result (IsMetFilling mode (size_of self.old) (rounded_up (cluster_size self.old.file.header.fields) size) self.old.file.header.fields (known_in S.view self.old.file)) }
         ensures limit { (out : List (Option Prepared)) → (abstract_of S.view F.backing self.old out).is_sound → IfErr result (λ e. e ≡ Limit → CantGrowDisk S.view F.backing mode size self.old self.new out) }
         ensures marks { MarksFailed self.old self.new result }
         ensures image { IsResized (size_after result (size_of self.old) size) self.old self.new }
@@ -282,6 +286,7 @@ impl<S: Storage, F: WrappedFormat<S>> Qcow2<S, F> {
         ensures noted { OnOk result (IsTrue self.new.file.caches.is_changed) }
         ensures header_cluster { StaysBehindHeader S.view self.old self.new }
         ensures cause { IfErr result IsMet }
+        ensures placed { self.old.l1_table.cluster_bits ≡ self.old.file.header.fields.cluster_bits → OnOk result (IsPlacedNear self.new.l1_table) }
         ensures limit { (out : List (Option Prepared)) → ImageInvariant S.view F.backing (pending_in S.view F.backing self.old out) self.old out → IfErr result (λ e. e ≡ Limit → LacksTableReaching S.view offset self.old self.new) }
         ensures fault { (out : List (Option Prepared)) → ImageInvariant S.view F.backing (pending_in S.view F.backing self.old out) self.old out → IfErr result IsFaultOrLimit }
         ensures length { OnOk result (entry_count self.new.l1_table ≡ max (entry_count self.old.l1_table) (l1_index_of self.old.file.header.fields offset + 1)) }
@@ -305,6 +310,7 @@ impl<S: Storage, F: WrappedFormat<S>> Qcow2<S, F> {
         ensures noted { OnOk result (IsTrue self.new.file.caches.is_changed) }
         ensures header_cluster { StaysBehindHeader S.view self.old self.new }
         ensures cause { IfErr result IsMet }
+        ensures placed { self.old.l1_table.cluster_bits ≡ self.old.file.header.fields.cluster_bits → OnOk result (IsPlacedNear self.new.l1_table) }
         ensures limit { (out : List (Option Prepared)) → ImageInvariant S.view F.backing (pending_in S.view F.backing self.old out) self.old out → IfErr result (λ e. e ≡ Limit → LacksTableReaching S.view offset self.old self.new) }
         ensures fault { (out : List (Option Prepared)) → ImageInvariant S.view F.backing (pending_in S.view F.backing self.old out) self.old out → IfErr result IsFaultOrLimit }
         ensures length { OnOk result (entry_count self.new.l1_table ≡ max (entry_count self.old.l1_table) (l1_index_of self.old.file.header.fields offset + 1)) }

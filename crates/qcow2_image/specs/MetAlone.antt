@@ -1,0 +1,51 @@
+-- What stands in the way of a call that takes clusters, on a sound image of which no mapping is prepared: a fault or a limit, and what has a cause in the image.
+use Rattle.std.specs.Prelude.{ℕ, ◌+◌, ◌-◌, ◌*◌, ◌^◌, ◌<◌, ◌≤◌, ◌≡◌, ◌⊎◌}
+use Rattle.image_access.specs.declared.storage.PreallocateMode.{PreallocateMode}
+use Rattle.image_access.specs.declared.storage.PreallocateMode.TheVariants as Mode
+use Rattle.qcow2_metadata.specs.Bytes.{Bytes}
+use Rattle.qcow2_metadata.specs.Cover.{cover}
+use Rattle.qcow2_metadata.specs.Header.{cluster_size}
+use Rattle.qcow2_metadata.specs.declared.header.HeaderFields.{HeaderFields}
+use Rattle.qcow2_disk.specs.Found.{IsCompressed}
+use Rattle.qcow2_disk.specs.GrownCovers.{Touches}
+use Rattle.qcow2_alloc.specs.ImageError.{IsFault}
+use Rattle.qcow2_alloc.specs.declared.error.ImageError.{ImageError}
+use Rattle.qcow2_alloc.specs.declared.error.ImageError.TheVariants as I
+use Rattle.qcow2_image.specs.declared.mapping.MappingKind.{MappingKind}
+use Rattle.qcow2_image.specs.declared.mapping.MappingKind.TheVariants as Kind
+use Rattle.qcow2_image.specs.Found.{l1_index_of}
+use Rattle.qcow2_image.specs.Refusals.{IsFaultOrLimit}
+
+-- A fault or a limit. Or 7, for bytes of a compressed cluster that have to be copied. Or 20, for an L1 entry past 64 bits that has to be written.
+abbrev pub IsMetAlone : (compressed far : Type 0) → ImageError → Type 0
+IsMetAlone compressed far e = IsFaultOrLimit e ⊎ (((e ≡ I.Compressed) × compressed) ⊎ ((e ≡ I.Overflow) × far))
+
+-- some guest cluster that has a byte of a range is compressed
+pub record HasCompressedIn (from to : ℕ) (h : HeaderFields) (known : Bytes) : Type 0 where
+  pub guest : ℕ
+  pub touched : Touches (cluster_size h) from to guest
+  pub is : IsCompressed (cover h known guest)
+
+-- Filling the range behind the end of a disk in a mode meets that too, by what is compressed there. Beside that 3 is met, for zeros without a cluster below version 3.
+abbrev pub IsMetFilling : PreallocateMode → (from to : ℕ) → HeaderFields → Bytes → ImageError → Type 0
+IsMetFilling mode from to h known e = IsMetAlone (HasCompressedIn from to h known) ⊥ e ⊎ ((e ≡ I.Version) × ((mode ≡ Mode.Zero) × (h.version < 3)))
+
+-- the L1 table has an entry for the last byte before an offset, and 64 bits hold where its entries lie
+pub record HasNearEntries (to : ℕ) (h : HeaderFields) : Type 0 where
+  pub reaches : l1_index_of h (to - 1) < h.l1_entries
+  pub near : h.l1_offset + 8 * h.l1_entries ≤ 2 ^ 64
+
+-- the L1 table stays where it is, and as long
+abbrev pub KeepsL1Place : HeaderFields → HeaderFields → Type 0
+KeepsL1Place h h' = (h'.l1_offset ≡ h.l1_offset) × (h'.l1_entries ≡ h.l1_entries)
+
+-- ---- parts of the work
+
+-- bytes are mapped as compressed
+abbrev pub IsSpecial : MappingKind → Type 0
+IsSpecial (Kind.Special offset) = Unit {0}
+IsSpecial kind = ⊥
+
+-- why bytes that are mapped so aren't read: a fault, or that they are compressed, or that nothing is mapped
+abbrev pub IsMetReading : MappingKind → ImageError → Type 0
+IsMetReading kind e = IsFault e ⊎ (((e ≡ I.Compressed) × IsSpecial kind) ⊎ ((e ≡ I.OutdatedMapping) × (kind ≡ Kind.Eof)))
