@@ -2,7 +2,7 @@
 ghost use Rattle.qcow2_disk.specs.Alike.{IsAlike};
 ghost use Rattle.qcow2_image.specs.BehindHeader.{StaysBehindHeader};
 ghost use Rattle.std.specs.Prelude.{◌↔◌, List, Option, is_some, ◌≡◌, ◌+◌, ◌*◌, ◌-◌, ◌/◌, ◌%◌, true, Some, ◌^◌, ◌<◌, ◌≤◌, [], length, IfOk, IfErr, IfSome, IsOk, IsSome, IsTrue, Ok, Err, None, false, MatchOption, min, ℕ};
-ghost use Rattle.qcow2_metadata.specs.L2Mapping.{IsInReach};
+ghost use Rattle.qcow2_metadata.specs.L2Mapping.{HasAlignedHost, IsInReach};
 ghost use Rattle.qcow2_image.specs.Image.{ImageStays, IsSameImage, number_of, size_of};
 ghost use Rattle.qcow2_image.specs.Unwritten.{OnlyReadsImage, ReadsQuietly};
 ghost use Rattle.qcow2_laws.specs.CrashInvariant.{Pending};
@@ -218,6 +218,7 @@ impl<S: Storage, F: WrappedFormat<S>> Qcow2<S, F> {
         requires near { distance ≤ 2 ^ 42 }
         ensures alike { IfOk result (λ alike. IsTrue alike ↔ IsAlike distance (mapping_of table.now first) (mapping_of table.now next)) }
         ensures cause { IfErr result IsOfTables }
+        ensures reads { ((g : ℕ) → HasAlignedHost table.now.cluster_bits (mapping_of table.now g)) → IsOk result }
         ensures limited { IfErr result IsUnlimited }
         ensures faults { IfErr result IsNotOfStorage }
     {
@@ -239,6 +240,7 @@ impl<S: Storage, F: WrappedFormat<S>> Qcow2<S, F> {
         ensures bounded { IfOk result (λ n. n ≤ 2 ^ 41) }
         ensures run { IfOk result (IsRunBehind table.now cluster max) }
         ensures cause { IfErr result IsOfTables }
+        ensures reads { ((g : ℕ) → HasAlignedHost table.now.cluster_bits (mapping_of table.now g)) → IsOk result }
         ensures limited { IfErr result IsUnlimited }
         ensures faults { IfErr result IsNotOfStorage }
     {

@@ -1,5 +1,6 @@
 -- A held table of a sound file reads: the host clusters that its entries name are aligned.
-use Rattle.std.proofs.Common.{◌≡◌, ℕ, ◌/◌, ◌%◌, Some, None, sym, subst}
+use Rattle.std.proofs.Common.{◌≡◌, ℕ, ◌+◌, ◌*◌, ◌/◌, ◌%◌, ◌^◌, ◌<◌, Some, None, sym, ap, ◌∙◌, subst}
+use Rattle.std.proofs.lemmas.Nat.{div-mul-add, mod-mul-add, mod_below}
 use Rattle.image_access.specs.Moments.{StorageView}
 use Rattle.qcow2_metadata.specs.Consistent.{CoverIsAligned}
 use Rattle.qcow2_metadata.specs.declared.header.HeaderFields.{HeaderFields}
@@ -7,8 +8,9 @@ use Rattle.qcow2_metadata.specs.declared.l2_mapping.L2Mapping.{L2Mapping}
 use Rattle.qcow2_metadata.specs.declared.l2_mapping.L2Mapping.TheVariants as M
 use Rattle.qcow2_metadata.specs.Header.{entries_per_cluster}
 use Rattle.qcow2_metadata.specs.L2Mapping.{HasAlignedHost}
-use Rattle.qcow2_metadata.specs.L2Table.{L2TableView}
+use Rattle.qcow2_metadata.specs.L2Table.{L2TableView, cover_at, entries_of}
 use Rattle.qcow2_laws.specs.CrashInvariant.{Pending}
+use Rattle.qcow2_laws.proofs.Places.{Sizes-from}
 use Rattle.qcow2_alloc.specs.declared.image_file.ImageFile.{ImageFile}
 use Rattle.qcow2_alloc.specs.ImageFile.{FileInvariant, contents_in, known_in}
 use Rattle.qcow2_alloc.specs.MetadataCaches.{IsEntryAt, ShowsKnown}
@@ -28,3 +30,17 @@ cached_aligned view file p t table i cluster sound shows at here =
     let bits = (shows file.header.fields p (contents_in view file) i (cluster % entries_per_cluster file.header.fields) sound.caches at).format.bits in
     let aligned = aligned_host file.header.fields _ (sound.caches.kept.kept.crash_invariant.known_aligned cluster) in
     subst (λ n. HasAlignedHost n (mapping_of t cluster)) (sym bits) (subst (HasAlignedHost file.header.fields.cluster_bits) (sym (cached_says view file p t table i cluster sound shows at here)) aligned)
+
+-- all entries of a held table of a sound file
+pub table_aligned : {S : Type 0} (view : S → StorageView) (file : ImageFile S) (p : Pending) (t : L2TableView) (table i index : ℕ) → FileInvariant view p file → ShowsKnown file.caches table t → IsEntryAt file.header.fields (known_in view file) i table index
+    → (g : ℕ) → HasAlignedHost t.cluster_bits (mapping_of t g)
+table_aligned view file p t table i index sound shows at g =
+    let h = file.header.fields in
+    let n = entries_per_cluster h in
+    let bits = (shows h p (contents_in view file) i index sound.caches at).format.bits in
+    let any = (Sizes-from h (contents_in view file) sound.caches.kept.kept.crash_invariant.top.header_reads).entries in
+    let lt = mod_below g n any in
+    let row : (i * n + g % n) % n ≡ g % n = mod-mul-add i n (g % n) lt in
+    let same : (i * n + g % n) % entries_of t ≡ g % entries_of t = ap (λ b. (i * n + g % n) % (2 ^ b / 8)) bits ∙ row ∙ sym (ap (λ b. g % (2 ^ b / 8)) bits) in
+    subst (HasAlignedHost t.cluster_bits) (ap (cover_at t) same)
+    (cached_aligned view file p t table i (i * n + g % n) sound shows (record { real = at.real; place = at.place; within = subst (λ x. x < n) (sym row) lt }) (div-mul-add i n (g % n) lt))

@@ -1,4 +1,4 @@
-use Rattle.std.proofs.Common.{◌≡◌, ⊎_elim, ℕ, ◌+◌, ◌*◌, ◌<◌, ◌≤◌, ap, ◌∙◌, subst, arith}
+use Rattle.std.proofs.Common.{◌≡◌, ⊎_elim, ℕ, ◌+◌, ◌*◌, ◌<◌, ◌≤◌, ap, ◌∙◌, subst, arith, false, true}
 use Rattle.std.proofs.lemmas.Bool.{cases_lt}
 use Rattle.qcow2_metadata.specs.L2Table.{L2TableView}
 use Rattle.qcow2_disk.specs.Alike.{IsAlike}
@@ -41,3 +41,6 @@ loop-count-preserved g c =
           (subst (λ n. IsAlike n (mapping_of c.args.table.now c.args.cluster) (mapping_of c.args.table.now (c.args.cluster + (c.loop-count.count + 1)))) all
           (subst (λ n. IsAlike ((c.loop-count.count + 1) * c.cluster_size-size.result) (mapping_of c.args.table.now c.args.cluster) (mapping_of c.args.table.now n)) (c.new-next.ensures ∙ omega arith) found));
     }
+
+pub returns-in_err-are_alike-clause-reads : goal.returns-in_err-are_alike-clause-reads
+returns-in_err-are_alike-clause-reads g c = λ all. absurd (let no : false ≡ true = c.in_err-are_alike.ensures.reads all in cc)

@@ -1,4 +1,4 @@
-use Rattle.std.proofs.Common.{◌≡◌, sym, ap, ◌∙◌, subst, arith, min, is_some}
+use Rattle.std.proofs.Common.{◌≡◌, sym, ap, ◌∙◌, subst, arith, min, is_some, false, true}
 use Rattle.qcow2_disk.specs.Alike.{IsLongestRun}
 use Rattle.qcow2_alloc.specs.ImageFile.{known_in}
 use Rattle.qcow2_disk.specs.Found.{rest_of_table}
@@ -27,3 +27,8 @@ returns-clause-place g c = λ p sound at some.
 
 pub returns-in_err-kind-clause-limited : goal.returns-in_err-kind-clause-limited
 returns-in_err-kind-clause-limited g c = hands_unlimited c.from_residual.result c.in_err-kind.field-0.0 c.from_residual.ensures c.in_err-kind.ensures.limited
+
+pub returns-in_err-kind-clause-reads : goal.returns-in_err-kind-clause-reads
+returns-in_err-kind-clause-reads g c = λ p sound at.
+    let limit : c.min-max.result ≡ min c.args.length (rest_of_table c.args.self.now.file.header.fields c.args.offset) = c.min-max.ensures ∙ ap (min c.args.length) c.rest_of_table.ensures.value in
+    absurd (let no : false ≡ true = c.in_err-kind.ensures.reads p sound at (omega (arith, limit)) in cc)

@@ -1,5 +1,5 @@
-use Rattle.std.proofs.Common.{◌≡◌, ◌/◌, ◌<◌, inl, sym, ap, ◌∙◌, subst}
-use Rattle.std.specs.Prelude.{Ok}
+use Rattle.std.proofs.Common.{◌≡◌, ◌/◌, ◌<◌, inl, sym, ap, ◌∙◌, subst, inr, is_some}
+use Rattle.std.specs.Prelude.{Ok, IfErr, Result}
 use Rattle.qcow2_metadata.specs.Cover.{cover}
 use Rattle.qcow2_metadata.specs.Header.{cluster_size}
 use Rattle.qcow2_disk.specs.AbstractImages.{Guest}
@@ -19,6 +19,9 @@ use Rattle.qcow2_image.proofs.Call.BehindHeader.{behind_by, behind_none, behind_
 use Rattle.qcow2_image.proofs.Prepare.InUse.{used_stays}
 use Rattle.qcow2_image.proofs.Prepare.Lacked.{hands_limit, other_limit}
 use Rattle.qcow2_image.specs.LackedPlaces.{CantTake}
+use Rattle.qcow2_disk.specs.Found.{IsCompressed}
+use Rattle.qcow2_alloc.proofs.AllocationSteps.{handed_on}
+use Rattle.qcow2_image.specs.MetAlone.{IsMetAlone}
 use Rattle.qcow2_image.proofs.image.Qcow2.new_cluster_at.Goals as goal
 
 pub returns-in_default-clause-gains : goal.returns-in_default-clause-gains
@@ -120,3 +123,11 @@ returns-in_err-pending-clause-limit g c = λ p out sound holds.
 
 pub returns-in-Err-clause-limit : goal.returns-in-Err-clause-limit
 returns-in-Err-clause-limit g c = λ p out sound holds. other_limit _ c.in-Err.refusal c.in-Err.ensures.limited
+
+pub returns-in_err-pending-clause-met : goal.returns-in_err-pending-clause-met
+returns-in_err-pending-clause-met g c = λ p out sound holds.
+    handed_on (λ (r : Result _ _). IfErr r (IsMetAlone (IsCompressed c.args.old.now) ⊥)) c.from_residual.result c.in_err-pending.field-0.0 c.from_residual.ensures (inl (c.in_err-pending.ensures.fault p out sound))
+
+pub returns-in-Err-clause-met : goal.returns-in-Err-clause-met
+returns-in-Err-clause-met g c = λ p out sound holds.
+    elim (c.in-Err.ensures.met (c.in_ok-pending.ensures.elsewhere (ap is_some c.in-Some.is))) [ inl fault ↦ inl (inl fault) | inr compressed ↦ inr (inl compressed) ]

@@ -1,4 +1,4 @@
-use Rattle.std.proofs.Common.{⊎_elim, inl, inr, ◌∙◌, refl, sym, subst}
+use Rattle.std.proofs.Common.{⊎_elim, inl, inr, ◌∙◌, refl, sym, subst, ◌+◌}
 use Rattle.std.specs.Prelude.{IsTrue}
 use Rattle.qcow2_alloc.specs.ImageError.{IsFault}
 use Rattle.qcow2_image.proofs.Call.Refused.{back_then_freed}
@@ -9,6 +9,9 @@ use Rattle.qcow2_image.proofs.Call.BehindHeader.{behind_then}
 use Rattle.qcow2_image.proofs.Prepare.Lacked.{emptied_by_limit, limited_frees}
 use Rattle.qcow2_image.proofs.Prepare.LackedBehind.{range_freed}
 use Rattle.qcow2_image.specs.Image.{HasNothingToFree}
+use Rattle.qcow2_alloc.specs.ImageFile.{known_in}
+use Rattle.qcow2_image.specs.L1Entries.{NeedsFarEntry}
+use Rattle.qcow2_image.specs.MetAlone.{HasCompressedIn, IsMetAlone}
 use Rattle.qcow2_image.proofs.image.Qcow2.prepare.Goals as goal
 
 pub returns-in-Ok-clause-readies : goal.returns-in-Ok-clause-readies
@@ -86,3 +89,17 @@ returns-in-Err-clause-limit g c = λ some out sound is.
     let freed = limited_frees view below out old mid new c.in-Err.refusal c.free_after.result (c.in-Err.ensures.readies some out sound) c.free_after.ensures.fault (c.free_after.ensures.limit out) is in
     let empty : HasNothingToFree new = emptied_by_limit new c.free_after.result (returns-in-Err-clause-listed g c some out sound) is in
     range_freed view c.args.offset c.args.length old mid new c.free_after.ensures.keeps_rest.header freed.1 empty (c.in-Err.ensures.limit some out sound freed.0)
+
+pub returns-in-Ok-clause-l1_place : goal.returns-in-Ok-clause-l1_place
+returns-in-Ok-clause-l1_place g c = c.in-Ok.ensures.l1_place
+
+pub returns-in-Err-clause-met : goal.returns-in-Err-clause-met
+returns-in-Err-clause-met g c = λ some out sound alone.
+    let old = c.args.self.now in
+    let h = old.file.header.fields in
+    let Met = IsMetAlone (HasCompressedIn c.args.offset (c.args.offset + c.args.length) h (known_in g.S.Storage.view old.file)) (NeedsFarEntry old c.args.offset) in
+    let met : Met c.in-Err.refusal = c.in-Err.ensures.met some out sound alone in
+    elim (c.in-Err.ensures.readies some out sound) [
+      | inl unseen ↦ elim (c.free_after.ensures.told out unseen.sound) [ inl same ↦ subst Met (sym same) met | inr fault ↦ inl (inl fault) ]
+      | inr interruption ↦ subst Met (sym (c.free_after.ensures.fault interruption.fault).0) met
+    ]

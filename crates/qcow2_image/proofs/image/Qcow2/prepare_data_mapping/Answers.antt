@@ -1,6 +1,6 @@
-use Rattle.std.proofs.Common.{◌≡◌, ◌⊎◌, ◌<◌, sym, ◌∙◌, subst, arith, ap, refl}
+use Rattle.std.proofs.Common.{◌≡◌, ◌⊎◌, ◌<◌, sym, ◌∙◌, subst, arith, ap, refl, ◌+◌}
 use Rattle.std.specs.Prelude.{IfErr, IfOk, IsErrAnd, None, Result, Some}
-use Rattle.qcow2_alloc.specs.declared.error.ImageError.TheVariants.{Overflow, TablePrepared}
+use Rattle.qcow2_alloc.specs.declared.error.ImageError.TheVariants.{Overflow, TablePrepared, Limit}
 use Rattle.qcow2_alloc.specs.ImageFile.{known_in}
 use Rattle.qcow2_image.specs.Preparing.{IsAnswered, IsTaken}
 use Rattle.qcow2_image.proofs.Map.Loading.{if_ok}
@@ -30,7 +30,11 @@ use Rattle.qcow2_image.specs.LowestPlaces.{BeginsLowest}
 use Rattle.qcow2_image.proofs.Prepare.Lacked.{limits_as}
 use Rattle.qcow2_image.proofs.Prepare.LackedBehind.{behind_begun, first_begun, place_ended}
 use Rattle.qcow2_image.specs.LackedPlaces.{LacksPlaceFor}
-use Rattle.qcow2_alloc.specs.declared.error.ImageError.TheVariants.{Limit}
+use Rattle.qcow2_metadata.specs.Header.{cluster_size}
+use Rattle.qcow2_metadata.specs.declared.header.HeaderFields.{HeaderFields}
+use Rattle.qcow2_image.specs.L1Entries.{NeedsFarEntry}
+use Rattle.qcow2_image.specs.MetAlone.{HasCompressedIn, IsMetAlone}
+use Rattle.qcow2_image.proofs.Prepare.MetRanges.{alone_as, compressed_as, far_before}
 use Rattle.qcow2_image.proofs.image.Qcow2.prepare_data_mapping.Goals as goal
 
 pub returns-then-length-eq0-clause-sees : goal.returns-then-length-eq0-clause-sees
@@ -197,3 +201,21 @@ returns-clause-limit g c = λ may some out sound.
     (subst (λ (image : Qcow2 _ _). IfErr c.prepare-prepared.result (λ x. x ≡ Limit → LacksPlaceFor view c.args.offset c.args.length old image)) (sym c.mark_failure.ensures.rest)
     (limits_as (λ x. LacksPlaceFor view c.args.offset c.args.length mid new) (λ x. LacksPlaceFor view c.args.offset c.args.length old (record new { is_failed = failed })) c.prepare-prepared.result
     (λ e lacks. place_ended view c.args.offset c.args.length old mid new failed c.begin.ensures.rest same (behind_begun view c.args.offset old mid stays.header stays.covers) (nowhere_before view old mid c.args.offset c.args.length stays.header stays.covers) lacks) (c.prepare-prepared.ensures.limit some out stays.sound)))
+
+pub returns-in_err-check_prepare-clause-met : goal.returns-in_err-check_prepare-clause-met
+returns-in_err-check_prepare-clause-met g c = λ none some out sound alone.
+    let refused = refused_for c.check_prepare.result tt (refuses_to_prepare c.args.self.now c.args.offset c.args.length) c.in_err-check_prepare.field-0.0 c.check_prepare.ensures.refusal c.in_err-check_prepare.was in
+    absurd (let no : None ≡ Some c.in_err-check_prepare.field-0.0 = sym none ∙ refused in cc)
+
+pub returns-clause-met : goal.returns-clause-met
+returns-clause-met g c = λ may some out sound alone.
+    let view = g.S.Storage.view in
+    let below = g.F.BackingDisk.backing in
+    let old = c.args.self.now in
+    let mid = c.begin.new.self in
+    let from = c.args.offset in
+    let to = c.args.offset + c.args.length in
+    let stays = stays_kept view below out old mid sound (listed view below out old mid (λ s. record { keeps = c.begin.ensures.keeps (pending_in view below old out) out s; list = c.begin.ensures.list }) sound) in
+    let size : cluster_size mid.file.header.fields ≡ cluster_size old.file.header.fields = ap (λ (x : HeaderFields). cluster_size x) stays.header in
+    subst (λ (r : Result _ _). IfErr r (IsMetAlone (HasCompressedIn from to old.file.header.fields (known_in view old.file)) (NeedsFarEntry old from))) (sym c.mark_failure.ensures.answer)
+    (if_err c.prepare-prepared.result (alone_as (compressed_as old.file.header.fields mid.file.header.fields (known_in view old.file) (known_in view mid.file) from to size stays.covers) (far_before old mid from c.begin.ensures.begun)) (c.prepare-prepared.ensures.met some out stays.sound alone))

@@ -1,10 +1,10 @@
-use Rattle.std.proofs.Common.{◌≡◌, ◌+◌, ◌-◌, ◌/◌, ◌%◌, [], ◌∷◌, refl, sym, ap, ◌∙◌, subst, arith}
-use Rattle.std.specs.Prelude.{None, Err}
+use Rattle.std.proofs.Common.{◌≡◌, ◌+◌, ◌-◌, ◌/◌, ◌%◌, [], ◌∷◌, refl, sym, ap, ◌∙◌, subst, arith, inl, inr, length, ◌<◌, ◌*◌, ◌^◌, Some, min, ◌≢◌}
+use Rattle.std.specs.Prelude.{None, Err, IfErr, Result}
 use Rattle.qcow2_metadata.specs.Cover.{cover}
-use Rattle.qcow2_metadata.specs.Header.{cluster_size}
+use Rattle.qcow2_metadata.specs.Header.{cluster_size, HeaderView}
 use Rattle.qcow2_metadata.specs.declared.header.HeaderFields.{HeaderFields}
 use Rattle.qcow2_metadata.specs.declared.l2_mapping.L2Mapping.{L2Mapping}
-use Rattle.qcow2_alloc.specs.ImageFile.{KeepsHeader, known_in}
+use Rattle.qcow2_alloc.specs.ImageFile.{KeepsHeader, known_in, contents_in}
 use Rattle.qcow2_alloc.proofs.AllocationSteps.{handed_on}
 use Rattle.qcow2_alloc.proofs.ListedAfter.{header_format, header_then}
 use Rattle.qcow2_image.specs.declared.image.Qcow2.{Qcow2}
@@ -19,20 +19,17 @@ use Rattle.qcow2_image.proofs.Call.BehindHeader.{behind_then}
 use Rattle.qcow2_image.proofs.Prepare.InUse.{first_of, longer_lowest}
 use Rattle.qcow2_image.proofs.Prepare.Lacked.{hands_limit}
 use Rattle.qcow2_image.proofs.Prepare.LackedBehind.{cant_go_on, first_begun, first_cluster, lacks_uncounted, own_released}
-use Rattle.std.proofs.Common.{inl, inr, length, ◌<◌, ◌*◌, ◌^◌, Some}
 use Rattle.std.proofs.lemmas.Nat.{pow_pos}
 use Rattle.qcow2_disk.specs.Found.{rest_of_table}
-use Rattle.std.proofs.Common.{min}
 use Rattle.qcow2_image.specs.LackedPlaces.{IsNewThere, LacksData, behind_first, bytes_in_table, first_of_range}
 use Rattle.qcow2_image.specs.ImageInvariant.{IsPending, IsReadyWith}
 use Rattle.qcow2_image.specs.Ranges.{EndsWithCluster}
 use Rattle.qcow2_image.proofs.Call.Slots.{get_set_same}
-use Rattle.qcow2_alloc.specs.ImageFile.{contents_in}
 use Rattle.qcow2_metadata.specs.Bytes.{Bytes}
 use Rattle.qcow2_metadata.specs.Entries.{count}
-use Rattle.std.proofs.Common.{◌≢◌}
-use Rattle.qcow2_metadata.specs.Header.{HeaderView}
 use Rattle.qcow2_image.specs.UnseenSteps.{freed_by}
+use Rattle.qcow2_image.specs.MetAlone.{HasCompressedIn, IsMetAlone}
+use Rattle.qcow2_image.proofs.Prepare.MetRanges.{alone_as, compressed_as, compressed_at}
 use Rattle.qcow2_image.proofs.image.Qcow2.prepare_in.Goals as goal
 
 pub returns-in_err-prepared-clause-readies : goal.returns-in_err-prepared-clause-readies
@@ -203,3 +200,29 @@ returns-in-Err-clause-limit g c = λ out sound holds some is.
     it.allocator it.is (cant_go_on view old m rest q c.args.table positive pending cant.0 at whole c.args.offset (bytes_in_table view c.args.offset c.args.length old) it.allocator share.0 size_old size_rest (longer.guest ∙ first.guest) short broken.readied.covers (longer.first share.0 share.1) new_there
     (λ taken old_data new_share k lt. it.uses k (c.in_ok-prepared.ensures.lowest out sound taken old_data (share.1 ∙ sym (longer.first share.0 share.1) ∙ new_share) k (subst (λ n. k < n) (ap (λ o. o / cluster_size h) longer.place ∙ ap (λ s. p.offset / s) (sym size_mid)) lt)))
     it.uncounted))
+
+pub returns-in_err-prepared-clause-met : goal.returns-in_err-prepared-clause-met
+returns-in_err-prepared-clause-met g c = λ out sound alone holds some.
+    let h = c.args.self.now.file.header.fields in
+    let known = known_in g.S.Storage.view c.args.self.now.file in
+    let offset = c.args.offset in
+    let n = c.args.length in
+    handed_on (λ (r : Result _ _). IfErr r (IsMetAlone (HasCompressedIn offset (offset + n) h known) ⊥)) c.from_residual.result c.in_err-prepared.field-0.0 c.from_residual.ensures
+    (alone_as (λ compressed. compressed_at h h known known offset (offset + n) offset (omega arith) (omega (arith, some)) refl (λ j. refl) compressed) (λ no. no) c.in_err-prepared.field-0.0 (c.in_err-prepared.ensures.met out sound alone holds))
+
+pub returns-in-Err-clause-met : goal.returns-in-Err-clause-met
+returns-in-Err-clause-met g c = λ out sound alone holds some.
+    let view = g.S.Storage.view in
+    let below = g.F.BackingDisk.backing in
+    let old = c.args.self.now in
+    let mid = c.prepare_first.new.self in
+    let p = c.in_ok-prepared.prepared in
+    let n = c.args.length in
+    let first = c.in_ok-prepared.ensures.first in
+    let h = old.file.header.fields in
+    let hm = mid.file.header.fields in
+    let placed = (free_places view below).free old [] out sound in
+    let ready = subst (λ o. IsReadied view below old mid (None ∷ out) 0 o n c.args.overwrite p) (sym first.guest) (c.in_ok-prepared.ensures.readies (None ∷ out) placed holds 0 refl) in
+    let size : cluster_size hm ≡ cluster_size h = ap (λ (x : HeaderFields). cluster_size x) (header_format old.file.header mid.file.header c.in_ok-prepared.ensures.header) in
+    alone_as (λ found. compressed_as h hm (known_in view old.file) (known_in view mid.file) c.args.offset (c.args.offset + n) size ready.covers (subst (λ o. HasCompressedIn o (o + n) hm (known_in view mid.file)) first.guest found)) (λ no. no)
+    c.in-Err.refusal (c.in-Err.ensures.met old (None ∷ out) 0 refl first.under ready)

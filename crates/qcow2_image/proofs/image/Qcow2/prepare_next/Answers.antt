@@ -1,5 +1,5 @@
-use Rattle.std.proofs.Common.{◌≡◌, ◌+◌, min, sym, ap, ◌∙◌, subst, arith}
-use Rattle.std.specs.Prelude.{Ok}
+use Rattle.std.proofs.Common.{◌≡◌, ◌+◌, min, sym, ap, ◌∙◌, subst, arith, ◌/◌}
+use Rattle.std.specs.Prelude.{Ok, IfErr, Result}
 use Rattle.qcow2_metadata.specs.Header.{cluster_size}
 use Rattle.qcow2_metadata.specs.declared.header.HeaderFields.{HeaderFields}
 use Rattle.qcow2_alloc.proofs.ListedAfter.{header_format}
@@ -8,6 +8,11 @@ use Rattle.qcow2_image.specs.Ranges.{FindsBehind, IsExtended}
 use Rattle.qcow2_image.proofs.Prepare.Extending.{extended}
 use Rattle.qcow2_image.proofs.Prepare.Lacked.{hands_limit}
 use Rattle.qcow2_image.specs.LackedPlaces.{CantGoBehind}
+use Rattle.qcow2_metadata.specs.Cover.{cover}
+use Rattle.qcow2_disk.specs.Found.{IsCompressed}
+use Rattle.qcow2_alloc.proofs.AllocationSteps.{handed_on}
+use Rattle.qcow2_alloc.specs.ImageFile.{known_in}
+use Rattle.qcow2_image.specs.MetAlone.{IsMetAlone}
 use Rattle.qcow2_image.proofs.image.Qcow2.prepare_next.Goals as goal
 
 pub returns-in_default-clause-image_step : goal.returns-in_default-clause-image_step
@@ -51,3 +56,10 @@ returns-clause-uses g c = λ out k at may sound. c.in_ok-share.ensures.uses out 
 pub returns-in_err-share-clause-limit : goal.returns-in_err-share-clause-limit
 returns-in_err-share-clause-limit g c = λ out k at may sound.
     hands_limit (λ x. CantGoBehind g.S.Storage.view c.args.prepared.now c.args.self.now c.share_behind.new.self) c.from_residual.result c.in_err-share.field-0.0 c.from_residual.ensures (c.in_err-share.ensures.limit out k at may sound)
+
+pub returns-in_err-share-clause-met : goal.returns-in_err-share-clause-met
+returns-in_err-share-clause-met g c = λ out k at may sound.
+    let old = c.args.self.now in
+    let p = c.args.prepared.now in
+    let h = old.file.header.fields in
+    handed_on (λ (r : Result _ _). IfErr r (IsMetAlone (IsCompressed (cover h (known_in g.S.Storage.view old.file) ((p.guest + p.length) / cluster_size h))) ⊥)) c.from_residual.result c.in_err-share.field-0.0 c.from_residual.ensures (c.in_err-share.ensures.met out k at may sound)

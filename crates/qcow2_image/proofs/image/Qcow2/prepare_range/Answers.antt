@@ -1,4 +1,4 @@
-use Rattle.std.proofs.Common.{◌≡◌, true, false, inl, inr, refl, sym, ◌∙◌, subst, None, Option, [], ◌∷◌}
+use Rattle.std.proofs.Common.{◌≡◌, true, false, inl, inr, refl, sym, ◌∙◌, subst, None, Option, [], ◌∷◌, ◌+◌, ap}
 use Rattle.qcow2_alloc.specs.ImageFile.{known_in}
 use Rattle.qcow2_alloc.proofs.AllocationSteps.{handed_on}
 use Rattle.qcow2_image.specs.CallParts.{PreparesRange}
@@ -13,7 +13,7 @@ use Rattle.qcow2_image.proofs.Call.Refused.{prepares_after, readied_after}
 use Rattle.qcow2_image.proofs.Prepare.Taken.{if_err, taken_by}
 use Rattle.qcow2_image.proofs.Prepare.Listing.{lists_since}
 use Rattle.qcow2_image.proofs.Prepare.FarEntries.{far_handed_on, far_unanswered}
-use Rattle.std.specs.Prelude.{IsSome, IsTrue}
+use Rattle.std.specs.Prelude.{IsSome, IsTrue, IfErr, Result}
 use Rattle.qcow2_alloc.proofs.KeptMarks.{notes_then}
 use Rattle.qcow2_image.proofs.Call.BehindHeader.{behind_then}
 use Rattle.qcow2_image.proofs.Prepare.InUse.{none_lowest}
@@ -21,6 +21,11 @@ use Rattle.qcow2_image.proofs.Prepare.Pinned.{found_pins, met_untaken, prepared_
 use Rattle.qcow2_image.proofs.Prepare.Lacked.{hands_limit, limits_as, other_limit}
 use Rattle.qcow2_image.proofs.Prepare.LackedBehind.{data_after_table}
 use Rattle.qcow2_image.specs.LackedPlaces.{LacksData, LacksRange}
+use Rattle.qcow2_metadata.specs.Header.{cluster_size}
+use Rattle.qcow2_metadata.specs.declared.header.HeaderFields.{HeaderFields}
+use Rattle.qcow2_image.specs.L1Entries.{NeedsFarEntry}
+use Rattle.qcow2_image.specs.MetAlone.{HasCompressedIn, IsMetAlone}
+use Rattle.qcow2_image.proofs.Prepare.MetRanges.{alone_as, compressed_as, place_stays}
 use Rattle.qcow2_image.proofs.image.Qcow2.prepare_range.Goals as goal
 
 pub returns-in_err-table-clause-readies : goal.returns-in_err-table-clause-readies
@@ -188,3 +193,35 @@ returns-in-None-clause-limit g c = λ some out sound.
     let nowhere = subst (IsPlaceOf mid.file.header.fields (known_in view mid.file) c.args.offset c.args.length) c.in-None.is (c.in_ok-host.ensures.place p found.0.sound.file found.1.entry some) in
     limits_as (λ x. LacksData view c.args.offset c.args.length mid.file.free_list mid new) (λ x. LacksRange view c.args.offset c.args.length old new) c.prepare_in.result
     (λ e lacks. inr (nowhere_before view old mid c.args.offset c.args.length found.0.header found.0.covers nowhere, data_after_table view c.args.offset c.args.length old mid new found.0.header found.0.covers (c.in_ok-table.ensures.freed out sound) lacks)) (c.prepare_in.ensures.limit out found.0.sound found.1 some)
+
+pub returns-in_err-table-clause-met : goal.returns-in_err-table-clause-met
+returns-in_err-table-clause-met g c = λ some out sound alone.
+    let old = c.args.self.now in
+    let h = old.file.header.fields in
+    handed_on (λ (r : Result _ _). IfErr r (IsMetAlone (HasCompressedIn c.args.offset (c.args.offset + c.args.length) h (known_in g.S.Storage.view old.file)) (NeedsFarEntry old c.args.offset))) c.from_residual.result c.in_err-table.field-0.0 c.from_residual.ensures
+    (alone_as (λ no. absurd no) (λ far. far) c.in_err-table.field-0.0 (c.in_err-table.ensures.met out sound alone))
+
+pub returns-in_err-host-clause-met : goal.returns-in_err-host-clause-met
+returns-in_err-host-clause-met g c = λ some out sound alone.
+    let mid = c.table_for.new.self in
+    let found = c.in_ok-table.ensures.finds out sound in
+    absurd (let no : false ≡ true = c.in_err-host.ensures.reads (pending_in g.S.Storage.view g.F.BackingDisk.backing mid out) found.0.sound.file found.1.entry in cc)
+
+pub returns-in-None-clause-met : goal.returns-in-None-clause-met
+returns-in-None-clause-met g c = λ some out sound alone.
+    let view = g.S.Storage.view in
+    let old = c.args.self.now in
+    let mid = c.table_for.new.self in
+    let found = c.in_ok-table.ensures.finds out sound in
+    let size : cluster_size mid.file.header.fields ≡ cluster_size old.file.header.fields = ap (λ (x : HeaderFields). cluster_size x) found.0.header in
+    if_err c.prepare_in.result
+    (alone_as (compressed_as old.file.header.fields mid.file.header.fields (known_in view old.file) (known_in view mid.file) c.args.offset (c.args.offset + c.args.length) size found.0.covers) (λ no. absurd no))
+    (c.prepare_in.ensures.met out found.0.sound alone found.1 some)
+
+pub returns-in-Some-clause-l1_place : goal.returns-in-Some-clause-l1_place
+returns-in-Some-clause-l1_place g c = c.in_ok-table.ensures.l1_place
+
+pub returns-in-None-clause-l1_place : goal.returns-in-None-clause-l1_place
+returns-in-None-clause-l1_place g c = λ within.
+    on_ok c.prepare_in.result
+    (λ former. place_stays c.args.self.now.file.header.fields c.table_for.new.self.file.header c.prepare_in.new.self.file.header c.prepare_in.ensures.header (c.in_ok-table.ensures.l1_place within)) c.prepare_in.ensures.former

@@ -1,8 +1,8 @@
-use Rattle.std.proofs.Common.{◌≡◌, ◌*◌, ◌%◌, ◌<◌, true, false, refl, sym, ap, ◌∙◌, subst, arith, min}
-use Rattle.std.specs.Prelude.{Ok, Err, Some, None, slice_set, vec_capacity}
+use Rattle.std.proofs.Common.{◌≡◌, ◌*◌, ◌%◌, ◌<◌, true, false, refl, sym, ap, ◌∙◌, subst, arith, min, ◌+◌}
+use Rattle.std.specs.Prelude.{Ok, Err, Some, None, slice_set, vec_capacity, IfErr, Result}
 use Rattle.qcow2_metadata.specs.Header.{cluster_size}
 use Rattle.qcow2_alloc.proofs.AllocationSteps.{handed_on}
-use Rattle.qcow2_alloc.proofs.ListedAfter.{header_same}
+use Rattle.qcow2_alloc.proofs.ListedAfter.{header_same, header_format}
 use Rattle.qcow2_image.specs.declared.prepared.Prepared.{Prepared}
 use Rattle.qcow2_image.specs.CallParts.{IsReadied}
 use Rattle.qcow2_image.specs.Ranges.{BreaksOff, Ends, GoesNext, GoesOn}
@@ -16,7 +16,10 @@ use Rattle.qcow2_image.proofs.Prepare.Lacked.{hands_limit}
 use Rattle.qcow2_image.proofs.Prepare.LackedBehind.{cant_go_behind}
 use Rattle.qcow2_disk.specs.Found.{rest_of_table}
 use Rattle.qcow2_image.specs.LackedPlaces.{CantGoBehind}
-use Rattle.std.proofs.Common.{◌+◌}
+use Rattle.qcow2_metadata.specs.declared.header.HeaderFields.{HeaderFields}
+use Rattle.qcow2_alloc.specs.ImageFile.{known_in}
+use Rattle.qcow2_image.specs.MetAlone.{HasCompressedIn, IsMetAlone}
+use Rattle.qcow2_image.proofs.Prepare.MetRanges.{alone_as, compressed_at}
 use Rattle.qcow2_image.proofs.image.Qcow2.prepare_rest.Goals as goal
 
 pub returns-in_err-prepare_next-clause-image_step : goal.returns-in_err-prepare_next-clause-image_step
@@ -180,3 +183,26 @@ returns-in_err-prepare_next-clause-limit g c = λ start out k free under is.
       cant_go_behind view q start old now new is.header is.covers before.header before.covers so.header c.loop-prepared.invariant.former (c.loop-prepared.invariant.uses start out k free under is)
           (c.in_err-prepare_next.ensures.limit (slice_set out k (Some q)) k (get_set_same out k (Some q) None free) may before.sound limit),
     ))
+
+pub returns-in_err-prepare_next-clause-met : goal.returns-in_err-prepare_next-clause-met
+returns-in_err-prepare_next-clause-met g c = λ start out k free under is.
+    let view = g.S.Storage.view in
+    let below = g.F.BackingDisk.backing in
+    let old = c.args.self.now in
+    let now = c.loop-prepared.self in
+    let p = c.args.prepared.now in
+    let q = c.loop-prepared.prepared in
+    let n = c.args.length in
+    let e = c.in_err-prepare_next.field-0.0 in
+    let h = old.file.header.fields in
+    let so = c.loop-prepared.invariant.turns in
+    let bound = c.min-end.ensures ∙ ap (min c.args.length) c.rest_of_table.ensures.value in
+    let less = c.loop-prepared-test.true in
+    let may = may_go_on view below old now p q n c.min-end.result c.args.table c.args.overwrite so bound less start out k under is in
+    let before = so.image_step start out k free under is in
+    let size : cluster_size now.file.header.fields ≡ cluster_size h = ap (λ (x : HeaderFields). cluster_size x) (header_format old.file.header now.file.header so.header) in
+    let guest = so.longer.guest in
+    handed_on (λ (r : Result _ _). IfErr r (IsMetAlone (HasCompressedIn p.guest (p.guest + n) h (known_in view old.file)) ⊥)) c.from_residual.result e c.from_residual.ensures
+    (alone_as
+    (λ compressed. compressed_at h now.file.header.fields (known_in view old.file) (known_in view now.file) p.guest (p.guest + n) (q.guest + q.length) (omega (arith, guest)) (omega (arith, guest, bound, less)) size (λ j. sym (is.covers j) ∙ before.covers j) compressed)
+    (λ no. no) e (c.in_err-prepare_next.ensures.met (slice_set out k (Some q)) k (get_set_same out k (Some q) None free) may before.sound))

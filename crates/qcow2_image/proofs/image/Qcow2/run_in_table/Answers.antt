@@ -1,4 +1,4 @@
-use Rattle.std.proofs.Common.{◌≡◌, ℕ, ◌+◌, ◌-◌, ◌/◌, ◌%◌, ◌^◌, ◌<◌, sym, ap, ◌∙◌, subst, arith, min, refl, is_some}
+use Rattle.std.proofs.Common.{◌≡◌, ℕ, ◌+◌, ◌-◌, ◌/◌, ◌%◌, ◌^◌, ◌<◌, sym, ap, ◌∙◌, subst, arith, min, refl, is_some, Some, false, true}
 use Rattle.qcow2_metadata.specs.Header.{cluster_size, entries_per_cluster}
 use Rattle.qcow2_metadata.specs.Cover.{cover}
 use Rattle.qcow2_disk.specs.Alike.{IsLongestRun}
@@ -11,7 +11,7 @@ use Rattle.qcow2_image.proofs.Map.Looked.{cluster_near, says_known, run_found}
 use Rattle.qcow2_image.proofs.Map.Held.{run_held}
 use Rattle.qcow2_alloc.specs.MetadataCaches.{l2_at}
 use Rattle.qcow2_image.specs.HeldMappings.{IsLongestSo, named_place}
-use Rattle.std.proofs.Common.{Some}
+use Rattle.qcow2_image.proofs.Map.Aligned.{table_aligned}
 use Rattle.qcow2_image.proofs.image.Qcow2.run_in_table.Goals as goal
 
 pub alike_behind-requires-clause-near : goal.alike_behind-requires-clause-near
@@ -65,3 +65,11 @@ returns-clause-held g c = λ limit short below own_is named.
     let first = c.kind_of.ensures.value ∙ ap (λ n. kind_at h (is_some image.backing) c.args.offset n) (c.in_ok-first.ensures.ok ∙ ap (mapping_of t) own) in
     subst (IsLongestSo h (is_some image.backing) image.l1_table image.file.caches c.args.offset limit c.kind_of.result) (sym is)
     (run_held h (is_some image.backing) image.l1_table image.file.caches c.args.offset c.args.max limit short below t named held c.kind_of.result first c.in_ok-behind.behind behind)
+
+pub returns-in_err-first-clause-reads : goal.returns-in_err-first-clause-reads
+returns-in_err-first-clause-reads g c = λ p sound at le.
+    absurd (c.in_err-first.ensures.err.1 (table_aligned g.S.Storage.view c.args.self.now.file p c.in-Some.table.now c.args.table _ _ sound c.in-Some.ensures.shows at c.cluster.result))
+
+pub returns-in_err-behind-clause-reads : goal.returns-in_err-behind-clause-reads
+returns-in_err-behind-clause-reads g c = λ p sound at le.
+    absurd (let no : false ≡ true = c.in_err-behind.ensures.reads (table_aligned g.S.Storage.view c.args.self.now.file p c.in-Some.table.now c.args.table _ _ sound c.in-Some.ensures.shows at) in cc)

@@ -1,5 +1,5 @@
-use Rattle.std.proofs.Common.{rules, ◌≡◌, ◌⊎◌, ◌≢◌, ◌*◌, ◌/◌, ◌^◌, ◌++◌, [], ◌∷◌, sym, ap, ◌∙◌, subst, is_some}
-use Rattle.std.specs.Prelude.{Ok}
+use Rattle.std.proofs.Common.{rules, ◌≡◌, ◌⊎◌, ◌≢◌, ◌*◌, ◌/◌, ◌^◌, ◌++◌, [], ◌∷◌, sym, ap, ◌∙◌, subst, is_some, inl, ◌%◌}
+use Rattle.std.specs.Prelude.{Ok, IfErr, Result}
 use Rattle.qcow2_metadata.specs.Entries.{count}
 use Rattle.qcow2_metadata.specs.Header.{cluster_size}
 use Rattle.qcow2_metadata.specs.L2Mapping.{IsHostCluster}
@@ -14,6 +14,9 @@ use Rattle.qcow2_alloc.proofs.KeptMarks.{notes_none}
 use Rattle.qcow2_image.proofs.Call.BehindHeader.{behind_none}
 use Rattle.qcow2_image.proofs.Prepare.Lacked.{hands_limit, other_limit}
 use Rattle.qcow2_image.specs.LackedPlaces.{CantTakeAt}
+use Rattle.qcow2_disk.specs.Found.{IsCompressed}
+use Rattle.qcow2_alloc.proofs.AllocationSteps.{handed_on}
+use Rattle.qcow2_image.specs.MetAlone.{IsMetAlone}
 use Rattle.qcow2_image.proofs.image.Qcow2.share_at.Goals as goal
 
 pub returns-in_default-clause-shares : goal.returns-in_default-clause-shares
@@ -97,3 +100,17 @@ returns-in_err-pending-clause-limit g c = λ p out sound holds.
     let host_is : c.in-Some.cluster * cluster_size h ≡ c.args.host = ap (λ b. c.in-Some.cluster * 2 ^ b) (sym c.cluster_bits-bits.ensures.value) ∙ c.in-Some.ensures.cluster ∙ c.new.ensures in
     hands_limit (λ x. CantTakeAt g.S.Storage.view c.args.host c.args.self.now c.new_cluster_at.new.self) c.from_residual-in_err-pending.result c.in_err-pending.field-0.0 c.from_residual-in_err-pending.ensures
     (λ is. (c.in-Some.cluster, host_is, c.in_err-pending.ensures.limit p out sound holds is))
+
+pub returns-in_default-clause-met : goal.returns-in_default-clause-met
+returns-in_default-clause-met g c = λ p out sound holds aligned.
+    let size = cluster_size c.args.self.now.file.header.fields in
+    let whole : c.new.result % 2 ^ c.cluster_bits-bits.result ≡ 0 = ap (λ b. c.new.result % 2 ^ b) c.cluster_bits-bits.ensures.value ∙ ap (λ o. o % size) c.new.ensures ∙ aligned in
+    absurd (c.in_default.ensures.none whole)
+
+pub returns-in_err-old_data-clause-met : goal.returns-in_err-old_data-clause-met
+returns-in_err-old_data-clause-met g c = λ p out sound holds aligned.
+    handed_on (λ (r : Result _ _). IfErr r (IsMetAlone (IsCompressed c.args.old.now) ⊥)) c.from_residual.result c.in_err-old_data.field-0.0 c.from_residual.ensures (inl (inl c.in_err-old_data.ensures.fault))
+
+pub returns-in_err-pending-clause-met : goal.returns-in_err-pending-clause-met
+returns-in_err-pending-clause-met g c = λ p out sound holds aligned.
+    handed_on (λ (r : Result _ _). IfErr r (IsMetAlone (IsCompressed c.args.old.now) ⊥)) c.from_residual-in_err-pending.result c.in_err-pending.field-0.0 c.from_residual-in_err-pending.ensures (c.in_err-pending.ensures.met p out sound holds)

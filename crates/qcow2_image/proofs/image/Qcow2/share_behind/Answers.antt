@@ -1,4 +1,4 @@
-use Rattle.std.proofs.Common.{◌≡◌, ◌≢◌, ◌+◌, ◌-◌, ◌/◌, ◌^◌, Some, true, false, arith, inl, refl, sym, ap, ◌∙◌, subst}
+use Rattle.std.proofs.Common.{◌≡◌, ◌≢◌, ◌+◌, ◌-◌, ◌/◌, ◌^◌, Some, true, false, arith, inl, refl, sym, ap, ◌∙◌, subst, inr, ◌%◌}
 use Rattle.qcow2_metadata.specs.Header.{cluster_size}
 use Rattle.qcow2_metadata.specs.declared.l2_mapping.L2Mapping.{L2Mapping}
 use Rattle.qcow2_metadata.specs.declared.l2_mapping.L2Mapping.TheVariants.{Data, Zero}
@@ -20,6 +20,11 @@ use Rattle.qcow2_image.proofs.Call.BehindHeader.{behind_none}
 use Rattle.qcow2_image.proofs.Prepare.InUse.{used_stays}
 use Rattle.qcow2_image.proofs.Prepare.Lacked.{hands_limit, limits_as, not_copied, other_limit}
 use Rattle.qcow2_image.specs.LackedPlaces.{CantGoBehind, CantTakeAt, IsNewThere}
+use Rattle.std.specs.Prelude.{IfErr, Result}
+use Rattle.qcow2_disk.specs.Found.{IsCompressed}
+use Rattle.qcow2_image.specs.MetAlone.{IsMetAlone}
+use Rattle.qcow2_image.proofs.Prepare.Taken.{if_err}
+use Rattle.qcow2_image.proofs.Prepare.MetRanges.{alone_as, guest_fits, kept_behind, next_reads, place_aligned, place_fits}
 use Rattle.qcow2_image.proofs.image.Qcow2.share_behind.Goals as goal
 
 pub returns-in-Some-copied_place-clause-finds : goal.returns-in-Some-copied_place-clause-finds
@@ -206,3 +211,48 @@ returns-in-None-2-clause-limit g c = λ out k at may sound.
       subst (λ (x : L2Mapping). IsNewThere x (p.offset + p.length)) (sym here) (not_copied c.in_ok-old.old (c.in-None-2.ensures.none refl), own_not),
     ))
     (c.share_at.ensures.limit (pending_in view below old out) out sound (λ m. omega arith))
+
+pub returns-in_default-clause-met : goal.returns-in_default-clause-met
+returns-in_default-clause-met g c = λ out k at may sound.
+    absurd (c.in_default.ensures (guest_fits g.S.Storage.view g.F.BackingDisk.backing c.args.self.now out k c.args.prepared.now at c.args.length c.args.table c.args.overwrite may sound))
+
+pub returns-in_default-checked_add-clause-met : goal.returns-in_default-checked_add-clause-met
+returns-in_default-checked_add-clause-met g c = λ out k at may sound.
+    absurd (c.in_default-checked_add.ensures (place_fits g.S.Storage.view g.F.BackingDisk.backing c.args.self.now out k c.args.prepared.now at c.args.length c.args.table c.args.overwrite may sound))
+
+pub returns-in_err-old-clause-met : goal.returns-in_err-old-clause-met
+returns-in_err-old-clause-met g c = λ out k at may sound.
+    let view = g.S.Storage.view in
+    let below = g.F.BackingDisk.backing in
+    let old = c.args.self.now in
+    let p = c.args.prepared.now in
+    let h = old.file.header.fields in
+    let cluster : c.cluster-cluster.result ≡ (p.guest + p.length) / cluster_size h = c.cluster-cluster.ensures ∙ ap (λ o. o / 2 ^ c.cluster_bits.result) (c.new.ensures ∙ c.in-Some.ensures.1) ∙ ap (λ b. (p.guest + p.length) / 2 ^ b) c.cluster_bits.ensures.value in
+    absurd (let no : false ≡ true = next_reads view below old out k p at c.args.length c.args.table c.args.overwrite may sound c.cluster-cluster.result cluster (c.in_err-old.ensures.reads (pending_in view below old out) (l1_index_of h p.guest) sound.file) in cc)
+
+pub returns-in_err-fill_kept-in-None-clause-met : goal.returns-in_err-fill_kept-in-None-clause-met
+returns-in_err-fill_kept-in-None-clause-met g c = λ out k at may sound.
+    let view = g.S.Storage.view in
+    let below = g.F.BackingDisk.backing in
+    let old = c.args.self.now in
+    let p = c.args.prepared.now in
+    let h = old.file.header.fields in
+    let cluster : c.cluster-cluster.result ≡ (p.guest + p.length) / cluster_size h = c.cluster-cluster.ensures ∙ ap (λ o. o / 2 ^ c.cluster_bits.result) (c.new.ensures ∙ c.in-Some.ensures.1) ∙ ap (λ b. (p.guest + p.length) / 2 ^ b) c.cluster_bits.ensures.value in
+    let covered = next_says view below old out k p at c.args.length c.args.table c.args.overwrite may sound c.cluster-cluster.result c.in_ok-old.old cluster (c.in_ok-old.ensures.says (pending_in view below old out) (l1_index_of h p.guest) sound.file) in
+    let kept : cover h (known_in view old.file) ((p.guest + p.length) / cluster_size h) ≡ Zero (Some (c.in-Some-checked_add.host, true)) =
+    ap (cover h (known_in view old.file)) (next_cluster view below old out k p at c.args.length c.args.table c.args.overwrite may sound) ∙ covered ∙ c.keeps.ensures.answer.0 c.if-keeps.true in
+    handed_on (λ (r : Result _ _). IfErr r (IsMetAlone (IsCompressed (cover h (known_in view old.file) ((p.guest + p.length) / cluster_size h))) ⊥)) c.from_residual-in_err-fill_kept-in-None.result c.in_err-fill_kept-in-None.field-0.0 c.from_residual-in_err-fill_kept-in-None.ensures
+    (inl (inl (c.in_err-fill_kept-in-None.ensures.fault (kept_behind view below old out (pending_in view below old out) sound _ c.in-Some-checked_add.host kept))))
+
+pub returns-in-None-2-clause-met : goal.returns-in-None-2-clause-met
+returns-in-None-2-clause-met g c = λ out k at may sound.
+    let view = g.S.Storage.view in
+    let below = g.F.BackingDisk.backing in
+    let old = c.args.self.now in
+    let p = c.args.prepared.now in
+    let h = old.file.header.fields in
+    let cluster : c.cluster-cluster.result ≡ (p.guest + p.length) / cluster_size h = c.cluster-cluster.ensures ∙ ap (λ o. o / 2 ^ c.cluster_bits.result) (c.new.ensures ∙ c.in-Some.ensures.1) ∙ ap (λ b. (p.guest + p.length) / 2 ^ b) c.cluster_bits.ensures.value in
+    let covered = next_says view below old out k p at c.args.length c.args.table c.args.overwrite may sound c.cluster-cluster.result c.in_ok-old.old cluster (c.in_ok-old.ensures.says (pending_in view below old out) (l1_index_of h p.guest) sound.file) in
+    let here : cover h (known_in view old.file) ((p.guest + p.length) / cluster_size h) ≡ c.in_ok-old.old = ap (cover h (known_in view old.file)) (next_cluster view below old out k p at c.args.length c.args.table c.args.overwrite may sound) ∙ covered in
+    let aligned : c.in-Some-checked_add.host % cluster_size h ≡ 0 = ap (λ b. b % cluster_size h) c.in-Some-checked_add.ensures.1 ∙ place_aligned view below old out k p at c.args.length c.args.table c.args.overwrite may sound in
+    if_err c.share_at.result (alone_as (λ compressed. subst IsCompressed (sym here) compressed) (λ no. no)) (c.share_at.ensures.met (pending_in view below old out) out sound (λ m. omega arith) aligned)

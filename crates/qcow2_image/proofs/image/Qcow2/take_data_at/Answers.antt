@@ -12,6 +12,7 @@ use Rattle.qcow2_image.proofs.Prepare.Lacked.{limits_kept}
 use Rattle.qcow2_image.specs.LackedPlaces.{CantTake}
 use Rattle.qcow2_alloc.specs.Limits.{CantCount}
 use Rattle.qcow2_alloc.specs.LowestRuns.{IsUsed, StaysUsed}
+use Rattle.qcow2_image.proofs.Prepare.MetRanges.{fault_or_limit}
 use Rattle.qcow2_image.proofs.image.Qcow2.take_data_at.Goals as goal
 
 pub returns-clause-takes : goal.returns-clause-takes
@@ -50,3 +51,8 @@ returns-clause-limit g c = λ p out sound.
     (λ cant stays. record { former = record { before = c.in-Some.allocator; after = c.allocate_data_at.new.self; was = c.in-Some.is; is = refl; behind = c.allocate_data_at.ensures.former }; allocator = c.allocate_data_at.new.self; is = refl; uncounted = cant; uses = stays })
     (c.allocate_data_at.ensures.limit p (record { sound = record { sound = sound.file; reftable = own.reftable }; hint = own.hint }))
     (c.allocate_data_at.ensures.kept p (record { sound = sound.file; reftable = own.reftable }))
+
+pub returns-clause-fault : goal.returns-clause-fault
+returns-clause-fault g c = λ p out sound.
+    let own = subst (λ x. IfSome x (IsAllocatorOf g.S.Storage.view c.args.self.now.file)) c.in-Some.is sound.reftable in
+    fault_or_limit _ c.allocate_data_at.result (c.allocate_data_at.ensures.limit p (record { sound = record { sound = sound.file; reftable = own.reftable }; hint = own.hint }))

@@ -1,0 +1,264 @@
+-- What a range of a sound image is refused for: a mapping that goes on stays within 64 bits, at a place where a cluster begins, and its table is held and reads. A compressed cluster that is met behind it lies in the range.
+use Rattle.std.proofs.Common.{◌≡◌, inl, inr, ℕ, zero, ◌+◌, ◌-◌, ◌*◌, ◌/◌, ◌%◌, ◌^◌, ◌<◌, ◌≤◌, Bool, true, false, List, length, [], ◌∷◌, Option, Some, refl, sym, ap, ◌∙◌, subst, arith, pow_mono}
+use Rattle.std.specs.Prelude.{IfErr, IsSome, Result, Ok, Err, slice_get, if◌then◌else◌}
+use Rattle.std.proofs.lemmas.Bool.{cases_eq, cases_lt}
+use Rattle.std.proofs.lemmas.Nat.{div-add-mod', div-mul-add, mod-mul-add, mod_below, pow_pos}
+use Rattle.std.proofs.Math.Nat.{mul-le-mul_right}
+use Rattle.image_access.specs.Backing.{BackingView}
+use Rattle.image_access.specs.Moments.{StorageView}
+use Rattle.qcow2_metadata.specs.Bytes.{Bytes}
+use Rattle.qcow2_metadata.specs.Consistent.{CoverIsAligned}
+use Rattle.qcow2_metadata.specs.Cover.{cover, cover_of, cover_under}
+use Rattle.qcow2_metadata.specs.Entries.{host_offset}
+use Rattle.qcow2_metadata.specs.Header.{HeaderView, cluster_size, entries_per_cluster}
+use Rattle.qcow2_metadata.specs.L2Mapping.{greatest_offset}
+use Rattle.qcow2_metadata.specs.Named.{in_cluster}
+use Rattle.qcow2_metadata.specs.declared.header.HeaderFields.{HeaderFields}
+use Rattle.qcow2_metadata.specs.declared.l2_mapping.L2Mapping.{L2Mapping}
+use Rattle.qcow2_metadata.specs.declared.l2_mapping.L2Mapping.TheVariants as M
+use Rattle.qcow2_disk.specs.Found.{IsCompressed}
+use Rattle.qcow2_disk.specs.GrownCovers.{Touches}
+use Rattle.qcow2_laws.specs.CrashInvariant.{Pending}
+use Rattle.qcow2_laws.specs.GuestLaws.{Kept as HostedKept}
+use Rattle.qcow2_laws.proofs.Consistency.{in_own}
+use Rattle.qcow2_laws.proofs.KeptClusters.{kept_aligned}
+use Rattle.qcow2_laws.proofs.Places.{Sizes, Sizes-from, l1_entry-past}
+use Rattle.qcow2_laws.proofs.PutRuns.{beside_tables}
+use Rattle.qcow2_laws.proofs.Shares.{shares}
+use Rattle.qcow2_alloc.specs.ImageFile.{KeepsHeader, contents_in, known_in, state_in}
+use Rattle.qcow2_alloc.specs.Limits.{IsFaultOr}
+use Rattle.qcow2_alloc.specs.MetadataCaches.{IsEntryAt, l2_at}
+use Rattle.qcow2_alloc.specs.declared.error.ImageError.{ImageError}
+use Rattle.qcow2_image.specs.declared.image.Qcow2.{Qcow2}
+use Rattle.qcow2_image.specs.declared.prepared.Prepared.{Prepared}
+use Rattle.qcow2_image.specs.declared.prepared.Share.{Share}
+use Rattle.qcow2_image.specs.declared.prepared.Share.TheVariants.{InPlace, Kept, New}
+use Rattle.qcow2_image.specs.Image.{IsBegun}
+use Rattle.qcow2_image.specs.ImageInvariant.{cluster_of, host_begin_of, pending_in, pins_by, IsPending, IsReadyWith, IsShareAt, ImageInvariant}
+use Rattle.qcow2_image.specs.L1Entries.{NeedsFarEntry}
+use Rattle.qcow2_image.specs.MetAlone.{HasCompressedIn, IsMetAlone, KeepsL1Place}
+use Rattle.qcow2_image.specs.MovedTables.{CoversStay}
+use Rattle.qcow2_image.specs.Ranges.{MayGoOn}
+use Rattle.qcow2_image.specs.Refusals.{IsFaultOrLimit}
+use Rattle.qcow2_image.proofs.Apart.{pins_own}
+use Rattle.qcow2_image.proofs.Commit.Entered.{HasFirst, pinned_new_data}
+use Rattle.qcow2_image.proofs.Prepare.Behind.{host_is, next_cluster, next_is, table_is}
+use Rattle.qcow2_image.proofs.Shares.{over_all_at}
+
+-- ---- refusals
+
+-- an allocation is refused by a fault or a limit
+pub fault_or_limit : {A : Type 0} (C : Type 0) (r : Result A ImageError) → IfErr r (IsFaultOr C) → IfErr r IsFaultOrLimit
+fault_or_limit C (Ok x) why = tt
+fault_or_limit C (Err e) why = elim why [ inl fault ↦ inl fault | inr limit ↦ inr limit.0 ]
+
+-- the causes follow from those of a part
+pub alone_as : {C D C' D' : Type 0} → (C → C') → (D → D') → (e : ImageError) → IsMetAlone C D e → IsMetAlone C' D' e
+alone_as compressed far e met = elim met [
+  | inl why ↦ inl why
+  | inr cause ↦ elim cause [ inl one ↦ inr (inl (one.0, compressed one.1)) | inr one ↦ inr (inr (one.0, far one.1)) ]
+]
+
+-- ---- places that entries name
+
+-- the host offset of data is one that an entry can hold
+record IsNearData (mapping : L2Mapping) : Type 0 where
+  near : (host : ℕ) (copied : Bool) → mapping ≡ M.Data host copied → host ≤ greatest_offset
+
+host_near : (entry : ℕ) → host_offset entry ≤ greatest_offset
+host_near entry = let lt = mod_below (entry / 2 ^ 9) (2 ^ 47) (pow_pos 47) in omega (arith, lt)
+
+near_if : (b : Bool) (x y : L2Mapping) → IsNearData x → IsNearData y → IsNearData (if b then x else y)
+near_if true x y here there = here
+near_if false x y here there = there
+
+near_uncovered : IsNearData M.Uncovered
+near_uncovered = record { near = λ host copied is. absurd (let no : M.Uncovered ≡ M.Data host copied = is in cc) }
+
+near_compressed : (place sectors : ℕ) → IsNearData (M.Compressed place sectors)
+near_compressed place sectors = record { near = λ host copied is. absurd (let no : M.Compressed place sectors ≡ M.Data host copied = is in cc) }
+
+near_zero : (kept : Option (ℕ × Bool)) → IsNearData (M.Zero kept)
+near_zero kept = record { near = λ host copied is. absurd (let no : M.Zero kept ≡ M.Data host copied = is in cc) }
+
+near_data : (entry : ℕ) (mark : Bool) → IsNearData (M.Data (host_offset entry) mark)
+near_data entry mark = record { near = λ host copied is. let same : host_offset entry ≡ host = cc in subst (λ n. n ≤ greatest_offset) same (host_near entry) }
+
+cover_near : (h : HeaderFields) (b : Bytes) (g : ℕ) → IsNearData (cover h b g)
+unfolding cover cover_under cover_of
+cover_near h b g = near_if _ _ _ near_uncovered (near_if _ _ _ (near_compressed _ _) (near_if _ _ _ (near_zero _) (near_if _ _ _ (near_data _ _) near_uncovered)))
+
+module _ {S F : Type 0} (view : S → StorageView) (backing : F → BackingView) (image : Qcow2 S F) (out : List (Option Prepared)) (p : Pending) (sound : ImageInvariant view backing p image out) where
+  -- the host cluster that a zero entry keeps isn't the header's
+  pub kept_behind : (g host : ℕ) → cover image.file.header.fields (known_in view image.file) g ≡ M.Zero (Some (host, true)) → cluster_size image.file.header.fields ≤ host
+  kept_behind g host is =
+      let h = image.file.header.fields in
+      let size = cluster_size h in
+      let s = state_in view image.file p in
+      let crash_invariant = sound.file.caches.kept.kept.crash_invariant in
+      elim (cases_lt host size) [
+        | inl below ↦ absurd (
+            let some : 0 < size = pow_pos h.cluster_bits in
+            let first : g * size / size ≡ g = let none : g * size ≡ g * size + 0 = omega arith in ap (λ n. n / size) none ∙ div-mul-add g size 0 some in
+            let rest : g * size % size ≡ 0 = let none : g * size ≡ g * size + 0 = omega arith in ap (λ n. n % size) none ∙ mod-mul-add g size 0 some in
+            let none = beside_tables s HostedKept (g * size) host crash_invariant (host, ap (cover h (known_in view image.file)) first ∙ is, omega (arith, rest)) in
+            let aligned = kept_aligned s crash_invariant g host is in
+            let whole : host / size * size + host % size ≡ host = div-add-mod' host size in
+            let zero_is : host / size ≡ 0 = elim (cases_eq (host / size) 0) [
+              | inl none_is ↦ none_is
+              | inr more ↦ absurd (let le : 1 * size ≤ host / size * size = mul-le-mul_right size (omega (arith, more)) in omega (arith, le, whole, below))
+            ] in
+            let one = in_own h host in
+            let own : host ≡ 0 = let e : host / size * size ≡ 0 * size = ap (λ n. n * size) zero_is in omega (arith, e, whole, aligned) in
+            let parts = shares h (contents_in view image.file) (host / size) in
+            let mine = subst (λ n. in_cluster h (host / size) n ≡ 1) own one in
+            omega (arith, none, parts, mine))
+        | inr above ↦ above
+      ]
+
+-- ---- a mapping that goes on
+
+module _ {S F : Type 0} (view : S → StorageView) (backing : F → BackingView) (old : Qcow2 S F) (out : List (Option Prepared)) (k : ℕ) (p : Prepared) (at : slice_get out k ≡ Some (Some p)) (n table : ℕ) (overwrite : Bool) (may : MayGoOn old.file.header.fields n table p)
+    (sound : ImageInvariant view backing (pending_in view backing old out) old out) where
+  abbrev h : HeaderFields
+  h = old.file.header.fields
+
+  abbrev size : ℕ
+  size = cluster_size h
+
+  abbrev entries : ℕ
+  entries = entries_per_cluster h
+
+  abbrev count : ℕ
+  count = length p.shares.items
+
+  abbrev row : ℕ
+  row = cluster_of h p / entries
+
+  pending : IsPending h (known_in view old.file) (contents_in view old.file) p table
+  pending = subst (IsReadyWith h (known_in view old.file) (contents_in view old.file) p) may.under (sound.ready k p at).mapped
+
+  -- its table is held
+  held : IsSome (l2_at old.file.caches table)
+  held = pinned_new_data old.file.caches table (
+      let all = over_all_at pins_by out k p at table in
+      let mine = pins_own p table may.under in
+      let pins = sound.pinned table in
+      omega (arith, all, mine, pins))
+
+  -- so the entry behind it reads
+  pub next_reads : {A : Type 0} (cluster : ℕ) → cluster ≡ (p.guest + p.length) / size → (IsEntryAt h (known_in view old.file) row table (cluster % entries) → cluster / entries ≡ row → IsSome (l2_at old.file.caches table) → A) → A
+  next_reads cluster is reads =
+      let same : cluster ≡ cluster_of h p + count = is ∙ next_cluster view backing old out k p at n table overwrite may sound in
+      let any = (Sizes-from h (contents_in view old.file) sound.file.caches.kept.kept.crash_invariant.top.header_reads).entries in
+      reads (record { real = pending.named.real; place = pending.named.place; within = mod_below cluster entries any }) (ap (λ c. c / entries) same ∙ table_is view backing old out k p at n table overwrite may sound) held
+
+  -- ---- its ends
+
+  sizes : Sizes h
+  sizes = Sizes-from h (contents_in view old.file) sound.file.caches.kept.kept.crash_invariant.top.header_reads
+
+  small : size ≤ 2 ^ 21
+  small = pow_mono sound.file.caches.kept.kept.crash_invariant.top.header_reads.well_formed.in_range.cluster_bits.1
+
+  few_entries : entries ≤ 2 ^ 18
+  few_entries = let eights = sizes.eights in let s = small in omega (arith, eights, s)
+
+  -- its L1 entry is one of the table
+  row_within : row < h.l1_entries
+  row_within = elim (cases_lt row h.l1_entries) [
+    | inl within ↦ within
+    | inr past ↦ absurd (pending.named.real (ap host_offset (l1_entry-past h (known_in view old.file) row past)))
+  ]
+
+  pub guest_fits : p.guest + p.length < 2 ^ 64
+  guest_fits =
+      let many = sound.file.caches.kept.kept.crash_invariant.top.header_reads.within_limits.few_l1_entries in
+      let within = may.within in
+      let split : cluster_of h p / entries * entries + cluster_of h p % entries ≡ cluster_of h p = div-add-mod' (cluster_of h p) entries in
+      let lt = row_within in
+      let rows : (row + 1) * entries ≤ 4194304 * entries = mul-le-mul_right entries (omega (arith, many, lt)) in
+      let f = few_entries in
+      let below : cluster_of h p + count ≤ 2 ^ 40 = omega (arith, within, split, rows, f) in
+      let le : (cluster_of h p + count) * size ≤ 2 ^ 40 * size = mul-le-mul_right size below in
+      let s = small in
+      let is = next_is view backing old out k p at n table overwrite may sound in
+      omega (arith, le, s, is)
+
+  -- where a share stands
+  stands_first : (share : Share) (i : ℕ) → IsShareAt h (known_in view old.file) (contents_in view old.file) p i share → HasFirst h p i
+  stands_first InPlace i is =
+      let aligned : host_begin_of h p i % size ≡ 0 = subst (CoverIsAligned h) is (sound.file.caches.kept.kept.crash_invariant.known_aligned (cluster_of h p + i)) in
+      let whole : host_begin_of h p i / size * size + host_begin_of h p i % size ≡ host_begin_of h p i = div-add-mod' (host_begin_of h p i) size in
+      let near = (cover_near h (known_in view old.file) (cluster_of h p + i)).near (host_begin_of h p i) true is in
+      record { first = host_begin_of h p i / size; place = omega (arith, aligned, whole); nameable = omega (arith, aligned, whole, near) }
+  stands_first Kept i is = record { first = is.first; place = is.place; nameable = is.nameable }
+  stands_first (New taken old_data) i is = record { first = is.first; place = is.place; nameable = is.nameable }
+
+  first_in : (shares : List Share) → p.shares.items ≡ shares → HasFirst h p 0
+  first_in [] none = absurd (
+      let enough = pending.enough in
+      let some = pending.some in
+      let all : count * size ≡ 0 * size = ap (λ (l : List Share). length l * size) none in
+      omega (arith, enough, some, all))
+  first_in (share ∷ shares) is = stands_first share 0 (pending.each 0 share (ap (λ (l : List Share). slice_get l 0) is))
+
+  begin : HasFirst h p 0
+  begin = first_in p.shares.items refl
+
+  place_is : p.offset + p.length ≡ (begin.first + count) * size
+  place_is =
+      let it = begin.place in
+      let is = host_is view backing old out k p at n table overwrite may sound in
+      let both : (begin.first + count) * size ≡ begin.first * size + count * size = omega arith in
+      omega (arith, it, is, both)
+
+  pub place_fits : p.offset + p.length < 2 ^ 64
+  place_fits =
+      let within = may.within in
+      let f = few_entries in
+      let s = small in
+      let near = begin.nameable in
+      let le : count * size ≤ 2 ^ 18 * size = mul-le-mul_right size (omega (arith, within, f)) in
+      let both : (begin.first + count) * size ≡ begin.first * size + count * size = omega arith in
+      let is = place_is in
+      omega (arith, s, near, le, both, is)
+
+  pub place_aligned : (p.offset + p.length) % size ≡ 0
+  place_aligned =
+      let none : p.offset + p.length ≡ (begin.first + count) * size + 0 = let is = place_is in omega (arith, is) in
+      ap (λ o. o % size) none ∙ mod-mul-add (begin.first + count) size 0 sizes.some
+
+-- ---- what is compressed in a range
+
+-- a byte of the range lies in a compressed cluster
+pub compressed_at : (h h' : HeaderFields) (known known' : Bytes) (from to byte : ℕ) → from ≤ byte → byte < to → cluster_size h' ≡ cluster_size h → CoversStay h known h' known' → IsCompressed (cover h' known' (byte / cluster_size h')) → HasCompressedIn from to h known
+compressed_at h h' known known' from to byte above below size covers is =
+    let some : 0 < cluster_size h = pow_pos h.cluster_bits in
+    let whole : byte / cluster_size h * cluster_size h + byte % cluster_size h ≡ byte = div-add-mod' byte (cluster_size h) in
+    let rest = mod_below byte (cluster_size h) some in
+    record {
+      guest = byte / cluster_size h;
+      touched = (omega (arith, above, below), omega (arith, above, whole, rest), omega (arith, below, whole));
+      is = subst IsCompressed (ap (λ s. cover h' known' (byte / s)) size ∙ sym (covers (byte / cluster_size h))) is;
+    }
+
+-- so it was where tables moved meanwhile
+pub compressed_as : (h h' : HeaderFields) (known known' : Bytes) (from to : ℕ) → cluster_size h' ≡ cluster_size h → CoversStay h known h' known' → HasCompressedIn from to h' known' → HasCompressedIn from to h known
+compressed_as h h' known known' from to size covers found =
+    record {
+      guest = found.guest;
+      touched = subst (λ s. Touches s from to found.guest) size found.touched;
+      is = subst IsCompressed (sym (covers found.guest)) found.is;
+    }
+
+-- ---- headers, and calls that have begun
+
+-- the L1 table stays where the header says
+pub place_stays : (h : HeaderFields) (v v' : HeaderView) → KeepsHeader v v' → KeepsL1Place h v.fields → KeepsL1Place h v'.fields
+place_stays h v v' keeps place = (ap (λ (x : HeaderView). x.fields.l1_offset) keeps ∙ place.0, ap (λ (x : HeaderView). x.fields.l1_entries) keeps ∙ place.1)
+
+-- an L1 entry that is needed once the call began was needed before
+pub far_before : {S F : Type 0} (old begun : Qcow2 S F) (offset : ℕ) → IsBegun old begun → NeedsFarEntry begun offset → NeedsFarEntry old offset
+far_before old begun offset begins needs =
+    let it = subst (λ (i : Qcow2 _ _). NeedsFarEntry i offset) begins.rest needs in (record { within = it.0.within; far = it.0.far }, it.1)
