@@ -25,3 +25,4 @@ pub mod LackedBehind
 pub mod FarEntries
 pub mod InUse
 pub mod Pinned
+pub mod Met
