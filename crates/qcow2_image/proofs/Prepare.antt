@@ -26,3 +26,4 @@ pub mod MetRanges
 pub mod FarEntries
 pub mod InUse
 pub mod Pinned
+pub mod Met

@@ -68,7 +68,7 @@ pub fn copy_range(
     requires small { cluster_size < 2 ^ 32 }
     requires within { IfSome announced (λ r. (r.start ≤ r.end) × (r.end ≤ cluster_size)) }
     ensures value { result ≡ copy_range_of cluster_size alignment announced }
-    ensures within { IfSome result (λ r. (r.start ≤ r.end) × (r.end ≤ cluster_size)) }
+    ensures within { IfSome result (λ r. (r.start < r.end) × (r.end ≤ cluster_size)) }
 {
     let range = uncut(cluster_size, announced);
     if range.start >= range.end {

@@ -97,7 +97,7 @@ impl<S: Storage, F: WrappedFormat<S>> Qcow2<S, F> {
 
     // The part of the cluster at an offset that is filled: all of it but what is announced as overwritten at its start or its end.
     fn part_to_fill(&self, offset: u64, length: u64, overwrite: bool) -> Option<CopyRange>
-        ensures within { IfSome result (λ r. (r.start ≤ r.end) × (r.end ≤ cluster_size self.now.file.header.fields)) }
+        ensures within { IfSome result (λ r. (r.start < r.end) × (r.end ≤ cluster_size self.now.file.header.fields)) }
         ensures few { IfSome result (λ r. r.end ≤ 2 ^ 21) }
         ensures all { (i : ℕ) → i < cluster_size self.now.file.header.fields → is_announced (cluster_size self.now.file.header.fields) offset length overwrite i ≡ false → HasByte result i }
     {

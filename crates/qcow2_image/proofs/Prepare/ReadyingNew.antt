@@ -89,6 +89,15 @@ not_pinned n b iff isnt = elim (cases_lt 0 n) [
   | inr none ↦ omega arith
 ]
 
+-- the first cluster of an offset has its entry in a table that is held for it
+pub first_entry : {S F : Type 0} (view : S → StorageView) (backing : F → BackingView) (old : Qcow2 S F) (offset table guest bits cluster : ℕ) → cluster ≡ guest / 2 ^ bits → guest ≡ offset → bits ≡ old.file.header.fields.cluster_bits → HoldsTable view backing old offset table
+    → IsEntryAt old.file.header.fields (known_in view old.file) (l1_index_of old.file.header.fields offset) table (cluster % entries_per_cluster old.file.header.fields) × (cluster / entries_per_cluster old.file.header.fields ≡ l1_index_of old.file.header.fields offset)
+first_entry view backing old offset table guest bits cluster found here same holds =
+    let is : cluster ≡ offset / cluster_size old.file.header.fields = found ∙ ap (λ o. o / 2 ^ bits) here ∙ ap (λ b. offset / 2 ^ b) same in (
+      subst (λ g. IsEntryAt old.file.header.fields (known_in view old.file) (l1_index_of old.file.header.fields offset) table (g % entries_per_cluster old.file.header.fields)) (sym is) holds.entry,
+      ap (λ g. g / entries_per_cluster old.file.header.fields) is,
+    )
+
 -- what the first cluster of an offset has, in a table that is held for it
 pub first_stands : {S F : Type 0} (view : S → StorageView) (backing : F → BackingView) (old : Qcow2 S F) (p : Pending) (offset table guest bits cluster : ℕ) (first : L2Mapping) → cluster ≡ guest / 2 ^ bits → guest ≡ offset → bits ≡ old.file.header.fields.cluster_bits
     → HoldsTable view backing old offset table
@@ -98,9 +107,8 @@ pub first_stands : {S F : Type 0} (view : S → StorageView) (backing : F → Ba
 first_stands view backing old p offset table guest bits cluster first found here same holds stands =
     let h = old.file.header.fields in
     let is : cluster ≡ offset / cluster_size old.file.header.fields = found ∙ ap (λ o. o / 2 ^ bits) here ∙ ap (λ b. offset / 2 ^ b) same in
-    subst (λ g. cover old.file.header.fields (known_in view old.file) g ≡ first) is
-    (stands (subst (λ g. IsEntryAt old.file.header.fields (known_in view old.file) (l1_index_of old.file.header.fields offset) table (g % entries_per_cluster old.file.header.fields)) (sym is) holds.entry)
-    (ap (λ g. g / entries_per_cluster old.file.header.fields) is))
+    let entry = first_entry view backing old offset table guest bits cluster found here same holds in
+    subst (λ g. cover old.file.header.fields (known_in view old.file) g ≡ first) is (stands entry.0 entry.1)
 
 module _ {S F : Type 0} (view : S → StorageView) (backing : F → BackingView) (out : List (Option Prepared)) where
   -- a table that is held and marked copied is named as before

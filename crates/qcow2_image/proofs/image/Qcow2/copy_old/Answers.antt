@@ -1,8 +1,8 @@
-use Rattle.std.proofs.Common.{◌≡◌, ℕ, ◌+◌, ◌/◌, List, length, replicate, refl, sym, ap, ◌∙◌, subst, arith, rules, is_some}
+use Rattle.std.proofs.Common.{◌≡◌, ℕ, ◌+◌, ◌/◌, List, length, replicate, refl, sym, ap, ◌∙◌, subst, arith, rules, is_some, inl, ◌≤◌}
 use Rattle.std.proofs.lemmas.List.{length-replicate, get_or-replicate}
 use Rattle.qcow2_metadata.specs.Cover.{cover}
 use Rattle.qcow2_metadata.specs.Guest.{known_byte}
-use Rattle.qcow2_metadata.specs.Header.{cluster_size}
+use Rattle.qcow2_metadata.specs.Header.{cluster_size, HeaderView}
 use Rattle.qcow2_disk.specs.Disk.{Disk}
 use Rattle.qcow2_alloc.specs.ImageFile.{known_in, state_in}
 use Rattle.qcow2_image.specs.Found.{found_kind, IsMappedAs}
@@ -13,6 +13,9 @@ use Rattle.qcow2_image.proofs.Prepare.Filling.{disk_kept, image_step_data, image
 use Rattle.qcow2_alloc.proofs.KeptMarks.{notes_then}
 use Rattle.qcow2_image.proofs.Call.BehindHeader.{behind_then}
 use Rattle.qcow2_image.proofs.Prepare.Lacked.{hands_unlimited}
+use Rattle.qcow2_image.proofs.Prepare.Met.{hands_met, met_as}
+use Rattle.qcow2_image.specs.MetAlone.{IsMetReading}
+use Rattle.qcow2_alloc.specs.ImageError.{IsFault}
 use Rattle.qcow2_image.proofs.image.Qcow2.copy_old.Goals as goal
 
 pub returns-in-Zero-clause-image_step : goal.returns-in-Zero-clause-image_step
@@ -90,3 +93,13 @@ returns-clause-header_cluster g c = behind_then c.read_as.ensures.header_cluster
 
 pub returns-in_err-read_as-clause-limited : goal.returns-in_err-read_as-clause-limited
 returns-in_err-read_as-clause-limited g c = hands_unlimited c.from_residual-in_err-read_as.result c.in_err-read_as.field-0.0 c.from_residual-in_err-read_as.ensures c.in_err-read_as.ensures.limited
+
+pub returns-in-Zero-clause-met : goal.returns-in-Zero-clause-met
+returns-in-Zero-clause-met g c = λ behind. met_as IsFault (IsMetReading c.args.kind.now) c.write_zeros.result (λ e fault. inl fault) (c.write_zeros.ensures.fault behind)
+
+pub returns-in_err-read_as-clause-met : goal.returns-in_err-read_as-clause-met
+returns-in_err-read_as-clause-met g c = λ behind. hands_met (IsMetReading c.args.kind.now) c.from_residual-in_err-read_as.result c.in_err-read_as.field-0.0 c.from_residual-in_err-read_as.ensures c.in_err-read_as.ensures.met
+
+pub returns-clause-met : goal.returns-clause-met
+returns-clause-met g c = λ behind.
+    met_as IsFault (IsMetReading c.args.kind.now) c.write_data.result (λ e fault. inl fault) (c.write_data.ensures.fault (subst (λ (v : HeaderView). cluster_size v.fields ≤ c.args.at) (sym c.read_as.ensures.header) behind))

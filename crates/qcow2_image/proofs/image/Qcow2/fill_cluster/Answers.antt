@@ -1,5 +1,4 @@
-use Rattle.std.proofs.Common.{◌≡◌, ◌+◌, ◌-◌, ◌*◌, ◌/◌, ◌%◌, ◌^◌, ◌<◌, ℕ, inl, inr, sym, ap, ◌∙◌, arith, is_some}
-use Rattle.std.proofs.lemmas.Bool.{cases_lt}
+use Rattle.std.proofs.Common.{◌≡◌, ◌+◌, ◌-◌, ◌*◌, ◌/◌, ◌%◌, ◌^◌, ◌<◌, ℕ, sym, ap, ◌∙◌, arith, is_some, ◌⊎◌, ◌≤◌}
 use Rattle.std.proofs.lemmas.Nat.{div-mul-add, div-add-mod'}
 use Rattle.qcow2_metadata.specs.Header.{cluster_size}
 use Rattle.qcow2_alloc.specs.ImageFile.{contents_in, known_in}
@@ -7,12 +6,16 @@ use Rattle.qcow2_image.specs.Found.{IsMappedAs}
 use Rattle.qcow2_image.specs.ImageInvariant.{disk_of}
 use Rattle.qcow2_metadata.specs.Cover.{cover}
 use Rattle.qcow2_metadata.specs.Guest.{known_byte}
-use Rattle.qcow2_disk.specs.Found.{kind_at}
+use Rattle.qcow2_disk.specs.Found.{kind_at, IsCompressed}
 use Rattle.qcow2_image.proofs.Prepare.Copied.{none_has, some_has}
 use Rattle.qcow2_image.proofs.Prepare.Filling.{alike_within, image_step_none}
-use Rattle.qcow2_image.proofs.Map.Loading.{if_ok, if_ok_any}
+use Rattle.qcow2_image.proofs.Map.Loading.{if_ok}
 use Rattle.qcow2_alloc.proofs.KeptMarks.{notes_none}
 use Rattle.qcow2_image.proofs.Call.BehindHeader.{behind_none}
+use Rattle.qcow2_image.proofs.Prepare.Met.{behind_start, met_as, reading_met, told_sum, within_cluster}
+use Rattle.qcow2_alloc.specs.ImageError.{IsFault}
+use Rattle.qcow2_alloc.specs.declared.error.ImageError.TheVariants as I
+use Rattle.qcow2_image.specs.MetAlone.{IsMetReading}
 use Rattle.qcow2_image.proofs.image.Qcow2.fill_cluster.Goals as goal
 
 pub returns-in_default-checked_add-clause-image_step : goal.returns-in_default-checked_add-clause-image_step
@@ -46,30 +49,23 @@ returns-clause-fills g c = λ p out sound holds some none covered.
     let inside : (i : ℕ) → i < c.in-Some.range.end - c.in-Some.range.start → (c.in-Some-checked_add.guest + i) / size ≡ offset / size = λ i lt.
     let e : c.in-Some-checked_add.guest + i ≡ offset / size * size + (c.in-Some.range.start + i) = omega (arith, guest_is, start_is, o_is) in
     ap (λ o. o / size) e ∙ div-mul-add (offset / size) size (c.in-Some.range.start + i) (omega (arith, within.0, within.1, lt)) in
-    elim (cases_lt 0 (c.in-Some.range.end - c.in-Some.range.start)) [
-      | inr empty ↦ if_ok_any c.copy_old.result (λ done i lt none.
-          let range = some_has c.part_to_fill.result c.in-Some.range i c.in-Some.is (c.part_to_fill.ensures.all i lt none) in
-          let from = range.0 in
-          let below = range.1 in
-          absurd (omega (arith, from, below, empty)))
-      | inl real ↦
-          let zero_more : c.in-Some-checked_add.guest + 0 ≡ c.in-Some-checked_add.guest = omega arith in
-          let here : c.in-Some-checked_add.guest / size ≡ offset / size = ap (λ o. o / size) (sym zero_more) ∙ inside 0 real in
-          let mapped : IsMappedAs g.S.Storage.view c.args.self.now c.in-Some-checked_add.guest c.kind_of-kind.result (c.in-Some.range.end - c.in-Some.range.start) = record {
-            kind_is = c.kind_of-kind.ensures.value ∙ ap (kind_at c.args.self.now.file.header.fields (is_some c.args.self.now.backing) c.in-Some-checked_add.guest) (sym (ap (cover c.args.self.now.file.header.fields (known_in g.S.Storage.view c.args.self.now.file)) here ∙ covered));
-            alike = alike_within c.args.self.now.file.header.fields (known_in g.S.Storage.view c.args.self.now.file) c.in-Some-checked_add.guest (c.in-Some.range.end - c.in-Some.range.start) (λ i lt. inside i lt ∙ sym here);
-          } in
-          if_ok c.copy_old.result
-          (λ done there i lt none.
-          let range = some_has c.part_to_fill.result c.in-Some.range i c.in-Some.is (c.part_to_fill.ensures.all i lt none) in
-          let from = range.0 in
-          let below = range.1 in
-          let place : c.args.cluster * size + i ≡ c.value.result + c.in-Some.range.start + (i - c.in-Some.range.start) = omega (arith, at, from) in
-          let guest : c.in-Some-checked_add.guest + (i - c.in-Some.range.start) ≡ offset - offset % size + i = omega (arith, guest_is, from, start_is, o_is) in
-          ap (λ o. known_byte (contents_in g.S.Storage.view c.copy_old.new.self.file o)) place ∙ there (i - c.in-Some.range.start) (omega (arith, from, below))
-          ∙ ap (disk_of g.S.Storage.view g.F.BackingDisk.backing c.args.self.now).value guest)
-          (c.copy_old.ensures.copies p out sound mapped)
-    ]
+    let real : 0 < c.in-Some.range.end - c.in-Some.range.start = omega (arith, within.0) in
+    let zero_more : c.in-Some-checked_add.guest + 0 ≡ c.in-Some-checked_add.guest = omega arith in
+    let here : c.in-Some-checked_add.guest / size ≡ offset / size = ap (λ o. o / size) (sym zero_more) ∙ inside 0 real in
+    let mapped : IsMappedAs g.S.Storage.view c.args.self.now c.in-Some-checked_add.guest c.kind_of-kind.result (c.in-Some.range.end - c.in-Some.range.start) = record {
+      kind_is = c.kind_of-kind.ensures.value ∙ ap (kind_at c.args.self.now.file.header.fields (is_some c.args.self.now.backing) c.in-Some-checked_add.guest) (sym (ap (cover c.args.self.now.file.header.fields (known_in g.S.Storage.view c.args.self.now.file)) here ∙ covered));
+      alike = alike_within c.args.self.now.file.header.fields (known_in g.S.Storage.view c.args.self.now.file) c.in-Some-checked_add.guest (c.in-Some.range.end - c.in-Some.range.start) (λ i lt. inside i lt ∙ sym here);
+    } in
+    if_ok c.copy_old.result
+    (λ done there i lt none.
+    let range = some_has c.part_to_fill.result c.in-Some.range i c.in-Some.is (c.part_to_fill.ensures.all i lt none) in
+    let from = range.0 in
+    let below = range.1 in
+    let place : c.args.cluster * size + i ≡ c.value.result + c.in-Some.range.start + (i - c.in-Some.range.start) = omega (arith, at, from) in
+    let guest : c.in-Some-checked_add.guest + (i - c.in-Some.range.start) ≡ offset - offset % size + i = omega (arith, guest_is, from, start_is, o_is) in
+    ap (λ o. known_byte (contents_in g.S.Storage.view c.copy_old.new.self.file o)) place ∙ there (i - c.in-Some.range.start) (omega (arith, from, below))
+    ∙ ap (disk_of g.S.Storage.view g.F.BackingDisk.backing c.args.self.now).value guest)
+    (c.copy_old.ensures.copies p out sound mapped)
 
 pub returns-in_default-clause-notes : goal.returns-in_default-clause-notes
 returns-in_default-clause-notes g c = notes_none
@@ -88,3 +84,23 @@ returns-in_default-checked_add-clause-header_cluster g c = behind_none
 
 pub returns-clause-header_cluster : goal.returns-clause-header_cluster
 returns-clause-header_cluster g c = c.copy_old.ensures.header_cluster
+
+pub returns-in_default-checked_add-clause-met : goal.returns-in_default-checked_add-clause-met
+returns-in_default-checked_add-clause-met g c = λ some.
+    let offset = c.args.offset in
+    let bits = c.args.self.now.file.header.fields.cluster_bits in
+    let start_is : c.in_cluster_offset-start.result ≡ offset % 2 ^ bits = c.in_cluster_offset-start.ensures ∙ ap (λ o. o % 2 ^ c.cluster_bits-bits.result) c.new.ensures ∙ ap (λ b. offset % 2 ^ b) c.cluster_bits-bits.ensures.value in
+    let within = c.in-Some.ensures.within in
+    let few : bits ≤ 64 = let high = c.cluster_bits-bits.ensures.high in let is = c.cluster_bits-bits.ensures.value in omega (arith, high, is) in
+    let near : c.args.offset < 2 ^ 64 = omega (arith, c.ranges.offset) in
+    let fits = within_cluster bits offset c.in-Some.range.start few near (omega (arith, within.0, within.1)) in
+    absurd (told_sum c.checked_add.result (offset - c.in_cluster_offset-start.result + c.in-Some.range.start) c.checked_add.ensures (omega (arith, fits, start_is)) c.in_default-checked_add.is)
+
+pub returns-clause-met : goal.returns-clause-met
+returns-clause-met g c = λ some.
+    let image = c.args.self.now in
+    let size = cluster_size image.file.header.fields in
+    let at : c.value.result ≡ c.args.cluster * size = c.value.ensures ∙ c.offset.ensures ∙ ap (λ b. c.args.cluster * 2 ^ b) c.cluster_bits-bits.ensures.value in
+    met_as (IsMetReading c.kind_of-kind.result) (λ e. IsFault e ⊎ ((e ≡ I.Compressed) × IsCompressed c.args.old.now)) c.copy_old.result
+    (reading_met image.file.header.fields (is_some image.backing) c.in-Some-checked_add.guest c.args.old.now c.kind_of-kind.result c.kind_of-kind.ensures.value)
+    (c.copy_old.ensures.met (behind_start size c.args.cluster (c.value.result + c.in-Some.range.start) some (omega (arith, at))))

@@ -36,3 +36,6 @@ returns-in-None-clause-header_cluster g c = behind_none
 
 pub returns-in-Some-clause-header_cluster : goal.returns-in-Some-clause-header_cluster
 returns-in-Some-clause-header_cluster g c = c.write_zeros.ensures.header_cluster
+
+pub returns-in-Some-clause-fault : goal.returns-in-Some-clause-fault
+returns-in-Some-clause-fault g c = λ behind. c.write_zeros.ensures.fault (omega (arith, behind))

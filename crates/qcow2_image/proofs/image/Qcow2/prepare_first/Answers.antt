@@ -1,4 +1,4 @@
-use Rattle.std.proofs.Common.{rules, refl, ◌/◌, sym, ap, ◌∙◌, subst, List, length}
+use Rattle.std.proofs.Common.{rules, refl, ◌/◌, sym, ap, ◌∙◌, subst, List, length, ◌≡◌, ◌<◌, true, false}
 use Rattle.qcow2_metadata.specs.Cover.{cover}
 use Rattle.std.specs.Prelude.{IfErr, vec_capacity}
 use Rattle.qcow2_image.specs.declared.prepared.Share.{Share}
@@ -15,7 +15,7 @@ use Rattle.qcow2_image.proofs.Map.Loading.{if_ok}
 use Rattle.qcow2_image.proofs.Prepare.KeptShares.{data_keep_none}
 use Rattle.qcow2_image.proofs.Prepare.Onward.{if_room, room_as}
 use Rattle.qcow2_image.proofs.Prepare.Owning.{refused as any_refusal}
-use Rattle.qcow2_image.proofs.Prepare.ReadyingNew.{back_none, first_stands, not_pinned, readied_in_place}
+use Rattle.qcow2_image.proofs.Prepare.ReadyingNew.{back_none, first_stands, not_pinned, readied_in_place, first_entry}
 use Rattle.qcow2_image.proofs.Prepare.Listing.{lists_none, lists_still}
 use Rattle.qcow2_image.specs.declared.image.Qcow2.{Qcow2}
 use Rattle.qcow2_alloc.proofs.KeptMarks.{notes_none}
@@ -27,6 +27,9 @@ use Rattle.qcow2_alloc.specs.CachePins.{l2_pins}
 use Rattle.qcow2_image.proofs.Clear.Between.{no_pins}
 use Rattle.qcow2_image.proofs.Prepare.Lacked.{hands_limit, other_limit}
 use Rattle.qcow2_image.specs.LackedPlaces.{IsLimitedByFirst, LacksFirstCluster, first_of_range}
+use Rattle.qcow2_image.specs.MetAlone.{IsMetAlone}
+use Rattle.qcow2_disk.specs.Found.{IsCompressed}
+use Rattle.qcow2_image.proofs.Backings.{pinned_by}
 use Rattle.qcow2_image.proofs.image.Qcow2.prepare_first.Goals as goal
 
 pub returns-then-l2_is_pinned-clause-readies : goal.returns-then-l2_is_pinned-clause-readies
@@ -157,3 +160,24 @@ returns-in-None-clause-limit g c = λ out sound holds.
     let p = pending_in view g.F.BackingDisk.backing old out in
     let covered = first_stands view g.F.BackingDisk.backing old p c.args.offset c.args.table c.new.result c.cluster_bits.result c.cluster-cluster.result c.in_ok-old.old c.cluster-cluster.ensures c.new.ensures c.cluster_bits.ensures.value holds (c.in_ok-old.ensures.says p (l1_index_of old.file.header.fields c.args.offset) sound.file) in
     subst (λ (x : L2Mapping). IfErr c.prepare_private.result (IsLimitedByFirst view x old c.prepare_private.new.self)) (sym covered) (c.prepare_private.ensures.limit out sound holds)
+
+pub returns-then-l2_is_pinned-clause-met : goal.returns-then-l2_is_pinned-clause-met
+returns-then-l2_is_pinned-clause-met g c = λ out sound none holds.
+    absurd (none (pinned_by out c.args.table (subst (λ n. 0 < n) (sound.pinned c.args.table) (c.l2_is_pinned.ensures.0 c.if-l2_is_pinned.true))))
+
+pub returns-in_err-old-clause-met : goal.returns-in_err-old-clause-met
+returns-in_err-old-clause-met g c = λ out sound none holds.
+    let view = g.S.Storage.view in
+    let below = g.F.BackingDisk.backing in
+    let old = c.args.self.now in
+    let entry = first_entry view g.F.BackingDisk.backing old c.args.offset c.args.table c.new.result c.cluster_bits.result c.cluster-cluster.result c.cluster-cluster.ensures c.new.ensures c.cluster_bits.ensures.value holds in
+    let read = c.in_err-old.ensures.reads (pending_in view below old out) (l1_index_of old.file.header.fields c.args.offset) sound.file entry.0 entry.1 holds.new_data in
+    absurd (let e : false ≡ true = read in cc)
+
+pub returns-in-None-clause-met : goal.returns-in-None-clause-met
+returns-in-None-clause-met g c = λ out sound none holds.
+    let view = g.S.Storage.view in
+    let old = c.args.self.now in
+    let p = pending_in view g.F.BackingDisk.backing old out in
+    let covered = first_stands view g.F.BackingDisk.backing old p c.args.offset c.args.table c.new.result c.cluster_bits.result c.cluster-cluster.result c.in_ok-old.old c.cluster-cluster.ensures c.new.ensures c.cluster_bits.ensures.value holds (c.in_ok-old.ensures.says p (l1_index_of old.file.header.fields c.args.offset) sound.file) in
+    subst (λ (x : L2Mapping). IfErr c.prepare_private.result (IsMetAlone (IsCompressed x) ⊥)) (sym covered) (c.prepare_private.ensures.met out sound none holds covered)

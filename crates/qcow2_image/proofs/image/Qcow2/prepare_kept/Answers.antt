@@ -1,4 +1,4 @@
-use Rattle.std.proofs.Common.{◌+◌, ◌-◌, ◌%◌, ◌∙◌, List, length, inl, refl, sym, ap, subst, arith}
+use Rattle.std.proofs.Common.{◌+◌, ◌-◌, ◌%◌, ◌∙◌, List, length, inl, refl, sym, ap, subst, arith, ◌/◌}
 use Rattle.qcow2_metadata.specs.Header.{cluster_size}
 use Rattle.qcow2_alloc.proofs.AllocationSteps.{handed_on}
 use Rattle.qcow2_image.specs.declared.image.Qcow2.{Qcow2}
@@ -14,7 +14,8 @@ use Rattle.qcow2_alloc.proofs.KeptMarks.{notes_then}
 use Rattle.qcow2_image.proofs.Call.Notes.{pins_kept}
 use Rattle.qcow2_image.proofs.Call.BehindHeader.{behind_by, behind_tables, behind_then}
 use Rattle.qcow2_image.proofs.Prepare.InUse.{kept_lowest}
-use Rattle.qcow2_image.proofs.Prepare.Lacked.{hands_unlimited}
+use Rattle.qcow2_image.proofs.Prepare.Lacked.{hands_unlimited, hands_fault}
+use Rattle.qcow2_image.proofs.Prepare.Met.{kept_behind}
 use Rattle.qcow2_image.proofs.image.Qcow2.prepare_kept.Goals as goal
 
 pub returns-in_err-fill_kept-clause-readies : goal.returns-in_err-fill_kept-clause-readies
@@ -77,3 +78,11 @@ returns-clause-lowest g c = kept_lowest g.S.Storage.view g.F.BackingDisk.backing
 
 pub returns-in_err-fill_kept-clause-limited : goal.returns-in_err-fill_kept-clause-limited
 returns-in_err-fill_kept-clause-limited g c = hands_unlimited c.from_residual.result c.in_err-fill_kept.field-0.0 c.from_residual.ensures c.in_err-fill_kept.ensures.limited
+
+pub returns-in_err-fill_kept-clause-fault : goal.returns-in_err-fill_kept-clause-fault
+returns-in_err-fill_kept-clause-fault g c = λ out sound covered.
+    let view = g.S.Storage.view in
+    let below = g.F.BackingDisk.backing in
+    let old = c.args.self.now in
+    let behind = kept_behind view below out (pending_in view below old out) old sound (c.args.offset / cluster_size old.file.header.fields) c.args.host covered in
+    hands_fault c.from_residual.result c.in_err-fill_kept.field-0.0 c.from_residual.ensures (c.in_err-fill_kept.ensures.fault behind)

@@ -30,6 +30,9 @@ use Rattle.qcow2_image.proofs.Prepare.Lacking.{named_place}
 use Rattle.qcow2_metadata.specs.Header.{HeaderView}
 use Rattle.qcow2_alloc.specs.ImageFile.{known_in}
 use Rattle.qcow2_image.specs.Found.{l1_index_of}
+use Rattle.qcow2_image.proofs.Prepare.Met.{hands_met}
+use Rattle.qcow2_image.specs.MetAlone.{IsMetAlone}
+use Rattle.qcow2_disk.specs.Found.{IsCompressed}
 use Rattle.qcow2_image.proofs.image.Qcow2.prepare_new.Goals as goal
 
 pub returns-in_err-old_data-clause-readies : goal.returns-in_err-old_data-clause-readies
@@ -171,3 +174,26 @@ returns-in-Err-clause-limit g c = λ out sound holds.
     let place = subst (λ b. HasPlace b c.args.table) (sym (ap (λ (v : HeaderView). v.fields.cluster_bits) c.new_cluster.ensures.header))
     (named_place old.file.header.fields (known_in view old.file) (l1_index_of old.file.header.fields c.args.offset) c.args.table holds.entry.place) in
     other_limit _ c.in-Err.refusal (c.in-Err.ensures.limited new_data out gained.image_step.sound place)
+
+pub returns-in_err-old_data-clause-met : goal.returns-in_err-old_data-clause-met
+returns-in_err-old_data-clause-met g c = λ out sound none holds.
+    hands_met (IsMetAlone (IsCompressed c.args.old.now) ⊥) c.from_residual.result c.in_err-old_data.field-0.0 c.from_residual.ensures (inl (inl c.in_err-old_data.ensures.fault))
+
+pub returns-in_err-pending-clause-met : goal.returns-in_err-pending-clause-met
+returns-in_err-pending-clause-met g c = λ out sound none holds.
+    let p = pending_in g.S.Storage.view g.F.BackingDisk.backing c.args.self.now out in
+    hands_met (IsMetAlone (IsCompressed c.args.old.now) ⊥) c.from_residual-in_err-pending.result c.in_err-pending.field-0.0 c.from_residual-in_err-pending.ensures (c.in_err-pending.ensures.met p out sound (λ k. omega arith))
+
+pub returns-in-Err-clause-met : goal.returns-in-Err-clause-met
+returns-in-Err-clause-met g c = λ out sound none holds.
+    let view = g.S.Storage.view in
+    let below = g.F.BackingDisk.backing in
+    let old = c.args.self.now in
+    let p = pending_in view below old out in
+    let filled = c.new_cluster.new.self in
+    let new_data = with_new_data (pending_with_listed p old filled) (run_of c.in_ok-pending.pending) in
+    let all_new_data : HoldsAll view below p out = λ x. omega arith in
+    let gained = c.in_ok-pending.ensures.gains p out sound all_new_data in
+    let place = subst (λ b. HasPlace b c.args.table) (sym (ap (λ (v : HeaderView). v.fields.cluster_bits) c.new_cluster.ensures.header))
+    (named_place old.file.header.fields (known_in view old.file) (l1_index_of old.file.header.fields c.args.offset) c.args.table holds.entry.place) in
+    inl (inl (c.in-Err.ensures.fault new_data out gained.image_step.sound none place))

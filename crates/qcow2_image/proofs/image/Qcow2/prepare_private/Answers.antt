@@ -1,10 +1,14 @@
-use Rattle.std.proofs.Common.{refl, ◌∙◌}
+use Rattle.std.proofs.Common.{refl, ◌∙◌, inl}
 use Rattle.qcow2_image.proofs.Map.Loading.{if_ok, if_ok_any}
 use Rattle.qcow2_image.proofs.Prepare.KeptShares.{begins_kept}
 use Rattle.qcow2_alloc.proofs.KeptTables.Turning.{always_ok}
 use Rattle.qcow2_image.proofs.Prepare.Listing.{lists_none, lists_still}
 use Rattle.qcow2_image.proofs.Prepare.Lacked.{limits_as, needs_new, unlimited_all}
 use Rattle.qcow2_image.specs.LackedPlaces.{HasNoCluster, LacksFirstCluster, StandsInWay}
+use Rattle.qcow2_image.proofs.Prepare.Met.{met_as}
+use Rattle.qcow2_image.specs.MetAlone.{IsMetAlone}
+use Rattle.qcow2_disk.specs.Found.{IsCompressed}
+use Rattle.qcow2_alloc.specs.ImageError.{IsFault}
 use Rattle.qcow2_image.proofs.image.Qcow2.prepare_private.Goals as goal
 
 pub returns-in-Some-clause-readies : goal.returns-in-Some-clause-readies
@@ -48,3 +52,10 @@ returns-in-None-clause-limit g c = λ out sound holds.
     let new = c.prepare_new.new.self in
     limits_as (λ x. StandsInWay view HasNoCluster old.file.free_list old new) (λ x. LacksFirstCluster view c.args.old.now old.file.free_list old new) c.prepare_new.result
     (λ e full. (needs_new c.args.old.now c.requires.other (c.in-None.ensures.none refl), full)) (c.prepare_new.ensures.limit out sound holds)
+
+pub returns-in-Some-clause-met : goal.returns-in-Some-clause-met
+returns-in-Some-clause-met g c = λ out sound none holds covered.
+    met_as IsFault (IsMetAlone (IsCompressed c.args.old.now) ⊥) c.prepare_kept.result (λ e fault. inl (inl fault)) (c.prepare_kept.ensures.fault out sound (covered ∙ c.in-Some.ensures.place.0))
+
+pub returns-in-None-clause-met : goal.returns-in-None-clause-met
+returns-in-None-clause-met g c = λ out sound none holds covered. c.prepare_new.ensures.met out sound none holds

@@ -1,4 +1,4 @@
-use Rattle.std.proofs.Common.{◌≡◌, ℕ, ◌+◌, ◌/◌, ◌<◌, List, length, replicate, refl, sym, ap, ◌∙◌, subst, rules, is_some}
+use Rattle.std.proofs.Common.{◌≡◌, ℕ, ◌+◌, ◌/◌, ◌<◌, List, length, replicate, refl, sym, ap, ◌∙◌, subst, rules, is_some, inl, inr}
 use Rattle.std.proofs.lemmas.List.{length-replicate, get_or-replicate}
 use Rattle.image_access.specs.Contents.{bytes_at}
 use Rattle.image_access.proofs.Bytes.{byte_at-bytes_at, length-bytes_at}
@@ -18,6 +18,10 @@ use Rattle.qcow2_image.proofs.Map.Unmodified.{read_bytes, read_same}
 use Rattle.qcow2_alloc.proofs.KeptNotes.{read_kept}
 use Rattle.qcow2_image.proofs.Call.BehindHeader.{behind_read}
 use Rattle.qcow2_image.proofs.Map.Quiet.{reads_bytes, reads_same}
+use Rattle.qcow2_image.proofs.Prepare.Met.{hands_met, met_as}
+use Rattle.qcow2_image.specs.MetAlone.{IsMetReading, IsSpecial}
+use Rattle.qcow2_image.proofs.Call.Unlimited.{storage_fault}
+use Rattle.qcow2_alloc.specs.ImageError.{IsFault, of_storage}
 use Rattle.qcow2_image.proofs.image.Qcow2.read_as.Goals as goal
 
 pub returns-in_err-read-in-Raw-clause-keeps : goal.returns-in_err-read-in-Raw-clause-keeps
@@ -97,3 +101,15 @@ returns-in_ok-read-in-Raw-clause-quiet g c = reads_bytes g.S.Storage.view c.args
 
 pub returns-in-Indirect-clause-quiet : goal.returns-in-Indirect-clause-quiet
 returns-in-Indirect-clause-quiet g c = reads_same g.S.Storage.view c.args.self.now c.read_backing.new.self c.read_backing.ensures.file
+
+pub returns-in_err-read-in-Raw-clause-met : goal.returns-in_err-read-in-Raw-clause-met
+returns-in_err-read-in-Raw-clause-met g c = hands_met (IsMetReading c.args.kind.now) c.from_residual.result (of_storage c.in_err-read-in-Raw.field-0.0) c.from_residual.ensures (inl (storage_fault c.in_err-read-in-Raw.field-0.0))
+
+pub returns-in-Indirect-clause-met : goal.returns-in-Indirect-clause-met
+returns-in-Indirect-clause-met g c = met_as IsFault (IsMetReading c.args.kind.now) c.read_backing.result (λ e fault. inl fault) c.read_backing.ensures.fault
+
+pub returns-in-Special-clause-met : goal.returns-in-Special-clause-met
+returns-in-Special-clause-met g c = inr (inl (refl, subst IsSpecial (sym c.in-Special.is) tt))
+
+pub returns-in-Eof-clause-met : goal.returns-in-Eof-clause-met
+returns-in-Eof-clause-met g c = inr (inr (refl, c.in-Eof.is))

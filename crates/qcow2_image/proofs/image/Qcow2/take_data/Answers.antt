@@ -18,6 +18,8 @@ use Rattle.std.proofs.Common.{arith, ◌<◌}
 use Rattle.std.specs.Prelude.{IfErr}
 use Rattle.qcow2_alloc.specs.Limits.{HasNoPlace, IsFaultOr}
 use Rattle.qcow2_image.specs.LackedPlaces.{HasNoCluster, StandsInWay}
+use Rattle.qcow2_image.proofs.Prepare.Met.{limit_alone, met_as}
+use Rattle.qcow2_image.specs.Refusals.{IsFaultOrLimit}
 use Rattle.qcow2_image.proofs.image.Qcow2.take_data.Goals as goal
 
 pub returns-clause-takes : goal.returns-clause-takes
@@ -63,3 +65,14 @@ returns-clause-limit g c = λ p out sound.
     (λ full. stands_untaken view HasNoCluster cluster_more old file c.in-Some.allocator c.allocate_data.new.self c.in-Some.is c.allocate_data.ensures.former full)
     (subst (λ n. IfErr c.allocate_data.result (IsFaultOr (HasNoPlace (IsUsed view file) file.header.fields c.allocate_data.new.self n))) one
     (c.allocate_data.ensures.limit p (record { sound = record { sound = sound.file; reftable = own.reftable }; hint = own.hint }) (omega (arith, one))))
+
+pub returns-clause-fault : goal.returns-clause-fault
+returns-clause-fault g c = λ p out sound.
+    let view = g.S.Storage.view in
+    let old = c.args.self.now in
+    let file = c.allocate_data.new.file in
+    let one : c.new.result ≡ 1 = c.new.ensures in
+    let own = subst (λ x. IfSome x (IsAllocatorOf view old.file)) c.in-Some.is sound.reftable in
+    let none = HasNoPlace (IsUsed view file) file.header.fields c.allocate_data.new.self c.new.result in
+    met_as (IsFaultOr none) IsFaultOrLimit c.allocate_data.result (λ e why. limit_alone none e why)
+    (c.allocate_data.ensures.limit p (record { sound = record { sound = sound.file; reftable = own.reftable }; hint = own.hint }) (omega (arith, one)))

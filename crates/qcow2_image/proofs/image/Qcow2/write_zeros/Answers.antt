@@ -1,8 +1,8 @@
 use Rattle.qcow2_alloc.proofs.KeptMarks.{notes_none, told_kept, notes_of_storage}
 use Rattle.qcow2_image.proofs.Call.BehindHeader.{behind_none, behind_guard, behind_wrote}
 use Rattle.std.proofs.Common.{ap, replicate}
-use Rattle.qcow2_image.proofs.Prepare.Lacked.{hands_unlimited}
-use Rattle.qcow2_image.proofs.Call.Unlimited.{storage_unlimited}
+use Rattle.qcow2_image.proofs.Prepare.Lacked.{hands_unlimited, hands_fault}
+use Rattle.qcow2_image.proofs.Call.Unlimited.{storage_unlimited, storage_fault}
 use Rattle.qcow2_alloc.specs.ImageError.{of_storage}
 use Rattle.qcow2_image.proofs.image.Qcow2.write_zeros.Goals as goal
 
@@ -26,3 +26,6 @@ returns-then-at-cluster_size-clause-notes g c = notes_none
 
 pub returns-in_err-write_zero_data-clause-limited : goal.returns-in_err-write_zero_data-clause-limited
 returns-in_err-write_zero_data-clause-limited g c = hands_unlimited c.from_residual.result (of_storage c.in_err-write_zero_data.field-0.0) c.from_residual.ensures (storage_unlimited c.in_err-write_zero_data.field-0.0)
+
+pub returns-in_err-write_zero_data-clause-fault : goal.returns-in_err-write_zero_data-clause-fault
+returns-in_err-write_zero_data-clause-fault g c = λ behind. hands_fault c.from_residual.result (of_storage c.in_err-write_zero_data.field-0.0) c.from_residual.ensures (storage_fault c.in_err-write_zero_data.field-0.0)
