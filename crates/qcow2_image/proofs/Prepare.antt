@@ -22,6 +22,7 @@ pub mod KeptShares
 pub mod Listing
 pub mod Lacked
 pub mod LackedBehind
+pub mod MetTables
 pub mod FarEntries
 pub mod InUse
 pub mod Pinned
