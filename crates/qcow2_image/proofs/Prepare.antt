@@ -23,6 +23,7 @@ pub mod Listing
 pub mod Lacked
 pub mod LackedBehind
 pub mod MetRanges
+pub mod MetTables
 pub mod FarEntries
 pub mod InUse
 pub mod Pinned

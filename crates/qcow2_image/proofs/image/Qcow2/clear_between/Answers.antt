@@ -7,6 +7,8 @@ use Rattle.qcow2_image.proofs.Call.FreedBehind.{lacking_freed, refused_freed}
 use Rattle.qcow2_image.proofs.Call.Refused.{back_then_freed}
 use Rattle.qcow2_image.proofs.Prepare.FarEntries.{far_refusal, far_then_freed, far_unanswered}
 use Rattle.qcow2_image.proofs.Prepare.Lacked.{lacks_freed, limited_frees}
+use Rattle.qcow2_image.proofs.Prepare.MetTables.{alone_freed}
+use Rattle.qcow2_image.specs.L1Entries.{NeedsFarEntry}
 use Rattle.qcow2_image.proofs.image.Qcow2.clear_between.Goals as goal
 
 pub returns-in-Ok-clause-clears : goal.returns-in-Ok-clause-clears
@@ -77,3 +79,12 @@ returns-in-Err-clause-limit g c = λ out sound whole is.
     let mid = c.clear_in_table.new.self in
     let freed = limited_frees view below out old mid c.free_after.new.self c.in-Err.refusal c.free_after.result (c.in-Err.ensures.clears out sound whole) c.free_after.ensures.fault (c.free_after.ensures.limit out) is in
     lacks_freed view c.args.from old mid c.free_after.new.self c.free_after.ensures.keeps_rest.header freed.1 (c.in-Err.ensures.limit out sound whole freed.0)
+
+pub returns-in-Err-clause-met : goal.returns-in-Err-clause-met
+returns-in-Err-clause-met g c = λ out sound whole none.
+    let old = c.args.self.now in
+    alone_freed g.S.Storage.view g.F.BackingDisk.backing out ⊥ (NeedsFarEntry old c.args.from) old c.clear_in_table.new.self c.free_after.new.self c.in-Err.refusal c.free_after.result (c.in-Err.ensures.clears out sound whole) c.free_after.ensures.fault
+    (c.free_after.ensures.told out) (c.in-Err.ensures.met out sound whole none)
+
+pub returns-in-Ok-clause-l1_place : goal.returns-in-Ok-clause-l1_place
+returns-in-Ok-clause-l1_place g c = λ within. c.in-Ok.ensures.l1_place within

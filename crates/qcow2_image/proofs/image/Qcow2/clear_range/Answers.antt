@@ -36,6 +36,8 @@ use Rattle.qcow2_image.proofs.Prepare.Lacked.{hands_limit, lacks_ended, other_li
 use Rattle.qcow2_image.specs.LackedPlaces.{LacksTableFor}
 use Rattle.qcow2_image.proofs.Call.Unlimited.{fault_unlimited}
 use Rattle.qcow2_alloc.specs.declared.error.ImageError.TheVariants.{Limit}
+use Rattle.qcow2_image.specs.MetAlone.{IsMetAlone}
+use Rattle.qcow2_image.proofs.Prepare.MetTables.{far_before}
 use Rattle.qcow2_image.proofs.image.Qcow2.clear_range.Goals as goal
 
 pub returns-in_err-from-clause-early : goal.returns-in_err-from-clause-early
@@ -217,7 +219,7 @@ returns-in_err-from-clause-refused g c =
     let old = c.args.self.now in
     let refused = refused_for c.check_clear.result _ (refuses_to_clear old c.args.offset c.args.length c.args.how) c.in_err-from.field-0.0 c.check_clear.ensures.refusal c.in_err-from.was in
     subst (λ (r : Result _ _). IfErr r (RefusesClearing g.S.Storage.view g.F.BackingDisk.backing c.args.how old old c.args.offset c.args.length)) (sym (err_is c.from_residual.result c.from_residual.ensures))
-    (record { ungiven = ungiven_early g.S.Storage.view g.F.BackingDisk.backing old c.in_err-from.field-0.0; lacks = λ none out sound unprepared. absurd (let no : None ≡ Some c.in_err-from.field-0.0 = sym none ∙ refused in cc) })
+    (record { ungiven = ungiven_early g.S.Storage.view g.F.BackingDisk.backing old c.in_err-from.field-0.0; lacks = λ none out sound unprepared. absurd (let no : None ≡ Some c.in_err-from.field-0.0 = sym none ∙ refused in cc); met = λ none out sound unprepared. absurd (let no : None ≡ Some c.in_err-from.field-0.0 = sym none ∙ refused in cc) })
 
 pub returns-in_err-mark_failure-clause-refused : goal.returns-in_err-mark_failure-clause-refused
 returns-in_err-mark_failure-clause-refused g c =
@@ -243,6 +245,10 @@ returns-in_err-mark_failure-clause-refused g c =
     subst (λ (r : Result _ _). IfErr r (RefusesClearing view below c.args.how old c.mark_failure.new.self c.args.offset c.args.length)) (sym (err_is c.from_residual-in_err-mark_failure.result c.from_residual-in_err-mark_failure.ensures))
     (subst (λ (image : Qcow2 _ _). RefusesClearing view below c.args.how old image c.args.offset c.args.length e) (sym c.mark_failure.ensures.rest) (record {
       lacks = λ none out sound unprepared. subst (λ n. IsFaultOrLacksTable view entries n e) from (lacking out sound unprepared);
+      met = λ none out sound unprepared.
+          let call = begins view below old c.args.how c.args.offset c.args.length works begun entries quiet out sound in
+          far_before old begun ⊥ (from_in old c.args.offset c.args.length) e c.begin.ensures.rest
+          (subst (λ n. IsMetAlone ⊥ (NeedsFarEntry begun n) e) from (subst (λ (r : Result _ _). IfErr r (IsMetAlone ⊥ (NeedsFarEntry begun c.in_ok-from.from))) done (c.clear_between-cleared.ensures.met out call.sound (whole out call) unprepared)));
       ungiven =
           ungiven_refused view below old c.args.how c.args.offset c.args.length works begun entries quiet e marked (c.clear_between-cleared.ensures.stays.image.number ∙ c.begin.ensures.stays.image.number)
           (subst (λ (r : Result _ _). MayMarkBy r (is_failed entries) marked) done (may_mark c.clear_between-cleared.new.self c.mark_failure.new.self c.clear_between-cleared.result c.mark_failure.ensures.marks)) (subst (λ (r : Result _ _). IfErr r (λ x. x ≡ Memory → IsTrue (has_noted_change entries) → IsTrue marked)) done (marks_memory c.clear_between-cleared.new.self c.mark_failure.new.self c.clear_between-cleared.new.self c.clear_between-cleared.result c.mark_failure.ensures.marks (ap (λ (i : Qcow2 _ _). i.file) c.mark_failure.ensures.rest)))
@@ -279,6 +285,7 @@ returns-in_err-end_freeing-clause-refused g c =
     subst (λ (r : Result _ _). IfErr r (RefusesClearing view below how old freed offset n)) (sym (err_is c.from_residual-in_err-end_freeing.result c.from_residual-in_err-end_freeing.ensures)) (record {
       ungiven = ungiven_interruption view below old how offset n works begun entries quiet parts freed c.end_freeing.result ends number x c.in_err-end_freeing.was;
       lacks = λ none out sound unprepared. inl (fault_of x (fault_interruption view below old how offset n works begun entries quiet parts freed c.end_freeing.result ends number x c.in_err-end_freeing.was out sound));
+      met = λ none out sound unprepared. inl (inl (fault_of x (fault_interruption view below old how offset n works begun entries quiet parts freed c.end_freeing.result ends number x c.in_err-end_freeing.was out sound)));
     })
 
 pub returns-in_err-mark_failure-clause-faults : goal.returns-in_err-mark_failure-clause-faults

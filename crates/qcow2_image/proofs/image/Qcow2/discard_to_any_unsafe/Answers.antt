@@ -53,3 +53,6 @@ returns-clause-pinned g c = c.discard_to_zero_unsafe.ensures.pinned
 
 pub returns-clause-limit : goal.returns-clause-limit
 returns-clause-limit g c = c.discard_to_zero_unsafe.ensures.limit
+
+pub returns-clause-met : goal.returns-clause-met
+returns-clause-met g c = c.discard_to_zero_unsafe.ensures.met

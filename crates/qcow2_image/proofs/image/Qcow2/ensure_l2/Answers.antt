@@ -13,7 +13,7 @@ use Rattle.qcow2_alloc.proofs.KeptMarks.{notes_then, notes_of_both}
 use Rattle.qcow2_image.proofs.Call.BehindHeader.{behind_caches, behind_then}
 use Rattle.qcow2_alloc.specs.CachePins.{l2_pins}
 use Rattle.qcow2_image.specs.PinnedTables.{FindsOwn}
-use Rattle.qcow2_image.proofs.Prepare.Lacked.{hands_unlimited}
+use Rattle.qcow2_image.proofs.Prepare.Lacked.{hands_unlimited, hands_either}
 use Rattle.qcow2_image.proofs.Call.Unlimited.{in_use_unlimited}
 use Rattle.qcow2_image.proofs.image.Qcow2.ensure_l2.Goals as goal
 
@@ -125,3 +125,20 @@ returns-in_err-l2_get_or_insert-clause-limited g c = λ p out sound own.
     hands_unlimited c.from_residual-in_err-l2_get_or_insert.result e c.from_residual-in_err-l2_get_or_insert.ensures
     (in_use_unlimited mid.file.caches e
     (c.in_err-l2_get_or_insert.ensures.refusals mid.file.header.fields (named_place mid.file.header.fields (contents_in view mid.file) (l1_index_of old.file.header.fields c.args.offset) c.in_ok-cluster.cluster owned.1.place) q file.honest file.caches file.named_blocks))
+
+pub returns-in_err-cluster-clause-fault : goal.returns-in_err-cluster-clause-fault
+returns-in_err-cluster-clause-fault g c = λ p out sound none cause. hands_either c.from_residual.result c.in_err-cluster.field-0.0 c.from_residual.ensures (c.in_err-cluster.ensures.fault p out sound none cause)
+
+pub returns-in_err-l2_get_or_insert-clause-fault : goal.returns-in_err-l2_get_or_insert-clause-fault
+returns-in_err-l2_get_or_insert-clause-fault g c = λ p out sound none cause.
+    let view = g.S.Storage.view in
+    let below = g.F.BackingDisk.backing in
+    let old = c.args.self.now in
+    let mid = c.own_l2.new.self in
+    let q = pending_with_listed p old mid in
+    let owned = c.in_ok-cluster.ensures.owns p out sound in
+    let file = owned.0.sound.file in
+    let e = c.in_err-l2_get_or_insert.field-0.0 in
+    hands_either c.from_residual-in_err-l2_get_or_insert.result e c.from_residual-in_err-l2_get_or_insert.ensures
+    (inl (fault_alone view below out q mid owned.0.sound none e
+    (c.in_err-l2_get_or_insert.ensures.refusals mid.file.header.fields (named_place mid.file.header.fields (contents_in view mid.file) (l1_index_of old.file.header.fields c.args.offset) c.in_ok-cluster.cluster owned.1.place) q file.honest file.caches file.named_blocks)))

@@ -1,4 +1,4 @@
-use Rattle.std.proofs.Common.{refl, sym, ◌∙◌, subst, ◌<◌}
+use Rattle.std.proofs.Common.{refl, sym, ◌∙◌, subst, ◌<◌, inl, inr}
 use Rattle.std.specs.Prelude.{IfSome, Some, false}
 use Rattle.qcow2_alloc.specs.Allocation.{run_at, taken_as, UnseenAllocatorGrowth}
 use Rattle.qcow2_alloc.specs.FreeList.{pending_then}
@@ -10,7 +10,7 @@ use Rattle.qcow2_image.proofs.Prepare.Entering.{none_taken, table_entered, table
 use Rattle.qcow2_alloc.proofs.KeptMarks.{notes_then, notes_of_marks}
 use Rattle.qcow2_image.proofs.Call.BehindHeader.{behind_allocated, behind_then}
 use Rattle.qcow2_image.proofs.Prepare.Listing.{gave_former, gave_still}
-use Rattle.qcow2_image.proofs.Prepare.Lacked.{cause_of, cluster_more, hands_limit, other_limit, stands_untaken}
+use Rattle.qcow2_image.proofs.Prepare.Lacked.{cause_of, cluster_more, hands_limit, other_limit, stands_untaken, hands_either}
 use Rattle.std.proofs.Common.{ap, arith}
 use Rattle.qcow2_metadata.specs.Header.{HeaderView}
 use Rattle.qcow2_metadata.specs.L2Mapping.{IsHostCluster}
@@ -112,3 +112,28 @@ returns-in-Err-clause-limit g c = λ p out sound may says near.
     let host = subst (λ n. IsHostCluster n c.cluster-cluster.result) (sym (ap (λ (v : HeaderView). v.fields.cluster_bits) c.allocate_meta.ensures.header))
     (subst (λ n. IsHostCluster old.file.header.fields.cluster_bits n) (sym c.cluster-cluster.ensures) c.in_ok-pending.ensures.nameable) in
     other_limit _ c.in-Err.refusal (c.in-Err.ensures.limited since out keeps.sound known (record { within = near.within; room = near.room }) host)
+
+pub returns-in_err-pending-clause-fault : goal.returns-in_err-pending-clause-fault
+returns-in_err-pending-clause-fault g c = λ p out sound none may says near.
+    let view = g.S.Storage.view in
+    let own = subst (λ o. IfSome o (IsAllocatorOf view c.args.self.now.file)) c.in-Some.is sound.reftable in
+    let one = c.new.ensures in
+    hands_either c.from_residual.result c.in_err-pending.field-0.0 c.from_residual.ensures
+    (elim (c.in_err-pending.ensures.limit p (record { sound = record { sound = sound.file; reftable = own.reftable }; hint = own.hint }) (omega (arith, one))) [ inl fault ↦ inl fault | inr cause ↦ inr cause.0 ])
+
+pub returns-in-Err-clause-fault : goal.returns-in-Err-clause-fault
+returns-in-Err-clause-fault g c = λ p out sound none may says near.
+    let view = g.S.Storage.view in
+    let below = g.F.BackingDisk.backing in
+    let old = c.args.self.now in
+    let taken = record old { file = c.allocate_meta.new.file; allocator = Some c.allocate_meta.new.self } in
+    let own = subst (λ o. IfSome o (IsAllocatorOf view old.file)) c.in-Some.is sound.reftable in
+    let took = c.in_ok-pending.ensures.sound p (record { sound = sound.file; reftable = own.reftable }) in
+    let since = pending_then p old.file.free_list c.allocate_meta.new.file.free_list in
+    let allocator_step = subst (λ n. UnseenAllocatorGrowth view p old.file c.allocate_meta.new.self c.allocate_meta.new.file (taken_as false since (run_at n c.new.result))) (sym c.cluster-cluster.ensures) took.2 in
+    let keeps = keeps_taken view below out p old sound c.allocate_meta.new.file c.allocate_meta.new.self c.allocate_meta.ensures.marks.pins c.allocate_meta.ensures.list (leaked_still old c.in-Some.allocator c.allocate_meta.new.self c.in-Some.is (c.allocate_meta.ensures.leaks p (record { sound = sound.file; reftable = own.reftable }))) c.cluster-cluster.result c.new.result c.new.ensures allocator_step
+    (c.in_ok-pending.ensures.hint p (record { sound = record { sound = sound.file; reftable = own.reftable }; hint = own.hint })) in
+    let known = says_still view below out p (with_new_tables since (one_at c.cluster-cluster.result)) old taken c.args.index c.args.table keeps says in
+    let host = subst (λ n. IsHostCluster n c.cluster-cluster.result) (sym (ap (λ (v : HeaderView). v.fields.cluster_bits) c.allocate_meta.ensures.header))
+    (subst (λ n. IsHostCluster old.file.header.fields.cluster_bits n) (sym c.cluster-cluster.ensures) c.in_ok-pending.ensures.nameable) in
+    inl (c.in-Err.ensures.fault since out keeps.sound none known (record { within = near.within; room = near.room }) host)

@@ -1,4 +1,4 @@
-use Rattle.std.proofs.Common.{◌≡◌, ◌*◌, ◌/◌, ◌^◌, Ok, arith, sym, ap, ◌∙◌, subst, ◌≤◌, inr}
+use Rattle.std.proofs.Common.{◌≡◌, ◌*◌, ◌/◌, ◌^◌, Ok, arith, sym, ap, ◌∙◌, subst, ◌≤◌, inr, inl}
 use Rattle.qcow2_metadata.specs.Entries.{host_offset, is_copied}
 use Rattle.qcow2_image.specs.Found.{l1_index_of}
 use Rattle.qcow2_image.specs.NewTables.{OwnsTable, MayName}
@@ -10,12 +10,14 @@ use Rattle.qcow2_alloc.proofs.KeptMarks.{notes_none}
 use Rattle.qcow2_image.proofs.Call.BehindHeader.{behind_first, behind_none}
 use Rattle.qcow2_image.proofs.Prepare.Listing.{some_none}
 use Rattle.qcow2_image.proofs.Prepare.Pinned.{whole_quotient}
-use Rattle.qcow2_image.proofs.Prepare.Lacked.{hands_limit, limited_not, other_limit}
+use Rattle.qcow2_image.proofs.Prepare.Lacked.{hands_limit, limited_not, other_limit, hands_either}
 use Rattle.std.proofs.Common.{◌<◌}
 use Rattle.qcow2_image.specs.LackedPlaces.{HasNearEntry, HasNoCluster, StandsInWay}
 use Rattle.qcow2_laws.proofs.Places.{has_table}
 use Rattle.qcow2_alloc.specs.ImageFile.{contents_in}
 use Rattle.qcow2_image.specs.UnseenSteps.{NamesOwn}
+use Rattle.qcow2_image.proofs.Prepare.MetTables.{memory_fault, table_aligned}
+use Rattle.qcow2_alloc.specs.ImageError.{of_metadata}
 use Rattle.qcow2_image.proofs.image.Qcow2.own_l2.Goals as goal
 
 pub returns-then-not-in_bounds-clause-owns : goal.returns-then-not-in_bounds-clause-owns
@@ -229,3 +231,38 @@ returns-clause-limit g c = λ p out sound near.
       real = λ none. absurd (let some = c.in-Some.ensures.some in omega (arith, some, none, offset));
       may = λ own. absurd (let is = sym own.1 ∙ ap is_copied (sym (sound.l1_table.entries c.l1_index-index.result)) ∙ sym c.in-Some.ensures.copied ∙ c.if-entry.false in cc);
     }) (subst (HasNearEntry old) (sym idx) near)
+
+pub returns-in_err-table-clause-fault : goal.returns-in_err-table-clause-fault
+returns-in_err-table-clause-fault g c = λ p out sound none cause.
+    hands_either c.from_residual.result (of_metadata c.in_err-table.field-0.0) c.from_residual.ensures (inl (memory_fault c.in_err-table.field-0.0 c.in_err-table.ensures.err))
+
+pub returns-in_default-clause-fault : goal.returns-in_default-clause-fault
+returns-in_default-clause-fault g c = λ p out sound none cause.
+    let view = g.S.Storage.view in
+    let below = g.F.BackingDisk.backing in
+    let old = c.args.self.now in
+    let idx : c.l1_index-index.result ≡ l1_index_of old.file.header.fields c.args.offset =
+    c.l1_index-index.ensures ∙ ap (λ n. n / 2 ^ c.cluster_bits-bits.result / (2 ^ c.cluster_bits-bits.result / 8)) c.new.ensures ∙ ap (λ b. c.args.offset / 2 ^ b / (2 ^ b / 8)) c.cluster_bits-bits.ensures.value in
+    let empty = ap host_offset (sym (sound.l1_table.entries c.l1_index-index.result)) ∙ c.in_default.ensures.none in
+    elim cause [
+      | inl own ↦ absurd (own.0 (ap (λ i. host_offset (entry_at old.l1_table.bytes i)) (sym idx) ∙ c.in_default.ensures.none))
+      | inr near ↦
+          c.enter_l2.ensures.fault p out sound none (may_none view below out p old sound c.l1_index-index.result empty)
+          (says_none view below out p old sound c.l1_index-index.result empty c.in_ok-table.table _ c.in_ok-table.ensures.table c.in_ok-table.ensures.zeros) (subst (HasNearEntry old) (sym idx) near)
+    ]
+
+pub returns-clause-fault : goal.returns-clause-fault
+returns-clause-fault g c = λ p out sound none cause.
+    let old = c.args.self.now in
+    let idx : c.l1_index-index.result ≡ l1_index_of old.file.header.fields c.args.offset =
+    c.l1_index-index.ensures ∙ ap (λ n. n / 2 ^ c.cluster_bits-bits.result / (2 ^ c.cluster_bits-bits.result / 8)) c.new.ensures ∙ ap (λ b. c.args.offset / 2 ^ b / (2 ^ b / 8)) c.cluster_bits-bits.ensures.value in
+    let offset = ap host_offset (sym (sound.l1_table.entries c.l1_index-index.result)) ∙ sym c.in-Some.ensures.offset in
+    elim cause [
+      | inl own ↦ absurd (let is = sym own.1 ∙ ap (λ i. is_copied (entry_at old.l1_table.bytes i)) (sym idx) ∙ sym c.in-Some.ensures.copied ∙ c.if-entry.false in cc)
+      | inr near ↦
+          c.replace_l2.ensures.fault p out sound none (record {
+            place = offset ∙ sym c.in-Some-checked_cluster.ensures.cluster ∙ ap (λ b. c.in-Some-checked_cluster.cluster * 2 ^ b) c.cluster_bits-bits.ensures.value;
+            real = λ zero. absurd (let some = c.in-Some.ensures.some in omega (arith, some, zero, offset));
+            may = λ own. absurd (let is = sym own.1 ∙ ap is_copied (sym (sound.l1_table.entries c.l1_index-index.result)) ∙ sym c.in-Some.ensures.copied ∙ c.if-entry.false in cc);
+          }) (subst (HasNearEntry old) (sym idx) near)
+    ]

@@ -14,7 +14,7 @@ use Rattle.qcow2_image.proofs.Prepare.Lacking.{fault_or_lacking, not_within, sho
 use Rattle.qcow2_alloc.proofs.KeptMarks.{notes_none, notes_then}
 use Rattle.qcow2_image.proofs.Call.BehindHeader.{behind_none, behind_then}
 use Rattle.qcow2_image.proofs.Prepare.Listing.{some_kept, some_none}
-use Rattle.qcow2_image.proofs.Prepare.Lacked.{faults_unlimited, hands_limit, unlimited_all}
+use Rattle.qcow2_image.proofs.Prepare.Lacked.{faults_unlimited, hands_limit, unlimited_all, faults_or_limit, hands_either}
 use Rattle.std.proofs.Common.{◌<◌}
 use Rattle.qcow2_image.specs.LackedPlaces.{EndsBefore, IsPlacedNear, LacksLongerTable}
 use Rattle.qcow2_image.proofs.image.Qcow2.reach_entry.Goals as goal
@@ -143,3 +143,17 @@ returns-then-in_bounds-clause-placed g c = λ past bits.
 
 pub returns-clause-placed : goal.returns-clause-placed
 returns-clause-placed g c = λ past bits. always_ok c.free_listed.result (subst IsPlacedNear (sym c.free_listed.ensures.table) (c.in_ok-grow_l1_table.ensures.placed bits))
+
+pub returns-in_err-grow_l1_table-clause-fault : goal.returns-in_err-grow_l1_table-clause-fault
+returns-in_err-grow_l1_table-clause-fault g c = λ out sound.
+    hands_either c.from_residual.result c.in_err-grow_l1_table.field-0.0 c.from_residual.ensures (c.in_err-grow_l1_table.ensures.fault c.requires.writable (pending_in g.S.Storage.view g.F.BackingDisk.backing c.args.self.now out) out sound)
+
+pub returns-clause-fault : goal.returns-clause-fault
+returns-clause-fault g c = λ out sound.
+    let view = g.S.Storage.view in
+    let below = g.F.BackingDisk.backing in
+    let old = c.args.self.now in
+    let mid = c.grow_l1_table.new.self in
+    let first = stays_moved view below out old mid sound (c.in_ok-grow_l1_table.ensures.lengthens (pending_in view below old out) out sound) in
+    let listed = subst (λ (x : Pending). ImageInvariant view below x mid out) (all_listed view below mid out) first.sound in
+    faults_or_limit c.free_listed.result (c.free_listed.ensures.faults (beside view below mid out) out listed)

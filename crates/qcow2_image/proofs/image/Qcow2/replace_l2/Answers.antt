@@ -7,11 +7,13 @@ use Rattle.qcow2_alloc.proofs.KeptMarks.{notes_then, notes_of_both}
 use Rattle.qcow2_image.proofs.Call.BehindHeader.{behind_caches, behind_then}
 use Rattle.qcow2_image.proofs.Grow.Lengths.{on_ok}
 use Rattle.qcow2_image.proofs.Prepare.Listing.{some_from}
-use Rattle.qcow2_image.proofs.Prepare.Lacked.{hands_limit, limits_as, other_limit, stands_alike}
+use Rattle.qcow2_image.proofs.Prepare.Lacked.{hands_limit, limits_as, other_limit, stands_alike, hands_either}
 use Rattle.qcow2_alloc.specs.ImageFile.{contents_in}
-use Rattle.qcow2_image.proofs.Prepare.Lacking.{named_place}
+use Rattle.qcow2_image.proofs.Prepare.Lacking.{named_place, fault_alone}
 use Rattle.qcow2_image.proofs.Call.Unlimited.{in_use_unlimited}
 use Rattle.qcow2_image.specs.LackedPlaces.{HasNoCluster, StandsInWay}
+use Rattle.qcow2_image.proofs.Prepare.MetTables.{memory_fault}
+use Rattle.qcow2_alloc.specs.ImageError.{of_metadata}
 use Rattle.qcow2_image.proofs.image.Qcow2.replace_l2.Goals as goal
 
 pub returns-in_err-l2_get_or_insert-clause-owns : goal.returns-in_err-l2_get_or_insert-clause-owns
@@ -90,3 +92,28 @@ returns-clause-limit g c = λ p out sound shared near.
     limits_as (λ x. StandsInWay view HasNoCluster mid.file.free_list mid c.swap_l2.new.self) (λ x. StandsInWay view HasNoCluster old.file.free_list old c.swap_l2.new.self) c.swap_l2.result (λ e s. stands_alike view HasNoCluster old.file.free_list old mid c.swap_l2.new.self refl s)
     (c.swap_l2.ensures.limit p out kept.sound still
     (says_copy view below out p mid kept.sound c.args.index c.args.old still c.in-Some.held.now c.in_ok-table.table c.in-Some.ensures.shows c.in_ok-table.ensures.ok) (record { within = near.within; room = near.room }))
+
+pub returns-in_err-l2_get_or_insert-clause-fault : goal.returns-in_err-l2_get_or_insert-clause-fault
+returns-in_err-l2_get_or_insert-clause-fault g c = λ p out sound none shared near.
+    let view = g.S.Storage.view in
+    let old = c.args.self.now in
+    let h = old.file.header.fields in
+    let e = c.in_err-l2_get_or_insert.field-0.0 in
+    hands_either c.from_residual.result e c.from_residual.ensures
+    (inl (fault_alone view g.F.BackingDisk.backing out p old sound none e (c.in_err-l2_get_or_insert.ensures.refusals h (named_place h (contents_in view old.file) c.args.index c.args.old shared.place) p sound.file.honest sound.file.caches sound.file.named_blocks)))
+
+pub returns-in_err-table-clause-fault : goal.returns-in_err-table-clause-fault
+returns-in_err-table-clause-fault g c = λ p out sound none shared near.
+    hands_either c.from_residual-in_err-table.result (of_metadata c.in_err-table.field-0.0) c.from_residual-in_err-table.ensures (inl (memory_fault c.in_err-table.field-0.0 c.in_err-table.ensures.err))
+
+pub returns-clause-fault : goal.returns-clause-fault
+returns-clause-fault g c = λ p out sound none shared near.
+    let view = g.S.Storage.view in
+    let below = g.F.BackingDisk.backing in
+    let old = c.args.self.now in
+    let mid = with_caches view below old out p sound c.l2_get_or_insert.new.storage c.l2_get_or_insert.new.self in
+    let kept = caches_moved view below old out p sound c.l2_get_or_insert.new.storage c.l2_get_or_insert.new.self
+    (c.l2_get_or_insert.ensures.keeps old.file.header.fields p sound.file.honest sound.file.caches) c.l2_get_or_insert.ensures.marks.room c.l2_get_or_insert.ensures.marks.pins in
+    let still = shared_still view below out p old sound c.args.index mid kept refl refl c.args.old shared in
+    c.swap_l2.ensures.fault p out kept.sound none still
+    (says_copy view below out p mid kept.sound c.args.index c.args.old still c.in-Some.held.now c.in_ok-table.table c.in-Some.ensures.shows c.in_ok-table.ensures.ok) (record { within = near.within; room = near.room })

@@ -21,3 +21,6 @@ returns-clause-header_cluster g c = behind_caches c.flush_rb.ensures.header_clus
 
 pub returns-clause-limited : goal.returns-clause-limited
 returns-clause-limited g c = λ p out sound. faults_unlimited c.flush_rb.result (c.flush_rb.ensures.faults c.args.self.now.file.header.fields p sound.file.honest sound.file.caches sound.file.named_blocks)
+
+pub returns-clause-fault : goal.returns-clause-fault
+returns-clause-fault g c = λ p out sound. c.flush_rb.ensures.faults c.args.self.now.file.header.fields p sound.file.honest sound.file.caches sound.file.named_blocks

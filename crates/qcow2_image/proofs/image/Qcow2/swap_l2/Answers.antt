@@ -46,3 +46,6 @@ returns-in-Ok-clause-former g c = some_still c.args.self.now c.enter_l2.new.self
 
 pub returns-in-Err-clause-limit : goal.returns-in-Err-clause-limit
 returns-in-Err-clause-limit g c = λ p out sound shared says near. c.in-Err.ensures.limit p out sound shared.may says near
+
+pub returns-in-Err-clause-fault : goal.returns-in-Err-clause-fault
+returns-in-Err-clause-fault g c = λ p out sound none shared says near. c.in-Err.ensures.fault p out sound none shared.may says near

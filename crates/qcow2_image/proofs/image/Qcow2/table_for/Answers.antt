@@ -24,6 +24,10 @@ use Rattle.qcow2_alloc.proofs.Outcomes.{not_both}
 use Rattle.qcow2_metadata.specs.declared.header.HeaderFields.{HeaderFields}
 use Rattle.std.proofs.Common.{◌+◌}
 use Rattle.qcow2_image.proofs.Call.Unlimited.{fault_unlimited}
+use Rattle.qcow2_image.proofs.Prepare.MetTables.{either_alone, hands_alone, place_kept, place_same, place_then}
+use Rattle.qcow2_image.specs.L1Entries.{NeedsFarEntry}
+use Rattle.qcow2_image.specs.MetAlone.{KeepsL1Place}
+use Rattle.qcow2_image.specs.declared.image.Qcow2.{Qcow2}
 use Rattle.qcow2_image.proofs.image.Qcow2.table_for.Goals as goal
 
 pub returns-then-has_own_l2-clause-finds : goal.returns-then-has_own_l2-clause-finds
@@ -316,3 +320,77 @@ returns-clause-limit g c = λ out sound.
     let at = ap (λ (v : HeaderView). l1_index_of v.fields c.args.offset) c.own_l2.ensures.keeps_rest.header in
     let own = own_after view below out (pending_with_listed (pending_in view below long out) long mid) mid freed owned.0.sound c.args.offset (l1_index_of long.file.header.fields c.args.offset) at owned.1.own c.free_listed.ensures.table c.free_listed.ensures.keeps_rest.header in
     unlimited_all c.ensure_l2-2.result (λ e. LacksTableFor view c.args.offset old c.ensure_l2-2.new.self) (c.ensure_l2-2.ensures.limited (pending_in view below freed out) out second.sound own)
+
+pub returns-then-has_own_l2-clause-met : goal.returns-then-has_own_l2-clause-met
+returns-then-has_own_l2-clause-met g c = λ out sound none.
+    either_alone ⊥ (NeedsFarEntry c.args.self.now c.args.offset) c.ensure_l2.result
+    (c.ensure_l2.ensures.fault (pending_in g.S.Storage.view g.F.BackingDisk.backing c.args.self.now out) out sound none (inl (c.has_own_l2.ensures.0 c.if-has_own_l2.true)))
+
+pub returns-then-has_far_entry-clause-met : goal.returns-then-has_far_entry-clause-met
+returns-then-has_far_entry-clause-met g c = λ out sound none.
+    inr (inr (refl, (c.has_far_entry.ensures.0 c.if-has_far_entry.true, (λ own. absurd (let no : false ≡ true = sym c.if-has_own_l2.false ∙ c.has_own_l2.ensures.1 own in cc)))))
+
+pub returns-in_err-reach_entry-clause-met : goal.returns-in_err-reach_entry-clause-met
+returns-in_err-reach_entry-clause-met g c = λ out sound none.
+    hands_alone ⊥ (NeedsFarEntry c.args.self.now c.args.offset) c.from_residual.result c.in_err-reach_entry.field-0.0 c.from_residual.ensures (inl (c.in_err-reach_entry.ensures.fault out sound))
+
+pub returns-in_err-own_l2-clause-met : goal.returns-in_err-own_l2-clause-met
+returns-in_err-own_l2-clause-met g c = λ out sound none.
+    let view = g.S.Storage.view in
+    let below = g.F.BackingDisk.backing in
+    let old = c.args.self.now in
+    let long = c.reach_entry.new.self in
+    let reached = c.in_ok-reach_entry.ensures.makes out sound in
+    let near : HasNearEntry long (l1_index_of long.file.header.fields c.args.offset) =
+    near_reached old long c.args.offset sound.l1_table.bits (λ far. not_both c.has_far_entry.result (c.has_far_entry.ensures.1 far) c.if-has_far_entry.false) c.reach_entry.ensures.none c.in_ok-reach_entry.ensures.placed c.in_ok-reach_entry.ensures.length (ap (λ (h : HeaderFields). l1_index_of h c.args.offset) reached.header) in
+    hands_alone ⊥ (NeedsFarEntry old c.args.offset) c.from_residual-in_err-own_l2.result c.in_err-own_l2.field-0.0 c.from_residual-in_err-own_l2.ensures
+    (inl (c.in_err-own_l2.ensures.fault (pending_in view below long out) out reached.sound none (inr near)))
+
+pub returns-in_err-free_listed-clause-met : goal.returns-in_err-free_listed-clause-met
+returns-in_err-free_listed-clause-met g c = λ out sound none.
+    let view = g.S.Storage.view in
+    let below = g.F.BackingDisk.backing in
+    let old = c.args.self.now in
+    let long = c.reach_entry.new.self in
+    let mid = c.own_l2.new.self in
+    let reached = c.in_ok-reach_entry.ensures.makes out sound in
+    let owned = c.in_ok-own_l2.ensures.owns (pending_in view below long out) out reached.sound in
+    let first = stays_kept view below out long mid reached.sound owned.0 in
+    let listed = subst (λ (x : Pending). ImageInvariant view below x mid out) (all_listed view below mid out) first.sound in
+    hands_alone ⊥ (NeedsFarEntry old c.args.offset) c.from_residual-in_err-free_listed.result c.in_err-free_listed.field-0.0 c.from_residual-in_err-free_listed.ensures
+    (inl (inl (c.in_err-free_listed.ensures.faults (beside view below mid out) out listed)))
+
+pub returns-clause-met : goal.returns-clause-met
+returns-clause-met g c = λ out sound none.
+    let view = g.S.Storage.view in
+    let below = g.F.BackingDisk.backing in
+    let old = c.args.self.now in
+    let long = c.reach_entry.new.self in
+    let mid = c.own_l2.new.self in
+    let reached = c.in_ok-reach_entry.ensures.makes out sound in
+    let owned = c.in_ok-own_l2.ensures.owns (pending_in view below long out) out reached.sound in
+    let first = stays_kept view below out long mid reached.sound owned.0 in
+    let listed = subst (λ (x : Pending). ImageInvariant view below x mid out) (all_listed view below mid out) first.sound in
+    let freed = c.free_listed.new.self in
+    let second = tidy_stays view below mid out freed first.sound (c.in_ok-free_listed.ensures.frees (beside view below mid out) out listed) in
+    let at = ap (λ (v : HeaderView). l1_index_of v.fields c.args.offset) c.own_l2.ensures.keeps_rest.header in
+    let own = own_after view below out (pending_with_listed (pending_in view below long out) long mid) mid freed owned.0.sound c.args.offset (l1_index_of long.file.header.fields c.args.offset) at owned.1.own c.free_listed.ensures.table c.free_listed.ensures.keeps_rest.header in
+    either_alone ⊥ (NeedsFarEntry old c.args.offset) c.ensure_l2-2.result (c.ensure_l2-2.ensures.fault (pending_in view below freed out) out second.sound none (inl own))
+
+pub returns-then-has_own_l2-clause-l1_place : goal.returns-then-has_own_l2-clause-l1_place
+returns-then-has_own_l2-clause-l1_place g c = λ within. always_ok c.ensure_l2.result (place_kept c.args.self.now.file.header c.ensure_l2.new.self.file.header c.ensure_l2.ensures.keeps_rest.header)
+
+pub returns-clause-l1_place : goal.returns-clause-l1_place
+returns-clause-l1_place g c = λ within.
+    let old = c.args.self.now in
+    let long = c.reach_entry.new.self in
+    let mid = c.own_l2.new.self in
+    let freed = c.free_listed.new.self in
+    let new = c.ensure_l2-2.new.self in
+    let reached = ap (λ (i : Qcow2 _ _). i.file.header) (c.reach_entry.ensures.none within) in
+    always_ok c.ensure_l2-2.result
+    (place_then old.file.header.fields freed.file.header.fields new.file.header.fields
+    (place_then old.file.header.fields mid.file.header.fields freed.file.header.fields
+    (place_then old.file.header.fields long.file.header.fields mid.file.header.fields (place_same old.file.header long.file.header reached) (place_kept long.file.header mid.file.header c.own_l2.ensures.keeps_rest.header))
+    (place_same mid.file.header freed.file.header c.free_listed.ensures.keeps_rest.header))
+    (place_kept freed.file.header new.file.header c.ensure_l2-2.ensures.keeps_rest.header))
