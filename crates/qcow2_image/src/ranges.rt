@@ -244,7 +244,6 @@ impl<S: Storage, F: WrappedFormat<S>> Qcow2<S, F> {
         ensures fault { (p : Pending) (out : List (Option Prepared)) → ImageInvariant S.view F.backing p self.old out → IfErr result IsFaultOrLimit }
         ensures limit { (p : Pending) (out : List (Option Prepared)) → ImageInvariant S.view F.backing p self.old out → IfErr result (λ e. e ≡ Limit → CantTake S.view cluster self.old self.new) }
         ensures nameable { IfOk result (λ run. IsSome run → IsHostCluster self.old.file.header.fields.cluster_bits cluster) }
-        ensures elsewhere { IfOk result (λ run. IsSome run → 0 < cluster) }
         ensures list { ListGrows self.old self.new }
         ensures takes { (p : Pending) (out : List (Option Prepared)) → ImageInvariant S.view F.backing p self.old out → HoldsAll S.view F.backing p out
             → TakesDataAt S.view F.backing p self.old self.new out cluster result }

@@ -32,9 +32,9 @@ cached_aligned view file p t table i cluster sound shows at here =
     subst (λ n. HasAlignedHost n (mapping_of t cluster)) (sym bits) (subst (HasAlignedHost file.header.fields.cluster_bits) (sym (cached_says view file p t table i cluster sound shows at here)) aligned)
 
 -- all entries of a held table of a sound file
-pub table_aligned : {S : Type 0} (view : S → StorageView) (file : ImageFile S) (p : Pending) (t : L2TableView) (table i index : ℕ) → FileInvariant view p file → ShowsKnown file.caches table t → IsEntryAt file.header.fields (known_in view file) i table index
+pub entries_aligned : {S : Type 0} (view : S → StorageView) (file : ImageFile S) (p : Pending) (t : L2TableView) (table i index : ℕ) → FileInvariant view p file → ShowsKnown file.caches table t → IsEntryAt file.header.fields (known_in view file) i table index
     → (g : ℕ) → HasAlignedHost t.cluster_bits (mapping_of t g)
-table_aligned view file p t table i index sound shows at g =
+entries_aligned view file p t table i index sound shows at g =
     let h = file.header.fields in
     let n = entries_per_cluster h in
     let bits = (shows h p (contents_in view file) i index sound.caches at).format.bits in

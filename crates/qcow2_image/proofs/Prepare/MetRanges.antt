@@ -1,8 +1,8 @@
--- What a range of a sound image is refused for: a mapping that goes on stays within 64 bits, at a place where a cluster begins, and its table is held and reads. A compressed cluster that is met behind it lies in the range.
-use Rattle.std.proofs.Common.{◌≡◌, inl, inr, ℕ, zero, ◌+◌, ◌-◌, ◌*◌, ◌/◌, ◌%◌, ◌^◌, ◌<◌, ◌≤◌, Bool, true, false, List, length, [], ◌∷◌, Option, Some, refl, sym, ap, ◌∙◌, subst, arith, pow_mono}
-use Rattle.std.specs.Prelude.{IfErr, IsSome, Result, Ok, Err, slice_get, if◌then◌else◌}
-use Rattle.std.proofs.lemmas.Bool.{cases_eq, cases_lt}
-use Rattle.std.proofs.lemmas.Nat.{div-add-mod', div-mul-add, mod-mul-add, mod_below, pow_pos}
+-- What a range of a sound image is refused for. A mapping that goes on stays within 64 bits, at a place where a cluster begins. Its table is held, and reads. A compressed cluster that is met behind it lies in the range.
+use Rattle.std.proofs.Common.{◌≡◌, inl, inr, ℕ, ◌+◌, ◌-◌, ◌*◌, ◌/◌, ◌%◌, ◌^◌, ◌<◌, ◌≤◌, Bool, true, false, List, length, [], ◌∷◌, Option, Some, refl, sym, ap, ◌∙◌, subst, arith, pow_mono}
+use Rattle.std.specs.Prelude.{IsSome, slice_get, if◌then◌else◌}
+use Rattle.std.proofs.lemmas.Bool.{cases_lt}
+use Rattle.std.proofs.lemmas.Nat.{div-add-mod', mod-mul-add, mod_below, pow_pos}
 use Rattle.std.proofs.Math.Nat.{mul-le-mul_right}
 use Rattle.image_access.specs.Backing.{BackingView}
 use Rattle.image_access.specs.Moments.{StorageView}
@@ -10,47 +10,32 @@ use Rattle.qcow2_metadata.specs.Bytes.{Bytes}
 use Rattle.qcow2_metadata.specs.Consistent.{CoverIsAligned}
 use Rattle.qcow2_metadata.specs.Cover.{cover, cover_of, cover_under}
 use Rattle.qcow2_metadata.specs.Entries.{host_offset}
-use Rattle.qcow2_metadata.specs.Header.{HeaderView, cluster_size, entries_per_cluster}
+use Rattle.qcow2_metadata.specs.Header.{cluster_size, entries_per_cluster}
 use Rattle.qcow2_metadata.specs.L2Mapping.{greatest_offset}
-use Rattle.qcow2_metadata.specs.Named.{in_cluster}
 use Rattle.qcow2_metadata.specs.declared.header.HeaderFields.{HeaderFields}
 use Rattle.qcow2_metadata.specs.declared.l2_mapping.L2Mapping.{L2Mapping}
 use Rattle.qcow2_metadata.specs.declared.l2_mapping.L2Mapping.TheVariants as M
 use Rattle.qcow2_disk.specs.Found.{IsCompressed}
 use Rattle.qcow2_disk.specs.GrownCovers.{Touches}
-use Rattle.qcow2_laws.specs.CrashInvariant.{Pending}
-use Rattle.qcow2_laws.specs.GuestLaws.{Kept as HostedKept}
-use Rattle.qcow2_laws.proofs.Consistency.{in_own}
-use Rattle.qcow2_laws.proofs.KeptClusters.{kept_aligned}
 use Rattle.qcow2_laws.proofs.Places.{Sizes, Sizes-from, l1_entry-past}
-use Rattle.qcow2_laws.proofs.PutRuns.{beside_tables}
 use Rattle.qcow2_laws.proofs.Shares.{shares}
-use Rattle.qcow2_alloc.specs.ImageFile.{KeepsHeader, contents_in, known_in, state_in}
-use Rattle.qcow2_alloc.specs.Limits.{IsFaultOr}
+use Rattle.qcow2_alloc.specs.ImageFile.{contents_in, known_in}
 use Rattle.qcow2_alloc.specs.MetadataCaches.{IsEntryAt, l2_at}
 use Rattle.qcow2_alloc.specs.declared.error.ImageError.{ImageError}
 use Rattle.qcow2_image.specs.declared.image.Qcow2.{Qcow2}
 use Rattle.qcow2_image.specs.declared.prepared.Prepared.{Prepared}
 use Rattle.qcow2_image.specs.declared.prepared.Share.{Share}
 use Rattle.qcow2_image.specs.declared.prepared.Share.TheVariants.{InPlace, Kept, New}
-use Rattle.qcow2_image.specs.Image.{IsBegun}
 use Rattle.qcow2_image.specs.ImageInvariant.{cluster_of, host_begin_of, pending_in, pins_by, IsPending, IsReadyWith, IsShareAt, ImageInvariant}
-use Rattle.qcow2_image.specs.L1Entries.{NeedsFarEntry}
-use Rattle.qcow2_image.specs.MetAlone.{HasCompressedIn, IsMetAlone, KeepsL1Place}
+use Rattle.qcow2_image.specs.MetAlone.{HasCompressedIn, IsMetAlone}
 use Rattle.qcow2_image.specs.MovedTables.{CoversStay}
 use Rattle.qcow2_image.specs.Ranges.{MayGoOn}
-use Rattle.qcow2_image.specs.Refusals.{IsFaultOrLimit}
 use Rattle.qcow2_image.proofs.Apart.{pins_own}
 use Rattle.qcow2_image.proofs.Commit.Entered.{HasFirst, pinned_new_data}
 use Rattle.qcow2_image.proofs.Prepare.Behind.{host_is, next_cluster, next_is, table_is}
 use Rattle.qcow2_image.proofs.Shares.{over_all_at}
 
 -- ---- refusals
-
--- an allocation is refused by a fault or a limit
-pub fault_or_limit : {A : Type 0} (C : Type 0) (r : Result A ImageError) → IfErr r (IsFaultOr C) → IfErr r IsFaultOrLimit
-fault_or_limit C (Ok x) why = tt
-fault_or_limit C (Err e) why = elim why [ inl fault ↦ inl fault | inr limit ↦ inr limit.0 ]
 
 -- the causes follow from those of a part
 pub alone_as : {C D C' D' : Type 0} → (C → C') → (D → D') → (e : ImageError) → IsMetAlone C D e → IsMetAlone C' D' e
@@ -87,34 +72,6 @@ near_data entry mark = record { near = λ host copied is. let same : host_offset
 cover_near : (h : HeaderFields) (b : Bytes) (g : ℕ) → IsNearData (cover h b g)
 unfolding cover cover_under cover_of
 cover_near h b g = near_if _ _ _ near_uncovered (near_if _ _ _ (near_compressed _ _) (near_if _ _ _ (near_zero _) (near_if _ _ _ (near_data _ _) near_uncovered)))
-
-module _ {S F : Type 0} (view : S → StorageView) (backing : F → BackingView) (image : Qcow2 S F) (out : List (Option Prepared)) (p : Pending) (sound : ImageInvariant view backing p image out) where
-  -- the host cluster that a zero entry keeps isn't the header's
-  pub kept_behind : (g host : ℕ) → cover image.file.header.fields (known_in view image.file) g ≡ M.Zero (Some (host, true)) → cluster_size image.file.header.fields ≤ host
-  kept_behind g host is =
-      let h = image.file.header.fields in
-      let size = cluster_size h in
-      let s = state_in view image.file p in
-      let crash_invariant = sound.file.caches.kept.kept.crash_invariant in
-      elim (cases_lt host size) [
-        | inl below ↦ absurd (
-            let some : 0 < size = pow_pos h.cluster_bits in
-            let first : g * size / size ≡ g = let none : g * size ≡ g * size + 0 = omega arith in ap (λ n. n / size) none ∙ div-mul-add g size 0 some in
-            let rest : g * size % size ≡ 0 = let none : g * size ≡ g * size + 0 = omega arith in ap (λ n. n % size) none ∙ mod-mul-add g size 0 some in
-            let none = beside_tables s HostedKept (g * size) host crash_invariant (host, ap (cover h (known_in view image.file)) first ∙ is, omega (arith, rest)) in
-            let aligned = kept_aligned s crash_invariant g host is in
-            let whole : host / size * size + host % size ≡ host = div-add-mod' host size in
-            let zero_is : host / size ≡ 0 = elim (cases_eq (host / size) 0) [
-              | inl none_is ↦ none_is
-              | inr more ↦ absurd (let le : 1 * size ≤ host / size * size = mul-le-mul_right size (omega (arith, more)) in omega (arith, le, whole, below))
-            ] in
-            let one = in_own h host in
-            let own : host ≡ 0 = let e : host / size * size ≡ 0 * size = ap (λ n. n * size) zero_is in omega (arith, e, whole, aligned) in
-            let parts = shares h (contents_in view image.file) (host / size) in
-            let mine = subst (λ n. in_cluster h (host / size) n ≡ 1) own one in
-            omega (arith, none, parts, mine))
-        | inr above ↦ above
-      ]
 
 -- ---- a mapping that goes on
 
@@ -251,14 +208,3 @@ compressed_as h h' known known' from to size covers found =
       touched = subst (λ s. Touches s from to found.guest) size found.touched;
       is = subst IsCompressed (sym (covers found.guest)) found.is;
     }
-
--- ---- headers, and calls that have begun
-
--- the L1 table stays where the header says
-pub place_stays : (h : HeaderFields) (v v' : HeaderView) → KeepsHeader v v' → KeepsL1Place h v.fields → KeepsL1Place h v'.fields
-place_stays h v v' keeps place = (ap (λ (x : HeaderView). x.fields.l1_offset) keeps ∙ place.0, ap (λ (x : HeaderView). x.fields.l1_entries) keeps ∙ place.1)
-
--- an L1 entry that is needed once the call began was needed before
-pub far_before : {S F : Type 0} (old begun : Qcow2 S F) (offset : ℕ) → IsBegun old begun → NeedsFarEntry begun offset → NeedsFarEntry old offset
-far_before old begun offset begins needs =
-    let it = subst (λ (i : Qcow2 _ _). NeedsFarEntry i offset) begins.rest needs in (record { within = it.0.within; far = it.0.far }, it.1)

@@ -1,5 +1,5 @@
-use Rattle.std.proofs.Common.{◌≡◌, ◌/◌, ◌<◌, inl, sym, ap, ◌∙◌, subst, inr, is_some}
-use Rattle.std.specs.Prelude.{Ok, IfErr, Result}
+use Rattle.std.proofs.Common.{◌≡◌, ◌/◌, ◌<◌, inl, sym, ap, ◌∙◌, subst}
+use Rattle.std.specs.Prelude.{Ok}
 use Rattle.qcow2_metadata.specs.Cover.{cover}
 use Rattle.qcow2_metadata.specs.Header.{cluster_size}
 use Rattle.qcow2_disk.specs.AbstractImages.{Guest}
@@ -20,8 +20,8 @@ use Rattle.qcow2_image.proofs.Prepare.InUse.{used_stays}
 use Rattle.qcow2_image.proofs.Prepare.Lacked.{hands_limit, other_limit}
 use Rattle.qcow2_image.specs.LackedPlaces.{CantTake}
 use Rattle.qcow2_disk.specs.Found.{IsCompressed}
-use Rattle.qcow2_alloc.proofs.AllocationSteps.{handed_on}
-use Rattle.qcow2_image.specs.MetAlone.{IsMetAlone}
+use Rattle.qcow2_image.proofs.Prepare.Met.{filling_met, new_behind}
+use Rattle.qcow2_image.proofs.Prepare.MetTables.{hands_alone}
 use Rattle.qcow2_image.proofs.image.Qcow2.new_cluster_at.Goals as goal
 
 pub returns-in_default-clause-gains : goal.returns-in_default-clause-gains
@@ -126,8 +126,16 @@ returns-in-Err-clause-limit g c = λ p out sound holds. other_limit _ c.in-Err.r
 
 pub returns-in_err-pending-clause-met : goal.returns-in_err-pending-clause-met
 returns-in_err-pending-clause-met g c = λ p out sound holds.
-    handed_on (λ (r : Result _ _). IfErr r (IsMetAlone (IsCompressed c.args.old.now) ⊥)) c.from_residual.result c.in_err-pending.field-0.0 c.from_residual.ensures (inl (c.in_err-pending.ensures.fault p out sound))
+    hands_alone (IsCompressed c.args.old.now) ⊥ c.from_residual.result c.in_err-pending.field-0.0 c.from_residual.ensures (inl (c.in_err-pending.ensures.fault p out sound))
 
 pub returns-in-Err-clause-met : goal.returns-in-Err-clause-met
 returns-in-Err-clause-met g c = λ p out sound holds.
-    elim (c.in-Err.ensures.met (c.in_ok-pending.ensures.elsewhere (ap is_some c.in-Some.is))) [ inl fault ↦ inl (inl fault) | inr compressed ↦ inr (inl compressed) ]
+    let view = g.S.Storage.view in
+    let below = g.F.BackingDisk.backing in
+    let old = c.args.self.now in
+    let mid = c.take_data_at.new.self in
+    let n = c.in-Some.pending in
+    let took = subst (λ v. TakesDataAt view below p old mid out c.args.cluster (Ok v)) c.in-Some.is (c.in_ok-pending.ensures.takes p out sound holds) in
+    let new_data = with_new_data (pending_with_listed p old mid) (run_of n) in
+    let some : 0 < new_data.new_data c.args.cluster = subst (λ k. 0 < new_data.new_data k) took.0 (taken_new_data view below out old mid p n took.1 holds took.3) in
+    filling_met (IsCompressed c.args.old.now) ⊥ c.in-Err.refusal (c.in-Err.ensures.met (new_behind view below out new_data mid took.3.sound c.args.cluster some))

@@ -34,7 +34,8 @@ use Rattle.qcow2_metadata.specs.Header.{cluster_size}
 use Rattle.qcow2_metadata.specs.declared.header.HeaderFields.{HeaderFields}
 use Rattle.qcow2_image.specs.L1Entries.{NeedsFarEntry}
 use Rattle.qcow2_image.specs.MetAlone.{HasCompressedIn, IsMetAlone}
-use Rattle.qcow2_image.proofs.Prepare.MetRanges.{alone_as, compressed_as, far_before}
+use Rattle.qcow2_image.proofs.Prepare.MetRanges.{alone_as, compressed_as}
+use Rattle.qcow2_image.proofs.Prepare.MetTables.{far_before}
 use Rattle.qcow2_image.proofs.image.Qcow2.prepare_data_mapping.Goals as goal
 
 pub returns-then-length-eq0-clause-sees : goal.returns-then-length-eq0-clause-sees
@@ -218,4 +219,6 @@ returns-clause-met g c = λ may some out sound alone.
     let stays = stays_kept view below out old mid sound (listed view below out old mid (λ s. record { keeps = c.begin.ensures.keeps (pending_in view below old out) out s; list = c.begin.ensures.list }) sound) in
     let size : cluster_size mid.file.header.fields ≡ cluster_size old.file.header.fields = ap (λ (x : HeaderFields). cluster_size x) stays.header in
     subst (λ (r : Result _ _). IfErr r (IsMetAlone (HasCompressedIn from to old.file.header.fields (known_in view old.file)) (NeedsFarEntry old from))) (sym c.mark_failure.ensures.answer)
-    (if_err c.prepare-prepared.result (alone_as (compressed_as old.file.header.fields mid.file.header.fields (known_in view old.file) (known_in view mid.file) from to size stays.covers) (far_before old mid from c.begin.ensures.begun)) (c.prepare-prepared.ensures.met some out stays.sound alone))
+    (if_err c.prepare-prepared.result
+    (λ e met. far_before old mid (HasCompressedIn from to old.file.header.fields (known_in view old.file)) from e c.begin.ensures.begun.rest (alone_as (compressed_as old.file.header.fields mid.file.header.fields (known_in view old.file) (known_in view mid.file) from to size stays.covers) (λ far. far) e met))
+    (c.prepare-prepared.ensures.met some out stays.sound alone))

@@ -1,5 +1,5 @@
 use Rattle.std.proofs.Common.{◌≡◌, ◌+◌, ◌-◌, ◌/◌, ◌%◌, [], ◌∷◌, refl, sym, ap, ◌∙◌, subst, arith, inl, inr, length, ◌<◌, ◌*◌, ◌^◌, Some, min, ◌≢◌}
-use Rattle.std.specs.Prelude.{None, Err, IfErr, Result}
+use Rattle.std.specs.Prelude.{None, Err}
 use Rattle.qcow2_metadata.specs.Cover.{cover}
 use Rattle.qcow2_metadata.specs.Header.{cluster_size, HeaderView}
 use Rattle.qcow2_metadata.specs.declared.header.HeaderFields.{HeaderFields}
@@ -28,7 +28,8 @@ use Rattle.qcow2_image.proofs.Call.Slots.{get_set_same}
 use Rattle.qcow2_metadata.specs.Bytes.{Bytes}
 use Rattle.qcow2_metadata.specs.Entries.{count}
 use Rattle.qcow2_image.specs.UnseenSteps.{freed_by}
-use Rattle.qcow2_image.specs.MetAlone.{HasCompressedIn, IsMetAlone}
+use Rattle.qcow2_image.specs.MetAlone.{HasCompressedIn}
+use Rattle.qcow2_image.proofs.Prepare.MetTables.{hands_alone}
 use Rattle.qcow2_image.proofs.Prepare.MetRanges.{alone_as, compressed_as, compressed_at}
 use Rattle.qcow2_image.proofs.image.Qcow2.prepare_in.Goals as goal
 
@@ -207,7 +208,7 @@ returns-in_err-prepared-clause-met g c = λ out sound alone holds some.
     let known = known_in g.S.Storage.view c.args.self.now.file in
     let offset = c.args.offset in
     let n = c.args.length in
-    handed_on (λ (r : Result _ _). IfErr r (IsMetAlone (HasCompressedIn offset (offset + n) h known) ⊥)) c.from_residual.result c.in_err-prepared.field-0.0 c.from_residual.ensures
+    hands_alone (HasCompressedIn offset (offset + n) h known) ⊥ c.from_residual.result c.in_err-prepared.field-0.0 c.from_residual.ensures
     (alone_as (λ compressed. compressed_at h h known known offset (offset + n) offset (omega arith) (omega (arith, some)) refl (λ j. refl) compressed) (λ no. no) c.in_err-prepared.field-0.0 (c.in_err-prepared.ensures.met out sound alone holds))
 
 pub returns-in-Err-clause-met : goal.returns-in-Err-clause-met

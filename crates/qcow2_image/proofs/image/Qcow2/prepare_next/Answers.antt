@@ -1,5 +1,5 @@
 use Rattle.std.proofs.Common.{◌≡◌, ◌+◌, min, sym, ap, ◌∙◌, subst, arith, ◌/◌}
-use Rattle.std.specs.Prelude.{Ok, IfErr, Result}
+use Rattle.std.specs.Prelude.{Ok}
 use Rattle.qcow2_metadata.specs.Header.{cluster_size}
 use Rattle.qcow2_metadata.specs.declared.header.HeaderFields.{HeaderFields}
 use Rattle.qcow2_alloc.proofs.ListedAfter.{header_format}
@@ -10,9 +10,8 @@ use Rattle.qcow2_image.proofs.Prepare.Lacked.{hands_limit}
 use Rattle.qcow2_image.specs.LackedPlaces.{CantGoBehind}
 use Rattle.qcow2_metadata.specs.Cover.{cover}
 use Rattle.qcow2_disk.specs.Found.{IsCompressed}
-use Rattle.qcow2_alloc.proofs.AllocationSteps.{handed_on}
+use Rattle.qcow2_image.proofs.Prepare.MetTables.{hands_alone}
 use Rattle.qcow2_alloc.specs.ImageFile.{known_in}
-use Rattle.qcow2_image.specs.MetAlone.{IsMetAlone}
 use Rattle.qcow2_image.proofs.image.Qcow2.prepare_next.Goals as goal
 
 pub returns-in_default-clause-image_step : goal.returns-in_default-clause-image_step
@@ -62,4 +61,4 @@ returns-in_err-share-clause-met g c = λ out k at may sound.
     let old = c.args.self.now in
     let p = c.args.prepared.now in
     let h = old.file.header.fields in
-    handed_on (λ (r : Result _ _). IfErr r (IsMetAlone (IsCompressed (cover h (known_in g.S.Storage.view old.file) ((p.guest + p.length) / cluster_size h))) ⊥)) c.from_residual.result c.in_err-share.field-0.0 c.from_residual.ensures (c.in_err-share.ensures.met out k at may sound)
+    hands_alone (IsCompressed (cover h (known_in g.S.Storage.view old.file) ((p.guest + p.length) / cluster_size h))) ⊥ c.from_residual.result c.in_err-share.field-0.0 c.from_residual.ensures (c.in_err-share.ensures.met out k at may sound)

@@ -13,7 +13,7 @@ use Rattle.qcow2_image.proofs.Call.Refused.{prepares_after, readied_after}
 use Rattle.qcow2_image.proofs.Prepare.Taken.{if_err, taken_by}
 use Rattle.qcow2_image.proofs.Prepare.Listing.{lists_since}
 use Rattle.qcow2_image.proofs.Prepare.FarEntries.{far_handed_on, far_unanswered}
-use Rattle.std.specs.Prelude.{IsSome, IsTrue, IfErr, Result}
+use Rattle.std.specs.Prelude.{IsSome, IsTrue}
 use Rattle.qcow2_alloc.proofs.KeptMarks.{notes_then}
 use Rattle.qcow2_image.proofs.Call.BehindHeader.{behind_then}
 use Rattle.qcow2_image.proofs.Prepare.InUse.{none_lowest}
@@ -24,8 +24,9 @@ use Rattle.qcow2_image.specs.LackedPlaces.{LacksData, LacksRange}
 use Rattle.qcow2_metadata.specs.Header.{cluster_size}
 use Rattle.qcow2_metadata.specs.declared.header.HeaderFields.{HeaderFields}
 use Rattle.qcow2_image.specs.L1Entries.{NeedsFarEntry}
-use Rattle.qcow2_image.specs.MetAlone.{HasCompressedIn, IsMetAlone}
-use Rattle.qcow2_image.proofs.Prepare.MetRanges.{alone_as, compressed_as, place_stays}
+use Rattle.qcow2_image.specs.MetAlone.{HasCompressedIn}
+use Rattle.qcow2_image.proofs.Prepare.MetTables.{hands_alone, place_kept, place_then}
+use Rattle.qcow2_image.proofs.Prepare.MetRanges.{alone_as, compressed_as}
 use Rattle.qcow2_image.proofs.image.Qcow2.prepare_range.Goals as goal
 
 pub returns-in_err-table-clause-readies : goal.returns-in_err-table-clause-readies
@@ -198,7 +199,7 @@ pub returns-in_err-table-clause-met : goal.returns-in_err-table-clause-met
 returns-in_err-table-clause-met g c = λ some out sound alone.
     let old = c.args.self.now in
     let h = old.file.header.fields in
-    handed_on (λ (r : Result _ _). IfErr r (IsMetAlone (HasCompressedIn c.args.offset (c.args.offset + c.args.length) h (known_in g.S.Storage.view old.file)) (NeedsFarEntry old c.args.offset))) c.from_residual.result c.in_err-table.field-0.0 c.from_residual.ensures
+    hands_alone (HasCompressedIn c.args.offset (c.args.offset + c.args.length) h (known_in g.S.Storage.view old.file)) (NeedsFarEntry old c.args.offset) c.from_residual.result c.in_err-table.field-0.0 c.from_residual.ensures
     (alone_as (λ no. absurd no) (λ far. far) c.in_err-table.field-0.0 (c.in_err-table.ensures.met out sound alone))
 
 pub returns-in_err-host-clause-met : goal.returns-in_err-host-clause-met
@@ -224,4 +225,4 @@ returns-in-Some-clause-l1_place g c = c.in_ok-table.ensures.l1_place
 pub returns-in-None-clause-l1_place : goal.returns-in-None-clause-l1_place
 returns-in-None-clause-l1_place g c = λ within.
     on_ok c.prepare_in.result
-    (λ former. place_stays c.args.self.now.file.header.fields c.table_for.new.self.file.header c.prepare_in.new.self.file.header c.prepare_in.ensures.header (c.in_ok-table.ensures.l1_place within)) c.prepare_in.ensures.former
+    (λ former. place_then c.args.self.now.file.header.fields c.table_for.new.self.file.header.fields c.prepare_in.new.self.file.header.fields (c.in_ok-table.ensures.l1_place within) (place_kept c.table_for.new.self.file.header c.prepare_in.new.self.file.header c.prepare_in.ensures.header)) c.prepare_in.ensures.former

@@ -11,7 +11,7 @@ use Rattle.qcow2_image.proofs.Map.Looked.{cluster_near, says_known, run_found}
 use Rattle.qcow2_image.proofs.Map.Held.{run_held}
 use Rattle.qcow2_alloc.specs.MetadataCaches.{l2_at}
 use Rattle.qcow2_image.specs.HeldMappings.{IsLongestSo, named_place}
-use Rattle.qcow2_image.proofs.Map.Aligned.{table_aligned}
+use Rattle.qcow2_image.proofs.Map.Aligned.{entries_aligned}
 use Rattle.qcow2_image.proofs.image.Qcow2.run_in_table.Goals as goal
 
 pub alike_behind-requires-clause-near : goal.alike_behind-requires-clause-near
@@ -68,8 +68,8 @@ returns-clause-held g c = λ limit short below own_is named.
 
 pub returns-in_err-first-clause-reads : goal.returns-in_err-first-clause-reads
 returns-in_err-first-clause-reads g c = λ p sound at le.
-    absurd (c.in_err-first.ensures.err.1 (table_aligned g.S.Storage.view c.args.self.now.file p c.in-Some.table.now c.args.table _ _ sound c.in-Some.ensures.shows at c.cluster.result))
+    absurd (c.in_err-first.ensures.err.1 (entries_aligned g.S.Storage.view c.args.self.now.file p c.in-Some.table.now c.args.table _ _ sound c.in-Some.ensures.shows at c.cluster.result))
 
 pub returns-in_err-behind-clause-reads : goal.returns-in_err-behind-clause-reads
 returns-in_err-behind-clause-reads g c = λ p sound at le.
-    absurd (let no : false ≡ true = c.in_err-behind.ensures.reads (table_aligned g.S.Storage.view c.args.self.now.file p c.in-Some.table.now c.args.table _ _ sound c.in-Some.ensures.shows at) in cc)
+    absurd (let no : false ≡ true = c.in_err-behind.ensures.reads (entries_aligned g.S.Storage.view c.args.self.now.file p c.in-Some.table.now c.args.table _ _ sound c.in-Some.ensures.shows at) in cc)

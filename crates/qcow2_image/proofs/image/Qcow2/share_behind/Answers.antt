@@ -1,4 +1,4 @@
-use Rattle.std.proofs.Common.{◌≡◌, ◌≢◌, ◌+◌, ◌-◌, ◌/◌, ◌^◌, Some, true, false, arith, inl, refl, sym, ap, ◌∙◌, subst, inr, ◌%◌}
+use Rattle.std.proofs.Common.{◌≡◌, ◌≢◌, ◌+◌, ◌-◌, ◌/◌, ◌^◌, Some, true, false, arith, inl, refl, sym, ap, ◌∙◌, subst, ◌%◌}
 use Rattle.qcow2_metadata.specs.Header.{cluster_size}
 use Rattle.qcow2_metadata.specs.declared.l2_mapping.L2Mapping.{L2Mapping}
 use Rattle.qcow2_metadata.specs.declared.l2_mapping.L2Mapping.TheVariants.{Data, Zero}
@@ -20,11 +20,11 @@ use Rattle.qcow2_image.proofs.Call.BehindHeader.{behind_none}
 use Rattle.qcow2_image.proofs.Prepare.InUse.{used_stays}
 use Rattle.qcow2_image.proofs.Prepare.Lacked.{hands_limit, limits_as, not_copied, other_limit}
 use Rattle.qcow2_image.specs.LackedPlaces.{CantGoBehind, CantTakeAt, IsNewThere}
-use Rattle.std.specs.Prelude.{IfErr, Result}
 use Rattle.qcow2_disk.specs.Found.{IsCompressed}
-use Rattle.qcow2_image.specs.MetAlone.{IsMetAlone}
 use Rattle.qcow2_image.proofs.Prepare.Taken.{if_err}
-use Rattle.qcow2_image.proofs.Prepare.MetRanges.{alone_as, guest_fits, kept_behind, next_reads, place_aligned, place_fits}
+use Rattle.qcow2_image.proofs.Prepare.Met.{kept_behind}
+use Rattle.qcow2_image.proofs.Prepare.MetTables.{hands_alone}
+use Rattle.qcow2_image.proofs.Prepare.MetRanges.{alone_as, guest_fits, next_reads, place_aligned, place_fits}
 use Rattle.qcow2_image.proofs.image.Qcow2.share_behind.Goals as goal
 
 pub returns-in-Some-copied_place-clause-finds : goal.returns-in-Some-copied_place-clause-finds
@@ -241,8 +241,8 @@ returns-in_err-fill_kept-in-None-clause-met g c = λ out k at may sound.
     let covered = next_says view below old out k p at c.args.length c.args.table c.args.overwrite may sound c.cluster-cluster.result c.in_ok-old.old cluster (c.in_ok-old.ensures.says (pending_in view below old out) (l1_index_of h p.guest) sound.file) in
     let kept : cover h (known_in view old.file) ((p.guest + p.length) / cluster_size h) ≡ Zero (Some (c.in-Some-checked_add.host, true)) =
     ap (cover h (known_in view old.file)) (next_cluster view below old out k p at c.args.length c.args.table c.args.overwrite may sound) ∙ covered ∙ c.keeps.ensures.answer.0 c.if-keeps.true in
-    handed_on (λ (r : Result _ _). IfErr r (IsMetAlone (IsCompressed (cover h (known_in view old.file) ((p.guest + p.length) / cluster_size h))) ⊥)) c.from_residual-in_err-fill_kept-in-None.result c.in_err-fill_kept-in-None.field-0.0 c.from_residual-in_err-fill_kept-in-None.ensures
-    (inl (inl (c.in_err-fill_kept-in-None.ensures.fault (kept_behind view below old out (pending_in view below old out) sound _ c.in-Some-checked_add.host kept))))
+    hands_alone (IsCompressed (cover h (known_in view old.file) ((p.guest + p.length) / cluster_size h))) ⊥ c.from_residual-in_err-fill_kept-in-None.result c.in_err-fill_kept-in-None.field-0.0 c.from_residual-in_err-fill_kept-in-None.ensures
+    (inl (inl (c.in_err-fill_kept-in-None.ensures.fault (kept_behind view below out (pending_in view below old out) old sound _ c.in-Some-checked_add.host kept))))
 
 pub returns-in-None-2-clause-met : goal.returns-in-None-2-clause-met
 returns-in-None-2-clause-met g c = λ out k at may sound.

@@ -12,7 +12,9 @@ use Rattle.qcow2_image.proofs.Prepare.Lacked.{limits_kept}
 use Rattle.qcow2_image.specs.LackedPlaces.{CantTake}
 use Rattle.qcow2_alloc.specs.Limits.{CantCount}
 use Rattle.qcow2_alloc.specs.LowestRuns.{IsUsed, StaysUsed}
-use Rattle.qcow2_image.proofs.Prepare.MetRanges.{fault_or_limit}
+use Rattle.qcow2_alloc.specs.Limits.{IsFaultOr}
+use Rattle.qcow2_image.specs.Refusals.{IsFaultOrLimit}
+use Rattle.qcow2_image.proofs.Prepare.Met.{limit_alone, met_as}
 use Rattle.qcow2_image.proofs.image.Qcow2.take_data_at.Goals as goal
 
 pub returns-clause-takes : goal.returns-clause-takes
@@ -54,5 +56,8 @@ returns-clause-limit g c = λ p out sound.
 
 pub returns-clause-fault : goal.returns-clause-fault
 returns-clause-fault g c = λ p out sound.
-    let own = subst (λ x. IfSome x (IsAllocatorOf g.S.Storage.view c.args.self.now.file)) c.in-Some.is sound.reftable in
-    fault_or_limit _ c.allocate_data_at.result (c.allocate_data_at.ensures.limit p (record { sound = record { sound = sound.file; reftable = own.reftable }; hint = own.hint }))
+    let view = g.S.Storage.view in
+    let file = c.allocate_data_at.new.file in
+    let own = subst (λ x. IfSome x (IsAllocatorOf view c.args.self.now.file)) c.in-Some.is sound.reftable in
+    let none = CantCount (IsUsed view file) file.header.fields (λ k. 0) c.allocate_data_at.new.self c.args.cluster in
+    met_as (IsFaultOr none) IsFaultOrLimit c.allocate_data_at.result (limit_alone none) (c.allocate_data_at.ensures.limit p (record { sound = record { sound = sound.file; reftable = own.reftable }; hint = own.hint }))
