@@ -18,7 +18,6 @@ use Rattle.qcow2_metadata.specs.declared.l2_mapping.L2Mapping.TheVariants as M
 use Rattle.qcow2_disk.specs.Found.{IsCompressed}
 use Rattle.qcow2_disk.specs.GrownCovers.{Touches}
 use Rattle.qcow2_laws.proofs.Places.{Sizes, Sizes-from, l1_entry-past}
-use Rattle.qcow2_laws.proofs.Shares.{shares}
 use Rattle.qcow2_alloc.specs.ImageFile.{contents_in, known_in}
 use Rattle.qcow2_alloc.specs.MetadataCaches.{IsEntryAt, l2_at}
 use Rattle.qcow2_alloc.specs.declared.error.ImageError.{ImageError}
@@ -46,7 +45,7 @@ alone_as compressed far e met = elim met [
 
 -- ---- places that entries name
 
--- the host offset of data is one that an entry can hold
+-- Where data stand, by what an entry says: at an offset that an entry can hold.
 record IsNearData (mapping : L2Mapping) : Type 0 where
   near : (host : ℕ) (copied : Bool) → mapping ≡ M.Data host copied → host ≤ greatest_offset
 
