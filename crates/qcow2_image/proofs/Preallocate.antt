@@ -7,3 +7,4 @@ pub mod Piece
 pub mod Turns
 pub mod Grown
 pub mod FreedBehind
+pub mod Met

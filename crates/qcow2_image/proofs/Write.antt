@@ -1,3 +1,4 @@
 pub mod Written
+pub mod Hosted
 pub mod Put
 pub mod PutParts

@@ -242,7 +242,7 @@ impl<S: Storage, F: WrappedFormat<S>> Qcow2<S, F> {
         ensures stays { ImageStays self.old self.new }
         ensures cause { IfErr result IsMetPreparing }
         ensures met { (out : List (Option Prepared)) → ImageInvariant S.view F.backing (pending_in S.view F.backing self.old out) self.old out → (HasPrepared out → ⊥) → from ≤ to → IsWholeRange self.old.file.header.fields from to → 3 ≤ self.old.file.header.fields.version → HasNearEntries to self.old.file.header.fields → IfErr result IsFaultOrLimit }
-        ensures l1_place { l1_index_of self.old.file.header.fields from < entry_count self.old.l1_table → OnOk result (KeepsL1Place self.old.file.header.fields self.new.file.header.fields) }
+        ensures l1_place { (from < to → l1_index_of self.old.file.header.fields from < entry_count self.old.l1_table) → OnOk result (KeepsL1Place self.old.file.header.fields self.new.file.header.fields) }
         ensures emptied { HasNothingToFree self.old → OnOk result (HasNothingToFree self.new) }
         ensures next { IfOk result (λ next. (from ≤ next) × (from < to → from < next) × (next ≤ max from to)) }
         ensures whole { (out : List (Option Prepared)) → ImageInvariant S.view F.backing (pending_in S.view F.backing self.old out) self.old out → IsWholeRange self.old.file.header.fields from to → IfOk result (λ next. next % cluster_size self.old.file.header.fields ≡ 0) }
@@ -269,6 +269,7 @@ impl<S: Storage, F: WrappedFormat<S>> Qcow2<S, F> {
         ensures stays { ImageStays self.old self.new }
         ensures cause { IfErr result IsMetPreparing }
         ensures met { (out : List (Option Prepared)) → ImageInvariant S.view F.backing (pending_in S.view F.backing self.old out) self.old out → (HasPrepared out → ⊥) → from ≤ to → to % cluster_size self.old.file.header.fields ≡ 0 → HasNearEntries to self.old.file.header.fields → IfErr result (IsMetAlone (HasCompressedIn from to self.old.file.header.fields (known_in S.view self.old.file)) ⊥) }
+        ensures l1_place { (out : List (Option Prepared)) → ImageInvariant S.view F.backing (pending_in S.view F.backing self.old out) self.old out → to % cluster_size self.old.file.header.fields ≡ 0 → HasNearEntries to self.old.file.header.fields → OnOk result (KeepsL1Place self.old.file.header.fields self.new.file.header.fields) }
         ensures emptied { HasNothingToFree self.old → OnOk result (HasNothingToFree self.new) }
         ensures fills { (out : List (Option Prepared)) → ImageInvariant S.view F.backing (pending_in S.view F.backing self.old out) self.old out
             → from ≤ to → to % cluster_size self.old.file.header.fields ≡ 0 → FillsOrRefuses S.view F.backing to from to self.old self.new out result }

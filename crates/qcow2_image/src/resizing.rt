@@ -194,7 +194,8 @@ impl<S: Storage, F: WrappedFormat<S>> Qcow2<S, F> {
     /// Refused in this order: 16 (failed), 12 (dependency), 1 (read-only). Of a larger size also 6 (preallocation), for a mode that takes
     /// clusters where there is a disk below. Then 13 (limit) where the L1 table would be too long, and 3 (version) for `Zero` below
     /// version 3. Where the work meets them: 4 (unaligned table), 13 (limit), 14 (memory), 15 (storage). All modes but `None` may meet
-    /// 7 (compressed), 8 (everything is in use), 9 (table prepared) too.
+    /// 7 (compressed), 8 (everything is in use), 9 (table prepared) too. On a sound image of which nothing is prepared the work meets 13,
+    /// 14 and 15 alone, and 7 where a cluster behind the old end is compressed.
     pub fn resize_grow(&mut self, size: u64, mode: PreallocateMode) -> Result<(), ImageError>
         ensures early { IfSome (refuses_to_resize self.old) (λ e. (result ≡ Err e) × (self.new ≡ self.old)) }
         ensures no_larger { refuses_to_resize self.old ≡ None → size ≤ size_of self.old → (result ≡ Ok tt) × (self.new ≡ self.old) }

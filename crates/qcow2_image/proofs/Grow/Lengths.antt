@@ -41,7 +41,7 @@ same_length v v' same = ap (λ (x : HeaderView). x.fields.l1_entries) same
 pub index_moved : (h h' : HeaderFields) (offset : ℕ) → MovesTables h h' → l1_index_of h' offset ≡ l1_index_of h offset
 index_moved h h' offset file_step = ap (λ (x : HeaderFields). l1_index_of x offset) file_step
 
-index_rising : (h : HeaderFields) (a b : ℕ) → a ≤ b → l1_index_of h a ≤ l1_index_of h b
+pub index_rising : (h : HeaderFields) (a b : ℕ) → a ≤ b → l1_index_of h a ≤ l1_index_of h b
 index_rising h a b le = elim (cases_lt 0 (entries_per_cluster h)) [
   | inl rows ↦ div_mono (a / cluster_size h) (b / cluster_size h) (entries_per_cluster h) rows (div_mono a b (cluster_size h) (pow_pos h.cluster_bits) le)
   | inr none ↦
@@ -64,7 +64,7 @@ fits_grown h h' size fits larger bits size_is reaches = (
 )
 
 -- the last bytes of a size and of its last cluster lie in one cluster
-last_cluster : (cs n : ℕ) → 0 < cs → 0 < n → (rounded_up cs n - 1) / cs ≡ (n - 1) / cs
+pub last_cluster : (cs n : ℕ) → 0 < cs → 0 < n → (rounded_up cs n - 1) / cs ≡ (n - 1) / cs
 last_cluster cs n some any =
     let k = (n - 1) / cs in
     let parts : (n - 1) / cs * cs + (n - 1) % cs ≡ n - 1 = div-add-mod' (n - 1) cs in

@@ -58,3 +58,7 @@ module _ {S F : Type 0} (view : S → StorageView) (backing : F → BackingView)
       | inl part ↦ empties part.sound
       | inr broken ↦ inl (subst IsFault (sym (fault broken.fault).0) broken.fault)
     ]
+
+    -- what is answered then is the refusal, or a fault
+    pub grown_told : (ImageInvariant view backing (pending_in view backing mid out) mid out → (e' ≡ e) ⊎ IsFault e') → (e' ≡ e) ⊎ IsFault e'
+    grown_told told = elim left [ inl part ↦ told part.sound | inr broken ↦ inl (fault broken.fault).0 ]

@@ -48,6 +48,7 @@ use Rattle.qcow2_image.proofs.Preallocate.Pieces.{filled_shows, filled_sound, fi
 use Rattle.qcow2_image.proofs.Preallocate.Untaken.{never_two, same_row}
 use Rattle.qcow2_image.proofs.Preallocate.Zeros.{may_none, zeros_of}
 use Rattle.qcow2_image.proofs.Shares.{never_private}
+use Rattle.qcow2_image.proofs.Write.Hosted.{hosts_behind_header}
 use Rattle.qcow2_image.proofs.Write.PutParts.{puts_covers, puts_written}
 
 -- ---- numbers
@@ -191,6 +192,13 @@ module _ {S F : Type 0} (view : S → StorageView) (backing : F → BackingView)
         (subst (λ k. IsDataAt mid.file.header.fields (known_in view mid.file) true (from + i) k) place
         (data_moved old.file.header.fields mid.file.header.fields (known_in view old.file) (known_in view mid.file) ready.header ready.covers (from + i) (p.offset + i) was))
 
+    -- the mapping doesn't lie in cluster 0
+    piece_behind : 0 < p.length → cluster_size mid.file.header.fields ≤ p.offset
+    piece_behind some =
+        let all = long in
+        let first = hosts_behind_header view backing mid (Some p ∷ out) ready.sound (length (zeros_of p.length)) 0 p 0 refl (omega (arith, all)) in_place 0 (omega (arith, all, some)) in
+        omega (arith, first)
+
     -- zeros are written
     module _ (storage : ImageStorage S) (honest : (view (storage_of storage)).is_honest) (time : EachMomentSince (view_in view mid.file) (view (storage_of storage)) (λ c. c ≡ (view (storage_of storage)).contents)) where
       pub zeros_put : (r : Result (Unit {0}) ImageError) → IsWriteOutcome r (view_in view mid.file).contents (overwritten (view_in view mid.file).contents p.offset (zeros_of p.length)) (view (storage_of storage)).contents
@@ -318,6 +326,9 @@ module _ {S F : Type 0} (view : S → StorageView) (backing : F → BackingView)
         subst (λ (image : Qcow2 S F). PutsPart view backing mid image (Some p ∷ out) 0 p 0 (zeros_of p.length) r) (sym w.rest)
         (zeros_put out old mid p from n sound ready answered all_fits storage (w.honest ready.sound.file.honest) (w.time ready.sound.file.honest) r
         (subst (λ k. IsWriteOutcome r contents (overwritten contents p.offset (zeros_of k)) (view_in view mid2.file).contents) all_counted (w.written ready.sound.file.honest)))
+
+    pub all_behind : 0 < p.length → cluster_size mid.file.header.fields ≤ p.offset
+    all_behind some = piece_behind out old mid p from n sound ready answered all_fits some
 
     pub all_header : (mid2 : Qcow2 S F) (r : Result (Unit {0}) ImageError) → WritesBytes view mid mid2 p.offset (replicate count 0) r → mid2.file.header ≡ mid.file.header
     all_header mid2 r w = ap (λ (image : Qcow2 S F). image.file.header) w.rest

@@ -1,10 +1,10 @@
 -- Bytes are put into a prepared mapping: by one write, over what is in place, and into what is private.
-use Rattle.std.proofs.Common.{◌≡◌, ◌≢◌, inl, inr, ℕ, ◌+◌, ◌-◌, ◌*◌, ◌/◌, ◌%◌, ◌<◌, ◌≤◌, Bool, true, false, List, length, [], ◌∷◌, get_or, refl, sym, ap, ◌∙◌, subst, arith, cond, eqb}
+use Rattle.std.proofs.Common.{◌≡◌, ◌≢◌, inl, inr, ℕ, ◌+◌, ◌-◌, ◌*◌, ◌/◌, ◌%◌, ◌<◌, ◌≤◌, Bool, true, false, List, length, [], ◌∷◌, refl, sym, ap, ◌∙◌, subst, arith, cond, eqb}
 use Rattle.std.specs.Prelude.{Option, Some, None, IsTrue, slice_get, if◌then◌else◌}
 use Rattle.std.specs.Option.{option_map_or}
 use Rattle.std.proofs.lemmas.Bool.{cases_lt, cases_eq, cond-true, cond-false, eq-eqb, ne_eqb}
 use Rattle.std.proofs.lemmas.Nat.{div-add-mod', mod_below, pow_pos}
-use Rattle.std.proofs.lemmas.Option.{slice_get-get_or, slice_get_within}
+use Rattle.std.proofs.lemmas.Option.{slice_get_within}
 use mathlib.Core.Path.{fun_ext}
 use Rattle.image_access.specs.Backing.{BackingView}
 use Rattle.image_access.specs.Contents.{overwritten}
@@ -22,7 +22,7 @@ use Rattle.qcow2_disk.specs.Disk.{Disk, disk, with_bytes}
 use Rattle.qcow2_laws.specs.CrashInvariant.{Pending}
 use Rattle.qcow2_laws.specs.Guests.{names}
 use Rattle.qcow2_laws.specs.GuestLaws.{Hosting, IsHostedAt, IsHeld, IsGivenAt, WritesRun}
-use Rattle.qcow2_laws.specs.GuestLaws.{InPlace as HostedInPlace, Kept as HostedKept, Held as HostedHeld, is_private_hosting as is_hosted_privately}
+use Rattle.qcow2_laws.specs.GuestLaws.{is_private_hosting as is_hosted_privately}
 use Rattle.qcow2_disk.specs.Mappings.{PreparedMapping, given_by_put, put_mapping, put_disk}
 use Rattle.qcow2_disk.specs.AbstractImages.{guest_of, meaning_at}
 use Rattle.qcow2_laws.specs.SafeSteps.{DriverState}
@@ -31,8 +31,7 @@ use Rattle.qcow2_laws.proofs.Consistency.{in_own}
 use Rattle.qcow2_disk.proofs.ForUsers.{laid_inside, laid_outside}
 use Rattle.qcow2_laws.proofs.KeptClusters.{kept_aligned, kept_unlaid}
 use Rattle.qcow2_laws.proofs.Places.{in_one}
-use Rattle.qcow2_laws.proofs.PutRuns.{beside_tables, run_written}
-use Rattle.qcow2_alloc.specs.declared.clusters_to_free.ClustersToFreeEntry.{ClustersToFreeEntry}
+use Rattle.qcow2_laws.proofs.PutRuns.{run_written}
 use Rattle.qcow2_alloc.specs.declared.image_storage.ImageStorage.{ImageStorage}
 use Rattle.qcow2_alloc.specs.ImageStorage.{storage_of}
 use Rattle.qcow2_alloc.specs.ImageFile.{state_in, view_in, contents_in, known_in}
@@ -41,25 +40,19 @@ use Rattle.qcow2_image.specs.declared.prepared.Prepared.{Prepared}
 use Rattle.qcow2_image.specs.declared.prepared.Share.{Share}
 use Rattle.qcow2_image.specs.declared.prepared.Share.TheVariants.{InPlace, Kept, New}
 use Rattle.qcow2_image.specs.CallParts.{put_guest}
-use Rattle.qcow2_image.specs.ImageInvariant.{to_free, of_data, new_data_by, pending_in, abstract_of, meaning, is_entered, is_new, is_private, cluster_of, place_of, share_of, host_begin_of, backing_bytes, IsNewAt, IsShareAt, IsPending, IsReadyWith, ImageInvariant}
+use Rattle.qcow2_image.specs.ImageInvariant.{new_data_by, pending_in, abstract_of, meaning, is_entered, is_new, is_private, cluster_of, place_of, share_of, backing_bytes, IsReadyWith, ImageInvariant}
 use Rattle.qcow2_image.proofs.Apart.{apart_guests}
 use Rattle.qcow2_image.proofs.Call.Answered.{same_guest, same_mapping, same_meaning}
 use Rattle.qcow2_image.proofs.Call.Slots.{over_all_two}
 use Rattle.qcow2_image.proofs.Call.Stepped.{Steps, stepped_works, stepped_sound}
-use Rattle.qcow2_image.proofs.Shares.{Standing, in_new, in_kept, byte_cluster, byte_place, byte_share, new_data_at, new_data_once, host_cluster, no_share, over_all_at, private_shared, private_stands, ready_table, share_here}
+use Rattle.qcow2_image.proofs.Shares.{Standing, in_new, in_kept, byte_cluster, byte_share, over_all_at, private_shared, private_stands, ready_table}
+use Rattle.qcow2_image.proofs.Write.Hosted.{all_hosted, hosted_as, hosted_with, hosting_in, hosts_no_table}
 use Rattle.qcow2_image.proofs.Write.Written.{written, writes, but, there, steps_written}
 
 -- what lies over counts alone where it lies
 laid_same : {A : Type 0} (place n : ℕ) (top under under' : ℕ → A) (o : ℕ) → under o ≡ under' o → laid_over place n top under o ≡ laid_over place n top under' o
 unfolding laid_over
 laid_same place n top under under' o same = ap (λ u. if is_within place n o then top (o - place) else u) same
-
--- how the bytes of a guest cluster have a place to themselves, by its share
-abbrev pub hosted_as : Option Share → Hosting
-hosted_as None = HostedInPlace
-hosted_as (Some InPlace) = HostedInPlace
-hosted_as (Some Kept) = HostedKept
-hosted_as (Some (New taken old_data)) = HostedHeld
 
 hosted_private : (m : Option Share) → is_hosted_privately (hosted_as m) ≡ option_map_or is_entered m false
 hosted_private None = refl
@@ -111,49 +104,17 @@ module _ {S F : Type 0} (view : S → StorageView) (backing : F → BackingView)
   given_bytes = given_by_put (guest_of (abstract_of view backing old out)).disk m at bytes ∷ []
 
   abbrev hosting : ℕ → Hosting
-  hosting o = hosted_as (share_of h q (o / size))
+  hosting = hosting_in h q
 
-  -- ---- each byte has its place to itself
-  -- a new cluster of it is held
-  new_data_mine : (j : ℕ) (taken old_data : List ClustersToFreeEntry) → slice_get q.shares.items j ≡ Some (New taken old_data) → (stands : IsNewAt h s.known s.on_storage q j taken old_data) → 0 < new_data_by q stands.first
-  new_data_mine j taken old_data is_share stands =
-      let one : to_free of_data taken stands.first ≡ 1 = ap (λ l. to_free of_data l stands.first) stands.is ∙ new_data_once stands.first in
-      let mine = new_data_at q.shares.items j taken old_data is_share stands.first in
-      omega (arith, one, mine)
-
-  hosted_share : (i j : ℕ) (share : Share) → (q.guest + at + i) / size ≡ cluster_of h q + j → q.offset + at + i ≡ host_begin_of h q j + (q.guest + at + i) % size → slice_get q.shares.items j ≡ Some share → IsShareAt h s.known s.on_storage q j share
-      → IsHostedAt s (hosted_as (Some share)) (q.guest + at + i) (q.offset + at + i) × (IsHeld (hosted_as (Some share)) → 0 < new_data_by q ((q.offset + at + i) / size))
-  hosted_share i j InPlace here place is_share stands = ((host_begin_of h q j, ap (cover h s.known) here ∙ stands, sym place), λ never. absurd never)
-  hosted_share i j Kept here place is_share stands = ((host_begin_of h q j, ap (cover h s.known) here ∙ stands.entry, sym place), λ never. absurd never)
-  hosted_share i j (New taken old_data) here place is_share stands =
-      let there : (q.offset + at + i) / size ≡ stands.first = ap (λ n. n / size) place ∙ host_cluster h q j stands.first stands.place (q.guest + at + i) in
-      let mine = new_data_mine j taken old_data is_share stands in
-      let all = over_all_at new_data_by out k q placed stands.first in
-      (subst (λ c. 0 < before.new_data c) (sym there) (omega (arith, mine, all)), λ _. subst (λ c. 0 < new_data_by q c) (sym there) mine)
-
-  hosts_pending : (t : ℕ) → IsPending h s.known s.on_storage q t → (i : ℕ) → i < length bytes
-      → IsHostedAt s (hosting (q.guest + at + i)) (q.guest + at + i) (q.offset + at + i) × (IsHeld (hosting (q.guest + at + i)) → 0 < new_data_by q ((q.offset + at + i) / size))
-  hosts_pending t pending i lt =
-      let j = (q.guest % size + at + i) / size in
-      let here = byte_cluster h q s.known s.on_storage t pending at i (length bytes) fits lt in
-      let place = byte_place h q s.known s.on_storage t pending at i (length bytes) fits lt in
-      let found = slice_get-get_or q.shares.items ((q.guest % size + at + i) / size) InPlace (byte_share h q s.known s.on_storage t pending at i (length bytes) fits lt) in
-      let share = get_or q.shares.items ((q.guest % size + at + i) / size) InPlace in
-      subst (λ (x : Option Share). IsHostedAt s (hosted_as x) (q.guest + at + i) (q.offset + at + i) × (IsHeld (hosted_as x) → 0 < new_data_by q ((q.offset + at + i) / size)))
-      (sym (ap (share_of h q) here ∙ share_here h q ((q.guest % size + at + i) / size) ∙ found)) (hosted_share i j share here place found (pending.each j share found))
+  hosts : (i : ℕ) → i < length bytes → IsHostedAt s (hosting (q.guest + at + i)) (q.guest + at + i) (q.offset + at + i)
+  hosts = all_hosted view backing old out sound (length bytes) k q at placed fits in_place
 
   hosts_with : (t : Option ℕ) → q.table ≡ t → IsReadyWith h s.known s.on_storage q t → (i : ℕ) → i < length bytes
       → IsHostedAt s (hosting (q.guest + at + i)) (q.guest + at + i) (q.offset + at + i) × (IsHeld (hosting (q.guest + at + i)) → 0 < new_data_by q ((q.offset + at + i) / size))
-  hosts_with None none ready i lt =
-      subst (λ (x : Option Share). IsHostedAt s (hosted_as x) (q.guest + at + i) (q.offset + at + i) × (IsHeld (hosted_as x) → 0 < new_data_by q ((q.offset + at + i) / size)))
-      (sym (no_share h q ready ((q.guest + at + i) / size))) (in_place none i lt, λ never. absurd never)
-  hosts_with (Some t) some pending i lt = hosts_pending t pending i lt
-
-  hosts : (i : ℕ) → i < length bytes → IsHostedAt s (hosting (q.guest + at + i)) (q.guest + at + i) (q.offset + at + i)
-  hosts i lt = (hosts_with q.table refl (sound.ready k q placed).mapped i lt).0
+  hosts_with = hosted_with view backing old out sound (length bytes) k q at placed fits in_place
 
   no_table : (i : ℕ) → i < length bytes → named_for_tables h (contents_in view old.file) ((q.offset + at + i) / size) ≡ 0
-  no_table i lt = beside_tables s (hosting (q.guest + at + i)) (q.guest + at + i) (q.offset + at + i) sound.file.caches.kept.kept.crash_invariant (hosts i lt)
+  no_table = hosts_no_table view backing old out sound (length bytes) k q at placed fits in_place
 
   -- ---- so one write goes over them
   run : WritesRun hosting (q.guest + at) (q.offset + at) bytes given_bytes s (state_in view new.file before)

@@ -1,5 +1,5 @@
 use Rattle.qcow2_alloc.proofs.KeptMarks.{notes_none}
-use Rattle.std.proofs.Common.{◌≡◌, ◌≤◌, ◌%◌, ◌∙◌, ap, subst, sym}
+use Rattle.std.proofs.Common.{◌≡◌, ◌≤◌, ◌%◌, ◌∙◌, ap, arith, refl, subst, sym}
 use Rattle.std.proofs.lemmas.Nat.{pow_pos}
 use Rattle.qcow2_metadata.specs.Header.{cluster_size, rounded_up}
 use Rattle.qcow2_alloc.specs.declared.error.ImageError.TheVariants.{Overflow}
@@ -7,6 +7,11 @@ use Rattle.qcow2_image.specs.Preallocation.{FillsOrRefuses}
 use Rattle.qcow2_image.proofs.Preallocate.Filled.{refused_here}
 use Rattle.qcow2_image.proofs.Preallocate.Grown.{up_to_end, up_whole}
 use Rattle.qcow2_image.proofs.Call.BehindHeader.{behind_none}
+use Rattle.std.specs.Prelude.{IfErr}
+use Rattle.qcow2_alloc.specs.ImageFile.{known_in}
+use Rattle.qcow2_image.specs.ImageInvariant.{pending_in}
+use Rattle.qcow2_image.specs.MetAlone.{HasCompressedIn, HasNearEntries, IsMetAlone}
+use Rattle.qcow2_image.proofs.Preallocate.Met.{never_past}
 use Rattle.qcow2_image.proofs.image.Qcow2.allocate_grown.Goals as goal
 
 pub returns-in_default-clause-fills : goal.returns-in_default-clause-fills
@@ -36,3 +41,19 @@ returns-in_default-clause-notes g c = notes_none
 
 pub returns-clause-notes : goal.returns-clause-notes
 returns-clause-notes g c = c.fill_range.ensures.notes
+
+pub returns-in_default-clause-met : goal.returns-in_default-clause-met
+returns-in_default-clause-met g c = λ out sound alone le near.
+    let old = c.args.self.now in
+    absurd (never_past g.S.Storage.view g.F.BackingDisk.backing out (pending_in g.S.Storage.view g.F.BackingDisk.backing old out) old sound c.args.size c.args.size c.cluster_size.result (omega arith) c.cluster_size.ensures.value near (c.in_default.ensures.none refl))
+
+pub returns-clause-met : goal.returns-clause-met
+returns-clause-met g c = λ out sound alone le near.
+    let view = g.S.Storage.view in
+    let old = c.args.self.now in
+    let h = old.file.header.fields in
+    let cs = cluster_size h in
+    let some = pow_pos h.cluster_bits in
+    let end : c.in-Some.end ≡ rounded_up (cluster_size c.args.self.now.file.header.fields) c.args.size = c.in-Some.ensures.some ∙ ap (λ s. rounded_up s c.args.size) c.cluster_size.ensures.value in
+    subst (λ n. IfErr c.fill_range.result (IsMetAlone (HasCompressedIn c.args.old n h (known_in view old.file)) ⊥)) end
+    (c.fill_range.ensures.met out sound alone (subst (λ n. c.args.old ≤ n) (sym end) (up_to_end cs c.args.old c.args.size some le)) (subst (λ n. n % cs ≡ 0) (sym end) (up_whole cs c.args.size some)) (subst (λ n. HasNearEntries n h) (sym end) near))

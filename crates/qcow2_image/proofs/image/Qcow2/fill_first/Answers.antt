@@ -3,19 +3,25 @@ use Rattle.std.specs.Prelude.{Err, IsTrue}
 use Rattle.std.proofs.Common.{◌≡◌, ◌∙◌, ◌+◌, ◌^◌, ◌≤◌, ◌<◌, ◌∷◌, [], None, inl, min, refl, sym, ap, subst, arith, rules}
 use Rattle.qcow2_laws.specs.CrashInvariant.{Pending}
 use Rattle.qcow2_alloc.proofs.AllocationSteps.{handed_on}
-use Rattle.qcow2_image.specs.ImageInvariant.{ImageInvariant, abstract_of}
+use Rattle.qcow2_image.specs.ImageInvariant.{ImageInvariant, abstract_of, pending_in}
 use Rattle.qcow2_image.specs.Preallocation.{FillsFirst, FillsPart, LacksPlaceOnWay}
 use Rattle.qcow2_image.proofs.Call.Called.{works_none}
 use Rattle.qcow2_image.proofs.Flush.Freeing.{all_listed, beside, freed_refused, tidy_stays}
 use Rattle.qcow2_image.proofs.Free.{free_places}
 use Rattle.qcow2_image.proofs.Preallocate.Filled.{fill_unseen, fills_none, fills_refused, fills_stays, lacks_here, met_taken, refused_after, taken_here}
-use Rattle.qcow2_image.proofs.Preallocate.Piece.{all_filled, all_fits, all_next, all_put, all_within, piece_gone, sound_now}
+use Rattle.qcow2_image.proofs.Preallocate.Piece.{all_behind, all_filled, all_fits, all_next, all_put, all_within, piece_gone, sound_now}
 use Rattle.qcow2_image.proofs.Call.FaultCounts.{counted_as, counted_of, counted_still}
 use Rattle.qcow2_image.specs.Faults.{CountsImageFaults}
 use Rattle.qcow2_image.proofs.Call.MetErrors.{tables_met}
 use Rattle.qcow2_image.proofs.Call.Unlimited.{fault_unlimited}
 use Rattle.qcow2_image.proofs.Prepare.Lacked.{emptied_by_limit, other_limit}
 use Rattle.qcow2_image.proofs.Call.BehindHeader.{behind_then}
+use Rattle.qcow2_alloc.specs.ImageError.{IsFault}
+use Rattle.qcow2_alloc.specs.ImageFile.{known_in}
+use Rattle.qcow2_alloc.specs.declared.error.ImageError.{ImageError}
+use Rattle.qcow2_image.specs.MetAlone.{HasCompressedIn, IsMetAlone}
+use Rattle.qcow2_image.specs.declared.image.Qcow2.{Qcow2}
+use Rattle.qcow2_image.proofs.Preallocate.Met.{hands_met, met_piece, place_same}
 use Rattle.qcow2_image.proofs.image.Qcow2.fill_first.Goals as goal
 
 pub returns-in_err-prepared-clause-fills : goal.returns-in_err-prepared-clause-fills
@@ -161,3 +167,62 @@ returns-in_err-free_listed-clause-notes g c = notes_then (notes_then (notes_then
 
 pub returns-clause-notes : goal.returns-clause-notes
 returns-clause-notes g c = notes_then (notes_then (notes_then c.prepare.ensures.notes c.put_zeros.ensures.notes) c.commit_filled.ensures.notes) c.free_listed.ensures.notes
+
+pub returns-in_err-prepared-clause-met : goal.returns-in_err-prepared-clause-met
+returns-in_err-prepared-clause-met g c = λ out sound alone whole near.
+    let view = g.S.Storage.view in
+    let below = g.F.BackingDisk.backing in
+    let old = c.args.self.now in
+    let e = c.in_err-prepared.field-0.0 in
+    let most = c.most.ensures in
+    let asked = c.min.ensures in
+    let few = c.requires.few in
+    let lt = c.requires.some in
+    let some : 0 < c.min.result = omega (arith, most, asked, few, lt) in
+    hands_met (IsMetAlone (HasCompressedIn c.args.from c.args.to old.file.header.fields (known_in view old.file)) ⊥) c.from_residual.result e c.from_residual.ensures
+    (met_piece view below out (pending_in view below old out) old sound c.args.from c.args.to lt near c.min.result (omega (arith, asked, lt)) e (c.in_err-prepared.ensures.met some out sound alone))
+
+pub returns-in-Err-clause-met : goal.returns-in-Err-clause-met
+returns-in-Err-clause-met g c = λ out sound alone whole near.
+    let view = g.S.Storage.view in
+    let below = g.F.BackingDisk.backing in
+    let old = c.args.self.now in
+    let p = c.in_ok-prepared.prepared in
+    let lt = c.requires.some in
+    let few = subst (λ m. 2 ^ 21 ≤ m) (sym c.most.ensures) c.requires.few in
+    let asked = c.min.ensures in
+    let some : 0 < c.min.result = omega (arith, asked, few, lt) in
+    let counted = c.min-count.ensures ∙ ap (min p.length) (c.most-2.ensures ∙ sym c.most.ensures) in
+    let ready = c.in_ok-prepared.ensures.readies some (None ∷ out) ((free_places view below).free old [] out sound) 0 refl in
+    let answered = c.in_ok-prepared.ensures.answers some out sound in
+    let fault = c.in-Err.ensures.fault (all_behind view below out old c.prepare.new.self p c.args.from c.args.to c.most.result c.min.result c.min-count.result sound ready answered lt whole few asked counted (c.in_ok-prepared.ensures.some some)) in
+    inl (inl (subst (λ (x : ImageError). IsFault x) (sym (c.free_after.ensures.fault fault).0) fault))
+
+pub returns-in_err-free_listed-clause-met : goal.returns-in_err-free_listed-clause-met
+returns-in_err-free_listed-clause-met g c = λ out sound alone whole near.
+    let view = g.S.Storage.view in
+    let below = g.F.BackingDisk.backing in
+    let old = c.args.self.now in
+    let mid = c.prepare.new.self in
+    let done = c.commit_filled.new.self in
+    let p = c.in_ok-prepared.prepared in
+    let from = c.args.from in
+    let to = c.args.to in
+    let n = c.min.result in
+    let lt = c.requires.some in
+    let few = subst (λ m. 2 ^ 21 ≤ m) (sym c.most.ensures) c.requires.few in
+    let asked = c.min.ensures in
+    let some : 0 < c.min.result = omega (arith, asked, few, lt) in
+    let counted = c.min-count.ensures ∙ ap (min p.length) (c.most-2.ensures ∙ sym c.most.ensures) in
+    let ready = c.in_ok-prepared.ensures.readies some (None ∷ out) ((free_places view below).free old [] out sound) 0 refl in
+    let answered = c.in_ok-prepared.ensures.answers some out sound in
+    let part = all_filled view below out old mid p from to c.most.result n c.min-count.result sound ready answered lt whole few asked counted (c.in_ok-prepared.ensures.some some) c.put_zeros.new.self done c.in_default.ensures.written c.commit_filled.ensures.commits c.commit_filled.ensures.header (c.in_ok-prepared.ensures.listed some out sound).reaches in
+    let listed = subst (λ (x : Pending). ImageInvariant view below x done out) (all_listed view below done out) part.sound in
+    hands_met (IsMetAlone (HasCompressedIn from to old.file.header.fields (known_in view old.file)) ⊥) c.from_residual-in_err-free_listed.result c.in_err-free_listed.field-0.0 c.from_residual-in_err-free_listed.ensures
+    (inl (inl (c.in_err-free_listed.ensures.faults (beside view below done out) out listed)))
+
+pub returns-clause-l1_place : goal.returns-clause-l1_place
+returns-clause-l1_place g c = λ within.
+    let h = c.args.self.now.file.header.fields in
+    place_same h c.prepare.new.self.file.header c.free_listed.new.self.file.header (c.free_listed.ensures.keeps_rest.header ∙ c.commit_filled.ensures.header ∙ ap (λ (i : Qcow2 _ _). i.file.header) c.put_zeros.ensures.written.rest)
+    (c.in_ok-prepared.ensures.l1_place within)

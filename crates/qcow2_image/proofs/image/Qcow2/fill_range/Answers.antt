@@ -2,9 +2,12 @@ use Rattle.qcow2_alloc.proofs.KeptMarks.{notes_none, notes_then}
 use Rattle.std.proofs.Common.{◌≡◌, refl, subst, arith}
 use Rattle.qcow2_alloc.proofs.AllocationSteps.{handed_on}
 use Rattle.qcow2_image.specs.Preallocation.{FillsOrRefuses, FillsPart}
-use Rattle.qcow2_image.proofs.Preallocate.Turns.{filled_first, filled_next, filled_refused}
+use Rattle.qcow2_image.proofs.Preallocate.Turns.{filled_first, filled_next, filled_refused, still_at}
 use Rattle.qcow2_image.proofs.Call.FaultCounts.{counted_ok, counted_on, faults_then, untouched}
 use Rattle.qcow2_image.proofs.Call.BehindHeader.{behind_none, behind_then}
+use Rattle.qcow2_alloc.specs.ImageFile.{known_in}
+use Rattle.qcow2_image.specs.MetAlone.{HasCompressedIn, IsMetAlone}
+use Rattle.qcow2_image.proofs.Preallocate.Met.{hands_met, met_before, near_moved, place_on}
 use Rattle.qcow2_image.proofs.image.Qcow2.fill_range.Goals as goal
 
 pub loop-at-init : goal.loop-at-init
@@ -14,6 +17,7 @@ loop-at-init g c = record {
   emptied = λ none. none;
   behind = behind_none;
   notes = notes_none;
+  place = λ out sound whole near. (refl, refl);
 }
 
 pub returns-in_err-at-clause-fills : goal.returns-in_err-at-clause-fills
@@ -33,6 +37,9 @@ loop-at-preserved g c =
       emptied = λ none. c.in_ok-at.ensures.emptied (c.loop-at.invariant.emptied none);
       behind = behind_then c.loop-at.invariant.behind c.fill_first.ensures.header_cluster;
       notes = notes_then c.loop-at.invariant.notes c.fill_first.ensures.notes;
+      place = λ out sound whole near.
+          place_on g.S.Storage.view g.F.BackingDisk.backing out c.args.to c.args.from c.loop-at.at c.args.self.now c.loop-at.self (c.loop-at.invariant.turns.so_far out sound whole) c.args.to c.fill_first.new.self c.loop-at-test.true
+          (c.loop-at.invariant.place out sound whole near) near c.in_ok-at.ensures.l1_place;
     }
 
 pub returns-clause-fills : goal.returns-clause-fills
@@ -65,3 +72,23 @@ returns-in_err-at-clause-notes g c = notes_then c.loop-at.invariant.notes c.fill
 
 pub returns-clause-notes : goal.returns-clause-notes
 returns-clause-notes g c = c.loop-at.invariant.notes
+
+pub returns-in_err-at-clause-met : goal.returns-in_err-at-clause-met
+returns-in_err-at-clause-met g c = λ out sound alone le whole near.
+    let view = g.S.Storage.view in
+    let below = g.F.BackingDisk.backing in
+    let old = c.args.self.now in
+    let now = c.loop-at.self in
+    let from = c.args.from in
+    let to = c.args.to in
+    let e = c.in_err-at.field-0.0 in
+    let lt = c.loop-at-test.true in
+    let low = c.loop-at.invariant.turns.low in
+    let part = c.loop-at.invariant.turns.so_far out sound whole in
+    let kept = c.loop-at.invariant.place out sound whole near in
+    hands_met (IsMetAlone (HasCompressedIn from to old.file.header.fields (known_in view old.file)) ⊥) c.from_residual.result e c.from_residual.ensures
+    (met_before view below out to from c.loop-at.at old now part c.loop-at.at to from to low (omega arith) e
+    (c.in_err-at.ensures.met out part.sound alone (still_at old.file.header.fields now.file.header.fields to part.header whole) (near_moved old.file.header.fields now.file.header.fields to to part.header kept (omega arith) near)))
+
+pub returns-clause-l1_place : goal.returns-clause-l1_place
+returns-clause-l1_place g c = λ out sound whole near. c.loop-at.invariant.place out sound whole near

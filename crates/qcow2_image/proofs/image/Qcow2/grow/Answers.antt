@@ -3,7 +3,7 @@ use Rattle.std.specs.Prelude.{IfErr}
 use Rattle.qcow2_image.specs.declared.image.Qcow2.{Qcow2}
 use Rattle.qcow2_image.specs.Image.{is_failed, size_of}
 use Rattle.qcow2_image.specs.LackedTables.{LacksTableReaching}
-use Rattle.qcow2_image.specs.Refusals.{IsMet, MarksFailed}
+use Rattle.qcow2_image.specs.Refusals.{IsFaultOrLimit, IsMet, MarksFailed}
 use Rattle.qcow2_image.proofs.Call.FaultCounts.{counted_marked}
 use Rattle.qcow2_image.specs.ImageInvariant.{pending_in}
 use Rattle.qcow2_image.proofs.Call.Marked.{may_mark, marks_since}
@@ -58,3 +58,8 @@ returns-clause-limit g c = λ sound.
     (may_mark mid new c.grow_to-done.result c.mark_failure.ensures.marks)
     (λ lacks. subst (λ (image : Qcow2 _ _). LacksTableReaching view offset old image) (sym c.mark_failure.ensures.rest) (longer_ended view offset old begun mid (is_failed new) c.begin.ensures.rest lacks))
     (c.grow_to-done.ensures.limit (pending_in view below old []) keeps.sound)
+
+pub returns-clause-fault : goal.returns-clause-fault
+returns-clause-fault g c = λ works writable sound.
+    let p = pending_in g.S.Storage.view g.F.BackingDisk.backing c.args.self.now [] in
+    subst (λ (r : Result _ _). IfErr r IsFaultOrLimit) (sym c.mark_failure.ensures.answer) (c.grow_to-done.ensures.fault (c.begin.ensures.stays.image.writable ∙ writable) p (c.begin.ensures.keeps p [] sound).sound)

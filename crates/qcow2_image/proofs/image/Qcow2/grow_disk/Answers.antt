@@ -15,7 +15,7 @@ use Rattle.qcow2_image.specs.CallParts.{UnseenCall}
 use Rattle.qcow2_image.specs.declared.image.Qcow2.{Qcow2}
 use Rattle.qcow2_image.specs.Found.{l1_index_of}
 use Rattle.qcow2_image.specs.Growing.{ReachesSize}
-use Rattle.qcow2_image.specs.Image.{HasNothingToFree, is_failed, with_marks, has_noted_change}
+use Rattle.qcow2_image.specs.Image.{HasNothingToFree, is_failed, size_of, with_marks, has_noted_change}
 use Rattle.qcow2_image.specs.ImageInvariant.{ImageInvariant, pending_in}
 use Rattle.qcow2_image.specs.LongerTables.{MakesEntry}
 use Rattle.qcow2_image.specs.L1Entries.{ReachesOffset}
@@ -47,6 +47,11 @@ use Rattle.qcow2_image.proofs.Sizing.LackedTables.{behind_lacked, longer_ended}
 use Rattle.qcow2_image.specs.LackedTables.{CantGrowDisk, LacksPlaceBehind, LacksTableReaching}
 use Rattle.qcow2_alloc.specs.declared.error.ImageError.TheVariants.{Limit}
 use Rattle.qcow2_image.specs.Refusals.{IsUnlimited}
+use Rattle.qcow2_metadata.specs.Header.{cluster_size, rounded_up}
+use Rattle.qcow2_alloc.specs.ImageFile.{known_in}
+use Rattle.qcow2_image.specs.LackedPlaces.{IsPlacedNear}
+use Rattle.qcow2_image.specs.MetAlone.{IsMetFilling}
+use Rattle.qcow2_image.proofs.Preallocate.Met.{hands_met, met_behind, near_longer_ends}
 use Rattle.qcow2_image.proofs.image.Qcow2.grow_disk.Goals as goal
 
 pub returns-in_err-mark_failure-clause-sees : goal.returns-in_err-mark_failure-clause-sees
@@ -467,3 +472,55 @@ returns-clause-limit g c = λ out sound.
     let new = c.mark_fault-2.new.self in
     unlimited_all c.mark_fault-2.result (λ x. CantGrowDisk g.S.Storage.view g.F.BackingDisk.backing c.args.mode c.args.size c.args.self.now new out)
     (subst (λ (r : Result _ _). IfErr r IsUnlimited) (sym c.mark_fault-2.ensures.answer) (faults_unlimited c.write_size-written.result c.write_size-written.ensures.cause))
+
+pub returns-in_err-mark_failure-clause-met : goal.returns-in_err-mark_failure-clause-met
+returns-in_err-mark_failure-clause-met g c = λ out sound alone.
+    let view = g.S.Storage.view in
+    let below = g.F.BackingDisk.backing in
+    let old = c.args.self.now in
+    let begun = c.begin.new.self in
+    let mid = c.renew_l1_table-longer.new.self in
+    let first = begun_call view below old begun (λ out sound. record { keeps = c.begin.ensures.keeps (pending_in view below old out) out sound; list = c.begin.ensures.list }) in
+    let h = old.file.header.fields in
+    let e = c.in_err-mark_failure.field-0.0 in
+    let done : c.renew_l1_table-longer.result ≡ Err c.in_err-mark_failure.field-0.0 = sym c.mark_failure.ensures.answer ∙ c.in_err-mark_failure.was in
+    hands_met (IsMetFilling c.args.mode (size_of old) (rounded_up (cluster_size h) c.args.size) h (known_in view old.file)) c.from_residual.result e c.from_residual.ensures
+    (inl (inl (subst (λ (r : Result _ _). IfErr r IsFaultOrLimit) done (c.renew_l1_table-longer.ensures.fault out (first out sound).sound))))
+
+pub returns-in_err-mark_fault-clause-met : goal.returns-in_err-mark_fault-clause-met
+returns-in_err-mark_fault-clause-met g c = λ out sound alone.
+    let view = g.S.Storage.view in
+    let below = g.F.BackingDisk.backing in
+    let old = c.args.self.now in
+    let begun = c.begin.new.self in
+    let mid = c.renew_l1_table-longer.new.self in
+    let first = begun_call view below old begun (λ out sound. record { keeps = c.begin.ensures.keeps (pending_in view below old out) out sound; list = c.begin.ensures.list }) in
+    let long = c.mark_failure.new.self in
+    let made : c.renew_l1_table-longer.result ≡ Ok c.in_ok-mark_failure.field-0 = sym c.mark_failure.ensures.answer ∙ c.in_ok-mark_failure.was in
+    let kept = subst (λ (r : Result _ _). MayMarkBy r (is_failed mid) (is_failed long)) made (may_mark c.renew_l1_table-longer.new.self c.mark_failure.new.self c.renew_l1_table-longer.result c.mark_failure.ensures.marks) in
+    let same : c.mark_failure.new.self ≡ c.renew_l1_table-longer.new.self = c.mark_failure.ensures.rest ∙ ap (λ f. record mid { is_failed = f }) kept in
+    let begins = first out sound in
+    let lengthens = subst (MakesEntry view below begun mid out) made (c.renew_l1_table-longer.ensures.makes out begins.sound) in
+    let call : UnseenCall view below old c.mark_failure.new.self out = subst (λ (image : Qcow2 _ _). UnseenCall view below old image out) (sym same) (stays_then view below out old begun mid begins lengthens) in
+    let length = subst (λ (r : Result _ _). OnOk r (entry_count mid.l1_table ≡ max (entry_count begun.l1_table) (l1_index_of begun.file.header.fields (c.args.size - 1) + 1))) made c.renew_l1_table-longer.ensures.length in
+    let step = c.begin.ensures.keeps (pending_in view below old out) out sound in
+    let told = reaches_begun old.file.header.fields begun.file.header.fields mid.file.header.fields (c.args.size - 1) step.unseen.header
+    (reaches_told view below out (pending_in view below begun out) (pending_in view below mid out) begun mid (c.args.size - 1) begins.sound lengthens.sound length) in
+    let longer = subst (λ (image : Qcow2 _ _). ReachesOffset (c.args.size - 1) old.file.header.fields image.file.header.fields) (sym same) told in
+    let placed = subst (λ (image : Qcow2 _ _). IsPlacedNear image.l1_table) (sym same) (subst (λ (r : Result _ _). OnOk r (IsPlacedNear mid.l1_table)) made (c.renew_l1_table-longer.ensures.placed begins.sound.l1_table.bits)) in
+    let near = near_longer_ends view below out old.file.header.fields (pending_in view below long out) long c.args.size (let l = c.requires.larger in omega (arith, l)) call.header longer call.sound placed in
+    let h = old.file.header.fields in
+    let e = c.in_err-mark_fault.field-0.0 in
+    let done : c.fill_grown-filled.result ≡ Err c.in_err-mark_fault.field-0.0 = sym c.mark_fault.ensures.answer ∙ c.in_err-mark_fault.was in
+    let from : c.size-end.result ≡ size_of c.args.self.now = c.size-end.ensures ∙ ap (λ (x : HeaderFields). x.size) call.header in
+    let why = subst (λ (r : Result _ _). IfErr r (IsMetFilling c.args.mode c.size-end.result (rounded_up (cluster_size long.file.header.fields) c.args.size) long.file.header.fields (known_in view long.file))) done (c.fill_grown-filled.ensures.met out call.sound alone near) in
+    hands_met (IsMetFilling c.args.mode (size_of old) (rounded_up (cluster_size h) c.args.size) h (known_in view old.file)) c.from_residual-in_err-mark_fault.result e c.from_residual-in_err-mark_fault.ensures
+    (met_behind view below out old long c.args.mode c.args.size (size_of old) e call
+    (subst (λ n. IsMetFilling c.args.mode n (rounded_up (cluster_size long.file.header.fields) c.args.size) long.file.header.fields (known_in view long.file) e) from why))
+
+pub returns-clause-met : goal.returns-clause-met
+returns-clause-met g c = λ out sound alone.
+    let old = c.args.self.now in
+    let h = old.file.header.fields in
+    subst (λ (r : Result _ _). IfErr r (IsMetFilling c.args.mode (size_of old) (rounded_up (cluster_size h) c.args.size) h (known_in g.S.Storage.view old.file))) (sym c.mark_fault-2.ensures.answer)
+    (if_err c.write_size-written.result (λ e fault. inl (inl (inl fault))) c.write_size-written.ensures.cause)

@@ -7,7 +7,7 @@ use Rattle.qcow2_metadata.specs.EntryTable.{entry_count}
 use Rattle.qcow2_image.specs.Found.{l1_index_of}
 use Rattle.qcow2_image.specs.LackedPlaces.{LacksLongerTable}
 use Rattle.qcow2_image.specs.LackedTables.{LacksTableReaching}
-use Rattle.qcow2_image.proofs.Prepare.Lacked.{faults_unlimited, hands_limit, unlimited_all}
+use Rattle.qcow2_image.proofs.Prepare.Lacked.{faults_or_limit, faults_unlimited, hands_either, hands_limit, unlimited_all}
 use Rattle.qcow2_image.specs.Image.{is_failed, is_writable}
 use Rattle.qcow2_image.proofs.Call.FaultCounts.{counted_on, counted_since, untouched}
 use Rattle.qcow2_image.proofs.Create.Causes.{faults_met}
@@ -85,3 +85,9 @@ returns-clause-limit g c = λ p sound.
     let old = c.args.self.now in
     let new = c.write_size.new.self in
     unlimited_all c.write_size.result (λ e. LacksTableReaching view (c.args.size - 1) old new × UnseenStep view g.F.BackingDisk.backing p (pending_with_listed p old new) old new []) (faults_unlimited c.write_size.result c.write_size.ensures.cause)
+
+pub returns-in_err-grow_l1_table-clause-fault : goal.returns-in_err-grow_l1_table-clause-fault
+returns-in_err-grow_l1_table-clause-fault g c = λ writable p sound. hands_either c.from_residual.result c.in_err-grow_l1_table.field-0.0 c.from_residual.ensures (c.in_err-grow_l1_table.ensures.fault writable p [] sound)
+
+pub returns-clause-fault : goal.returns-clause-fault
+returns-clause-fault g c = λ writable p sound. faults_or_limit c.write_size.result c.write_size.ensures.cause

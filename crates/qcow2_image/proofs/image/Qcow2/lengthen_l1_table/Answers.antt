@@ -13,7 +13,7 @@ use Rattle.qcow2_alloc.proofs.KeptMarks.{notes_then}
 use Rattle.qcow2_alloc.proofs.Outcomes.{on_no_ok, on_ok}
 use Rattle.qcow2_image.proofs.Call.BehindHeader.{behind_then}
 use Rattle.qcow2_image.proofs.Prepare.Lacked.{faults_or_limit, faults_unlimited, hands_either, hands_limit, unlimited_all}
-use Rattle.qcow2_image.specs.LackedPlaces.{LacksLongerTable}
+use Rattle.qcow2_image.specs.LackedPlaces.{IsPlacedNear, LacksLongerTable}
 use Rattle.qcow2_image.specs.LackedTables.{LacksTableReaching}
 use Rattle.qcow2_image.proofs.image.Qcow2.lengthen_l1_table.Goals as goal
 
@@ -99,3 +99,9 @@ returns-clause-fault g c = λ out sound.
     let first = stays_moved view below out c.args.self.now mid sound (c.in_ok-grow_l1_table.ensures.lengthens (pending_in view below c.args.self.now out) out sound) in
     let listed = subst (λ (x : Pending). ImageInvariant view below x mid out) (all_listed view below mid out) first.sound in
     faults_or_limit c.free_listed.result (c.free_listed.ensures.faults (beside view below mid out) out listed)
+
+pub returns-in_err-grow_l1_table-clause-placed : goal.returns-in_err-grow_l1_table-clause-placed
+returns-in_err-grow_l1_table-clause-placed g c = λ bits. on_no_ok _ c.from_residual.result c.in_err-grow_l1_table.field-0.0 c.from_residual.ensures
+
+pub returns-clause-placed : goal.returns-clause-placed
+returns-clause-placed g c = λ bits. on_ok _ c.free_listed.result (subst IsPlacedNear (sym c.free_listed.ensures.table) (c.in_ok-grow_l1_table.ensures.placed bits))

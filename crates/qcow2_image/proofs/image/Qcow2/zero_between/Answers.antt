@@ -1,12 +1,16 @@
 use Rattle.qcow2_alloc.proofs.KeptMarks.{notes_then}
-use Rattle.std.proofs.Common.{◌≤◌, subst, sym, arith}
+use Rattle.std.proofs.Common.{◌≤◌, inl, subst, sym, arith}
 use Rattle.qcow2_alloc.proofs.AllocationSteps.{handed_on}
-use Rattle.qcow2_image.specs.ImageInvariant.{abstract_of}
+use Rattle.qcow2_image.specs.ImageInvariant.{abstract_of, pending_in}
 use Rattle.qcow2_image.specs.Preallocation.{FillsOrRefuses}
 use Rattle.qcow2_image.proofs.Call.Called.{works_none}
 use Rattle.qcow2_image.proofs.Preallocate.Filled.{fills_before, fills_none, fills_or_refuses, refused_after, zeros_from}
 use Rattle.qcow2_image.proofs.Preallocate.Turns.{same_version, still_at}
 use Rattle.qcow2_image.proofs.Call.BehindHeader.{behind_then}
+use Rattle.qcow2_alloc.specs.ImageFile.{known_in}
+use Rattle.qcow2_image.specs.MetAlone.{HasCompressedIn, IsMetAlone}
+use Rattle.qcow2_image.proofs.Preallocate.Met.{entry_reached, hands_met, met_before, near_moved, place_then}
+use Rattle.qcow2_image.proofs.Prepare.Taken.{if_err}
 use Rattle.qcow2_image.proofs.image.Qcow2.zero_between.Goals as goal
 
 pub returns-in_err-next-clause-fills : goal.returns-in_err-next-clause-fills
@@ -70,3 +74,46 @@ returns-in_err-fill_range-clause-notes g c = notes_then c.zero_first.ensures.not
 
 pub returns-clause-notes : goal.returns-clause-notes
 returns-clause-notes g c = notes_then (notes_then c.zero_first.ensures.notes c.fill_range.ensures.notes) c.zero_range.ensures.notes
+
+pub returns-in_err-next-clause-met : goal.returns-in_err-next-clause-met
+returns-in_err-next-clause-met g c = λ out sound alone low high whole version near.
+    let old = c.args.self.now in
+    hands_met (IsMetAlone (HasCompressedIn c.args.old c.args.end old.file.header.fields (known_in g.S.Storage.view old.file)) ⊥) c.from_residual.result c.in_err-next.field-0.0 c.from_residual.ensures
+    (inl (c.in_err-next.ensures.met out sound alone high whole version near))
+
+pub returns-in_err-fill_range-clause-met : goal.returns-in_err-fill_range-clause-met
+returns-in_err-fill_range-clause-met g c = λ out sound alone low high whole version near.
+    let view = g.S.Storage.view in
+    let below = g.F.BackingDisk.backing in
+    let a = c.args.self.now in
+    let b = c.zero_first.new.self in
+    let h = a.file.header.fields in
+    let h' = b.file.header.fields in
+    let e = c.in_err-fill_range.field-0.0 in
+    let first = c.in_ok-next.ensures.fills out sound high whole version in
+    let kept = c.in_ok-next.ensures.l1_place (λ lt. entry_reached view below out (pending_in view below a out) a sound c.args.from c.args.end lt near) in
+    hands_met (IsMetAlone (HasCompressedIn c.args.old c.args.end h (known_in view a.file)) ⊥) c.from_residual-in_err-fill_range.result e c.from_residual-in_err-fill_range.ensures
+    (met_before view below out 0 c.args.from c.in_ok-next.next a b first c.args.old c.args.from c.args.old c.args.end (omega arith) high e
+    (c.in_err-fill_range.ensures.met out first.sound alone low (still_at h h' c.args.from first.header whole.0) (near_moved h h' c.args.end c.args.from first.header kept high near)))
+
+pub returns-clause-met : goal.returns-clause-met
+returns-clause-met g c = λ out sound alone low high whole version near.
+    let view = g.S.Storage.view in
+    let below = g.F.BackingDisk.backing in
+    let a = c.args.self.now in
+    let b = c.zero_first.new.self in
+    let d = c.fill_range.new.self in
+    let h = a.file.header.fields in
+    let h' = b.file.header.fields in
+    let h'' = d.file.header.fields in
+    let next = c.in_ok-next.ensures.next in
+    let first = zeros_from view below out a b c.args.from c.in_ok-next.next whole.0 (c.in_ok-next.ensures.fills out sound high whole version) in
+    let at = still_at h h' c.args.from first.header whole.0 in
+    let second = c.in_ok-fill_range.ensures.fills out first.sound low at in
+    let both = fills_before view below out a b d c.args.from c.args.old c.args.from c.in_ok-next.next low next.0 first second in
+    let kept = c.in_ok-next.ensures.l1_place (λ lt. entry_reached view below out (pending_in view below a out) a sound c.args.from c.args.end lt near) in
+    let still = place_then h h' h'' kept (c.in_ok-fill_range.ensures.l1_place out first.sound at (near_moved h h' c.args.end c.args.from first.header kept high near)) in
+    let ends = c.in_ok-next.ensures.whole out sound whole in
+    if_err c.zero_range.result (λ e why. inl why)
+    (c.zero_range.ensures.met out both.sound alone (omega (arith, next.2, high)) (still_at h h'' c.in_ok-next.next both.header ends, still_at h h'' c.args.end both.header whole.1) (subst (λ v. 3 ≤ v) (sym (same_version h h'' both.header)) version)
+    (near_moved h h'' c.args.end c.args.end both.header still (omega arith) near))

@@ -1,5 +1,5 @@
 use Rattle.qcow2_alloc.proofs.KeptMarks.{notes_none, notes_then}
-use Rattle.std.proofs.Common.{◌≡◌, ◌∙◌, ◌+◌, ◌-◌, ◌^◌, ◌<◌, inl, min, ap, subst, sym, arith, rules}
+use Rattle.std.proofs.Common.{◌≡◌, ◌∙◌, ◌+◌, ◌-◌, ◌^◌, ◌<◌, inl, min, ap, refl, subst, sym, arith, rules}
 use Rattle.std.specs.Prelude.{IsTrue}
 use Rattle.qcow2_disk.specs.Found.{rest_of_table}
 use Rattle.qcow2_laws.specs.CrashInvariant.{Pending}
@@ -8,7 +8,7 @@ use Rattle.qcow2_alloc.proofs.AllocationSteps.{handed_on}
 use Rattle.qcow2_alloc.specs.ImageFile.{contents_in, known_in}
 use Rattle.qcow2_image.specs.Clearing.{IsClearable}
 use Rattle.qcow2_image.specs.declared.discarding.Clearance.TheVariants.{KeptZeros}
-use Rattle.qcow2_image.specs.ImageInvariant.{ImageInvariant, abstract_of}
+use Rattle.qcow2_image.specs.ImageInvariant.{ImageInvariant, abstract_of, pending_in}
 use Rattle.qcow2_image.specs.Preallocation.{FillsFirst}
 use Rattle.qcow2_image.proofs.Call.Called.{works_none}
 use Rattle.qcow2_image.proofs.Flush.Freeing.{all_listed, beside, freed_refused, tidy_stays}
@@ -16,8 +16,10 @@ use Rattle.qcow2_image.proofs.Preallocate.Filled.{cleared_fills, fill_unseen, fi
 use Rattle.qcow2_image.proofs.Preallocate.Untaken.{untaken_cleared}
 use Rattle.qcow2_image.proofs.Call.MetErrors.{tables_met}
 use Rattle.qcow2_image.proofs.Call.Unlimited.{fault_unlimited}
-use Rattle.qcow2_image.proofs.Prepare.Lacked.{emptied_by_limit}
+use Rattle.qcow2_image.proofs.Prepare.Lacked.{emptied_by_limit, hands_either}
 use Rattle.qcow2_image.proofs.Call.BehindHeader.{behind_none, behind_then}
+use Rattle.qcow2_image.specs.L1Entries.{NeedsFarEntry}
+use Rattle.qcow2_image.proofs.Preallocate.Met.{met_no_more, never_far, place_same}
 use Rattle.qcow2_image.proofs.image.Qcow2.zero_first.Goals as goal
 
 pub returns-then-to-from-clause-fills : goal.returns-then-to-from-clause-fills
@@ -149,3 +151,55 @@ returns-in_err-free_listed-clause-notes g c = notes_then c.clear_between.ensures
 
 pub returns-clause-notes : goal.returns-clause-notes
 returns-clause-notes g c = notes_then c.clear_between.ensures.notes c.free_listed.ensures.notes
+
+pub returns-in_err-clear_between-clause-met : goal.returns-in_err-clear_between-clause-met
+returns-in_err-clear_between-clause-met g c = λ out sound alone le whole version near.
+    let view = g.S.Storage.view in
+    let below = g.F.BackingDisk.backing in
+    let old = c.args.self.now in
+    let h = old.file.header.fields in
+    let from = c.args.from in
+    let to = c.args.to in
+    let e = c.in_err-clear_between.field-0.0 in
+    let sizes = Sizes-from h (contents_in view old.file) sound.file.caches.kept.kept.crash_invariant.top.header_reads in
+    let rest = c.rest_of_table.ensures.value in
+    let is : c.min-next.result ≡ min c.args.to (min (c.args.from + rest_of_table c.args.self.now.file.header.fields c.args.from) (2 ^ 64 - 1)) = c.min-next.ensures ∙ ap (min to) (c.saturating_add.ensures ∙ ap (λ n. min (from + n) (2 ^ 64 - 1)) rest) in
+    let high : c.args.to < 2 ^ 64 = search rules in
+    let can : IsClearable c.args.self.now.file.header.fields KeptZeros c.args.from c.min-next.result = record {
+      begins = whole.0;
+      ends = next_whole h sizes.some sizes.entries from to c.min-next.result whole.1 is high;
+      within = next_within h sizes.some sizes.entries from to c.min-next.result whole.1 is high;
+      version = λ _. version;
+    } in
+    hands_either c.from_residual.result e c.from_residual.ensures
+    (met_no_more ⊥ (NeedsFarEntry old from) e (λ never. never) (never_far view below out (pending_in view below old out) old sound from to c.if-to-from.false near) (c.in_err-clear_between.ensures.met out sound can alone))
+
+pub returns-in_err-free_listed-clause-met : goal.returns-in_err-free_listed-clause-met
+returns-in_err-free_listed-clause-met g c = λ out sound alone le whole version near.
+    let view = g.S.Storage.view in
+    let below = g.F.BackingDisk.backing in
+    let old = c.args.self.now in
+    let mid = c.clear_between.new.self in
+    let h = old.file.header.fields in
+    let from = c.args.from in
+    let to = c.args.to in
+    let next = c.min-next.result in
+    let sizes = Sizes-from h (contents_in view old.file) sound.file.caches.kept.kept.crash_invariant.top.header_reads in
+    let rest = c.rest_of_table.ensures.value in
+    let is : c.min-next.result ≡ min c.args.to (min (c.args.from + rest_of_table c.args.self.now.file.header.fields c.args.from) (2 ^ 64 - 1)) = c.min-next.ensures ∙ ap (min to) (c.saturating_add.ensures ∙ ap (λ n. min (from + n) (2 ^ 64 - 1)) rest) in
+    let high : c.args.to < 2 ^ 64 = search rules in
+    let part = c.in_ok-clear_between.ensures.clears out sound (record {
+      begins = whole.0;
+      ends = next_whole h sizes.some sizes.entries from to next whole.1 is high;
+      within = next_within h sizes.some sizes.entries from to next whole.1 is high;
+      version = λ _. version;
+    }) in
+    let listed = subst (λ (x : Pending). ImageInvariant view below x mid out) (all_listed view below mid out) part.sound in
+    hands_either c.from_residual-in_err-free_listed.result c.in_err-free_listed.field-0.0 c.from_residual-in_err-free_listed.ensures (inl (c.in_err-free_listed.ensures.faults (beside view below mid out) out listed))
+
+pub returns-then-to-from-clause-l1_place : goal.returns-then-to-from-clause-l1_place
+returns-then-to-from-clause-l1_place g c = λ within. (refl, refl)
+
+pub returns-clause-l1_place : goal.returns-clause-l1_place
+returns-clause-l1_place g c = λ within.
+    place_same c.args.self.now.file.header.fields c.clear_between.new.self.file.header c.free_listed.new.self.file.header c.free_listed.ensures.keeps_rest.header (c.in_ok-clear_between.ensures.l1_place (within c.if-to-from.false))

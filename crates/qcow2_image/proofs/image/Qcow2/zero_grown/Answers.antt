@@ -1,5 +1,5 @@
 use Rattle.qcow2_alloc.proofs.KeptMarks.{notes_none}
-use Rattle.std.proofs.Common.{◌≡◌, ◌≤◌, ◌%◌, ◌∙◌, ap, subst, sym, arith}
+use Rattle.std.proofs.Common.{◌≡◌, ◌≤◌, ◌%◌, ◌∙◌, ap, refl, subst, sym, arith}
 use Rattle.std.proofs.lemmas.Nat.{pow_pos}
 use Rattle.qcow2_metadata.specs.Header.{cluster_size, rounded_up}
 use Rattle.qcow2_alloc.specs.declared.error.ImageError.TheVariants.{Overflow, Version}
@@ -7,6 +7,11 @@ use Rattle.qcow2_image.specs.Preallocation.{FillsOrRefuses}
 use Rattle.qcow2_image.proofs.Preallocate.Filled.{refused_here}
 use Rattle.qcow2_image.proofs.Preallocate.Grown.{up_least, up_rising, up_whole}
 use Rattle.qcow2_image.proofs.Call.BehindHeader.{behind_none}
+use Rattle.std.specs.Prelude.{IfErr}
+use Rattle.qcow2_alloc.specs.ImageFile.{known_in}
+use Rattle.qcow2_image.specs.ImageInvariant.{pending_in}
+use Rattle.qcow2_image.specs.MetAlone.{HasCompressedIn, HasNearEntries, IsMetAlone}
+use Rattle.qcow2_image.proofs.Preallocate.Met.{never_past}
 use Rattle.qcow2_image.proofs.image.Qcow2.zero_grown.Goals as goal
 
 pub returns-then-version-lt3-clause-fills : goal.returns-then-version-lt3-clause-fills
@@ -64,3 +69,33 @@ returns-in_default-rounded_up-clause-notes g c = notes_none
 
 pub returns-clause-notes : goal.returns-clause-notes
 returns-clause-notes g c = c.zero_between.ensures.notes
+
+pub returns-then-version-lt3-clause-met : goal.returns-then-version-lt3-clause-met
+returns-then-version-lt3-clause-met g c = λ out sound alone le version near. absurd (let low = c.if-version-lt3.true in let is = c.version.ensures.value in omega (arith, low, is, version))
+
+pub returns-in_default-clause-met : goal.returns-in_default-clause-met
+returns-in_default-clause-met g c = λ out sound alone le version near.
+    let old = c.args.self.now in
+    absurd (never_past g.S.Storage.view g.F.BackingDisk.backing out (pending_in g.S.Storage.view g.F.BackingDisk.backing old out) old sound c.args.size c.args.old c.cluster_size-cluster_size.result le c.cluster_size-cluster_size.ensures.value near (c.in_default.ensures.none refl))
+
+pub returns-in_default-rounded_up-clause-met : goal.returns-in_default-rounded_up-clause-met
+returns-in_default-rounded_up-clause-met g c = λ out sound alone le version near.
+    let old = c.args.self.now in
+    absurd (never_past g.S.Storage.view g.F.BackingDisk.backing out (pending_in g.S.Storage.view g.F.BackingDisk.backing old out) old sound c.args.size c.args.size c.cluster_size-cluster_size.result (omega arith) c.cluster_size-cluster_size.ensures.value near (c.in_default-rounded_up.ensures.none refl))
+
+pub returns-clause-met : goal.returns-clause-met
+returns-clause-met g c = λ out sound alone le version near.
+    let view = g.S.Storage.view in
+    let below = g.F.BackingDisk.backing in
+    let old = c.args.self.now in
+    let h = old.file.header.fields in
+    let cs = cluster_size h in
+    let some = pow_pos h.cluster_bits in
+    let size = c.cluster_size-cluster_size.ensures.value in
+    let from : c.in-Some.from ≡ rounded_up (cluster_size c.args.self.now.file.header.fields) c.args.old = c.in-Some.ensures.some ∙ ap (λ s. rounded_up s c.args.old) size in
+    let end : c.in-Some-rounded_up.end ≡ rounded_up (cluster_size c.args.self.now.file.header.fields) c.args.size = c.in-Some-rounded_up.ensures.some ∙ ap (λ s. rounded_up s c.args.size) size in
+    let least = up_least cs c.args.old some in
+    let rising = up_rising cs c.args.old c.args.size some le in
+    subst (λ n. IfErr c.zero_between.result (IsMetAlone (HasCompressedIn c.args.old n h (known_in view old.file)) ⊥)) end
+    (c.zero_between.ensures.met out sound alone (omega (arith, from, least)) (omega (arith, from, end, rising)) (subst (λ n. n % cs ≡ 0) (sym from) (up_whole cs c.args.old some), subst (λ n. n % cs ≡ 0) (sym end) (up_whole cs c.args.size some)) version
+    (subst (λ n. HasNearEntries n h) (sym end) near))

@@ -1,0 +1,112 @@
+-- Where the bytes of a prepared mapping stand: each has its place to itself, in a cluster that isn't cluster 0.
+use Rattle.std.proofs.Common.{◌≡◌, inl, inr, ℕ, ◌+◌, ◌/◌, ◌%◌, ◌<◌, ◌≤◌, true, List, refl, sym, ap, ◌∙◌, subst, arith}
+use Rattle.std.specs.Prelude.{Option, Some, None, slice_get, get_or}
+use Rattle.std.proofs.Math.Nat.{div-eq_of_lt}
+use Rattle.std.proofs.lemmas.Bool.{cases_lt}
+use Rattle.std.proofs.lemmas.Nat.{pow_pos}
+use Rattle.std.proofs.lemmas.Option.{slice_get-get_or}
+use Rattle.image_access.specs.Backing.{BackingView}
+use Rattle.image_access.specs.Moments.{StorageView}
+use Rattle.qcow2_metadata.specs.Bytes.{Bytes}
+use Rattle.qcow2_metadata.specs.declared.header.HeaderFields.{HeaderFields}
+use Rattle.qcow2_metadata.specs.Header.{cluster_size}
+use Rattle.qcow2_metadata.specs.Cover.{cover}
+use Rattle.qcow2_metadata.specs.Named.{in_cluster, named_for_tables}
+use Rattle.qcow2_disk.specs.Alike.{AreDataAt}
+use Rattle.qcow2_laws.specs.CrashInvariant.{Pending}
+use Rattle.qcow2_laws.specs.GuestLaws.{Hosting, IsHostedAt, IsHeld}
+use Rattle.qcow2_laws.specs.GuestLaws.{InPlace as HostedInPlace, Kept as HostedKept, Held as HostedHeld}
+use Rattle.qcow2_laws.specs.SafeSteps.{DriverState}
+use Rattle.qcow2_laws.proofs.Consistency.{in_own}
+use Rattle.qcow2_laws.proofs.PutRuns.{beside_tables}
+use Rattle.qcow2_laws.proofs.Shares.{shares}
+use Rattle.qcow2_alloc.specs.declared.clusters_to_free.ClustersToFreeEntry.{ClustersToFreeEntry}
+use Rattle.qcow2_alloc.specs.ImageFile.{state_in, contents_in, known_in}
+use Rattle.qcow2_image.specs.declared.image.Qcow2.{Qcow2}
+use Rattle.qcow2_image.specs.declared.prepared.Prepared.{Prepared}
+use Rattle.qcow2_image.specs.declared.prepared.Share.{Share}
+use Rattle.qcow2_image.specs.declared.prepared.Share.TheVariants.{InPlace, Kept, New}
+use Rattle.qcow2_image.specs.ImageInvariant.{to_free, of_data, new_data_by, pending_in, cluster_of, share_of, host_begin_of, IsNewAt, IsShareAt, IsPending, IsReadyWith, ImageInvariant}
+use Rattle.qcow2_image.proofs.Shares.{byte_cluster, byte_place, byte_share, new_data_at, new_data_once, host_cluster, no_share, over_all_at, share_here}
+
+-- how the bytes of a guest cluster have a place to themselves, by its share
+abbrev pub hosted_as : Option Share → Hosting
+hosted_as None = HostedInPlace
+hosted_as (Some InPlace) = HostedInPlace
+hosted_as (Some Kept) = HostedKept
+hosted_as (Some (New taken old_data)) = HostedHeld
+
+abbrev pub hosting_in : HeaderFields → Prepared → ℕ → Hosting
+hosting_in h q o = hosted_as (share_of h q (o / cluster_size h))
+
+-- a place in a cluster that stands for no table lies behind the first cluster
+behind_tables : (h : HeaderFields) (b : Bytes) (place : ℕ) → named_for_tables h b (place / cluster_size h) ≡ 0 → cluster_size h ≤ place
+behind_tables h b place none = elim (cases_lt place (cluster_size h)) [
+  | inr behind ↦ behind
+  | inl first ↦
+      let zero : place / cluster_size h ≡ 0 = div-eq_of_lt first in
+      let s = shares h b 0 in
+      let at : 0 / cluster_size h ≡ 0 = let size = pow_pos h.cluster_bits in omega (arith, size) in
+      let one : in_cluster h 0 0 ≡ 1 = ap (λ n. in_cluster h n 0) (sym at) ∙ in_own h 0 in
+      let here : named_for_tables h b 0 ≡ 0 = ap (named_for_tables h b) (sym zero) ∙ none in
+      absurd (omega (arith, s, one, here))
+]
+
+module _ {S F : Type 0} (view : S → StorageView) (backing : F → BackingView) (old : Qcow2 S F) (out : List (Option Prepared)) (sound : ImageInvariant view backing (pending_in view backing old out) old out)
+    (n k : ℕ) (q : Prepared) (at : ℕ) (placed : slice_get out k ≡ Some (Some q)) (fits : at + n ≤ q.length) (in_place : q.table ≡ None → AreDataAt old.file.header.fields (known_in view old.file) true (q.guest + at) (q.offset + at) n) where
+  abbrev before : Pending
+  before = pending_in view backing old out
+
+  abbrev s : DriverState
+  s = state_in view old.file before
+
+  abbrev h : HeaderFields
+  h = old.file.header.fields
+
+  abbrev size : ℕ
+  size = cluster_size h
+
+  -- a new cluster of it is held
+  new_data_mine : (j : ℕ) (taken old_data : List ClustersToFreeEntry) → slice_get q.shares.items j ≡ Some (New taken old_data) → (stands : IsNewAt h s.known s.on_storage q j taken old_data) → 0 < new_data_by q stands.first
+  new_data_mine j taken old_data is_share stands =
+      let one : to_free of_data taken stands.first ≡ 1 = ap (λ l. to_free of_data l stands.first) stands.is ∙ new_data_once stands.first in
+      let mine = new_data_at q.shares.items j taken old_data is_share stands.first in
+      omega (arith, one, mine)
+
+  hosted_share : (i j : ℕ) (share : Share) → (q.guest + at + i) / size ≡ cluster_of h q + j → q.offset + at + i ≡ host_begin_of h q j + (q.guest + at + i) % size → slice_get q.shares.items j ≡ Some share → IsShareAt h s.known s.on_storage q j share
+      → IsHostedAt s (hosted_as (Some share)) (q.guest + at + i) (q.offset + at + i) × (IsHeld (hosted_as (Some share)) → 0 < new_data_by q ((q.offset + at + i) / size))
+  hosted_share i j InPlace here place is_share stands = ((host_begin_of h q j, ap (cover h s.known) here ∙ stands, sym place), λ never. absurd never)
+  hosted_share i j Kept here place is_share stands = ((host_begin_of h q j, ap (cover h s.known) here ∙ stands.entry, sym place), λ never. absurd never)
+  hosted_share i j (New taken old_data) here place is_share stands =
+      let there : (q.offset + at + i) / size ≡ stands.first = ap (λ n. n / size) place ∙ host_cluster h q j stands.first stands.place (q.guest + at + i) in
+      let mine = new_data_mine j taken old_data is_share stands in
+      let all = over_all_at new_data_by out k q placed stands.first in
+      (subst (λ c. 0 < before.new_data c) (sym there) (omega (arith, mine, all)), λ _. subst (λ c. 0 < new_data_by q c) (sym there) mine)
+
+  hosts_pending : (t : ℕ) → IsPending h s.known s.on_storage q t → (i : ℕ) → i < n
+      → IsHostedAt s (hosting_in h q (q.guest + at + i)) (q.guest + at + i) (q.offset + at + i) × (IsHeld (hosting_in h q (q.guest + at + i)) → 0 < new_data_by q ((q.offset + at + i) / size))
+  hosts_pending t pending i lt =
+      let j = (q.guest % size + at + i) / size in
+      let here = byte_cluster h q s.known s.on_storage t pending at i n fits lt in
+      let place = byte_place h q s.known s.on_storage t pending at i n fits lt in
+      let found = slice_get-get_or q.shares.items ((q.guest % size + at + i) / size) InPlace (byte_share h q s.known s.on_storage t pending at i n fits lt) in
+      let share = get_or q.shares.items ((q.guest % size + at + i) / size) InPlace in
+      subst (λ (x : Option Share). IsHostedAt s (hosted_as x) (q.guest + at + i) (q.offset + at + i) × (IsHeld (hosted_as x) → 0 < new_data_by q ((q.offset + at + i) / size)))
+      (sym (ap (share_of h q) here ∙ share_here h q ((q.guest % size + at + i) / size) ∙ found)) (hosted_share i j share here place found (pending.each j share found))
+
+  pub hosted_with : (t : Option ℕ) → q.table ≡ t → IsReadyWith h s.known s.on_storage q t → (i : ℕ) → i < n
+      → IsHostedAt s (hosting_in h q (q.guest + at + i)) (q.guest + at + i) (q.offset + at + i) × (IsHeld (hosting_in h q (q.guest + at + i)) → 0 < new_data_by q ((q.offset + at + i) / size))
+  hosted_with None none ready i lt =
+      subst (λ (x : Option Share). IsHostedAt s (hosted_as x) (q.guest + at + i) (q.offset + at + i) × (IsHeld (hosted_as x) → 0 < new_data_by q ((q.offset + at + i) / size)))
+      (sym (no_share h q ready ((q.guest + at + i) / size))) (in_place none i lt, λ never. absurd never)
+  hosted_with (Some t) some pending i lt = hosts_pending t pending i lt
+
+  pub all_hosted : (i : ℕ) → i < n → IsHostedAt s (hosting_in h q (q.guest + at + i)) (q.guest + at + i) (q.offset + at + i)
+  all_hosted i lt = (hosted_with q.table refl (sound.ready k q placed).mapped i lt).0
+
+  pub hosts_no_table : (i : ℕ) → i < n → named_for_tables h (contents_in view old.file) ((q.offset + at + i) / size) ≡ 0
+  hosts_no_table i lt = beside_tables s (hosting_in h q (q.guest + at + i)) (q.guest + at + i) (q.offset + at + i) sound.file.caches.kept.kept.crash_invariant (all_hosted i lt)
+
+  -- so do all of them
+  pub hosts_behind_header : (i : ℕ) → i < n → cluster_size old.file.header.fields ≤ q.offset + at + i
+  hosts_behind_header i lt = behind_tables h (contents_in view old.file) (q.offset + at + i) (hosts_no_table i lt)
