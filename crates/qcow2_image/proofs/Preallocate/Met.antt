@@ -1,6 +1,6 @@
 -- What filling a range, and a larger disk, is refused for on a sound image of which nothing is prepared.
-use Rattle.std.proofs.Common.{◌≡◌, ◌⊎◌, inl, inr, ℕ, ◌+◌, ◌-◌, ◌*◌, ◌/◌, ◌%◌, ◌^◌, ◌<◌, ◌≤◌, true, false, List, Option, Some, None, pow_mono, refl, sym, ap, ◌∙◌, subst, arith}
-use Rattle.std.specs.Prelude.{IfErr, IsErr, IsErrAnd, OnOk, Result}
+use Rattle.std.proofs.Common.{◌≡◌, ◌⊎◌, inl, inr, ℕ, ◌+◌, ◌-◌, ◌*◌, ◌/◌, ◌%◌, ◌^◌, ◌<◌, ◌≤◌, true, false, List, Option, Some, None, pow_mono, sym, ap, ◌∙◌, subst, arith}
+use Rattle.std.specs.Prelude.{IfErr, IsErr, IsErrAnd, Result}
 use Rattle.std.proofs.Math.Nat.{div-lt_iff_lt-mul}
 use Rattle.std.proofs.lemmas.Bool.{cases_lt}
 use Rattle.std.proofs.lemmas.Nat.{div-add-mod', mul-le, pow_pos}
@@ -9,7 +9,7 @@ use Rattle.image_access.specs.Moments.{StorageView}
 use Rattle.image_access.specs.declared.storage.PreallocateMode.{PreallocateMode}
 use Rattle.qcow2_metadata.specs.Bytes.{Bytes}
 use Rattle.qcow2_metadata.specs.Cover.{cover}
-use Rattle.qcow2_metadata.specs.EntryTable.{EntryTableView, HasRoomIfPlaced, entry_count}
+use Rattle.qcow2_metadata.specs.EntryTable.{HasRoomIfPlaced, entry_count}
 use Rattle.qcow2_metadata.specs.Header.{HeaderView, cluster_size, entries_per_cluster, rounded_up}
 use Rattle.qcow2_metadata.specs.L2Table.{copied_host, zero_cover}
 use Rattle.qcow2_metadata.specs.declared.header.HeaderFields.{HeaderFields}
@@ -29,7 +29,7 @@ use Rattle.qcow2_image.specs.ImageInvariant.{ImageInvariant, pending_in}
 use Rattle.qcow2_image.specs.L1Entries.{NeedsFarEntry, ReachesOffset}
 use Rattle.qcow2_image.specs.LackedPlaces.{IsPlacedNear}
 use Rattle.qcow2_image.specs.MetAlone.{HasCompressedIn, HasNearEntries, IsMetAlone, IsMetFilling, KeepsL1Place}
-use Rattle.qcow2_image.specs.MovedTables.{CoversStay, MovesTables}
+use Rattle.qcow2_image.specs.MovedTables.{MovesTables}
 use Rattle.qcow2_image.specs.Preallocation.{FillsPart, IsWholeRange}
 use Rattle.qcow2_image.specs.Refusals.{IsFaultOrLimit}
 use Rattle.qcow2_image.specs.declared.image.Qcow2.{Qcow2}
@@ -37,7 +37,7 @@ use Rattle.qcow2_image.specs.declared.prepared.Prepared.{Prepared}
 use Rattle.qcow2_image.proofs.Grow.Lengths.{index_moved, index_rising, last_cluster}
 use Rattle.qcow2_image.proofs.Preallocate.Covers.{touches_or}
 use Rattle.qcow2_image.proofs.Preallocate.Grown.{up_rising}
-use Rattle.qcow2_image.proofs.Preallocate.Turns.{same_size, same_version, still_at}
+use Rattle.qcow2_image.proofs.Preallocate.Turns.{same_size, same_version}
 
 -- ---- refusals
 

@@ -30,7 +30,7 @@ use Rattle.qcow2_image.specs.Ranges.{ReleasesOneMapping}
 use Rattle.qcow2_image.specs.declared.prepared.Share.TheVariants.{InPlace}
 use Rattle.qcow2_image.specs.ImageInvariant.{ImageInvariant, IsPending, IsReadyWith, cluster_of, abstract_of, disk_of, image_abstraction, meaning, pending_in}
 use Rattle.qcow2_image.specs.L1Entries.{ReachesOffset, StaysAsLong}
-use Rattle.qcow2_image.specs.MovedTables.{CoversStay, MovesTables}
+use Rattle.qcow2_image.specs.MovedTables.{MovesTables}
 use Rattle.qcow2_image.specs.Preallocation.{ChangesFree, FilledCovers, Touches, CommitsWhole, FillsPart, FillsSome, InterruptedGiving, given_by_zeros}
 use Rattle.qcow2_alloc.proofs.PlacedBlocks.{file_sizes}
 use Rattle.qcow2_image.specs.Clearing.{IsUnderMapping}

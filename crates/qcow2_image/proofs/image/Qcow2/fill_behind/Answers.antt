@@ -9,7 +9,6 @@ use Rattle.qcow2_alloc.proofs.KeptMarks.{notes_none}
 use Rattle.std.specs.Prelude.{IfErr, Result}
 use Rattle.std.proofs.lemmas.Bool.{cases_lt}
 use Rattle.qcow2_alloc.specs.ImageFile.{known_in}
-use Rattle.qcow2_alloc.specs.declared.error.ImageError.{ImageError}
 use Rattle.qcow2_image.specs.MetAlone.{IsMetFilling}
 use Rattle.qcow2_image.proofs.Preallocate.Met.{hands_met}
 use Rattle.qcow2_image.proofs.Prepare.Taken.{if_err}

@@ -89,6 +89,3 @@ returns-in_err-at-clause-met g c = λ out sound alone le whole near.
     hands_met (IsMetAlone (HasCompressedIn from to old.file.header.fields (known_in view old.file)) ⊥) c.from_residual.result e c.from_residual.ensures
     (met_before view below out to from c.loop-at.at old now part c.loop-at.at to from to low (omega arith) e
     (c.in_err-at.ensures.met out part.sound alone (still_at old.file.header.fields now.file.header.fields to part.header whole) (near_moved old.file.header.fields now.file.header.fields to to part.header kept (omega arith) near)))
-
-pub returns-clause-l1_place : goal.returns-clause-l1_place
-returns-clause-l1_place g c = λ out sound whole near. c.loop-at.invariant.place out sound whole near

@@ -1,4 +1,4 @@
-use Rattle.std.proofs.Common.{ap, arith, replicate}
+use Rattle.std.proofs.Common.{ap, replicate}
 use Rattle.qcow2_alloc.proofs.KeptMarks.{notes_none, notes_of_storage, told_kept}
 use Rattle.qcow2_image.proofs.Call.BehindHeader.{behind_guard, behind_none, behind_wrote}
 use Rattle.qcow2_alloc.specs.ImageError.{of_storage}
@@ -26,12 +26,6 @@ returns-in_err-write-clause-header_cluster g c = behind_wrote c.write.result c.a
 
 pub returns-clause-header_cluster : goal.returns-clause-header_cluster
 returns-clause-header_cluster g c = behind_wrote c.write.result c.args.host (replicate c.args.count 0) (ap g.S.Storage.view c.will_write.ensures.storage) (λ bits lies. behind_guard bits _ c.cluster_size.result c.args.host lies.header c.cluster_size.ensures.value c.if-host-cluster_size.false) c.write.ensures.written c.write.ensures.calls
-
-pub returns-then-host-cluster_size-clause-fault : goal.returns-then-host-cluster_size-clause-fault
-returns-then-host-cluster_size-clause-fault g c = λ behind.
-    let low = c.if-host-cluster_size.true in
-    let size = c.cluster_size.ensures.value in
-    absurd (omega (arith, low, size, behind))
 
 pub returns-in_err-write-clause-fault : goal.returns-in_err-write-clause-fault
 returns-in_err-write-clause-fault g c = λ behind. hands_fault c.from_residual.result (of_storage c.in_err-write.field-0.0) c.from_residual.ensures (storage_fault c.in_err-write.field-0.0)

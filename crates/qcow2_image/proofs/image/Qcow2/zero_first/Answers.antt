@@ -1,5 +1,5 @@
 use Rattle.qcow2_alloc.proofs.KeptMarks.{notes_none, notes_then}
-use Rattle.std.proofs.Common.{◌≡◌, ◌∙◌, ◌+◌, ◌-◌, ◌^◌, ◌<◌, inl, min, ap, refl, subst, sym, arith, rules}
+use Rattle.std.proofs.Common.{◌≡◌, ◌∙◌, ◌+◌, ◌-◌, ◌^◌, ◌<◌, inl, min, ap, subst, sym, arith, rules}
 use Rattle.std.specs.Prelude.{IsTrue}
 use Rattle.qcow2_disk.specs.Found.{rest_of_table}
 use Rattle.qcow2_laws.specs.CrashInvariant.{Pending}
@@ -196,9 +196,6 @@ returns-in_err-free_listed-clause-met g c = λ out sound alone le whole version 
     }) in
     let listed = subst (λ (x : Pending). ImageInvariant view below x mid out) (all_listed view below mid out) part.sound in
     hands_either c.from_residual-in_err-free_listed.result c.in_err-free_listed.field-0.0 c.from_residual-in_err-free_listed.ensures (inl (c.in_err-free_listed.ensures.faults (beside view below mid out) out listed))
-
-pub returns-then-to-from-clause-l1_place : goal.returns-then-to-from-clause-l1_place
-returns-then-to-from-clause-l1_place g c = λ within. (refl, refl)
 
 pub returns-clause-l1_place : goal.returns-clause-l1_place
 returns-clause-l1_place g c = λ within.
