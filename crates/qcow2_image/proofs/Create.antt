@@ -4,6 +4,7 @@ pub mod FirstImage
 pub mod NewDisks
 pub mod ThreeWrites
 pub mod Creating
+pub mod Faults
 pub mod Causes
 pub mod TakingPlace
 pub mod Leaks

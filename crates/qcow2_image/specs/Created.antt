@@ -21,7 +21,7 @@ use Rattle.qcow2_disk.specs.Disk.{disk}
 use Rattle.qcow2_disk.specs.Mappings.{is_copied_data}
 use Rattle.qcow2_laws.specs.NewImages.{IsNewImage}
 use Rattle.qcow2_laws.specs.Opened.{HasNoLeaks}
-use Rattle.qcow2_alloc.specs.ImageFile.{view_in}
+use Rattle.qcow2_alloc.specs.ImageFile.{known_in, view_in}
 use Rattle.qcow2_alloc.specs.LoadedTables.{ReftableFits}
 use Rattle.qcow2_alloc.specs.declared.error.ImageError.{ImageError}
 use Rattle.qcow2_alloc.specs.declared.error.ImageError.TheVariants as I
@@ -34,7 +34,6 @@ use Rattle.qcow2_image.specs.declared.image.Qcow2.{Qcow2}
 use Rattle.qcow2_image.specs.Image.{HasNothingToFree, leaked_in, size_of}
 use Rattle.qcow2_image.specs.ImageInvariant.{abstract_of}
 use Rattle.qcow2_image.specs.LackedTables.{CantGrowDisk}
-use Rattle.qcow2_image.specs.Refusals.{IsMet}
 use Rattle.qcow2_image.specs.Resizing.{GrowsTables, GrowsTo, IsResized, refuses_to_resize, size_after}
 
 -- the first eight bytes are the magic, and version 2 or 3
@@ -125,11 +124,13 @@ module _ {S : Type 0} where
     pub no_larger : cluster_bits ≤ 21
     pub no_wider : refcount_order ≤ 6
 
-  -- Why an image isn't created: 5 only for an option that images don't have. 13 only for a disk that is too long, or where a place lacks for it. And else what the work meets.
+  -- Why an image isn't created: 5 only for an option that images don't have. 13 only for a disk that is too long, or where a place lacks for it. And else for want of memory or a fault of the storage.
   abbrev pub IsReasonNotToCreate : (S → StorageView) → Qcow2CreateBuilder S → ImageError → Type 0
   IsReasonNotToCreate view builder I.InvalidOption = ¬ IsAllowed builder
   IsReasonNotToCreate view builder I.Limit = (longest_disk builder.cluster_size < builder.size) ⊎ LacksPlaceCreating view builder
-  IsReasonNotToCreate view builder e = IsMet e
+  IsReasonNotToCreate view builder I.Memory = Unit {0}
+  IsReasonNotToCreate view builder I.Storage = Unit {0}
+  IsReasonNotToCreate view builder e = ⊥
 
   -- the image that was asked for stands on an honest storage
   pub record IsCreated (builder : Qcow2CreateBuilder S) (storage : StorageView) : Type 0 where
@@ -199,6 +200,11 @@ pub record IsEnlarged (mode : PreallocateMode) (n : ℕ) (old new : StorageView)
 abbrev pub Enlarges : PreallocateMode → ℕ → StorageView → StorageView → Result (Unit {0}) ImageError → Type 0
 Enlarges mode n old new (Ok _) = IsEnlarged mode n old new
 Enlarges mode n old new (Err _) = StopsCreating mode n old new
+
+-- Nothing stands for any guest cluster of an open image, and its entries could say that one is zeros.
+pub record IsUnmapped {S F : Type 0} (view : S → StorageView) (image : Qcow2 S F) : Type 0 where
+  pub version : 3 ≤ image.file.header.fields.version
+  pub covers : (g : ℕ) → cover image.file.header.fields (known_in view image.file) g ≡ Uncovered
 
 module _ {S F : Type 0} (view : S → StorageView) (backing : F → BackingView) where
   -- an open image of which no mapping is prepared is made larger, and place is taken for that

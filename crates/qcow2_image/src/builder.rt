@@ -15,12 +15,13 @@ ghost use Rattle.qcow2_alloc.specs.declared.error.ImageError.TheVariants.{Limit}
 ghost use Rattle.qcow2_metadata.specs.Header.{header as header_at};
 ghost use Rattle.qcow2_laws.specs.NewImages.{IsNewImage};
 ghost use Rattle.qcow2_image.specs.Image.{is_failed, is_writable};
-ghost use Rattle.qcow2_image.specs.Refusals.{IsMet, IsUnlimited, MarksFailed};
+ghost use Rattle.qcow2_alloc.specs.ImageError.{IsFault};
+ghost use Rattle.qcow2_image.specs.Refusals.{IsFaultOrLimit, MarksFailed};
 ghost use Rattle.qcow2_image.specs.Resizing.{refuses_to_resize};
 ghost use Rattle.qcow2_image.specs.ImageInvariant.{abstract_of};
 ghost use Rattle.qcow2_image.specs.Growing.{KeepsSurplus};
 ghost use Rattle.qcow2_laws.specs.Opened.{HasNoLeaks};
-ghost use Rattle.qcow2_image.specs.Created.{longest_disk, IsUnwritten, IsNewHeader, CountsThree, NamesOne, WritesThree, CantEnlarge, CantGrowBy, Enlarges, GrowsBy};
+ghost use Rattle.qcow2_image.specs.Created.{longest_disk, IsUnmapped, IsUnwritten, IsNewHeader, CountsThree, NamesOne, WritesThree, CantEnlarge, CantGrowBy, Enlarges, GrowsBy};
 
 use crate::Qcow2;
 use crate::image::Missing;
@@ -224,13 +225,11 @@ impl<S: Storage> Qcow2CreateBuilder<S> {
 }
 
 // Nothing stands on the storage any more.
-#[tactic(auto, using(crate::proofs::Call::MetErrors::storage_met, crate::proofs::Call::MetErrors::metadata_met, crate::proofs::Call::Unlimited::storage_unlimited, crate::proofs::Create::Causes::memory_unlimited))]
 fn clear<S: Storage>(storage: &mut ImageStorage<S>) -> Result<(), ImageError>
     ensures honest { (S.view (storage_of storage.old)).is_honest → (S.view (storage_of storage.new)).is_honest }
     ensures time { (S.view (storage_of storage.old)).is_honest → EachMomentSince (S.view (storage_of storage.old)) (S.view (storage_of storage.new)) (λ c. c ≡ []) }
     ensures cleared { (S.view (storage_of storage.old)).is_honest → OnOk result ((S.view (storage_of storage.new)).contents ≡ []) }
-    ensures cause { IfErr result IsMet }
-    ensures limited { IfErr result IsUnlimited }
+    ensures fault { IfErr result IsFault }
     ensures faults { CountsFaults S.view storage.old storage.new result }
 {
     if storage.size()? == 0 {
@@ -242,11 +241,9 @@ fn clear<S: Storage>(storage: &mut ImageStorage<S>) -> Result<(), ImageError>
 }
 
 // The refblock of a new image, which counts its three clusters.
-#[tactic(auto, using(crate::proofs::Call::MetErrors::storage_met, crate::proofs::Call::MetErrors::metadata_met, crate::proofs::Call::Unlimited::storage_unlimited, crate::proofs::Create::Causes::memory_unlimited))]
 fn first_refblock(alloc: Global, header: &Header) -> Result<RefBlock, ImageError>
     ensures counts { IfOk result (CountsThree header.now.fields) }
-    ensures cause { IfErr result IsMet }
-    ensures limited { IfErr result IsUnlimited }
+    ensures fault { IfErr result IsFault }
     ensures faults { IfErr result IsNotOfStorage }
 {
     let mut block = RefBlock::new_cleared(alloc, header)?;
@@ -260,11 +257,9 @@ fn first_refblock(alloc: Global, header: &Header) -> Result<RefBlock, ImageError
 }
 
 // The reftable of a new image, which names that refblock.
-#[tactic(auto, using(crate::proofs::Call::MetErrors::storage_met, crate::proofs::Call::MetErrors::metadata_met, crate::proofs::Call::Unlimited::storage_unlimited, crate::proofs::Create::Causes::memory_unlimited))]
 fn first_reftable(alloc: Global, header: &Header) -> Result<RefTable, ImageError>
     ensures names { IfOk result (NamesOne header.now.fields) }
-    ensures cause { IfErr result IsMet }
-    ensures limited { IfErr result IsUnlimited }
+    ensures fault { IfErr result IsFault }
     ensures faults { IfErr result IsNotOfStorage }
 {
     let mut reftable = RefTable::new_cleared(alloc, header, header.l2_entries())?;
@@ -274,7 +269,6 @@ fn first_reftable(alloc: Global, header: &Header) -> Result<RefTable, ImageError
 }
 
 // The header is cluster 0, the reftable 1, the refblock 2. The header is written last: before it, this is no image.
-#[tactic(auto, using(crate::proofs::Call::MetErrors::storage_met, crate::proofs::Call::MetErrors::metadata_met, crate::proofs::Call::Unlimited::storage_unlimited, crate::proofs::Create::Causes::memory_unlimited))]
 fn write_three<S: Storage>(
     alloc: Global,
     storage: &mut ImageStorage<S>,
@@ -287,8 +281,7 @@ fn write_three<S: Storage>(
     ensures writes { (S.view (storage_of storage.old)).is_honest → (S.view (storage_of storage.old)).contents ≡ [] → IsNewHeader header.now → CountsThree header.now.fields block.now → NamesOne header.now.fields reftable.now
         → WritesThree header.now.fields (S.view (storage_of storage.old)) (S.view (storage_of storage.new)) result }
     ensures stands { (S.view (storage_of storage.old)).is_honest → HasNewNames header.now → OnOk result (IsHeaderIn header.now (S.view (storage_of storage.new)).contents) }
-    ensures cause { IfErr result IsMet }
-    ensures limited { IfErr result IsUnlimited }
+    ensures fault { IfErr result IsFault }
     ensures faults { CountsFaults S.view storage.old storage.new result }
 {
     storage.will_write(WriteKind::Other);
@@ -300,7 +293,6 @@ fn write_three<S: Storage>(
     Ok(())
 }
 
-#[tactic(auto, using(crate::proofs::Call::MetErrors::storage_met, crate::proofs::Call::MetErrors::metadata_met, crate::proofs::Call::Unlimited::storage_unlimited, crate::proofs::Create::Causes::memory_unlimited))]
 fn write_new_image<S: Storage>(
     alloc: Global,
     storage: &mut ImageStorage<S>,
@@ -308,8 +300,7 @@ fn write_new_image<S: Storage>(
 ) -> Result<(), ImageError>
     ensures writes { (S.view (storage_of storage.old)).is_honest → IsNewHeader header.now → WritesThree header.now.fields (S.view (storage_of storage.old)) (S.view (storage_of storage.new)) result }
     ensures stands { (S.view (storage_of storage.old)).is_honest → HasNewNames header.now → OnOk result (IsHeaderIn header.now (S.view (storage_of storage.new)).contents) }
-    ensures cause { IfErr result IsMet }
-    ensures limited { IfErr result IsUnlimited }
+    ensures fault { IfErr result IsFault }
     ensures faults { CountsFaults S.view storage.old storage.new result }
 {
     clear(storage)?;
@@ -326,7 +317,7 @@ fn grow_new_image<S: Storage, F: WrappedFormat<S>>(
 ) -> (S, Result<(), ImageError>)
     ensures enlarges { (S.view (storage_of storage)).is_honest → IsUnwritten 0 (byte_at (S.view (storage_of storage)).contents) → Enlarges mode size (S.view (storage_of storage)) (S.view result.0) result.1 }
     ensures leaks { (S.view (storage_of storage)).is_honest → IsUnwritten 0 (byte_at (S.view (storage_of storage)).contents) → HasNoLeaks (byte_at (S.view (storage_of storage)).contents) → OnOk result.1 (HasNoLeaks (byte_at (S.view result.0).contents)) }
-    ensures cause { (S.view (storage_of storage)).is_honest → IsUnwritten 0 (byte_at (S.view (storage_of storage)).contents) → IfErr result.1 IsMet }
+    ensures fault { (S.view (storage_of storage)).is_honest → IsUnwritten 0 (byte_at (S.view (storage_of storage)).contents) → (header_at (byte_at (S.view (storage_of storage)).contents)).version ≡ 3 → IfErr result.1 IsFaultOrLimit }
     ensures limit { (S.view (storage_of storage)).is_honest → IsUnwritten 0 (byte_at (S.view (storage_of storage)).contents)
         → IsNewImage (header_at (byte_at (S.view (storage_of storage)).contents)) (byte_at (S.view (storage_of storage)).contents) → (header_at (byte_at (S.view (storage_of storage)).contents)).autoclear ≡ 0
         → IfErr result.1 (λ e. e ≡ Limit → CantEnlarge S.view F.backing mode size (S.view (storage_of storage)).contents) }
@@ -350,7 +341,7 @@ fn grow_and_flush<S: Storage, F: WrappedFormat<S>>(
         → Enlarges mode size (view_in S.view image.old.file) (view_in S.view image.new.file) result }
     ensures leaks { IsOpened (abstract_of S.view F.backing image.old []) → IsTrue (is_writable image.old) → ((c : ℕ) → (abstract_of S.view F.backing image.old []).surplus c ≡ 0)
         → OnOk result (HasNoLeaks (byte_at (view_in S.view image.new.file).contents)) }
-    ensures cause { refuses_to_resize image.old ≡ None → IsTrue (is_writable image.old) → is_some image.old.backing ≡ false → (abstract_of S.view F.backing image.old []).is_sound → IfErr result IsMet }
+    ensures fault { refuses_to_resize image.old ≡ None → IsTrue (is_writable image.old) → is_some image.old.backing ≡ false → (abstract_of S.view F.backing image.old []).is_sound → IsUnmapped S.view image.old → IfErr result IsFaultOrLimit }
     ensures limit { refuses_to_resize image.old ≡ None → (abstract_of S.view F.backing image.old []).is_sound → IfErr result (λ e. e ≡ Limit → CantGrowBy S.view F.backing mode size image.old image.new) }
     ensures faults { CountsImageFaults S.view F.backing image.old image.new result }
 {
@@ -366,7 +357,7 @@ fn grow_by<S: Storage, F: WrappedFormat<S>>(
 ) -> Result<(), ImageError>
     ensures grows { GrowsBy S.view F.backing mode image.old image.new size result }
     ensures surplus { refuses_to_resize image.old ≡ None → (abstract_of S.view F.backing image.old []).is_sound → OnOk result (KeepsSurplus S.view F.backing image.old image.new) }
-    ensures cause { refuses_to_resize image.old ≡ None → IsTrue (is_writable image.old) → is_some image.old.backing ≡ false → (abstract_of S.view F.backing image.old []).is_sound → IfErr result IsMet }
+    ensures fault { refuses_to_resize image.old ≡ None → IsTrue (is_writable image.old) → is_some image.old.backing ≡ false → (abstract_of S.view F.backing image.old []).is_sound → IsUnmapped S.view image.old → IfErr result IsFaultOrLimit }
     ensures limit { refuses_to_resize image.old ≡ None → (abstract_of S.view F.backing image.old []).is_sound → IfErr result (λ e. e ≡ Limit → CantGrowBy S.view F.backing mode size image.old image.new) }
     ensures marks { MarksFailed image.old image.new result }
     ensures faults { CountsImageFaults S.view F.backing image.old image.new result }

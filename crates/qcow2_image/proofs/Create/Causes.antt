@@ -1,6 +1,6 @@
 -- Why an image isn't created: what its parts meet, and when a storage's failure is told.
 use Rattle.std.proofs.Common.{[], List, ◌≡◌, ◌⊎◌, ◌≢◌, inl, inr, ⊎_elim, ℕ, ◌+◌, ◌^◌, ◌<◌, ◌≤◌, Bool, true, false, Option, Some, None, Result, Ok, Err, refl, sym, ap, ◌∙◌, subst, arith}
-use Rattle.std.specs.Prelude.{IfErr, IsTrue, is_some, not}
+use Rattle.std.specs.Prelude.{IfErr, IsTrue, not}
 use Rattle.std.specs.Option.{option_or}
 use Rattle.std.specs.Int.{bit_at, trailing_zeros, w64}
 use Rattle.std.proofs.lemmas.Bool.{cases_eq, cases_lt}
@@ -9,39 +9,36 @@ use Rattle.std.proofs.lemmas.Nat.Bits.{bit_at-pow_other, bit_at-pow_same, bit_at
 use Rattle.std.proofs.Math.Pow.{pow_mono}
 use Rattle.image_access.specs.Backing.{BackingView}
 use Rattle.image_access.specs.Moments.{StorageView}
-use Rattle.image_access.specs.declared.storage.PreallocateMode.{PreallocateMode}
-use Rattle.image_access.specs.declared.storage.PreallocateMode.TheVariants as Mode
 use Rattle.image_access.proofs.EachMomentSince.{rose_since}
 use Rattle.qcow2_alloc.specs.declared.error.ImageError.{ImageError}
 use Rattle.qcow2_alloc.specs.declared.error.ImageError.TheVariants as I
 use Rattle.qcow2_metadata.specs.Bytes.{byte_at}
 use Rattle.qcow2_metadata.specs.Header.{HeaderReads, HeaderView, header}
 use Rattle.qcow2_metadata.specs.HeaderWrite.{CanBeNew, new_header}
-use Rattle.qcow2_metadata.specs.declared.error.MetadataError.{MetadataError}
-use Rattle.qcow2_metadata.specs.declared.error.MetadataError.TheVariants as M
+use Rattle.qcow2_metadata.specs.Consistent.{IsConsistent}
 use Rattle.qcow2_laws.specs.NewImages.{IsNewImage}
 use Rattle.qcow2_disk.specs.AbstractImages.{IsOpened}
 use Rattle.qcow2_alloc.specs.Faults.{FaultsTold}
 use Rattle.qcow2_alloc.proofs.Faults.{told_since}
-use Rattle.qcow2_image.proofs.Prepare.Lacked.{limits_as, other_limit}
+use Rattle.qcow2_image.proofs.Prepare.Lacked.{limits_as}
 use Rattle.qcow2_image.proofs.Sizes.{sound_is_usable}
-use Rattle.qcow2_alloc.specs.ImageError.{IsFault, of_metadata}
+use Rattle.qcow2_alloc.specs.ImageError.{IsFault}
 use Rattle.qcow2_alloc.specs.LoadedTables.{ReftableFits}
 use Rattle.qcow2_image.specs.declared.image.Missing.TheVariants as N
 use Rattle.qcow2_image.specs.declared.image.Qcow2.{Qcow2}
 use Rattle.qcow2_image.specs.CountedOpening.{OpeningCounts}
 use Rattle.qcow2_image.specs.Faults.{CountsImageFaults, IsNotOfStorage}
-use Rattle.qcow2_image.specs.Image.{is_writable, size_of, storage_of_image}
+use Rattle.qcow2_image.specs.Image.{is_writable, storage_of_image}
 use Rattle.qcow2_image.specs.ImageInvariant.{abstract_of, faults_below}
 use Rattle.qcow2_image.specs.Created.{CantEnlarge, IsAllowed, IsCreated, IsReasonNotToCreate, IsReasonNotToCreateOpen, LacksPlaceCreating, longest_disk, none_below}
 use Rattle.qcow2_image.specs.declared.builder.Qcow2CreateBuilder.{Qcow2CreateBuilder}
 use Rattle.qcow2_image.specs.Readable.{IsRefusedRightly, OpensRightly}
-use Rattle.qcow2_image.specs.Refusals.{IsMet, IsMetPreparing, IsUnlimited, refuse_if}
-use Rattle.qcow2_image.specs.Preallocation.{IsUnderMappingIn}
-use Rattle.qcow2_image.specs.Resizing.{GrowsTables, refuses_to_resize, takes_over}
+use Rattle.qcow2_image.specs.Refusals.{IsFaultOrLimit, IsMet, IsUnlimited, refuse_if}
+use Rattle.qcow2_image.specs.Resizing.{refuses_to_resize}
 use Rattle.qcow2_metadata.specs.declared.header.HeaderFields.{HeaderFields}
 use Rattle.qcow2_image.specs.Opened.{LeavesStorage, StandsRefused}
 use Rattle.qcow2_image.proofs.Create.Creating.{created_still}
+use Rattle.qcow2_image.proofs.Create.Faults.{opening_fault}
 use Rattle.qcow2_image.proofs.Create.NewDisks.{new_disk_consistent}
 
 fault_met : (e : ImageError) → IsFault e → IsMet e
@@ -50,20 +47,6 @@ fault_met e fault = elim fault [ inl storage ↦ subst IsMet (sym storage) tt | 
 pub faults_met : {T : Type 0} (r : Result T ImageError) → IfErr r IsFault → IfErr r IsMet
 faults_met (Ok x) fault = tt
 faults_met (Err e) fault = fault_met e fault
-
--- what an opening is refused for is met
-pub opening_met : (contents : _) (writable : Bool) (e : ImageError) → IsRefusedRightly contents writable N.Nothing e → IsMet e
-opening_met contents writable I.Metadata why = tt
-opening_met contents writable I.Limit why = tt
-opening_met contents writable I.UnalignedTable why = tt
-opening_met contents writable I.Memory why = tt
-opening_met contents writable I.Storage why = tt
-opening_met contents writable I.Dependency why = absurd (let bad : false ≡ true = why.1.needs in cc)
-opening_met contents writable e why = absurd why
-
--- want of memory is no limit
-pub memory_unlimited : (e : MetadataError) → e ≡ M.Memory → IsUnlimited (of_metadata e)
-memory_unlimited e is = subst (λ (x : MetadataError). IsUnlimited (of_metadata x)) (sym is) tt
 
 -- an opening is refused for a limit only where 64 bits don't hold the end of the reftable, if the header reads
 limit_far : (contents : _) → HeaderReads (header (byte_at contents)) (byte_at contents) → IsRefusedRightly contents true N.Nothing I.Limit → ReftableFits (header (byte_at contents)) → ⊥
@@ -89,26 +72,6 @@ opening_unlimited contents I.Memory new why = tt
 opening_unlimited contents I.Storage new why = tt
 opening_unlimited contents I.Dependency new why = tt
 opening_unlimited contents e new why = absurd why
-
--- no mode takes clusters over a disk below that isn't there
-takes_none : {S F : Type 0} (image : Qcow2 S F) (mode : PreallocateMode) → is_some image.backing ≡ false → IsTrue (takes_over image mode) → ⊥
-takes_none image Mode.None alone takes = absurd (let bad : false ≡ true = takes in cc)
-takes_none image Mode.Zero alone takes = absurd (let bad : false ≡ true = takes in cc)
-takes_none image Mode.FormatAllocate alone takes = absurd (let bad : false ≡ true = sym alone ∙ takes in cc)
-takes_none image Mode.FullAllocate alone takes = absurd (let bad : false ≡ true = sym alone ∙ takes in cc)
-takes_none image Mode.WriteData alone takes = absurd (let bad : false ≡ true = sym alone ∙ takes in cc)
-
--- and no L2 table is under a mapping where none is prepared
-none_under : (h : HeaderFields) (from to : ℕ) → IsUnderMappingIn h from to [] → ⊥
-none_under h from to is = absurd (let out = is.under.is_out in cc)
-
-pub grown_alone : {S F : Type 0} (view : S → StorageView) (backing : F → BackingView) (old new : Qcow2 S F) (size : ℕ) (mode : PreallocateMode) (r : Result (Unit {0}) ImageError) → is_some old.backing ≡ false → (size ≤ size_of old → (r ≡ Ok tt) × (new ≡ old))
-    → (size_of old < size → GrowsTables view backing old new size mode [] r) → IfErr r (λ e. IsMetPreparing e ⊎ ((e ≡ I.Preallocation) × IsTrue (takes_over old mode))) → IfErr r IsMet
-grown_alone view backing old new size mode (Ok x) alone no_larger tables late = tt
-grown_alone view backing old new size mode (Err e) alone no_larger tables late = elim (cases_lt (size_of old) size) [
-  | inr le ↦ absurd (let bad = (no_larger le).0 in cc)
-  | inl lt ↦ elim late [ inl met ↦ ⊎_elim (λ m. m) (λ is. absurd (none_under _ _ _ ((tables lt).taken is).1)) met | inr over ↦ absurd (takes_none old mode alone over.1) ]
-]
 
 -- ---- failures of the storage
 
@@ -191,17 +154,17 @@ module _ {S : Type 0} (builder : Qcow2CreateBuilder S) where
   too_long size is not = subst (λ n. longest_disk n < builder.size) (sym is) (elim (cases_lt (longest_disk size) builder.size) [ inl past ↦ past | inr le ↦ absurd (not le) ])
 
   module _ (view : S → StorageView) where
-    reason_met : (e : ImageError) → IsMet e → (e ≡ I.Limit → LacksPlaceCreating view builder) → IsReasonNotToCreate view builder e
-    reason_met I.InvalidOption met lacks = absurd met
-    reason_met I.Limit met lacks = inr (lacks refl)
-    reason_met e met lacks = met
+    pub fault_reason : (e : ImageError) → IsFault e → IsReasonNotToCreate view builder e
+    fault_reason e (inl is) = subst (λ (x : ImageError). IsReasonNotToCreate view builder x) (sym is) tt
+    fault_reason e (inr is) = subst (λ (x : ImageError). IsReasonNotToCreate view builder x) (sym is) tt
 
-    pub reason_unlimited : (e : ImageError) → IsMet e → IsUnlimited e → IsReasonNotToCreate view builder e
-    reason_unlimited e met unlimited = reason_met e met (other_limit (LacksPlaceCreating view builder) e unlimited)
+    reason_of : (e : ImageError) → IsFaultOrLimit e → (e ≡ I.Limit → LacksPlaceCreating view builder) → IsReasonNotToCreate view builder e
+    reason_of e (inl fault) lacks = fault_reason e fault
+    reason_of e (inr is) lacks = subst (λ (x : ImageError). IsReasonNotToCreate view builder x) (sym is) (inr (lacks is))
 
-    pub reasons_met : {T : Type 0} (r : Result T ImageError) → IfErr r IsMet → IfErr r (λ e. e ≡ I.Limit → LacksPlaceCreating view builder) → IfErr r (IsReasonNotToCreate view builder)
-    reasons_met (Ok x) met lacks = tt
-    reasons_met (Err e) met lacks = reason_met e met lacks
+    pub reasons_of : {T : Type 0} (r : Result T ImageError) → IfErr r IsFaultOrLimit → IfErr r (λ e. e ≡ I.Limit → LacksPlaceCreating view builder) → IfErr r (IsReasonNotToCreate view builder)
+    reasons_of (Ok x) why lacks = tt
+    reasons_of (Err e) why lacks = reason_of e why lacks
 
     -- a new image stands, and its disk can't be made larger
     module _ (bits order : ℕ) (v : HeaderView) (is : v ≡ new_header bits order None None None) (contents : List ℕ) (new_image : IsNewImage v.fields (byte_at contents)) where
@@ -210,6 +173,9 @@ module _ {S : Type 0} (builder : Qcow2CreateBuilder S) where
 
       pub stands_new : IsNewImage (header (byte_at contents)) (byte_at contents)
       stands_new = subst (λ (h : HeaderFields). IsNewImage h (byte_at contents)) (sym new_image.header_is) new_image
+
+      pub stands_third : (header (byte_at contents)).version ≡ 3
+      stands_third = ap (λ (h : HeaderFields). h.version) header_new
 
       pub stands_uncleared : (header (byte_at contents)).autoclear ≡ 0
       stands_uncleared = ap (λ (h : HeaderFields). h.autoclear) header_new
@@ -228,18 +194,23 @@ module _ {S : Type 0} (builder : Qcow2CreateBuilder S) where
 
     -- the image that was made is opened
     module _ (storage last : S) (made : IsCreated builder (view storage)) (honest : (view last).is_honest) where
-      opening_reason : (e : ImageError) → StandsRefused true (view storage) (view last) e → IsRefusedRightly (view storage).contents true N.Nothing e → IsReasonNotToCreateOpen view builder (last, e)
-      opening_reason I.Metadata stands why = inl tt
-      opening_reason I.Limit stands why =
-          let consistent = new_disk_consistent builder.preallocate builder.size (byte_at (view storage).contents) made.new_disk in
+      consistent : IsConsistent (byte_at (view storage).contents)
+      consistent = new_disk_consistent builder.preallocate builder.size (byte_at (view storage).contents) made.new_disk
+
+      far_reason : StandsRefused true (view storage) (view last) I.Limit → IsRefusedRightly (view storage).contents true N.Nothing I.Limit → IsReasonNotToCreateOpen view builder (last, I.Limit)
+      far_reason stands why =
           let same : (view last).contents ≡ (view storage).contents = elim stands [ inl same ↦ same | inr fault ↦ absurd (let no : I.Limit ≡ I.Storage = fault.0 in cc) ] in
           let far = limit_far (view storage).contents consistent.header_reads why in
           inr (refl, record { created = created_still builder (view storage) (view last) made honest same; far = λ fits. far (subst (λ (l : List ℕ). ReftableFits (header (byte_at l))) same fits) })
-      opening_reason I.UnalignedTable stands why = inl tt
-      opening_reason I.Memory stands why = inl tt
-      opening_reason I.Storage stands why = inl tt
-      opening_reason I.Dependency stands why = absurd (let bad : false ≡ true = why.1.needs in cc)
-      opening_reason e stands why = absurd why
+
+      opening_reason : (e : ImageError) → StandsRefused true (view storage) (view last) e → IsRefusedRightly (view storage).contents true N.Nothing e → IsReasonNotToCreateOpen view builder (last, e)
+      opening_reason e stands why = elim (opening_fault (view storage).contents consistent e why) [
+        | inl fault ↦ inl (fault_reason e fault)
+        | inr is ↦
+            let stands_so = subst (λ (x : ImageError). StandsRefused true (view storage) (view last) x) is stands in
+            let why_so = subst (λ (x : ImageError). IsRefusedRightly (view storage).contents true N.Nothing x) is why in
+            subst (λ (x : ImageError). IsReasonNotToCreateOpen view builder (last, x)) (sym is) (far_reason stands_so why_so)
+      ]
 
     pub opening_reasons : {F : Type 0} (storage : S) (r : Result (Qcow2 S F) (S × ImageError)) → IsCreated builder (view storage) → LeavesStorage view true (view storage) r → OpensRightly (view storage) true N.Nothing r
         → IfErr r (IsReasonNotToCreateOpen view builder)

@@ -2,6 +2,9 @@ use Rattle.std.proofs.Common.{sym, subst}
 use Rattle.image_access.specs.Contents.{resized}
 use Rattle.image_access.specs.Moments.{Calls, Changes}
 use Rattle.qcow2_alloc.specs.ImageStorage.{storage_of}
+use Rattle.qcow2_alloc.specs.ImageError.{of_storage}
+use Rattle.qcow2_image.proofs.Call.Unlimited.{storage_fault}
+use Rattle.qcow2_image.proofs.Prepare.Lacked.{hands_fault}
 use Rattle.qcow2_image.proofs.Create.Cleared.{asked_first, cut_to_none}
 use Rattle.qcow2_image.proofs.builder.clear.Goals as goal
 
@@ -29,3 +32,9 @@ pub returns-clause-cleared : goal.returns-clause-cleared
 returns-clause-cleared g c = λ honest.
     let view = g.S.Storage.view in
     cut_to_none (view (storage_of c.will_write.new.self)).contents _ (c.in_ok-clear.ensures.cleared (subst (λ s. (view s).is_honest) (sym c.will_write.ensures.storage) (c.size.ensures.calls.honest honest)))
+
+pub returns-in_err-size-clause-fault : goal.returns-in_err-size-clause-fault
+returns-in_err-size-clause-fault g c = hands_fault c.from_residual.result (of_storage c.in_err-size.field-0.0) c.from_residual.ensures (storage_fault c.in_err-size.field-0.0)
+
+pub returns-in_err-clear-clause-fault : goal.returns-in_err-clear-clause-fault
+returns-in_err-clear-clause-fault g c = hands_fault c.from_residual-in_err-clear.result (of_storage c.in_err-clear.field-0.0) c.from_residual-in_err-clear.ensures (storage_fault c.in_err-clear.field-0.0)

@@ -1,10 +1,10 @@
 use Rattle.std.proofs.Common.{arith}
 use Rattle.qcow2_alloc.specs.ImageError.{of_metadata}
-use Rattle.qcow2_image.proofs.Call.Unlimited.{short_unlimited}
-use Rattle.qcow2_image.proofs.Prepare.Lacked.{hands_unlimited}
+use Rattle.qcow2_image.proofs.Call.Unlimited.{short_fault}
+use Rattle.qcow2_image.proofs.Prepare.Lacked.{hands_fault}
 use Rattle.qcow2_image.proofs.builder.first_reftable.Goals as goal
 
-pub returns-in_err-reftable-clause-limited : goal.returns-in_err-reftable-clause-limited
-returns-in_err-reftable-clause-limited c =
+pub returns-in_err-reftable-clause-fault : goal.returns-in_err-reftable-clause-fault
+returns-in_err-reftable-clause-fault c =
     let high = c.l2_entries.ensures.high in
-    hands_unlimited c.from_residual.result (of_metadata c.in_err-reftable.field-0.0) c.from_residual.ensures (short_unlimited _ (λ past. absurd (omega (arith, past, high))) c.in_err-reftable.field-0.0 c.in_err-reftable.ensures.err)
+    hands_fault c.from_residual.result (of_metadata c.in_err-reftable.field-0.0) c.from_residual.ensures (short_fault _ (λ past. absurd (omega (arith, past, high))) c.in_err-reftable.field-0.0 c.in_err-reftable.ensures.err)

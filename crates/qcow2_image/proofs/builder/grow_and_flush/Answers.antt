@@ -1,18 +1,12 @@
-use Rattle.std.proofs.Common.{[], ◌∙◌, Result, Ok, Err, refl, subst}
-use Rattle.std.specs.Prelude.{IfErr}
-use Rattle.qcow2_alloc.specs.ImageError.{IsOfTables}
-use Rattle.qcow2_alloc.specs.declared.error.ImageError.{ImageError}
-use Rattle.qcow2_image.specs.Refusals.{IsMet}
-use Rattle.qcow2_image.proofs.Call.MetErrors.{tables_met}
+use Rattle.std.proofs.Common.{[], refl, subst}
 use Rattle.qcow2_image.proofs.Call.FaultCounts.{counted_on, counted_since, untouched}
-use Rattle.qcow2_image.proofs.Sizing.ShrinkCalls.{resize_works}
 use Rattle.qcow2_alloc.specs.ImageFile.{view_in}
 use Rattle.qcow2_alloc.proofs.AllocationSteps.{handed_on}
 use Rattle.qcow2_image.specs.Created.{CantGrowBy, Enlarges, GrowsBy}
 use Rattle.qcow2_image.proofs.Create.Causes.{usable_opened}
 use Rattle.qcow2_image.proofs.Create.Leaks.{no_leaks_flushed}
 use Rattle.qcow2_image.proofs.Create.TakingPlace.{grown_by, refused_by}
-use Rattle.qcow2_image.proofs.Prepare.Lacked.{faults_unlimited, hands_limit, unlimited_all}
+use Rattle.qcow2_image.proofs.Prepare.Lacked.{faults_or_limit, faults_unlimited, hands_either, hands_limit, unlimited_all}
 use Rattle.qcow2_image.proofs.builder.grow_and_flush.Goals as goal
 
 pub returns-in_err-grow_by-clause-enlarges : goal.returns-in_err-grow_by-clause-enlarges
@@ -33,16 +27,11 @@ returns-clause-enlarges g c = λ opened writable alone unwritten.
     grown_by view below c.args.size old mid opened writable alone unwritten c.args.mode c.in_ok-grow_by.field-0 (subst (GrowsBy view below c.args.mode old mid c.args.size) c.in_ok-grow_by.was c.grow_by.ensures.grows)
     c.flush.new.self c.flush.result c.flush.ensures.image.size c.flush.ensures.sees c.flush.ensures.writes
 
-pub returns-in_err-grow_by-clause-cause : goal.returns-in_err-grow_by-clause-cause
-returns-in_err-grow_by-clause-cause g c = λ usable writable alone sound.
-    handed_on (λ (r : Result _ _). IfErr r IsMet) c.from_residual.result c.in_err-grow_by.field-0.0 c.from_residual.ensures (c.in_err-grow_by.ensures.cause usable writable alone sound)
+pub returns-in_err-grow_by-clause-fault : goal.returns-in_err-grow_by-clause-fault
+returns-in_err-grow_by-clause-fault g c = λ usable writable alone sound unmapped. hands_either c.from_residual.result c.in_err-grow_by.field-0.0 c.from_residual.ensures (c.in_err-grow_by.ensures.fault usable writable alone sound unmapped)
 
-tables_all : {T : Type 0} (r : Result T ImageError) → IfErr r IsOfTables → IfErr r IsMet
-tables_all (Ok x) of_tables = tt
-tables_all (Err e) of_tables = tables_met e of_tables
-
-pub returns-clause-cause : goal.returns-clause-cause
-returns-clause-cause g c = λ usable writable alone sound. tables_all c.flush.result (c.flush.ensures.late (c.in_ok-grow_by.ensures.marks ∙ resize_works c.args.image.now usable))
+pub returns-clause-fault : goal.returns-clause-fault
+returns-clause-fault g c = λ usable writable alone sound unmapped. faults_or_limit c.flush.result (c.flush.ensures.fault [] (c.in_ok-grow_by.ensures.surplus usable sound).sound)
 
 pub returns-in_err-grow_by-clause-faults : goal.returns-in_err-grow_by-clause-faults
 returns-in_err-grow_by-clause-faults g c =

@@ -6,8 +6,9 @@ use Rattle.qcow2_alloc.specs.ImageFile.{view_in}
 use Rattle.qcow2_alloc.specs.ImageStorage.{storage_of}
 use Rattle.qcow2_laws.specs.Opened.{HasNoLeaks}
 use Rattle.qcow2_image.specs.Created.{CantEnlarge, CantGrowBy}
-use Rattle.qcow2_image.proofs.Create.Causes.{opening_met, opening_unlimited, told_closed, told_opening, usable_opened}
-use Rattle.qcow2_image.proofs.Create.Creating.{opening_stops, enlarged_so, unwritten_mid}
+use Rattle.qcow2_image.proofs.Create.Causes.{opening_unlimited, told_closed, told_opening, usable_opened}
+use Rattle.qcow2_image.proofs.Create.Faults.{opening_fault, unmapped_opened}
+use Rattle.qcow2_image.proofs.Create.Creating.{opening_stops, opens_unwritten, enlarged_so, unwritten_mid}
 use Rattle.qcow2_image.proofs.Open.Left.{opened_none}
 use Rattle.qcow2_image.proofs.Prepare.Lacked.{limits_as, other_limit}
 use Rattle.qcow2_image.proofs.builder.grow_new_image.Goals as goal
@@ -27,16 +28,20 @@ returns-in-Ok-clause-enlarges g c = λ honest unwritten.
     enlarged_so view below c.args.mode c.args.size (storage_of c.args.storage) c.in-Ok.image unwritten since opened format uncleared c.grow_and_flush-done.new.image c.into_storage.result c.grow_and_flush-done.result
     c.into_storage.ensures (c.grow_and_flush-done.ensures.enlarges opened c.in-Ok.ensures.ok.2 c.in-Ok.ensures.below mid)
 
-pub returns-in-Err-clause-cause : goal.returns-in-Err-clause-cause
-returns-in-Err-clause-cause g c = λ honest unwritten. opening_met (g.S.Storage.view (storage_of c.args.storage)).contents true c.in-Err.refusal (c.in-Err.ensures.cause.1 honest)
+pub returns-in-Err-clause-fault : goal.returns-in-Err-clause-fault
+returns-in-Err-clause-fault g c = λ honest unwritten third. opening_fault (g.S.Storage.view (storage_of c.args.storage)).contents unwritten.consistent c.in-Err.refusal (c.in-Err.ensures.cause.1 honest)
 
 pub returns-in-Err-clause-faults : goal.returns-in-Err-clause-faults
 returns-in-Err-clause-faults g c = λ none. told_opening g.S.Storage.view (g.S.Storage.view (storage_of c.args.storage)).faults c.in-Err.storage c.in-Err.refusal c.in-Err.ensures.faults
 
-pub returns-in-Ok-clause-cause : goal.returns-in-Ok-clause-cause
-returns-in-Ok-clause-cause g c = λ honest unwritten.
+pub returns-in-Ok-clause-fault : goal.returns-in-Ok-clause-fault
+returns-in-Ok-clause-fault g c = λ honest unwritten third.
+    let view = g.S.Storage.view in
+    let below = g.F.BackingDisk.backing in
     let opened = (c.in-Ok.ensures.opens honest unwritten.consistent).opened in
-    c.grow_and_flush-done.ensures.cause (usable_opened g.S.Storage.view g.F.BackingDisk.backing c.in-Ok.image opened c.in-Ok.ensures.ok.2) c.in-Ok.ensures.ok.2 c.in-Ok.ensures.below opened.sound
+    let still = opens_unwritten 0 (view (storage_of c.args.storage)) (view_in view c.in-Ok.image.file) unwritten (c.in-Ok.ensures.since honest unwritten.consistent) in
+    let unmapped = unmapped_opened view below c.in-Ok.image (header (byte_at (view (storage_of c.args.storage)).contents)) 0 opened still third (c.in-Ok.ensures.format honest) in
+    c.grow_and_flush-done.ensures.fault (usable_opened view below c.in-Ok.image opened c.in-Ok.ensures.ok.2) c.in-Ok.ensures.ok.2 c.in-Ok.ensures.below opened.sound unmapped
 
 pub returns-in-Ok-clause-faults : goal.returns-in-Ok-clause-faults
 returns-in-Ok-clause-faults g c = λ none.

@@ -2,17 +2,17 @@ use Rattle.qcow2_alloc.specs.ImageStorage.{storage_of}
 use Rattle.qcow2_alloc.proofs.AllocationSteps.{handed_on}
 use Rattle.qcow2_image.specs.Created.{WritesThree}
 use Rattle.qcow2_image.proofs.Create.ThreeWrites.{stops_cleared, writes_then}
-use Rattle.qcow2_image.proofs.Prepare.Lacked.{hands_unlimited}
+use Rattle.qcow2_image.proofs.Prepare.Lacked.{hands_fault}
 use Rattle.qcow2_image.proofs.builder.write_new_image.Goals as goal
 
-pub returns-in_err-clear-clause-limited : goal.returns-in_err-clear-clause-limited
-returns-in_err-clear-clause-limited g c = hands_unlimited c.from_residual.result c.in_err-clear.field-0.0 c.from_residual.ensures c.in_err-clear.ensures.limited
+pub returns-in_err-clear-clause-fault : goal.returns-in_err-clear-clause-fault
+returns-in_err-clear-clause-fault g c = hands_fault c.from_residual.result c.in_err-clear.field-0.0 c.from_residual.ensures c.in_err-clear.ensures.fault
 
-pub returns-in_err-block-clause-limited : goal.returns-in_err-block-clause-limited
-returns-in_err-block-clause-limited g c = hands_unlimited c.from_residual-in_err-block.result c.in_err-block.field-0.0 c.from_residual-in_err-block.ensures c.in_err-block.ensures.limited
+pub returns-in_err-block-clause-fault : goal.returns-in_err-block-clause-fault
+returns-in_err-block-clause-fault g c = hands_fault c.from_residual-in_err-block.result c.in_err-block.field-0.0 c.from_residual-in_err-block.ensures c.in_err-block.ensures.fault
 
-pub returns-in_err-reftable-clause-limited : goal.returns-in_err-reftable-clause-limited
-returns-in_err-reftable-clause-limited g c = hands_unlimited c.from_residual-in_err-reftable.result c.in_err-reftable.field-0.0 c.from_residual-in_err-reftable.ensures c.in_err-reftable.ensures.limited
+pub returns-in_err-reftable-clause-fault : goal.returns-in_err-reftable-clause-fault
+returns-in_err-reftable-clause-fault g c = hands_fault c.from_residual-in_err-reftable.result c.in_err-reftable.field-0.0 c.from_residual-in_err-reftable.ensures c.in_err-reftable.ensures.fault
 
 pub returns-in_err-clear-clause-writes : goal.returns-in_err-clear-clause-writes
 returns-in_err-clear-clause-writes g c = λ honest new.

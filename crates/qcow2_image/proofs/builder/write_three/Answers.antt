@@ -4,6 +4,8 @@ use Rattle.qcow2_metadata.specs.HeaderWrite.{header_written}
 use Rattle.qcow2_alloc.specs.ImageError.{of_storage}
 use Rattle.qcow2_alloc.specs.ImageStorage.{storage_of}
 use Rattle.qcow2_alloc.proofs.AllocationSteps.{handed_on}
+use Rattle.qcow2_image.proofs.Call.Unlimited.{storage_fault}
+use Rattle.qcow2_image.proofs.Prepare.Lacked.{hands_fault}
 use Rattle.qcow2_image.specs.Created.{WritesThree}
 use Rattle.qcow2_image.proofs.Create.ThreeWrites.{stops_first, stops_second, stops_third, new_stands}
 use Rattle.qcow2_image.proofs.builder.write_three.Goals as goal
@@ -53,3 +55,12 @@ returns-clause-stands g c = λ honest names.
     let third = subst (λ s. (view s).is_honest) (sym c.will_write-3.ensures.storage) second in
     let is : (g.S.Storage.view (storage_of c.write_new_header.new.self)).contents ≡ header_written c.args.header.now (g.S.Storage.view (storage_of c.will_write-3.new.self)).contents = rw c.in_ok-write_new_header.was at (c.write_new_header.ensures.written third) in
     subst (λ (l : List ℕ). IsHeaderIn c.args.header.now l) (sym is) (c.write_new_header.ensures.reads names)
+
+pub returns-in_err-write_new_refblock-clause-fault : goal.returns-in_err-write_new_refblock-clause-fault
+returns-in_err-write_new_refblock-clause-fault g c = hands_fault c.from_residual.result (of_storage c.in_err-write_new_refblock.field-0.0) c.from_residual.ensures (storage_fault c.in_err-write_new_refblock.field-0.0)
+
+pub returns-in_err-write_reftable-clause-fault : goal.returns-in_err-write_reftable-clause-fault
+returns-in_err-write_reftable-clause-fault g c = hands_fault c.from_residual-in_err-write_reftable.result (of_storage c.in_err-write_reftable.field-0.0) c.from_residual-in_err-write_reftable.ensures (storage_fault c.in_err-write_reftable.field-0.0)
+
+pub returns-in_err-write_new_header-clause-fault : goal.returns-in_err-write_new_header-clause-fault
+returns-in_err-write_new_header-clause-fault g c = hands_fault c.from_residual-in_err-write_new_header.result (of_storage c.in_err-write_new_header.field-0.0) c.from_residual-in_err-write_new_header.ensures (storage_fault c.in_err-write_new_header.field-0.0)

@@ -1,5 +1,5 @@
 use Rattle.std.proofs.Common.{inl, ◌≡◌, ◌∙◌, true, false, sym, subst}
-use Rattle.qcow2_image.proofs.Create.Causes.{lacks_creating, no_such_header, reason_unlimited, reasons_met, stands_new, stands_uncleared, too_long}
+use Rattle.qcow2_image.proofs.Create.Causes.{fault_reason, lacks_creating, no_such_header, reasons_of, stands_new, stands_third, stands_uncleared, too_long}
 use Rattle.qcow2_laws.proofs.NewImages.{new_image_exact}
 use Rattle.qcow2_alloc.specs.ImageStorage.{storage_of}
 use Rattle.qcow2_image.proofs.Create.Creating.{new_header_is, unwritten, creating_stops, created_so}
@@ -52,11 +52,11 @@ returns-clause-cause g c = λ honest.
     let contents = (view mid).contents in
     let is = c.new-header.ensures.value in
     let lacks = c.grow_new_image.ensures.limit there.0.honest none (stands_new builder view bits order v is contents there.1) (stands_uncleared builder view bits order v is contents there.1) in
-    reasons_met builder view c.grow_new_image.result.1 (c.grow_new_image.ensures.cause there.0.honest none)
+    reasons_of builder view c.grow_new_image.result.1 (c.grow_new_image.ensures.fault there.0.honest none (stands_third builder view bits order v is contents there.1))
     (lacks_creating builder view bits order v is contents there.1 c.in-Some.ensures.some c.in-Some-power_of_two.ensures.some c.grow_new_image.result.1 lacks)
 
 pub returns-in-Err-clause-cause : goal.returns-in-Err-clause-cause
-returns-in-Err-clause-cause g c = λ honest. reason_unlimited c.args.self g.S.Storage.view c.in-Err.refusal c.in-Err.ensures.cause c.in-Err.ensures.limited
+returns-in-Err-clause-cause g c = λ honest. fault_reason c.args.self g.S.Storage.view c.in-Err.refusal c.in-Err.ensures.fault
 
 pub returns-then-not-has_l1_entries-clause-cause : goal.returns-then-not-has_l1_entries-clause-cause
 returns-then-not-has_l1_entries-clause-cause g c = λ honest.

@@ -1,0 +1,107 @@
+-- What refuses creating beside a limit: faults alone.
+use Rattle.std.proofs.Common.{◌≡◌, ◌⊎◌, inl, inr, ℕ, ◌<◌, ◌≤◌, true, false, List, [], None, Result, Ok, Err, refl, sym, ap, ◌∙◌, subst, arith}
+use Rattle.std.specs.Prelude.{IfErr, IsTrue, is_some}
+use Rattle.std.proofs.lemmas.Bool.{cases_lt}
+use Rattle.image_access.specs.Backing.{BackingView}
+use Rattle.image_access.specs.Moments.{StorageView}
+use Rattle.image_access.specs.declared.storage.PreallocateMode.{PreallocateMode}
+use Rattle.image_access.specs.declared.storage.PreallocateMode.TheVariants as Mode
+use Rattle.qcow2_metadata.specs.Bytes.{Bytes, byte_at}
+use Rattle.qcow2_metadata.specs.Consistent.{IsConsistent}
+use Rattle.qcow2_metadata.specs.Cover.{cover}
+use Rattle.qcow2_metadata.specs.Header.{header}
+use Rattle.qcow2_metadata.specs.HeaderLoad.{HasAlignedTables}
+use Rattle.qcow2_metadata.specs.declared.error.MetadataError.{MetadataError}
+use Rattle.qcow2_metadata.specs.declared.error.MetadataError.TheVariants as M
+use Rattle.qcow2_metadata.specs.declared.header.HeaderFields.{HeaderFields}
+use Rattle.qcow2_metadata.specs.declared.l2_mapping.L2Mapping.{L2Mapping}
+use Rattle.qcow2_metadata.specs.declared.l2_mapping.L2Mapping.TheVariants.{Uncovered}
+use Rattle.qcow2_disk.specs.AbstractImages.{IsOpened}
+use Rattle.qcow2_disk.specs.Found.{IsCompressed}
+use Rattle.qcow2_alloc.specs.ImageError.{IsFault, of_metadata}
+use Rattle.qcow2_alloc.specs.ImageFile.{known_in, view_in}
+use Rattle.qcow2_alloc.specs.declared.error.ImageError.{ImageError}
+use Rattle.qcow2_alloc.specs.declared.error.ImageError.TheVariants as I
+use Rattle.qcow2_image.specs.Backings.{HasPrepared}
+use Rattle.qcow2_image.specs.Created.{IsUnmapped, IsUnwritten}
+use Rattle.qcow2_image.specs.Growing.{SameFormat}
+use Rattle.qcow2_image.specs.Image.{size_of}
+use Rattle.qcow2_image.specs.ImageInvariant.{abstract_of}
+use Rattle.qcow2_image.specs.MetAlone.{HasCompressedIn, IsMetFilling}
+use Rattle.qcow2_image.specs.Readable.{IsRefusedRightly, IsTableRefused}
+use Rattle.qcow2_image.specs.Refusals.{IsFaultOrLimit}
+use Rattle.qcow2_image.specs.Resizing.{takes_over}
+use Rattle.qcow2_image.specs.declared.image.Missing.TheVariants as N
+use Rattle.qcow2_image.specs.declared.image.Qcow2.{Qcow2}
+use Rattle.qcow2_image.proofs.Create.NewDisks.{unwritten_uncovered}
+
+-- want of memory
+pub memory_fault : (e : MetadataError) → e ≡ M.Memory → IsFault (of_metadata e)
+memory_fault e is = inr (ap (λ (x : MetadataError). of_metadata x) is)
+
+-- ---- a consistent image is opened for writing, whatever files are missing
+module _ (contents : List ℕ) (consistent : IsConsistent (byte_at contents)) where
+  on_clusters : HasAlignedTables (header (byte_at contents)) true
+  on_clusters = record { l1_table = consistent.l1_aligned; reftable = λ writable. consistent.reftable_aligned }
+
+  -- its tables read
+  no_unread : IsTableRefused contents true N.Nothing I.Metadata → ⊥
+  no_unread refused = elim refused.1 [
+    | inl l1_table ↦ l1_table.unread (consistent.l1_reads l1_table.index l1_table.within)
+    | inr reftable ↦ let entry = reftable.2.1 in entry.unread (consistent.reftable_reads entry.index entry.within)
+  ]
+
+  pub opening_fault : (e : ImageError) → IsRefusedRightly contents true N.Nothing e → IsFaultOrLimit e
+  opening_fault I.Metadata why = absurd (elim why [ inl ill ↦ ill consistent.header_reads.well_formed | inr refused ↦ no_unread refused ])
+  opening_fault I.Limit why = inr refl
+  opening_fault I.UnalignedTable why = absurd (why.1 on_clusters)
+  opening_fault I.Memory why = inl (inr refl)
+  opening_fault I.Storage why = inl (inl refl)
+  opening_fault I.Dependency why = absurd (let bad : false ≡ true = why.1.needs in cc)
+  opening_fault e why = absurd why
+
+-- ---- a larger disk
+
+-- no mode takes clusters over a disk below that isn't there
+takes_none : {S F : Type 0} (image : Qcow2 S F) (mode : PreallocateMode) → is_some image.backing ≡ false → IsTrue (takes_over image mode) → ⊥
+takes_none image Mode.None alone takes = absurd (let bad : false ≡ true = takes in cc)
+takes_none image Mode.Zero alone takes = absurd (let bad : false ≡ true = takes in cc)
+takes_none image Mode.FormatAllocate alone takes = absurd (let bad : false ≡ true = sym alone ∙ takes in cc)
+takes_none image Mode.FullAllocate alone takes = absurd (let bad : false ≡ true = sym alone ∙ takes in cc)
+takes_none image Mode.WriteData alone takes = absurd (let bad : false ≡ true = sym alone ∙ takes in cc)
+
+-- none is prepared
+pub none_prepared : HasPrepared [] → ⊥
+none_prepared some = absurd (let none = some.there in cc)
+
+module _ {S F : Type 0} (view : S → StorageView) (old : Qcow2 S F) (unmapped : IsUnmapped view old) where
+  none_compressed : (from to : ℕ) → HasCompressedIn from to old.file.header.fields (known_in view old.file) → ⊥
+  none_compressed from to some = subst (λ (v : L2Mapping). IsCompressed v) (unmapped.covers some.guest) some.is
+
+  filling_fault : (mode : PreallocateMode) (from to : ℕ) (e : ImageError) → IsMetFilling mode from to old.file.header.fields (known_in view old.file) e → IsFaultOrLimit e
+  filling_fault mode from to e met = elim met [
+    | inl alone ↦ elim alone [
+      | inl plain ↦ plain
+      | inr other ↦ elim other [ inl compressed ↦ absurd (none_compressed from to compressed.1) | inr far ↦ absurd far.1 ]
+    ]
+    | inr version ↦ absurd (let third = unmapped.version in let below = version.1.1 in omega (arith, third, below))
+  ]
+
+  pub grown_fault : (new : Qcow2 S F) (size to : ℕ) (mode : PreallocateMode) (r : Result (Unit {0}) ImageError) → is_some old.backing ≡ false → (size ≤ size_of old → (r ≡ Ok tt) × (new ≡ old))
+      → (size_of old < size → IfErr r (λ e. IsMetFilling mode (size_of old) to old.file.header.fields (known_in view old.file) e ⊎ ((e ≡ I.Preallocation) × IsTrue (takes_over old mode)))) → IfErr r IsFaultOrLimit
+  grown_fault new size to mode (Ok x) alone no_larger met = tt
+  grown_fault new size to mode (Err e) alone no_larger met = elim (cases_lt (size_of old) size) [
+    | inr le ↦ absurd (let bad = (no_larger le).0 in cc)
+    | inl lt ↦ elim (met lt) [ inl filling ↦ filling_fault mode (size_of old) to e filling | inr over ↦ absurd (takes_none old mode alone over.1) ]
+  ]
+
+-- an unwritten image of version 3 was opened
+pub unmapped_opened : {S F : Type 0} (view : S → StorageView) (backing : F → BackingView) (image : Qcow2 S F) (h : HeaderFields) (n : ℕ) → IsOpened (abstract_of view backing image []) → IsUnwritten n (byte_at (view_in view image.file).contents)
+    → h.version ≡ 3 → SameFormat h image.file.header.fields → IsUnmapped view image
+unmapped_opened view backing image h n opened unwritten third format =
+    let b = byte_at (view_in view image.file).contents in
+    let header_is = opened.sound.file.caches.kept.kept.crash_invariant.top.header_is in
+    record {
+      version = (let is : image.file.header.fields.version ≡ 3 = ap (λ (k : HeaderFields). k.version) format ∙ third in omega (arith, is));
+      covers = λ g. subst (λ (k : HeaderFields). cover k (known_in view image.file) g ≡ Uncovered) header_is (subst (λ (k : Bytes). cover (header b) k g ≡ Uncovered) (sym opened.clean) (unwritten_uncovered n b unwritten g));
+    }
