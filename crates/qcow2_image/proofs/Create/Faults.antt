@@ -39,7 +39,7 @@ use Rattle.qcow2_image.proofs.Create.NewDisks.{unwritten_uncovered}
 pub memory_fault : (e : MetadataError) → e ≡ M.Memory → IsFault (of_metadata e)
 memory_fault e is = inr (ap (λ (x : MetadataError). of_metadata x) is)
 
--- ---- a consistent image is opened for writing, whatever files are missing
+-- ---- a consistent image is opened for writing, and no other file is asked for
 module _ (contents : List ℕ) (consistent : IsConsistent (byte_at contents)) where
   on_clusters : HasAlignedTables (header (byte_at contents)) true
   on_clusters = record { l1_table = consistent.l1_aligned; reftable = λ writable. consistent.reftable_aligned }
