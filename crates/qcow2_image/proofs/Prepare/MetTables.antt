@@ -1,37 +1,40 @@
 -- What finding or making an L2 table, and clearing in one, is refused for on a sound image of which no mapping is prepared.
-use Rattle.std.proofs.Common.{◌≡◌, ◌≢◌, ◌⊎◌, inl, inr, ℕ, ◌+◌, ◌*◌, ◌/◌, ◌%◌, ◌^◌, ◌<◌, List, Option, Result, Ok, Err, refl, sym, ap, ◌∙◌, subst, arith}
-use Rattle.std.specs.Prelude.{IfErr, IsErr, IsErrAnd, None}
+use Rattle.std.proofs.Common.{◌≡◌, inl, inr, ℕ, ◌+◌, ◌-◌, ◌*◌, ◌/◌, ◌%◌, ◌^◌, ◌<◌, ◌≤◌, List, length, Option, Some, Result, Ok, Err, false, refl, sym, ap, ◌∙◌, subst}
+use Rattle.std.specs.Prelude.{◌⊎◌, IfErr, IfSome, IsErr, IsErrAnd, IsSome, None}
 use Rattle.image_access.specs.Backing.{BackingView}
-use Rattle.image_access.specs.Moments.{StorageView}
-use Rattle.qcow2_metadata.specs.declared.error.MetadataError.{MetadataError}
-use Rattle.qcow2_metadata.specs.declared.error.MetadataError.TheVariants as M
-use Rattle.qcow2_metadata.specs.declared.header.HeaderFields.{HeaderFields}
-use Rattle.qcow2_metadata.specs.Entries.{host_offset}
-use Rattle.qcow2_metadata.specs.EntryTable.{entry_count}
-use Rattle.qcow2_metadata.specs.Header.{HeaderView}
-use Rattle.qcow2_metadata.specs.TableBytes.{entry_at}
+use Rattle.image_access.specs.Contents.{overwritten}
+use Rattle.image_access.specs.Moments.{StorageView, Changes, Calls}
+use Rattle.image_access.specs.declared.error.StorageError.{StorageError}
+use Rattle.qcow2_metadata.specs.Header.{cluster_size, entries_per_cluster}
+use Rattle.qcow2_metadata.specs.L2Table.{L2TableView}
 use Rattle.qcow2_laws.specs.CrashInvariant.{Pending}
 use Rattle.qcow2_alloc.specs.CachePins.{IsInUseOrFault}
-use Rattle.qcow2_alloc.specs.ImageError.{IsFault, of_metadata}
-use Rattle.qcow2_alloc.specs.ImageFile.{KeepsHeader}
+use Rattle.qcow2_alloc.specs.ImageError.{IsFault}
+use Rattle.qcow2_alloc.specs.ImageFile.{FileInvariant, known_in}
+use Rattle.qcow2_alloc.specs.ImageStorage.{storage_of}
+use Rattle.qcow2_alloc.specs.MetadataCaches.{IsEntryAt, PutRefusesBy, l2_at}
+use Rattle.qcow2_alloc.specs.TableCaches.{IsTableOf}
 use Rattle.qcow2_alloc.specs.declared.error.ImageError.{ImageError}
+use Rattle.qcow2_alloc.specs.declared.image_storage.ImageStorage.{ImageStorage}
 use Rattle.qcow2_alloc.proofs.AllocationSteps.{handed_on}
 use Rattle.qcow2_image.specs.Backings.{HasPrepared}
-use Rattle.qcow2_image.specs.CallParts.{RefusedCall}
-use Rattle.qcow2_image.specs.Clearing.{RefusesClearing, from_in, refuses_to_clear}
+use Rattle.qcow2_image.specs.CallParts.{RefusedCall, UnseenCall}
+use Rattle.qcow2_image.specs.Clearing.{IsClearable, RefusesClearing, from_in, refuses_to_clear}
 use Rattle.qcow2_image.specs.declared.discarding.Clearance.{Clearance}
 use Rattle.qcow2_image.specs.declared.image.Qcow2.{Qcow2}
 use Rattle.qcow2_image.specs.declared.prepared.Prepared.{Prepared}
+use Rattle.qcow2_image.specs.Found.{l1_index_of}
 use Rattle.qcow2_image.specs.ImageInvariant.{ImageInvariant, abstract_of, pending_in}
 use Rattle.qcow2_image.specs.L1Entries.{NeedsFarEntry}
-use Rattle.qcow2_image.specs.MetAlone.{IsMetAlone, KeepsL1Place}
+use Rattle.qcow2_image.specs.MetAlone.{IsMetAlone}
+use Rattle.qcow2_image.specs.NewTables.{IsStored}
 use Rattle.qcow2_image.specs.Refusals.{IsFaultOrLimit}
+use Rattle.qcow2_image.specs.UnseenSteps.{HoldsTable}
+use Rattle.qcow2_image.proofs.Clear.Between.{fits_table}
 use Rattle.qcow2_image.proofs.Prepare.Lacking.{fault_alone}
+use Rattle.qcow2_image.proofs.Prepare.Placing.{holds, keeps_placed, keeps_stored, stands_there}
 
 -- ---- refusals
-pub memory_fault : (e : MetadataError) → e ≡ M.Memory → IsFault (of_metadata e)
-memory_fault e is = subst (λ (x : MetadataError). IsFault (of_metadata x)) (sym is) (inr refl)
-
 module _ {A : Type 0} (compressed far : Type 0) where
   pub either_alone : (r : Result A ImageError) → IfErr r IsFaultOrLimit → IfErr r (IsMetAlone compressed far)
   either_alone (Ok x) why = tt
@@ -40,29 +43,11 @@ module _ {A : Type 0} (compressed far : Type 0) where
   pub hands_alone : (r : Result A ImageError) (e : ImageError) → IsErr r × IsErrAnd r (λ x. x ≡ e) → IsMetAlone compressed far e → IfErr r (IsMetAlone compressed far)
   hands_alone r e on why = handed_on (λ (x : Result _ _). IfErr x (IsMetAlone compressed far)) r e on why
 
--- ---- the L1 table stays where it is
-pub place_kept : (v v' : HeaderView) → KeepsHeader v v' → KeepsL1Place v.fields v'.fields
-place_kept v v' keeps = (ap (λ (x : HeaderView). x.fields.l1_offset) keeps, ap (λ (x : HeaderView). x.fields.l1_entries) keeps)
-
-pub place_same : (v v' : HeaderView) → v' ≡ v → KeepsL1Place v.fields v'.fields
-place_same v v' same = (ap (λ (x : HeaderView). x.fields.l1_offset) same, ap (λ (x : HeaderView). x.fields.l1_entries) same)
-
-pub place_then : (h h' h'' : HeaderFields) → KeepsL1Place h h' → KeepsL1Place h' h'' → KeepsL1Place h h''
-place_then h h' h'' first then = (then.0 ∙ first.0, then.1 ∙ first.1)
-
 module _ {S F : Type 0} (view : S → StorageView) (backing : F → BackingView) (out : List (Option Prepared)) where
-  module _ (p : Pending) (image : Qcow2 S F) (sound : ImageInvariant view backing p image out) where
-    -- the cache of L2 tables has a place, so a refusal is a fault
-    pub faults_alone : {A : Type 0} → (HasPrepared out → ⊥) → (r : Result A ImageError) → IfErr r (IsInUseOrFault image.file.caches) → IfErr r IsFault
-    faults_alone none (Ok x) cause = tt
-    faults_alone none (Err e) cause = fault_alone view backing out p image sound none e cause
-
-    -- an L2 table that an L1 entry names is aligned
-    pub table_aligned : (index : ℕ) → index < entry_count image.l1_table → host_offset (entry_at image.l1_table.bytes index) % 2 ^ image.file.header.fields.cluster_bits ≡ 0
-    table_aligned index within =
-        let h = image.file.header.fields in
-        let count = sound.l1_table.count in
-        subst (λ e. host_offset e % 2 ^ h.cluster_bits ≡ 0) (sym (sound.l1_table.entries index)) (sound.file.caches.kept.kept.crash_invariant.top.l2_tables_aligned index (omega (arith, within, count)))
+  -- the cache of L2 tables has a place, so a refusal is a fault
+  pub faults_alone : {A : Type 0} (p : Pending) (image : Qcow2 S F) → ImageInvariant view backing p image out → (HasPrepared out → ⊥) → (r : Result A ImageError) → IfErr r (IsInUseOrFault image.file.caches) → IfErr r IsFault
+  faults_alone p image sound none (Ok x) cause = tt
+  faults_alone p image sound none (Err e) cause = fault_alone view backing out p image sound none e cause
 
   -- clusters that are listed are freed behind the refusal, or a fault refuses that
   pub alone_freed : (compressed far : Type 0) (old mid new : Qcow2 S F) (e e' : ImageError) → RefusedCall view backing old mid out e → (IsFault e → (e' ≡ e) × (new ≡ mid))
@@ -71,6 +56,33 @@ module _ {S F : Type 0} (view : S → StorageView) (backing : F → BackingView)
     | inl stays ↦ elim (told stays.sound) [ inl same ↦ subst (IsMetAlone compressed far) (sym same) why | inr now ↦ inl (inl now) ]
     | inr broken ↦ inl (inl (subst IsFault (sym (fault broken.fault).0) broken.fault))
   ]
+
+-- ---- a new table, and the entries of a held one
+module _ {S F : Type 0} (view : S → StorageView) (backing : F → BackingView) (old : Qcow2 S F) (out : List (Option Prepared)) (p : Pending) (sound : ImageInvariant view backing p old out)
+    (stored : IsStored view old) (at : ℕ) (some : 0 < p.new_tables at) where
+  -- the bytes of a new table were written to its cluster: its cache refuses it where no table may go, or for a fault
+  pub put_refused : (storage : ImageStorage S) (asked : S) (t t' u : L2TableView) (wrote : Result (Unit {0}) StorageError) (x : Unit {0}) (r : Result (Unit {0}) ImageError) → asked ≡ storage_of old.file.storage → t' ≡ record t { cluster = Some at } → u ≡ record t' { is_modified = false }
+      → IsTableOf old.file.header.fields t → length t.bytes ≡ 2 ^ t.cluster_bits → IfSome t'.cluster (λ k. Changes (view asked) (view (storage_of storage)) wrote (overwritten (view asked).contents (k * 2 ^ t'.cluster_bits) t'.bytes))
+      → Calls (view asked) (view (storage_of storage)) wrote → wrote ≡ Ok x → PutRefusesBy (IsInUseOrFault old.file.caches) view storage old.file.caches (λ h. IsTableOf h u) u.cluster u.bytes u.is_modified r → IfErr r (IsInUseOrFault old.file.caches)
+  put_refused storage asked t t' u wrote x r same is last format whole written called done refuses =
+      let h = old.file.header.fields in
+      let mid = record old { file = record old.file { storage = storage } } in
+      let placed = keeps_placed view backing old out p sound stored at some storage asked t t' wrote same is format.bits whole written called in
+      let still = keeps_stored view backing old out p sound stored at some storage asked t t' wrote same is format.bits whole written called in
+      let there = stands_there view backing old out p sound stored at some storage asked t t' wrote same is format.bits whole written called x done in
+      let put : u ≡ record t { cluster = Some at; is_modified = false } = last ∙ ap (λ (v : L2TableView). record v { is_modified = false }) is in
+      subst (λ (v : L2TableView). PutRefusesBy (IsInUseOrFault old.file.caches) view storage old.file.caches (λ h. IsTableOf h v) v.cluster v.bytes v.is_modified r) put refuses h p placed.sound.file.honest placed.sound.file.caches placed.sound.file.named_blocks
+      (record { bits = format.bits; zero_bit = format.zero_bit; external = format.external }) refl (holds view backing mid out p placed.sound still at some t.bytes (whole ∙ ap (λ n. 2 ^ n) format.bits) there)
+
+module _ {S F : Type 0} (view : S → StorageView) (backing : F → BackingView) (out : List (Option Prepared)) (old mid : Qcow2 S F) (how : Clearance) (from to table : ℕ) (found : UnseenCall view backing old mid out) (held : HoldsTable view backing mid from table) where
+  -- the entries of a range that is clearable stand in the held table, and reading them is refused for a fault alone
+  pub reading_fault : IsClearable old.file.header.fields how from to → from < to → (first n : ℕ) (e : ImageError) → first ≡ from / cluster_size mid.file.header.fields → n ≡ (to - from) / cluster_size mid.file.header.fields
+      → ((q : Pending) (i : ℕ) → FileInvariant view q mid.file → IsEntryAt mid.file.header.fields (known_in view mid.file) i table (first % entries_per_cluster mid.file.header.fields) → first / entries_per_cluster mid.file.header.fields ≡ i
+      → first % entries_per_cluster mid.file.header.fields + n ≤ entries_per_cluster mid.file.header.fields → IsSome (l2_at mid.file.caches table) → IsFault e) → IsFault e
+  reading_fault whole some first n e at many faults =
+      let h = mid.file.header.fields in
+      faults (pending_in view backing mid out) (l1_index_of h from) found.sound.file (subst (λ k. IsEntryAt h (known_in view mid.file) (l1_index_of h from) table (k % entries_per_cluster h)) (sym at) held.entry) (ap (λ k. k / entries_per_cluster h) at)
+      (subst (λ k. k % entries_per_cluster h + n ≤ entries_per_cluster h) (sym at) (subst (λ k. from / cluster_size h % entries_per_cluster h + k ≤ entries_per_cluster h) (sym many) (fits_table view backing out old mid how from to found whole some))) held.new_data
 
 -- a call that has begun needs an entry past 64 bits only where that was so before
 pub far_before : {S F : Type 0} (old begun : Qcow2 S F) (compressed : Type 0) (offset : ℕ) (e : ImageError) → begun ≡ record old { file = record old.file { storage = begun.file.storage; caches = begun.file.caches } }

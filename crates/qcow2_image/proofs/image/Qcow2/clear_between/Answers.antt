@@ -85,6 +85,3 @@ returns-in-Err-clause-met g c = λ out sound whole none.
     let old = c.args.self.now in
     alone_freed g.S.Storage.view g.F.BackingDisk.backing out ⊥ (NeedsFarEntry old c.args.from) old c.clear_in_table.new.self c.free_after.new.self c.in-Err.refusal c.free_after.result (c.in-Err.ensures.clears out sound whole) c.free_after.ensures.fault
     (c.free_after.ensures.told out) (c.in-Err.ensures.met out sound whole none)
-
-pub returns-in-Ok-clause-l1_place : goal.returns-in-Ok-clause-l1_place
-returns-in-Ok-clause-l1_place g c = λ within. c.in-Ok.ensures.l1_place within

@@ -1,15 +1,12 @@
-use Rattle.std.proofs.Common.{◌≡◌, ◌<◌, inl, ◌-◌, ◌/◌, ◌%◌, ◌^◌, ◌++◌, ap, ◌∙◌, subst, arith, ◌+◌, ◌≤◌, sym}
+use Rattle.std.proofs.Common.{◌≡◌, ◌<◌, inl, ◌-◌, ◌/◌, ◌%◌, ◌^◌, ◌++◌, ap, ◌∙◌, subst, arith, ◌+◌, sym}
 use Rattle.qcow2_alloc.proofs.AllocationSteps.{handed_on}
-use Rattle.qcow2_metadata.specs.Header.{cluster_size, entries_per_cluster}
+use Rattle.qcow2_metadata.specs.Header.{cluster_size}
 use Rattle.qcow2_alloc.specs.CachePins.{l2_pins}
 use Rattle.qcow2_image.specs.declared.image.Qcow2.{Qcow2}
 use Rattle.qcow2_image.specs.Clearing.{ClearsOrRefuses, ClearsTable, ReadsAll}
-use Rattle.qcow2_image.specs.Found.{l2_index_of, l1_index_of}
-use Rattle.qcow2_image.proofs.Clear.Between.{clears_between, no_pins, pinned_under, under_pinned, fits_table}
+use Rattle.qcow2_image.specs.Found.{l2_index_of}
+use Rattle.qcow2_image.proofs.Clear.Between.{clears_between, no_pins, pinned_under, under_pinned}
 use Rattle.std.specs.Prelude.{IfErr}
-use Rattle.qcow2_alloc.specs.ImageFile.{known_in}
-use Rattle.qcow2_alloc.specs.MetadataCaches.{IsEntryAt}
-use Rattle.qcow2_image.specs.ImageInvariant.{pending_in}
 use Rattle.qcow2_image.specs.NewTables.{IsFaultOrLacksTable}
 use Rattle.qcow2_image.proofs.Backings.{some_prepared}
 use Rattle.qcow2_image.proofs.Prepare.FarEntries.{far_handed_on, far_unanswered}
@@ -20,7 +17,7 @@ use Rattle.qcow2_image.proofs.Prepare.Pinned.{found_pins, heeds_refused, met_unt
 use Rattle.qcow2_image.proofs.Prepare.Lacked.{hands_limit, other_limit}
 use Rattle.qcow2_image.specs.LackedPlaces.{LacksTableFor}
 use Rattle.qcow2_image.proofs.Call.Unlimited.{fault_unlimited}
-use Rattle.qcow2_image.proofs.Prepare.MetTables.{hands_alone, place_same, place_then}
+use Rattle.qcow2_image.proofs.Prepare.MetTables.{hands_alone, reading_fault}
 use Rattle.qcow2_image.specs.L1Entries.{NeedsFarEntry}
 use Rattle.qcow2_image.proofs.image.Qcow2.clear_in_table.Goals as goal
 
@@ -82,25 +79,6 @@ returns-then-l2_is_pinned-clause-lacks g c = λ out sound whole none.
     let found = c.in_ok-table.ensures.finds out sound in
     absurd (none (some_prepared g.S.Storage.view g.F.BackingDisk.backing c.table_for.new.self out found.0.sound c.in_ok-table.table (c.l2_is_pinned.ensures.0 c.if-l2_is_pinned.true)))
 
-pub returns-in_err-old_data-clause-lacks : goal.returns-in_err-old_data-clause-lacks
-returns-in_err-old_data-clause-lacks g c = λ out sound whole none.
-    let view = g.S.Storage.view in
-    let below = g.F.BackingDisk.backing in
-    let old = c.args.self.now in
-    let mid = c.table_for.new.self in
-    let h = mid.file.header.fields in
-    let from = c.args.from in
-    let to = c.args.to in
-    let found = c.in_ok-table.ensures.finds out sound in
-    let bits = c.cluster_bits-bits.ensures.value in
-    let first : c.cluster-first.result ≡ c.args.from / cluster_size c.table_for.new.self.file.header.fields = c.cluster-first.ensures ∙ ap (λ o. o / 2 ^ c.cluster_bits-bits.result) c.new.ensures ∙ ap (λ n. from / 2 ^ n) bits in
-    let count : (c.args.to - c.args.from) / 2 ^ c.cluster_bits-bits.result ≡ (c.args.to - c.args.from) / cluster_size c.table_for.new.self.file.header.fields = ap (λ n. (to - from) / 2 ^ n) bits in
-    let fits = subst (λ n. n % entries_per_cluster h + (to - from) / 2 ^ c.cluster_bits-bits.result ≤ entries_per_cluster h) (sym first)
-    (subst (λ n. from / cluster_size h % entries_per_cluster h + n ≤ entries_per_cluster h) (sym count) (fits_table view below out old mid c.args.how from to found.0 whole c.requires.some)) in
-    let at = subst (λ n. IsEntryAt h (known_in view mid.file) (l1_index_of h from) c.in_ok-table.table (n % entries_per_cluster h)) (sym first) found.1.entry in
-    handed_on (λ r. IfErr r (IsFaultOrLacksTable view mid from)) c.from_residual-in_err-old_data.result c.in_err-old_data.field-0.0 c.from_residual-in_err-old_data.ensures
-    (inl (c.in_err-old_data.ensures.only_faults (pending_in view below mid out) (l1_index_of h from) found.0.sound.file at (ap (λ n. n / entries_per_cluster h) first) fits found.1.new_data))
-
 pub returns-clause-reaches : goal.returns-clause-reaches
 returns-clause-reaches g c = λ out sound. ap (λ (i : Qcow2 _ _). i.file.header.fields.l1_entries) c.clear_entries.ensures.clears.rest ∙ c.in_ok-table.ensures.reaches out sound
 
@@ -158,26 +136,6 @@ pub returns-in_err-table-clause-limit : goal.returns-in_err-table-clause-limit
 returns-in_err-table-clause-limit g c = λ out sound whole.
     hands_limit (λ x. LacksTableFor g.S.Storage.view c.args.from c.args.self.now c.table_for.new.self) c.from_residual.result c.in_err-table.field-0.0 c.from_residual.ensures (c.in_err-table.ensures.limit out sound)
 
-pub returns-in_err-old_data-clause-limit : goal.returns-in_err-old_data-clause-limit
-returns-in_err-old_data-clause-limit g c = λ out sound whole.
-    let view = g.S.Storage.view in
-    let below = g.F.BackingDisk.backing in
-    let old = c.args.self.now in
-    let mid = c.table_for.new.self in
-    let h = mid.file.header.fields in
-    let from = c.args.from in
-    let to = c.args.to in
-    let found = c.in_ok-table.ensures.finds out sound in
-    let bits = c.cluster_bits-bits.ensures.value in
-    let first : c.cluster-first.result ≡ c.args.from / cluster_size c.table_for.new.self.file.header.fields = c.cluster-first.ensures ∙ ap (λ o. o / 2 ^ c.cluster_bits-bits.result) c.new.ensures ∙ ap (λ n. from / 2 ^ n) bits in
-    let count : (c.args.to - c.args.from) / 2 ^ c.cluster_bits-bits.result ≡ (c.args.to - c.args.from) / cluster_size c.table_for.new.self.file.header.fields = ap (λ n. (to - from) / 2 ^ n) bits in
-    let fits = subst (λ n. n % entries_per_cluster h + (to - from) / 2 ^ c.cluster_bits-bits.result ≤ entries_per_cluster h) (sym first)
-    (subst (λ n. from / cluster_size h % entries_per_cluster h + n ≤ entries_per_cluster h) (sym count) (fits_table view below out old mid c.args.how from to found.0 whole c.requires.some)) in
-    let at = subst (λ n. IsEntryAt h (known_in view mid.file) (l1_index_of h from) c.in_ok-table.table (n % entries_per_cluster h)) (sym first) found.1.entry in
-    let e = c.in_err-old_data.field-0.0 in
-    hands_limit (λ x. LacksTableFor view from old mid) c.from_residual-in_err-old_data.result e c.from_residual-in_err-old_data.ensures
-    (other_limit _ e (fault_unlimited e (c.in_err-old_data.ensures.only_faults (pending_in view below mid out) (l1_index_of h from) found.0.sound.file at (ap (λ n. n / entries_per_cluster h) first) fits found.1.new_data)))
-
 pub returns-in_err-table-clause-met : goal.returns-in_err-table-clause-met
 returns-in_err-table-clause-met g c = λ out sound whole none.
     hands_alone ⊥ (NeedsFarEntry c.args.self.now c.args.from) c.from_residual.result c.in_err-table.field-0.0 c.from_residual.ensures (c.in_err-table.ensures.met out sound none)
@@ -187,28 +145,38 @@ returns-then-l2_is_pinned-clause-met g c = λ out sound whole none.
     let found = c.in_ok-table.ensures.finds out sound in
     absurd (none (some_prepared g.S.Storage.view g.F.BackingDisk.backing c.table_for.new.self out found.0.sound c.in_ok-table.table (c.l2_is_pinned.ensures.0 c.if-l2_is_pinned.true)))
 
-pub returns-in_err-old_data-clause-met : goal.returns-in_err-old_data-clause-met
-returns-in_err-old_data-clause-met g c = λ out sound whole none.
+pub returns-in_err-old_data-clause-lacks : goal.returns-in_err-old_data-clause-lacks
+returns-in_err-old_data-clause-lacks g c = λ out sound whole none.
     let view = g.S.Storage.view in
-    let below = g.F.BackingDisk.backing in
-    let old = c.args.self.now in
     let mid = c.table_for.new.self in
-    let h = mid.file.header.fields in
     let from = c.args.from in
-    let to = c.args.to in
     let found = c.in_ok-table.ensures.finds out sound in
     let bits = c.cluster_bits-bits.ensures.value in
     let first : c.cluster-first.result ≡ c.args.from / cluster_size c.table_for.new.self.file.header.fields = c.cluster-first.ensures ∙ ap (λ o. o / 2 ^ c.cluster_bits-bits.result) c.new.ensures ∙ ap (λ n. from / 2 ^ n) bits in
-    let count : (c.args.to - c.args.from) / 2 ^ c.cluster_bits-bits.result ≡ (c.args.to - c.args.from) / cluster_size c.table_for.new.self.file.header.fields = ap (λ n. (to - from) / 2 ^ n) bits in
-    let fits = subst (λ n. n % entries_per_cluster h + (to - from) / 2 ^ c.cluster_bits-bits.result ≤ entries_per_cluster h) (sym first)
-    (subst (λ n. from / cluster_size h % entries_per_cluster h + n ≤ entries_per_cluster h) (sym count) (fits_table view below out old mid c.args.how from to found.0 whole c.requires.some)) in
-    let at = subst (λ n. IsEntryAt h (known_in view mid.file) (l1_index_of h from) c.in_ok-table.table (n % entries_per_cluster h)) (sym first) found.1.entry in
-    hands_alone ⊥ (NeedsFarEntry old from) c.from_residual-in_err-old_data.result c.in_err-old_data.field-0.0 c.from_residual-in_err-old_data.ensures
-    (inl (inl (c.in_err-old_data.ensures.only_faults (pending_in view below mid out) (l1_index_of h from) found.0.sound.file at (ap (λ n. n / entries_per_cluster h) first) fits found.1.new_data)))
+    let e = c.in_err-old_data.field-0.0 in
+    let fault = reading_fault view g.F.BackingDisk.backing out c.args.self.now mid c.args.how from c.args.to c.in_ok-table.table found.0 found.1 whole c.requires.some c.cluster-first.result ((c.args.to - from) / 2 ^ c.cluster_bits-bits.result) e first (ap (λ n. (c.args.to - from) / 2 ^ n) bits) c.in_err-old_data.ensures.only_faults in
+    handed_on (λ r. IfErr r (IsFaultOrLacksTable view mid from)) c.from_residual-in_err-old_data.result e c.from_residual-in_err-old_data.ensures (inl fault)
 
-pub returns-clause-l1_place : goal.returns-clause-l1_place
-returns-clause-l1_place g c = λ within.
-    let old = c.args.self.now in
+pub returns-in_err-old_data-clause-limit : goal.returns-in_err-old_data-clause-limit
+returns-in_err-old_data-clause-limit g c = λ out sound whole.
+    let view = g.S.Storage.view in
     let mid = c.table_for.new.self in
-    let new = c.clear_entries.new.self in
-    place_then old.file.header.fields mid.file.header.fields new.file.header.fields (c.in_ok-table.ensures.l1_place within) (place_same mid.file.header new.file.header (ap (λ (i : Qcow2 _ _). i.file.header) c.clear_entries.ensures.clears.rest))
+    let from = c.args.from in
+    let found = c.in_ok-table.ensures.finds out sound in
+    let bits = c.cluster_bits-bits.ensures.value in
+    let first : c.cluster-first.result ≡ c.args.from / cluster_size c.table_for.new.self.file.header.fields = c.cluster-first.ensures ∙ ap (λ o. o / 2 ^ c.cluster_bits-bits.result) c.new.ensures ∙ ap (λ n. from / 2 ^ n) bits in
+    let e = c.in_err-old_data.field-0.0 in
+    let fault = reading_fault view g.F.BackingDisk.backing out c.args.self.now mid c.args.how from c.args.to c.in_ok-table.table found.0 found.1 whole c.requires.some c.cluster-first.result ((c.args.to - from) / 2 ^ c.cluster_bits-bits.result) e first (ap (λ n. (c.args.to - from) / 2 ^ n) bits) c.in_err-old_data.ensures.only_faults in
+    hands_limit (λ x. LacksTableFor view from c.args.self.now mid) c.from_residual-in_err-old_data.result e c.from_residual-in_err-old_data.ensures (other_limit _ e (fault_unlimited e fault))
+
+pub returns-in_err-old_data-clause-met : goal.returns-in_err-old_data-clause-met
+returns-in_err-old_data-clause-met g c = λ out sound whole none.
+    let view = g.S.Storage.view in
+    let mid = c.table_for.new.self in
+    let from = c.args.from in
+    let found = c.in_ok-table.ensures.finds out sound in
+    let bits = c.cluster_bits-bits.ensures.value in
+    let first : c.cluster-first.result ≡ c.args.from / cluster_size c.table_for.new.self.file.header.fields = c.cluster-first.ensures ∙ ap (λ o. o / 2 ^ c.cluster_bits-bits.result) c.new.ensures ∙ ap (λ n. from / 2 ^ n) bits in
+    let e = c.in_err-old_data.field-0.0 in
+    let fault = reading_fault view g.F.BackingDisk.backing out c.args.self.now mid c.args.how from c.args.to c.in_ok-table.table found.0 found.1 whole c.requires.some c.cluster-first.result ((c.args.to - from) / 2 ^ c.cluster_bits-bits.result) e first (ap (λ n. (c.args.to - from) / 2 ^ n) bits) c.in_err-old_data.ensures.only_faults in
+    hands_alone ⊥ (NeedsFarEntry c.args.self.now from) c.from_residual-in_err-old_data.result e c.from_residual-in_err-old_data.ensures (inl (inl fault))

@@ -10,14 +10,8 @@ use Rattle.qcow2_alloc.proofs.KeptMarks.{notes_none}
 use Rattle.qcow2_image.proofs.Call.BehindHeader.{behind_first, behind_none}
 use Rattle.qcow2_image.proofs.Prepare.Listing.{some_none}
 use Rattle.qcow2_image.proofs.Prepare.Pinned.{whole_quotient}
-use Rattle.qcow2_image.proofs.Prepare.Lacked.{hands_limit, limited_not, other_limit, hands_either}
-use Rattle.std.proofs.Common.{◌<◌}
-use Rattle.qcow2_image.specs.LackedPlaces.{HasNearEntry, HasNoCluster, StandsInWay}
-use Rattle.qcow2_laws.proofs.Places.{has_table}
-use Rattle.qcow2_alloc.specs.ImageFile.{contents_in}
+use Rattle.qcow2_image.specs.LackedPlaces.{HasNearEntry}
 use Rattle.qcow2_image.specs.UnseenSteps.{NamesOwn}
-use Rattle.qcow2_image.proofs.Prepare.MetTables.{memory_fault, table_aligned}
-use Rattle.qcow2_alloc.specs.ImageError.{of_metadata}
 use Rattle.qcow2_image.proofs.image.Qcow2.own_l2.Goals as goal
 
 pub returns-then-not-in_bounds-clause-owns : goal.returns-then-not-in_bounds-clause-owns
@@ -231,10 +225,6 @@ returns-clause-limit g c = λ p out sound near.
       real = λ none. absurd (let some = c.in-Some.ensures.some in omega (arith, some, none, offset));
       may = λ own. absurd (let is = sym own.1 ∙ ap is_copied (sym (sound.l1_table.entries c.l1_index-index.result)) ∙ sym c.in-Some.ensures.copied ∙ c.if-entry.false in cc);
     }) (subst (HasNearEntry old) (sym idx) near)
-
-pub returns-in_err-table-clause-fault : goal.returns-in_err-table-clause-fault
-returns-in_err-table-clause-fault g c = λ p out sound none cause.
-    hands_either c.from_residual.result (of_metadata c.in_err-table.field-0.0) c.from_residual.ensures (inl (memory_fault c.in_err-table.field-0.0 c.in_err-table.ensures.err))
 
 pub returns-in_default-clause-fault : goal.returns-in_default-clause-fault
 returns-in_default-clause-fault g c = λ p out sound none cause.

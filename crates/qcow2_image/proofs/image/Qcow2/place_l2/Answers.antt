@@ -14,13 +14,11 @@ use Rattle.qcow2_alloc.proofs.KeptMarks.{notes_none, notes_then, notes_of_both, 
 use Rattle.qcow2_alloc.proofs.KeptMarks.{placed_kept}
 use Rattle.qcow2_image.proofs.Call.BehindHeader.{behind_caches, behind_none, behind_placed, behind_then, table_behind}
 use Rattle.qcow2_alloc.specs.SparedHeaders.{CachesSpareHeader}
-use Rattle.qcow2_image.proofs.Prepare.Lacked.{hands_unlimited, in_use_all, hands_fault}
-use Rattle.qcow2_image.proofs.Call.Unlimited.{storage_unlimited, storage_fault}
+use Rattle.qcow2_image.proofs.Prepare.Lacked.{hands_unlimited, in_use_all}
+use Rattle.qcow2_image.proofs.Call.Unlimited.{storage_unlimited}
 use Rattle.qcow2_alloc.proofs.Outcomes.{not_both}
-use Rattle.qcow2_alloc.specs.CachePins.{IsInUseOrFault}
-use Rattle.qcow2_alloc.specs.MetadataCaches.{PutRefusesBy}
 use Rattle.qcow2_metadata.specs.L2Mapping.{IsHostCluster}
-use Rattle.qcow2_image.proofs.Prepare.MetTables.{faults_alone}
+use Rattle.qcow2_image.proofs.Prepare.MetTables.{faults_alone, put_refused}
 use Rattle.qcow2_image.proofs.image.Qcow2.place_l2.Goals as goal
 
 pub returns-in_err-write_new_l2_table-clause-places : goal.returns-in_err-write_new_l2_table-clause-places
@@ -98,48 +96,12 @@ returns-in_err-write_new_l2_table-clause-limited g c = λ p out sound some forma
 
 pub returns-clause-limited : goal.returns-clause-limited
 returns-clause-limited g c = λ p out sound some format stored near.
-    let view = g.S.Storage.view in
-    let below = g.F.BackingDisk.backing in
-    let old = c.args.self.now in
-    let h = old.file.header.fields in
-    let at = c.args.cluster in
-    let mid = record old { file = record old.file { storage = c.write_new_l2_table.new.self } } in
-    let whole = subst (λ (t : L2TableView). length t.bytes ≡ 2 ^ t.cluster_bits) c.table.view_is c.table.invariant.whole in
-    let long = whole ∙ ap (λ n. 2 ^ n) format.bits in
-    let wrote = keeps_placed view below old out p sound stored at some c.write_new_l2_table.new.self (storage_of c.will_write.new.self) c.args.table c.set_cluster.new.self c.write_new_l2_table.result c.will_write.ensures.storage c.set_cluster.ensures format.bits whole
-    c.write_new_l2_table.ensures.written c.write_new_l2_table.ensures.calls in
-    let still = keeps_stored view below old out p sound stored at some c.write_new_l2_table.new.self (storage_of c.will_write.new.self) c.args.table c.set_cluster.new.self c.write_new_l2_table.result c.will_write.ensures.storage c.set_cluster.ensures format.bits whole
-    c.write_new_l2_table.ensures.written c.write_new_l2_table.ensures.calls in
-    let there = stands_there view below old out p sound stored at some c.write_new_l2_table.new.self (storage_of c.will_write.new.self) c.args.table c.set_cluster.new.self c.write_new_l2_table.result c.will_write.ensures.storage c.set_cluster.ensures format.bits whole
-    c.write_new_l2_table.ensures.written c.write_new_l2_table.ensures.calls c.in_ok-write_new_l2_table.field-0 c.in_ok-write_new_l2_table.was in
-    let is : c.clear_modified.new.self ≡ record c.args.table { cluster = Some at; is_modified = false } = c.clear_modified.ensures ∙ ap (λ (t : L2TableView). record t { is_modified = false }) c.set_cluster.ensures in
-    let refuses = subst (λ (t : L2TableView). PutRefusesBy (IsInUseOrFault old.file.caches) view c.write_new_l2_table.new.self old.file.caches (λ h. IsTableOf h t) t.cluster t.bytes t.is_modified c.l2_insert.result) is c.l2_insert.ensures.refusals in
-    in_use_all old.file.caches c.l2_insert.result
-    (refuses h p wrote.sound.file.honest wrote.sound.file.caches wrote.sound.file.named_blocks (record { bits = format.bits; zero_bit = format.zero_bit; external = format.external }) refl (holds view below mid out p wrote.sound still at some c.args.table.bytes long there))
-
-pub returns-then-not-is_nameable-clause-fault : goal.returns-then-not-is_nameable-clause-fault
-returns-then-not-is_nameable-clause-fault g c = λ p out sound none some format stored near. not_both c.is_nameable.result (c.is_nameable.ensures.1 (subst (λ n. IsHostCluster n c.args.cluster) (sym c.cluster_bits.ensures.value) near)) c.if-not-is_nameable.true
-
-pub returns-in_err-write_new_l2_table-clause-fault : goal.returns-in_err-write_new_l2_table-clause-fault
-returns-in_err-write_new_l2_table-clause-fault g c = λ p out sound none some format stored near. hands_fault c.from_residual.result (of_storage c.in_err-write_new_l2_table.field-0.0) c.from_residual.ensures (storage_fault c.in_err-write_new_l2_table.field-0.0)
+    in_use_all c.args.self.now.file.caches c.l2_insert.result
+    (put_refused g.S.Storage.view g.F.BackingDisk.backing c.args.self.now out p sound stored c.args.cluster some c.write_new_l2_table.new.self (storage_of c.will_write.new.self) c.args.table c.set_cluster.new.self c.clear_modified.new.self c.write_new_l2_table.result c.in_ok-write_new_l2_table.field-0 c.l2_insert.result
+    c.will_write.ensures.storage c.set_cluster.ensures c.clear_modified.ensures format (subst (λ (t : L2TableView). length t.bytes ≡ 2 ^ t.cluster_bits) c.table.view_is c.table.invariant.whole) c.write_new_l2_table.ensures.written c.write_new_l2_table.ensures.calls c.in_ok-write_new_l2_table.was c.l2_insert.ensures.refusals)
 
 pub returns-clause-fault : goal.returns-clause-fault
 returns-clause-fault g c = λ p out sound none some format stored near.
-    let view = g.S.Storage.view in
-    let below = g.F.BackingDisk.backing in
-    let old = c.args.self.now in
-    let h = old.file.header.fields in
-    let at = c.args.cluster in
-    let mid = record old { file = record old.file { storage = c.write_new_l2_table.new.self } } in
-    let whole = subst (λ (t : L2TableView). length t.bytes ≡ 2 ^ t.cluster_bits) c.table.view_is c.table.invariant.whole in
-    let long = whole ∙ ap (λ n. 2 ^ n) format.bits in
-    let wrote = keeps_placed view below old out p sound stored at some c.write_new_l2_table.new.self (storage_of c.will_write.new.self) c.args.table c.set_cluster.new.self c.write_new_l2_table.result c.will_write.ensures.storage c.set_cluster.ensures format.bits whole
-    c.write_new_l2_table.ensures.written c.write_new_l2_table.ensures.calls in
-    let still = keeps_stored view below old out p sound stored at some c.write_new_l2_table.new.self (storage_of c.will_write.new.self) c.args.table c.set_cluster.new.self c.write_new_l2_table.result c.will_write.ensures.storage c.set_cluster.ensures format.bits whole
-    c.write_new_l2_table.ensures.written c.write_new_l2_table.ensures.calls in
-    let there = stands_there view below old out p sound stored at some c.write_new_l2_table.new.self (storage_of c.will_write.new.self) c.args.table c.set_cluster.new.self c.write_new_l2_table.result c.will_write.ensures.storage c.set_cluster.ensures format.bits whole
-    c.write_new_l2_table.ensures.written c.write_new_l2_table.ensures.calls c.in_ok-write_new_l2_table.field-0 c.in_ok-write_new_l2_table.was in
-    let is : c.clear_modified.new.self ≡ record c.args.table { cluster = Some at; is_modified = false } = c.clear_modified.ensures ∙ ap (λ (t : L2TableView). record t { is_modified = false }) c.set_cluster.ensures in
-    let refuses = subst (λ (t : L2TableView). PutRefusesBy (IsInUseOrFault old.file.caches) view c.write_new_l2_table.new.self old.file.caches (λ h. IsTableOf h t) t.cluster t.bytes t.is_modified c.l2_insert.result) is c.l2_insert.ensures.refusals in
-    faults_alone view below out p mid wrote.sound none c.l2_insert.result
-    (refuses h p wrote.sound.file.honest wrote.sound.file.caches wrote.sound.file.named_blocks (record { bits = format.bits; zero_bit = format.zero_bit; external = format.external }) refl (holds view below mid out p wrote.sound still at some c.args.table.bytes long there))
+    faults_alone g.S.Storage.view g.F.BackingDisk.backing out p c.args.self.now sound none c.l2_insert.result
+    (put_refused g.S.Storage.view g.F.BackingDisk.backing c.args.self.now out p sound stored c.args.cluster some c.write_new_l2_table.new.self (storage_of c.will_write.new.self) c.args.table c.set_cluster.new.self c.clear_modified.new.self c.write_new_l2_table.result c.in_ok-write_new_l2_table.field-0 c.l2_insert.result
+    c.will_write.ensures.storage c.set_cluster.ensures c.clear_modified.ensures format (subst (λ (t : L2TableView). length t.bytes ≡ 2 ^ t.cluster_bits) c.table.view_is c.table.invariant.whole) c.write_new_l2_table.ensures.written c.write_new_l2_table.ensures.calls c.in_ok-write_new_l2_table.was c.l2_insert.ensures.refusals)

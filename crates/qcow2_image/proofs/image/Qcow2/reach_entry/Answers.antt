@@ -15,7 +15,6 @@ use Rattle.qcow2_alloc.proofs.KeptMarks.{notes_none, notes_then}
 use Rattle.qcow2_image.proofs.Call.BehindHeader.{behind_none, behind_then}
 use Rattle.qcow2_image.proofs.Prepare.Listing.{some_kept, some_none}
 use Rattle.qcow2_image.proofs.Prepare.Lacked.{faults_unlimited, hands_limit, unlimited_all, faults_or_limit, hands_either}
-use Rattle.std.proofs.Common.{◌<◌}
 use Rattle.qcow2_image.specs.LackedPlaces.{EndsBefore, IsPlacedNear, LacksLongerTable}
 use Rattle.qcow2_image.proofs.image.Qcow2.reach_entry.Goals as goal
 

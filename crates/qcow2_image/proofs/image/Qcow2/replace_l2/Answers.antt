@@ -12,8 +12,6 @@ use Rattle.qcow2_alloc.specs.ImageFile.{contents_in}
 use Rattle.qcow2_image.proofs.Prepare.Lacking.{named_place, fault_alone}
 use Rattle.qcow2_image.proofs.Call.Unlimited.{in_use_unlimited}
 use Rattle.qcow2_image.specs.LackedPlaces.{HasNoCluster, StandsInWay}
-use Rattle.qcow2_image.proofs.Prepare.MetTables.{memory_fault}
-use Rattle.qcow2_alloc.specs.ImageError.{of_metadata}
 use Rattle.qcow2_image.proofs.image.Qcow2.replace_l2.Goals as goal
 
 pub returns-in_err-l2_get_or_insert-clause-owns : goal.returns-in_err-l2_get_or_insert-clause-owns
@@ -101,10 +99,6 @@ returns-in_err-l2_get_or_insert-clause-fault g c = λ p out sound none shared ne
     let e = c.in_err-l2_get_or_insert.field-0.0 in
     hands_either c.from_residual.result e c.from_residual.ensures
     (inl (fault_alone view g.F.BackingDisk.backing out p old sound none e (c.in_err-l2_get_or_insert.ensures.refusals h (named_place h (contents_in view old.file) c.args.index c.args.old shared.place) p sound.file.honest sound.file.caches sound.file.named_blocks)))
-
-pub returns-in_err-table-clause-fault : goal.returns-in_err-table-clause-fault
-returns-in_err-table-clause-fault g c = λ p out sound none shared near.
-    hands_either c.from_residual-in_err-table.result (of_metadata c.in_err-table.field-0.0) c.from_residual-in_err-table.ensures (inl (memory_fault c.in_err-table.field-0.0 c.in_err-table.ensures.err))
 
 pub returns-clause-fault : goal.returns-clause-fault
 returns-clause-fault g c = λ p out sound none shared near.

@@ -5,7 +5,6 @@ use Rattle.qcow2_image.proofs.Prepare.Owning.{refused, left_alone, swapped_owns}
 use Rattle.qcow2_alloc.proofs.KeptMarks.{notes_none}
 use Rattle.qcow2_image.proofs.Call.BehindHeader.{behind_none}
 use Rattle.qcow2_image.proofs.Prepare.Listing.{some_still}
-use Rattle.qcow2_image.proofs.Prepare.Lacked.{other_limit}
 use Rattle.qcow2_image.proofs.image.Qcow2.swap_l2.Goals as goal
 
 pub returns-in-Err-clause-owns : goal.returns-in-Err-clause-owns

@@ -17,17 +17,15 @@ use Rattle.qcow2_image.specs.NewTables.{IsFaultOrLacksTable}
 use Rattle.qcow2_alloc.proofs.KeptMarks.{notes_none, notes_then}
 use Rattle.qcow2_image.proofs.Call.BehindHeader.{behind_none, behind_then}
 use Rattle.qcow2_image.proofs.Prepare.Listing.{lists_made, lists_own, some_kept, some_then}
-use Rattle.qcow2_image.proofs.Call.FaultCounts.{counted_since, same_of}
+use Rattle.qcow2_image.proofs.Call.FaultCounts.{counted_on, counted_since, faults_then, same_of}
 use Rattle.qcow2_image.proofs.Prepare.Lacked.{cluster_more, hands_limit, longer_wider, near_reached, other_limit, reached_runs, stands_then, unlimited_all}
 use Rattle.qcow2_image.specs.LackedPlaces.{HasNearEntry, HasNoCluster, LacksTableFor, listed_or_l1}
 use Rattle.qcow2_alloc.proofs.Outcomes.{not_both}
 use Rattle.qcow2_metadata.specs.declared.header.HeaderFields.{HeaderFields}
 use Rattle.std.proofs.Common.{◌+◌}
 use Rattle.qcow2_image.proofs.Call.Unlimited.{fault_unlimited}
-use Rattle.qcow2_image.proofs.Prepare.MetTables.{either_alone, hands_alone, place_kept, place_same, place_then}
+use Rattle.qcow2_image.proofs.Prepare.MetTables.{either_alone, hands_alone}
 use Rattle.qcow2_image.specs.L1Entries.{NeedsFarEntry}
-use Rattle.qcow2_image.specs.MetAlone.{KeepsL1Place}
-use Rattle.qcow2_image.specs.declared.image.Qcow2.{Qcow2}
 use Rattle.qcow2_image.proofs.image.Qcow2.table_for.Goals as goal
 
 pub returns-then-has_own_l2-clause-finds : goal.returns-then-has_own_l2-clause-finds
@@ -326,10 +324,6 @@ returns-then-has_own_l2-clause-met g c = λ out sound none.
     either_alone ⊥ (NeedsFarEntry c.args.self.now c.args.offset) c.ensure_l2.result
     (c.ensure_l2.ensures.fault (pending_in g.S.Storage.view g.F.BackingDisk.backing c.args.self.now out) out sound none (inl (c.has_own_l2.ensures.0 c.if-has_own_l2.true)))
 
-pub returns-then-has_far_entry-clause-met : goal.returns-then-has_far_entry-clause-met
-returns-then-has_far_entry-clause-met g c = λ out sound none.
-    inr (inr (refl, (c.has_far_entry.ensures.0 c.if-has_far_entry.true, (λ own. absurd (let no : false ≡ true = sym c.if-has_own_l2.false ∙ c.has_own_l2.ensures.1 own in cc)))))
-
 pub returns-in_err-reach_entry-clause-met : goal.returns-in_err-reach_entry-clause-met
 returns-in_err-reach_entry-clause-met g c = λ out sound none.
     hands_alone ⊥ (NeedsFarEntry c.args.self.now c.args.offset) c.from_residual.result c.in_err-reach_entry.field-0.0 c.from_residual.ensures (inl (c.in_err-reach_entry.ensures.fault out sound))
@@ -377,20 +371,12 @@ returns-clause-met g c = λ out sound none.
     let own = own_after view below out (pending_with_listed (pending_in view below long out) long mid) mid freed owned.0.sound c.args.offset (l1_index_of long.file.header.fields c.args.offset) at owned.1.own c.free_listed.ensures.table c.free_listed.ensures.keeps_rest.header in
     either_alone ⊥ (NeedsFarEntry old c.args.offset) c.ensure_l2-2.result (c.ensure_l2-2.ensures.fault (pending_in view below freed out) out second.sound none (inl own))
 
-pub returns-then-has_own_l2-clause-l1_place : goal.returns-then-has_own_l2-clause-l1_place
-returns-then-has_own_l2-clause-l1_place g c = λ within. always_ok c.ensure_l2.result (place_kept c.args.self.now.file.header c.ensure_l2.new.self.file.header c.ensure_l2.ensures.keeps_rest.header)
-
-pub returns-clause-l1_place : goal.returns-clause-l1_place
-returns-clause-l1_place g c = λ within.
+pub returns-in_err-free_listed-clause-faults : goal.returns-in_err-free_listed-clause-faults
+returns-in_err-free_listed-clause-faults g c =
+    let view = g.S.Storage.view in
+    let below = g.F.BackingDisk.backing in
     let old = c.args.self.now in
-    let long = c.reach_entry.new.self in
-    let mid = c.own_l2.new.self in
-    let freed = c.free_listed.new.self in
-    let new = c.ensure_l2-2.new.self in
-    let reached = ap (λ (i : Qcow2 _ _). i.file.header) (c.reach_entry.ensures.none within) in
-    always_ok c.ensure_l2-2.result
-    (place_then old.file.header.fields freed.file.header.fields new.file.header.fields
-    (place_then old.file.header.fields mid.file.header.fields freed.file.header.fields
-    (place_then old.file.header.fields long.file.header.fields mid.file.header.fields (place_same old.file.header long.file.header reached) (place_kept long.file.header mid.file.header c.own_l2.ensures.keeps_rest.header))
-    (place_same mid.file.header freed.file.header c.free_listed.ensures.keeps_rest.header))
-    (place_kept freed.file.header new.file.header c.ensure_l2-2.ensures.keeps_rest.header))
+    let reached = same_of view below old c.reach_entry.new.self c.reach_entry.result c.in_ok-reach_entry.field-0 c.reach_entry.ensures.faults c.in_ok-reach_entry.was in
+    let owned = same_of view below c.reach_entry.new.self c.own_l2.new.self c.own_l2.result c.in_ok-own_l2.field-0 c.own_l2.ensures.faults c.in_ok-own_l2.was in
+    counted_on view below old c.own_l2.new.self c.free_listed.new.self c.free_listed.result c.in_err-free_listed.field-0.0 c.from_residual-in_err-free_listed.result (faults_then view below old c.reach_entry.new.self c.own_l2.new.self reached owned) c.free_listed.ensures.counts c.in_err-free_listed.was
+    c.from_residual-in_err-free_listed.ensures

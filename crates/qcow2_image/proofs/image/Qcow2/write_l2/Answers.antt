@@ -111,12 +111,6 @@ returns-in_err-place_l2-clause-limited g c = λ p out sound says near host.
 pub returns-clause-limited : goal.returns-clause-limited
 returns-clause-limited g c = λ p out sound says near host. faults_unlimited c.name_l2.result c.name_l2.ensures.fault
 
-pub returns-then-not-can_enter-clause-fault : goal.returns-then-not-can_enter-clause-fault
-returns-then-not-can_enter-clause-fault g c = λ p out sound none says near host.
-    not_both c.can_enter.result
-    (c.can_enter.ensures.near near (near_placed g.S.Storage.view g.F.BackingDisk.backing out (with_new_tables p (one_at c.args.cluster)) c.args.self.now c.args.index sound near) (subst (λ n. IsHostCluster n c.args.cluster) (sym sound.l1_table.bits) host))
-    c.if-not-can_enter.true
-
 pub returns-in_err-store_first-clause-fault : goal.returns-in_err-store_first-clause-fault
 returns-in_err-store_first-clause-fault g c = λ p out sound none says near host.
     hands_fault c.from_residual.result c.in_err-store_first.field-0.0 c.from_residual.ensures (c.in_err-store_first.ensures.fault (with_new_tables p (one_at c.args.cluster)) out sound)
@@ -133,6 +127,3 @@ returns-in_err-place_l2-clause-fault g c = λ p out sound none says near host.
     let format = (says_still view below out q q old mid c.args.index c.args.table stored.0 says).format in
     hands_fault c.from_residual-in_err-place_l2.result c.in_err-place_l2.field-0.0 c.from_residual-in_err-place_l2.ensures
     (c.in_err-place_l2.ensures.fault q out stored.0.sound none (omega (arith, own)) format stored.1 (subst (λ n. IsHostCluster n c.args.cluster) (sym says.format.bits) host))
-
-pub returns-clause-fault : goal.returns-clause-fault
-returns-clause-fault g c = λ p out sound none says near host. c.name_l2.ensures.fault
