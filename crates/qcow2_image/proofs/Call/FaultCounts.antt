@@ -7,7 +7,7 @@ use Rattle.image_access.specs.Backing.{BackingView}
 use Rattle.image_access.specs.Moments.{StorageView, Rose, UnlessErr}
 use Rattle.qcow2_alloc.specs.declared.error.ImageError.{ImageError}
 use Rattle.qcow2_alloc.specs.declared.error.ImageError.TheVariants.{Storage}
-use Rattle.qcow2_alloc.specs.Faults.{faults_of}
+use Rattle.qcow2_alloc.specs.Faults.{CountsFaults, faults_of}
 use Rattle.qcow2_alloc.proofs.AllocationSteps.{handed_on}
 use Rattle.qcow2_image.specs.declared.image.Qcow2.{Qcow2}
 use Rattle.qcow2_image.specs.Faults.{CountsImageFaults, NoFewerFaults, OneRose, SameFaults, TellsEachIn, TellsFault}
@@ -78,6 +78,10 @@ module _ {S F : Type 0} (view : S → StorageView) (backing : F → BackingView)
   -- what an answer leaves
   pub same_of : {T : Type 0} (old new : Qcow2 S F) (answer : Result T ImageError) (x : T) → CountsImageFaults view backing old new answer → answer ≡ Ok x → SameFaults view backing old new
   same_of old new answer x told is = (subst (λ r. CountsImageFaults view backing old new r) is told).told
+
+  -- what a change of its file leaves that was answered
+  pub same_told : {T : Type 0} (old new : Qcow2 S F) (answer : Result T ImageError) (x : T) → CountsFaults view old.file.storage new.file.storage answer → answer ≡ Ok x → new.backing ≡ old.backing → SameFaults view backing old new
+  same_told old new answer x told is below = record { storage = (subst (λ r. CountsFaults view old.file.storage new.file.storage r) is told).told; below = ap (λ b. faults_below view backing b) below }
 
   -- the same refusal, of another call
   pub counted_as : {T A : Type 0} (old mid new : Qcow2 S F) (answer : Result A ImageError) (e : ImageError) → SameFaults view backing old mid → CountsImageFaults view backing mid new answer → answer ≡ Err e → CountsImageFaults view backing {T = T} old new (Err e)

@@ -21,6 +21,7 @@ use Rattle.qcow2_alloc.specs.Limits.{HasNoPlace, IsFaultOr}
 use Rattle.qcow2_alloc.specs.LowestRuns.{IsUsed}
 use Rattle.qcow2_image.specs.LackedPlaces.{HasNoTablePlace, StandsInWay}
 use Rattle.qcow2_image.proofs.Grow.Lengthened.{keeps_taken, longer_taken}
+use Rattle.qcow2_image.proofs.Call.FaultCounts.{counted_since, same_told}
 use Rattle.qcow2_image.proofs.image.Qcow2.enter_l1_table.Goals as goal
 
 pub returns-in_default-clause-takes : goal.returns-in_default-clause-takes
@@ -134,3 +135,12 @@ returns-clause-fault g c = λ writable p out sound longer some.
 
 pub returns-clause-placed : goal.returns-clause-placed
 returns-clause-placed g c = λ few bits. placed_near c.args.table c.in_ok-pending.pending.first_cluster c.args.self.now.file.header.fields.cluster_bits few bits c.in_ok-pending.ensures.nameable c.write_taken.new.self.l1_table c.write_taken.result c.write_taken.ensures.placed
+
+pub returns-clause-faults : goal.returns-clause-faults
+returns-clause-faults g c =
+    let view = g.S.Storage.view in
+    let below = g.F.BackingDisk.backing in
+    let old = c.args.self.now in
+    let taken = record old { file = c.allocate_meta.new.file; allocator = Some c.allocate_meta.new.self } in
+    let same = same_told view below old taken c.allocate_meta.result c.in_ok-pending.pending c.allocate_meta.ensures.storage_faults c.in_ok-pending.was refl in
+    counted_since view below old taken c.write_taken.new.self c.write_taken.result same c.write_taken.ensures.faults

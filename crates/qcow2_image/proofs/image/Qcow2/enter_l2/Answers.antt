@@ -1,5 +1,5 @@
 use Rattle.std.proofs.Common.{refl, sym, ◌∙◌, subst, ◌<◌, inl, inr}
-use Rattle.std.specs.Prelude.{IfSome, Some, false}
+use Rattle.std.specs.Prelude.{Err, IfSome, Some, false}
 use Rattle.qcow2_alloc.specs.Allocation.{run_at, taken_as, UnseenAllocatorGrowth}
 use Rattle.qcow2_alloc.specs.FreeList.{pending_then}
 use Rattle.qcow2_alloc.specs.KeptAllocators.{IsAllocatorOf}
@@ -19,6 +19,7 @@ use Rattle.qcow2_alloc.specs.LowestRuns.{IsUsed}
 use Rattle.qcow2_image.specs.LackedPlaces.{HasNoCluster, StandsInWay}
 use Rattle.qcow2_image.proofs.Prepare.Entering.{keeps_taken, says_still}
 use Rattle.qcow2_laws.specs.Changes.{one_at, with_new_tables}
+use Rattle.qcow2_image.proofs.Call.FaultCounts.{counted_as, counted_still, same_told, untouched}
 use Rattle.qcow2_image.proofs.image.Qcow2.enter_l2.Goals as goal
 
 pub returns-in_err-pending-clause-enters : goal.returns-in_err-pending-clause-enters
@@ -137,3 +138,14 @@ returns-in-Err-clause-fault g c = λ p out sound none may says near.
     let host = subst (λ n. IsHostCluster n c.cluster-cluster.result) (sym (ap (λ (v : HeaderView). v.fields.cluster_bits) c.allocate_meta.ensures.header))
     (subst (λ n. IsHostCluster old.file.header.fields.cluster_bits n) (sym c.cluster-cluster.ensures) c.in_ok-pending.ensures.nameable) in
     inl (c.in-Err.ensures.fault since out keeps.sound none known (record { within = near.within; room = near.room }) host)
+
+pub returns-in-Err-clause-faults : goal.returns-in-Err-clause-faults
+returns-in-Err-clause-faults g c =
+    let view = g.S.Storage.view in
+    let below = g.F.BackingDisk.backing in
+    let old = c.args.self.now in
+    let taken = record old { file = c.allocate_meta.new.file; allocator = Some c.allocate_meta.new.self } in
+    let wrote = c.write_l2.new.self in
+    let new = record wrote { file = record wrote.file { free_list = c.hand_back.new.list } } in
+    let same = same_told view below old taken c.allocate_meta.result c.in_ok-pending.pending c.allocate_meta.ensures.storage_faults c.in_ok-pending.was refl in
+    counted_still view below old wrote new (Err c.in-Err.refusal) (counted_as view below old taken wrote c.write_l2.result c.in-Err.refusal same c.write_l2.ensures.faults c.in-Err.is) (untouched view below wrote new refl refl)

@@ -380,3 +380,11 @@ returns-in_err-free_listed-clause-faults g c =
     let owned = same_of view below c.reach_entry.new.self c.own_l2.new.self c.own_l2.result c.in_ok-own_l2.field-0 c.own_l2.ensures.faults c.in_ok-own_l2.was in
     counted_on view below old c.own_l2.new.self c.free_listed.new.self c.free_listed.result c.in_err-free_listed.field-0.0 c.from_residual-in_err-free_listed.result (faults_then view below old c.reach_entry.new.self c.own_l2.new.self reached owned) c.free_listed.ensures.counts c.in_err-free_listed.was
     c.from_residual-in_err-free_listed.ensures
+
+pub returns-in_err-own_l2-clause-faults : goal.returns-in_err-own_l2-clause-faults
+returns-in_err-own_l2-clause-faults g c =
+    let view = g.S.Storage.view in
+    let below = g.F.BackingDisk.backing in
+    let old = c.args.self.now in
+    let reached = same_of view below old c.reach_entry.new.self c.reach_entry.result c.in_ok-reach_entry.field-0 c.reach_entry.ensures.faults c.in_ok-reach_entry.was in
+    counted_on view below old c.reach_entry.new.self c.own_l2.new.self c.own_l2.result c.in_err-own_l2.field-0.0 c.from_residual-in_err-own_l2.result reached c.own_l2.ensures.faults c.in_err-own_l2.was c.from_residual-in_err-own_l2.ensures
