@@ -13,7 +13,8 @@ use Rattle.qcow2_disk.specs.Mappings.{PreparedMapping}
 use Rattle.qcow2_disk.specs.AbstractImages.{Setting, Guest, Abstraction, AbstractImage, abstract_image, guest_of, stored_bytes, IsWhole}
 use Rattle.qcow2_disk.specs.Calls.{Refusal, memory, storage, not_compressed, another, CallEffect, AnsweredEffect, RefusedEffect, IsRefusalByFault, EffectOnSound, EffectOnFailed, Stops}
 use Rattle.qcow2_disk.specs.Runs.{Command, Reply, Found, CommandMeaning, IsFaultReply, IsStorageReply, MayAnswer, IsAnswerOfFailed, IsRightlyTold, ResizesLast, State, CommandStep, Run, IsSafeWhile, IsCommandInterval, RefinesGuest, RefinesAlong, IsStopIn, RefinesState, RefinesCommand, RefinesRun, RefinesWholeRun, RefinesDisk, IsOwnInterval, started, checkpoint_during, checkpoint_after, stepped, given_by, asked_by, flush, shrink, done, number_is}
-use Rattle.qcow2_disk.proofs.Compose.{works_less, stops_none, rests_none}
+use Rattle.qcow2_disk.specs.UntouchedCovers.{UntouchedStay}
+use Rattle.qcow2_disk.proofs.Compose.{TouchesLess, works_less, stops_none, rests_none}
 use Rattle.qcow2_disk.proofs.HeaderRest.{header_rest_same}
 use Rattle.qcow2_disk.proofs.Stops.{stop_of_kept, stop_more}
 
@@ -62,6 +63,7 @@ module _ (x : Setting) (old new : AbstractImage) (s : State) (command : Command)
           own = λ e. absurd (not_ok e);
           sized = λ e. absurd (not_ok e);
           told = λ e. absurd (not_ok e);
+          beside = λ e. absurd (not_ok e);
         };
         surplus = λ e. absurd (not_ok e);
         leaks = rests.leaks;
@@ -115,7 +117,7 @@ module _ (x : Setting) (old new : AbstractImage) (s : State) (command : Command)
             contents = λ e. absurd (cc);
             at_rest = at;
           };
-          interval = record { safe = safe_to (checkpoint_after x s command reply s.guest) at; own = λ _. own; sized = λ _. sized; told = λ e. absurd (cc) };
+          interval = record { safe = safe_to (checkpoint_after x s command reply s.guest) at; own = λ _. own; sized = λ _. sized; told = λ e. absurd (cc); beside = λ e. absurd (cc) };
           surplus = λ e. absurd (cc);
           leaks = acts.leaks;
           since = λ _. ok;
@@ -148,7 +150,13 @@ module _ (x : Setting) (old new : AbstractImage) (s : State) (command : Command)
             contents = λ _. kept;
             at_rest = at;
           };
-          interval = record { safe = safe_to after at; own = λ _. own; sized = λ _. sized; told = λ _. subst (λ y. IsRightlyTold y old.known new command reply) (acts.setting ∙ stands.setting) finds };
+          interval = record {
+            safe = safe_to after at;
+            own = λ _. own;
+            sized = λ _. sized;
+            told = λ _. subst (λ y. IsRightlyTold y old.known new command reply) (acts.setting ∙ stands.setting) finds;
+            beside = λ _. subst (λ (y : Setting). UntouchedStay y.cluster_size (given_by x s.guest command) old.known new.known) stands.setting (acts.beside sound);
+          };
           surplus = λ _. acts.surplus sound;
           leaks = acts.leaks;
           since = λ _. ok;
@@ -221,6 +229,7 @@ acts_none v given asked = record {
   works = λ _. record {
     setting = refl;
     surplus = λ _. refl;
+    beside = λ _ g untouched. refl;
     leaks = refl;
     stops = stops_none v v given asked refl (λ _. refl);
   };
@@ -259,14 +268,15 @@ flushed_as x old new s command is reply e stands answer does whole answered chec
 -- One that was answered, and gave less than it might have given. Its mark afterwards has what it gave alone.
 pub gave_less : (x : Setting) (old new : AbstractImage) (s : State) (command is : Command) (reply : Reply) (given : Setting → Guest → List GivenBytes) → command ≡ is → RefinesState x old s → IsAnswer old new is reply
     → (does : AnsweredEffect old new (given old.setting (guest_of old)) (asked_by is) (CommandMeaning old.setting s.found (guest_of old) is reply (guest_of new)))
-    → (old.is_sound → (o : ℕ) (w : Value) → IsGiven (given old.setting (guest_of old)) o w → IsGiven (given_by old.setting (guest_of old) is) o w) → (IsStorageReply reply → ⊥)
+    → (old.is_sound → (o : ℕ) (w : Value) → IsGiven (given old.setting (guest_of old)) o w → IsGiven (given_by old.setting (guest_of old) is) o w)
+    → (old.is_sound → TouchesLess old.setting.cluster_size (given old.setting (guest_of old)) (given_by old.setting (guest_of old) is)) → (IsStorageReply reply → ⊥)
     → ((x' : Setting) (s' : State) → checkpoint_after x' s' is reply (guest_of new) ≡ checkpoint_with (given x' s'.guest) (asked_by is) s'.checkpoint) → IsRightlyTold new.setting old.known new is reply → RefinesCommand x old new s command reply
-gave_less x old new s command is reply given e stands answer does within answered checkpoint finds =
+gave_less x old new s command is reply given e stands answer does within touches answered checkpoint finds =
     let gs = given old.setting (guest_of old) in
     subst (λ q. RefinesCommand x old new s q reply) (sym e) (called x old new s is reply stands answer
     (record {
       number = does.acts.number;
-      works = λ sound. works_less old new gs (given_by old.setting (guest_of old) is) (asked_by is) (λ o w g. inr (within sound o w g)) (does.acts.works sound);
+      works = λ sound. works_less old new gs (given_by old.setting (guest_of old) is) (asked_by is) (λ o w g. inr (within sound o w g)) (touches sound) (does.acts.works sound);
       rests = does.acts.rests;
     })
     (λ sound. record {

@@ -11,6 +11,7 @@ use Rattle.qcow2_disk.specs.Stops.{GivenBytes, Checkpoint, checkpoint_with, Stop
 use Rattle.qcow2_disk.specs.Mappings.{PreparedMapping, given_shown}
 use Rattle.qcow2_disk.specs.Rules.{touched_from, touched_to}
 use Rattle.qcow2_disk.specs.AbstractImages.{Setting, Guest, AbstractImage, guest_of, stored_bytes}
+use Rattle.qcow2_disk.specs.UntouchedCovers.{UntouchedStay}
 
 -- why a call was refused, as far as the state after it and what it tells depend on that
 pub data Refusal : Type 0 where
@@ -38,10 +39,11 @@ pub record Stops (old new : AbstractImage) (given : List GivenBytes) (asked : Li
 abbrev pub StartsAt : AbstractImage → Checkpoint → Type 0
 StartsAt v m = StopOkEverywhere v.setting.backing m (stored_bytes v) × StopOkEverywhere v.setting.backing m v.known
 
--- What a call does to a sound image. No cluster is leaked, even where the call was refused or broke off.
+-- What a call does to a sound image. What stands for guest clusters of which it gives no byte stays. No cluster is leaked, even where the call was refused or broke off.
 pub record EffectOnSound (old new : AbstractImage) (given : List GivenBytes) (asked : List ℕ) : Type 0 where
   pub setting : new.setting ≡ old.setting
   pub surplus : new.is_sound → new.surplus ≡ old.surplus
+  pub beside : new.is_sound → UntouchedStay old.setting.cluster_size given old.known new.known
   pub leaks : new.leaked ≡ old.leaked
   pub stops : (m : Checkpoint) → StartsAt old m → Stops old new given asked m
 

@@ -13,6 +13,7 @@ use Rattle.qcow2_disk.specs.Found.{Kind, IsFoundIn, IsCompressedAt}
 use Rattle.qcow2_disk.specs.AbstractImages.{Setting, HostRange, Guest, Abstraction, AbstractImage, abstract_image, guest_of, stored_bytes}
 use Rattle.qcow2_disk.specs.ClearedCovers.{IsRightlyCleared}
 use Rattle.qcow2_disk.specs.GrownCovers.{IsRightlyGrown}
+use Rattle.qcow2_disk.specs.UntouchedCovers.{UntouchedStay}
 use Rattle.qcow2_disk.specs.Calls.{Refusal, memory, storage, not_compressed, another, IsRefusalByFault, Shows, with_disk, with_slot, MayWrite, Clearing, cleared_at, given_by_clear, grown_to, given_by_grow, MayGrow, IsShrunk, given_by_shrink, given_by_shrunk}
 
 pub data Command : Type 0 where
@@ -272,12 +273,13 @@ ResizesLast size old new (grow asked mode) = EachMomentSince old new (λ c. ((he
 ResizesLast size old new (shrink asked) = EachMomentSince old new (λ c. ((header (byte_at c)).size ≡ size) ⊎ (c ≡ new.contents))
 ResizesLast size old new command = Unit {0}
 
--- The stretch of one command, from a storage with what was known over it. Each moment on the way is safe and its own, and the reply is as it is then.
+-- The stretch of one command, from a storage with what was known over it. Each moment on the way is safe and its own, and the reply is as it is then. What stands for guest clusters of which it gives no byte stays.
 pub record IsCommandInterval (x : Setting) (old : StorageView) (known : Bytes) (new : AbstractImage) (s : State) (command : Command) (reply : Reply) (end : State) : Type 0 where
   pub safe : IsSafeWhile x.backing old new.storage s.is_failed (checkpoint_during x s command) end.checkpoint
   pub own : s.is_failed ≡ false → IsOwnInterval x.backing old new.storage known (given_by x s.guest command) (asked_by command)
   pub sized : s.is_failed ≡ false → ResizesLast s.guest.disk.size old new.storage command
   pub told : end.is_failed ≡ false → IsRightlyTold x known new command reply
+  pub beside : end.is_failed ≡ false → UntouchedStay x.cluster_size (given_by x s.guest command) known new.known
 
 -- Along a run: for each command there is the image at its return, with the mappings that are prepared then, and its stretch is as said.
 abbrev pub RefinesAlong : {D P : Type 0} (spec : Abstraction D P) (x : Setting) (before : ℕ → ℕ) (leaked : ℕ) (old new : D) (s end : State) (commands : List Command) (replies : List Reply) → Run x s commands replies end → Type 0
