@@ -52,7 +52,7 @@ module _ {S F : Type 0} (view : S → StorageView) (backing : F → BackingView)
       record {
         acts = record {
           number = refl;
-          works = λ h. record { setting = refl; surplus = λ _. refl; leaks = refl; stops = stops_none w w [] [] refl (λ _. refl) };
+          works = λ h. record { setting = refl; surplus = λ _. refl; beside = λ _ g untouched. refl; leaks = refl; stops = stops_none w w [] [] refl (λ _. refl) };
           rests = λ failed. rests_none w w refl refl failed refl;
         };
         answer = λ h. (h, (clean, refl));

@@ -1,5 +1,5 @@
 -- Prepared mappings: a guest range with its private bytes, which become visible when it is committed.
-use Rattle.std.specs.Prelude.{ℕ, ◌+◌, ◌-◌, ◌/◌, ◌≡◌, ◌≤◌, ◌<◌, ◌⊎◌, ◌&&◌, Bool, true, false, not, IsTrue, List, Some, length, min, if◌then◌else◌}
+use Rattle.std.specs.Prelude.{ℕ, ◌+◌, ◌-◌, ◌/◌, ◌%◌, ◌≡◌, ◌≤◌, ◌<◌, ◌⊎◌, ◌&&◌, ◌==◌, Bool, true, false, not, IsTrue, List, Some, length, min, if◌then◌else◌}
 use Rattle.qcow2_metadata.specs.Bytes.{Bytes, byte_at, is_within, laid_over}
 use Rattle.qcow2_metadata.specs.Header.{cluster_size, rounded_down, rounded_up}
 use Rattle.qcow2_metadata.specs.declared.header.HeaderFields.{HeaderFields}
@@ -26,10 +26,11 @@ first_of cluster_size m = rounded_down cluster_size m.from
 abbrev pub end_of : ℕ → PreparedMapping → ℕ
 end_of cluster_size m = rounded_up cluster_size (m.from + m.length)
 
--- A range was prepared: its private bytes are the old values, but for those of the mapping that are announced as overwritten, which are open.
+-- A range was prepared: its private bytes are the old values, but for those of the mapping that are announced as overwritten, which are open. The mapping is no longer than the range, but for the rest of its first cluster.
 pub record IsPrepared (cluster_size : ℕ) (d : Disk) (offset n : ℕ) (overwrite : Bool) (m : PreparedMapping) : Type 0 where
   pub from : m.from ≡ offset
   pub some : 0 < n → 0 < m.length
+  pub most : n < m.length → m.length ≡ cluster_size - offset % cluster_size
   pub inside : (o : ℕ) → IsTrue (m.is_private o) → (first_of cluster_size m ≤ o) × (o < end_of cluster_size m)
   pub old_values : (o : ℕ) → IsTrue (m.is_private o) → (overwrite && is_within offset (min n m.length) o ≡ false) → m.shown o ≡ d.value o
 
@@ -77,5 +78,6 @@ given_by_put d m at bytes = record {
   value = λ i. if m.is_hidden (m.from + at + i) then d.value (m.from + at + i) else known_byte (byte_at bytes i);
 }
 
+-- what the disk shows in the whole clusters of a mapping once it is committed; of one of no bytes nothing
 abbrev pub given_by_commit : ℕ → Disk → PreparedMapping → GivenBytes
-given_by_commit cluster_size d m = given_shown (committed d m) (first_of cluster_size m) (end_of cluster_size m)
+given_by_commit cluster_size d m = given_shown (committed d m) (first_of cluster_size m) (if m.length == 0 then first_of cluster_size m else end_of cluster_size m)

@@ -5,6 +5,8 @@ pub mod Shares
 pub mod Apart
 pub mod Moving
 pub mod Moved
+pub mod Untouched
+pub mod WholeClusters
 pub mod Free
 pub mod HiddenBytes
 pub mod Sizes

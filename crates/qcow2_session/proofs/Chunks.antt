@@ -17,6 +17,7 @@ use Rattle.qcow2_session.proofs.Bytes.{cut_long, cut_short, cut_part, byte_in, l
 use Rattle.qcow2_session.proofs.Places.{enters, leaves}
 use Rattle.qcow2_disk.proofs.Compose.{shown_is}
 use Rattle.qcow2_session.proofs.Turns.{none_within, does_if, refuses_if, refuses_fault, refuses_why, does_less, does_then, refuses_then, refused_then, IsWithin}
+use Rattle.qcow2_image.proofs.WholeClusters.{commit_touches}
 
 some_is : {X : Type 0} {a b : X} → Some a ≡ Some b → a ≡ b
 some_is e = cc
@@ -127,7 +128,7 @@ shift g = record { disk = g.disk; slots = λ k. g.slots (suc k) }
 shift_slot : (g : Guest) (m : Option PreparedMapping) → shift (with_slot g 0 m) ≡ shift g
 shift_slot g m = ap (λ (f : ℕ → Option PreparedMapping). record g { slots = f }) (fun_ext (λ k. cond-false (eqb (suc k) 0) m (g.slots (suc k)) (ne_eqb (suc k) 0 (λ e. absurd (omega arith)))))
 
-module _ {D P : Type 0} (spec : Abstraction D P) (has : HasFreePlaces spec) (in_image : (d : D) → spec.data_bytes d ≡ spec.known d) (d0 d1 : D) (p : P) (out : List (Option P)) (offset n : ℕ) (bytes : List ℕ) (count : n ≡ min (length bytes) (spec.means d1 p).length) where
+module _ {D P : Type 0} (spec : Abstraction D P) (has : HasFreePlaces spec) (in_image : (d : D) → spec.data_bytes d ≡ spec.known d) (d0 d1 : D) (p : P) (out : List (Option P)) (offset n : ℕ) (bytes : List ℕ) (count : n ≡ min (length bytes) (spec.means d1 p).length) (positive : 0 < (spec.setting d0).cluster_size) (none : length bytes ≡ 0 → (spec.means d1 p).length ≡ 0) where
   -- as many of the first bytes as the mapping has room for
   abbrev chunk : List ℕ
   chunk = take n bytes
@@ -156,12 +157,15 @@ module _ {D P : Type 0} (spec : Abstraction D P) (has : HasFreePlaces spec) (in_
   guest1 r = ap shift r.1 ∙ shift_slot (guest_of (abstract_image spec d0 (None ∷ out))) (Some (spec.means d1 p))
 
   puts_within : Ready → IsWithin (abstract_image spec d1 (Some p ∷ out)) put_given_bytes given_bytes
-  puts_within r o w h = ⊎_elim (λ (e : w ≡ (guest_of (abstract_image spec d1 (Some p ∷ out))).disk.value o). inl (e ∙ ap (λ (d : Disk). d.value o) (shown_is (abstract_image spec d1 (Some p ∷ out)) (in_image d1)))) (λ (g : IsGiven given_bytes o w). inr g)
-      (put_within (spec.setting d0).cluster_size (guest_of (abstract_image spec d0 out)).disk (spec.means d1 p) offset bytes chunk long short part r.0 (guest_of (abstract_image spec d1 (Some p ∷ out))).disk o w h)
+  puts_within r = record {
+    values = λ o w h. ⊎_elim (λ (e : w ≡ (guest_of (abstract_image spec d1 (Some p ∷ out))).disk.value o). inl (e ∙ ap (λ (d : Disk). d.value o) (shown_is (abstract_image spec d1 (Some p ∷ out)) (in_image d1)))) (λ (g : IsGiven given_bytes o w). inr g)
+        (put_within (spec.setting d0).cluster_size (guest_of (abstract_image spec d0 out)).disk (spec.means d1 p) offset bytes chunk long short part r.0 (guest_of (abstract_image spec d1 (Some p ∷ out))).disk o w h);
+    touches = let from = r.0.from in let few = short in touches_part (spec.setting d1).cluster_size _ _ [] (omega (arith, from)) (omega (arith, from, few));
+  }
 
   module _ (prepares : AnsweredEffect (abstract_image spec d0 (None ∷ out)) (abstract_image spec d1 (Some p ∷ out)) [] [] Ready) where
     ready : AnsweredEffect (abstract_image spec d0 out) (abstract_image spec d1 (Some p ∷ out)) given_bytes [] Ready
-    ready = does_if (λ a. a.1) (does_then (λ _. none_within (abstract_image spec d0 (None ∷ out)) given_bytes) (does_less (none_within (abstract_image spec d0 out) given_bytes) (enters spec has d0 out)) prepares)
+    ready = does_if (λ a. a.1) (does_then (λ _ _. none_within (abstract_image spec d0 (None ∷ out)) given_bytes) (does_less (none_within (abstract_image spec d0 out) given_bytes) (enters spec has d0 out)) prepares)
 
     -- the put was refused
     pub put_refused : (d2 d3 : D) (e : Refusal) → RefusedEffect (abstract_image spec d1 (Some p ∷ out)) (abstract_image spec d2 (Some p ∷ out)) put_given_bytes [] e (IsSame (abstract_image spec d1 (Some p ∷ out)) (abstract_image spec d2 (Some p ∷ out)))
@@ -170,7 +174,7 @@ module _ {D P : Type 0} (spec : Abstraction D P) (has : HasFreePlaces spec) (in_
     put_refused d2 d3 e refuses discards =
         refuses_if (λ h. may_write_none e (guest_of (abstract_image spec d0 out)) (guest_of (abstract_image spec d3 out)) offset bytes
         (ap shift h.0.1 ∙ shift_slot (guest_of (abstract_image spec d2 (Some p ∷ out))) None ∙ ap shift h.0.0.1 ∙ guest1 h.0.0.0))
-        (refused_then (has.works d3 out) (refused_then (has.works d3 (None ∷ out)) (refuses_then puts_within ready refuses) discards) (leaves spec has d3 out))
+        (refused_then (has.works d3 out) (refused_then (has.works d3 (None ∷ out)) (refuses_then (λ _. puts_within) ready refuses) discards) (leaves spec has d3 out))
 
     module _ (d2 : D) (puts : AnsweredEffect (abstract_image spec d1 (Some p ∷ out)) (abstract_image spec d2 (Some p ∷ out)) put_given_bytes []
         (guest_of (abstract_image spec d2 (Some p ∷ out)) ≡ with_slot (with_disk (guest_of (abstract_image spec d1 (Some p ∷ out))) (put_disk (guest_of (abstract_image spec d1 (Some p ∷ out))).disk (spec.means d1 p) 0 chunk)) 0 (Some (put_mapping (spec.means d1 p) 0 chunk)))) where
@@ -186,7 +190,7 @@ module _ {D P : Type 0} (spec : Abstraction D P) (has : HasFreePlaces spec) (in_
       mapping2 = put_mapping (spec.means d1 p) 0 chunk
 
       put_done : AnsweredEffect (abstract_image spec d0 out) (abstract_image spec d2 (Some p ∷ out)) given_bytes [] Put
-      put_done = does_then puts_within ready puts
+      put_done = does_then (λ _. puts_within) ready puts
 
       guest2 : Put → shift (guest_of (abstract_image spec d2 (Some p ∷ out))) ≡ with_disk (guest_of (abstract_image spec d0 out)) disk2
       guest2 h =
@@ -199,15 +203,24 @@ module _ {D P : Type 0} (spec : Abstraction D P) (has : HasFreePlaces spec) (in_
       abbrev commit_given_bytes : List GivenBytes
       commit_given_bytes = given_by_commit (spec.setting d2).cluster_size (guest_of (abstract_image spec d2 (Some p ∷ out))).disk (spec.means d2 p) ∷ []
 
-      commits_within : Put → IsWithin (abstract_image spec d2 (Some p ∷ out)) commit_given_bytes given_bytes
-      commits_within h o w given =
-          let size = (spec.setting d2).cluster_size in
-          let disk-is : (guest_of (abstract_image spec d2 (Some p ∷ out))).disk ≡ disk2 = ap (λ (g : Guest). g.disk) (guest2 h) in
-          let there : IsGiven (given_by_commit size disk2 mapping2 ∷ []) o w =
-          subst (λ (d : Disk). IsGiven (given_by_commit size d mapping2 ∷ []) o w) disk-is
-          (subst (λ (m : PreparedMapping). IsGiven (given_by_commit size (guest_of (abstract_image spec d2 (Some p ∷ out))).disk m ∷ []) o w) (meaning2 h) given) in
-          ⊎_elim (λ (e : w ≡ disk2.value o). inl (e ∙ ap (λ (d : Disk). d.value o) (sym disk-is ∙ shown_is (abstract_image spec d2 (Some p ∷ out)) (in_image d2)))) (λ g. inr g)
-          (commit_within (spec.setting d0).cluster_size (guest_of (abstract_image spec d0 out)).disk (spec.means d1 p) offset bytes chunk long short part h.0.0 size o w there)
+      commits_within : (abstract_image spec d0 out).is_sound → Put → IsWithin (abstract_image spec d2 (Some p ∷ out)) commit_given_bytes given_bytes
+      commits_within sound h = record {
+        values = λ o w given.
+            let size = (spec.setting d2).cluster_size in
+            let disk-is : (guest_of (abstract_image spec d2 (Some p ∷ out))).disk ≡ disk2 = ap (λ (g : Guest). g.disk) (guest2 h) in
+            let there : IsGiven (given_by_commit size disk2 mapping2 ∷ []) o w =
+            subst (λ (d : Disk). IsGiven (given_by_commit size d mapping2 ∷ []) o w) disk-is
+            (subst (λ (m : PreparedMapping). IsGiven (given_by_commit size (guest_of (abstract_image spec d2 (Some p ∷ out))).disk m ∷ []) o w) (meaning2 h) given) in
+            ⊎_elim (λ (e : w ≡ disk2.value o). inl (e ∙ ap (λ (d : Disk). d.value o) (sym disk-is ∙ shown_is (abstract_image spec d2 (Some p ∷ out)) (in_image d2)))) (λ g. inr g)
+            (commit_within (spec.setting d0).cluster_size (guest_of (abstract_image spec d0 out)).disk (spec.means d1 p) offset bytes chunk long short part h.0.0 size o w there);
+        touches =
+            let prepared = h.0.0 in
+            let same : (spec.setting d2).cluster_size ≡ (spec.setting d0).cluster_size = ap (λ (x : Setting). x.cluster_size) (put_done.acts.works sound).setting in
+            let from_is : (spec.means d2 p).from ≡ offset = ap (λ (m : PreparedMapping). m.from) (meaning2 h) ∙ prepared.from in
+            let long_is : (spec.means d2 p).length ≡ (spec.means d1 p).length = ap (λ (m : PreparedMapping). m.length) (meaning2 h) in
+            commit_touches (spec.setting d2).cluster_size (subst (λ size. 0 < size) (sym same) positive) (guest_of (abstract_image spec d2 (Some p ∷ out))).disk (spec.means d2 p) (given_of offset bytes) offset (length bytes) from_is refl refl
+            (λ zero. long_is ∙ none zero) (λ past. long_is ∙ prepared.most (omega (arith, past, long_is)) ∙ ap (λ size. size - offset % size) (sym same));
+      }
 
       -- all was done
       pub written : (d3 : D) → AnsweredEffect (abstract_image spec d2 (Some p ∷ out)) (abstract_image spec d3 (None ∷ out)) commit_given_bytes []
@@ -219,7 +232,7 @@ module _ {D P : Type 0} (spec : Abstraction D P) (has : HasFreePlaces spec) (in_
           ∙ ap (λ (m : PreparedMapping). with_disk (shift (guest_of (abstract_image spec d2 (Some p ∷ out)))) (committed (guest_of (abstract_image spec d2 (Some p ∷ out))).disk m)) (meaning2 put)
           ∙ ap (λ (g : Guest). with_disk g (committed g.disk mapping2)) (guest2 put)
           ∙ ap (λ (d : Disk). with_disk (guest_of (abstract_image spec d0 out)) d) (chunk_disk (spec.setting d0).cluster_size (guest_of (abstract_image spec d0 out)).disk (spec.means d1 p) offset bytes chunk long short part put.0.0))
-          (does_then (λ _. none_within (abstract_image spec d3 (None ∷ out)) given_bytes) (does_then commits_within put_done commits) (leaves spec has d3 out))
+          (does_then (λ _ _. none_within (abstract_image spec d3 (None ∷ out)) given_bytes) (does_then commits_within put_done commits) (leaves spec has d3 out))
 
       -- what was put in place may stay
       ended : (d4 : D) (e : Refusal) → RefusedEffect (abstract_image spec d0 out) (abstract_image spec d4 (None ∷ out)) given_bytes [] e

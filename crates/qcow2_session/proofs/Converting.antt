@@ -26,9 +26,10 @@ use Rattle.qcow2_session.specs.Sessions.{HasWritten, ReadsInto, Writes, EndsClus
 use Rattle.qcow2_session.specs.Conversions.{RefusedConversion, HasSome, IsRawOf, Imports, ImportsAll, ImportsAt, ImportsAny, ImportsAnyAt, ImportsAnyOf}
 use Rattle.qcow2_session.proofs.Bytes.{cut_short, cut_part, byte_in, byte_out, cases_place, no_bytes, same_values, part_within, rest_long, rest_part}
 use Rattle.qcow2_session.proofs.Chunks.{may_write_none}
-use Rattle.qcow2_session.proofs.Turns.{IsWithin, none_within, does_if, does_why, does_less, does_then, acts_less, acts_then}
+use Rattle.qcow2_session.proofs.Turns.{IsWithin, all_within, none_within, does_if, does_why, does_less, does_then, acts_less, acts_then}
 use Rattle.qcow2_session.proofs.Writing.{writes_more, may_write_more}
 use Rattle.qcow2_disk.proofs.Compose.{stops_none, rests_none}
+use Rattle.qcow2_image.proofs.Untouched.{touches_part}
 
 -- no call at all
 pub does_nothing : (v : AbstractImage) → AnsweredEffect v v [] [] (guest_of v ≡ guest_of v)
@@ -38,6 +39,7 @@ does_nothing v = record {
     works = λ h. record {
       setting = refl;
       surplus = λ _. refl;
+      beside = λ _ g untouched. refl;
       leaks = refl;
       stops = stops_none v v [] [] refl (λ _. refl);
     };
@@ -65,7 +67,7 @@ module _ {old new : AbstractImage} {gs fewer : List GivenBytes} (within : IsWith
   pub interrupted_less : {e : Refusal} {A : Type 0} → RefusedConversion old new gs e A → RefusedConversion old new fewer e A
   interrupted_less r = record { acts = acts_less within r.acts; answer = r.answer }
 
-module _ {old mid new : AbstractImage} {gs more : List GivenBytes} {A : Type 0} (within : A → IsWithin mid more gs) (first : AnsweredEffect old mid gs [] A) where
+module _ {old mid new : AbstractImage} {gs more : List GivenBytes} {A : Type 0} (within : old.is_sound → A → IsWithin mid more gs) (first : AnsweredEffect old mid gs [] A) where
   pub interrupted_then : {e : Refusal} {B : Type 0} → RefusedConversion mid new more e B → RefusedConversion old new gs e (A × B)
   interrupted_then {B = B} then = record {
     acts = acts_then within first then.acts;
@@ -162,11 +164,17 @@ module _ (old mid new : AbstractImage) (contents : List ℕ) (at count : ℕ) (f
   short = omega (arith, fits)
 
   chunk_within : IsWithin mid (given_of at chunk ∷ []) (given_of at (drop at contents) ∷ [])
-  chunk_within o w h = inr (part_within at at 0 (drop at contents) (take count (drop at contents)) (omega arith) (omega (arith, cut_short count (drop at contents)))
-      (λ i lt. cut_part count (drop at contents) i lt ∙ ap (byte_at (drop at contents)) (omega arith)) o w (subst (λ (b : List ℕ). IsGiven (given_of at b ∷ []) o w) chunk_is h))
+  chunk_within = record {
+    values = λ o w h. inr (part_within at at 0 (drop at contents) (take count (drop at contents)) (omega arith) (omega (arith, cut_short count (drop at contents)))
+        (λ i lt. cut_part count (drop at contents) i lt ∙ ap (byte_at (drop at contents)) (omega arith)) o w (subst (λ (b : List ℕ). IsGiven (given_of at b ∷ []) o w) chunk_is h));
+    touches = let same = ap length chunk_is in let cut = cut_short count (drop at contents) in touches_part mid.setting.cluster_size _ _ [] (omega arith) (omega (arith, same, cut));
+  }
 
   rest_within : IsWithin mid (given_of at (drop at contents) ∷ []) (given_of 0 contents ∷ [])
-  rest_within o w h = inr (part_within 0 at at contents (drop at contents) (omega arith) (rest_long at contents short) (λ i lt. rest_part at contents i short lt) o w h)
+  rest_within = record {
+    values = λ o w h. inr (part_within 0 at at contents (drop at contents) (omega arith) (rest_long at contents short) (λ i lt. rest_part at contents i short lt) o w h);
+    touches = let long = rest_long at contents short in touches_part mid.setting.cluster_size _ _ [] (omega arith) (omega (arith, long));
+  }
 
   pub imports_more : AnsweredEffect mid new (given_of at chunk ∷ []) [] (HasWritten at chunk (guest_of mid) (guest_of new))
       → AnsweredEffect old new (given_of 0 contents ∷ []) [] (guest_of new ≡ with_disk (guest_of old) (with_bytes (guest_of old).disk 0 (take (at + count) contents)))
@@ -209,7 +217,7 @@ module _ {S F : Type 0} (view : S → StorageView) (backing : F → BackingView)
     -- they are written
     pub at_written : Writes view backing mid new at wanted (Ok tt) → ImportsAt view backing old new at bytes (Ok tt)
     at_written writes = subst (λ (b : List ℕ). ImportsAt view backing old new at b (Ok tt)) are (λ out.
-        does_if (λ h. h.1 ∙ ap (λ (g : Guest). with_disk g (with_bytes g.disk at wanted)) h.0) (does_then (λ _ o w h. inr h) (read_same out) (writes out)))
+        does_if (λ h. h.1 ∙ ap (λ (g : Guest). with_disk g (with_bytes g.disk at wanted)) h.0) (does_then (λ _ _. all_within (abstract_of view backing mid out) (given_of at wanted ∷ [])) (read_same out) (writes out)))
 
     -- the write was refused
     pub at_unwritten : (e : ImageError) (n : ℕ) → Writes view backing mid new at wanted (Err (e, n))
@@ -277,7 +285,7 @@ module _ {S F : Type 0} (view : S → StorageView) (backing : F → BackingView)
         does_if (λ h.
         let written : HasWritten 0 contents (guest_of v) (guest_of w) = h.0.1.1 ∙ h.0.0 in
         (count, raw_written (guest_of v) (guest_of w) contents h.1 written, written, h.0.1.0))
-        (does_why (sized out) (does_then (λ _. none_within (abstract_of view backing mid out) (given_of 0 contents ∷ [])) (all out) (flush out)))
+        (does_why (sized out) (does_then (λ _ _. none_within (abstract_of view backing mid out) (given_of 0 contents ∷ [])) (all out) (flush out)))
 
     module _ (at count : ℕ) (fits : at + count ≤ length contents) (chunk : List ℕ) (is : chunk ≡ bytes_at contents at count)
         (first : (out : List (Option Prepared)) → AnsweredEffect (abstract_of view backing old out) (abstract_of view backing mid out) (given_of 0 contents ∷ []) []
@@ -306,7 +314,10 @@ same_range c d at n m lists counts = ap (λ k. bytes_at k at n) lists ∙ ap (λ
 -- bytes that were written are the first of more
 module _ (read whole : List ℕ) (at : ℕ) (long : length read ≡ at) (front : take at whole ≡ read) where
   first_within : (v : AbstractImage) → IsWithin v (given_of 0 read ∷ []) (given_of 0 whole ∷ [])
-  first_within v o w h = inr (part_within 0 0 0 whole (take at whole) (omega arith) (omega (arith, cut_short at whole)) (λ i lt. cut_part at whole i lt ∙ ap (byte_at whole) (omega arith)) o w (subst (λ (b : List ℕ). IsGiven (given_of 0 b ∷ []) o w) (sym front) h))
+  first_within v = record {
+    values = λ o w h. inr (part_within 0 0 0 whole (take at whole) (omega arith) (omega (arith, cut_short at whole)) (λ i lt. cut_part at whole i lt ∙ ap (byte_at whole) (omega arith)) o w (subst (λ (b : List ℕ). IsGiven (given_of 0 b ∷ []) o w) (sym front) h));
+    touches = let same = ap length front in let cut = cut_short at whole in touches_part v.setting.cluster_size _ _ [] (omega arith) (omega (arith, same, cut));
+  }
 
   pub first_of : (v m : AbstractImage) → AnsweredEffect v m (given_of 0 read ∷ []) [] (HasWritten 0 read (guest_of v) (guest_of m))
       → AnsweredEffect v m (given_of 0 whole ∷ []) [] (guest_of m ≡ with_disk (guest_of v) (with_bytes (guest_of v).disk 0 (take at whole)))

@@ -54,6 +54,7 @@ module _ {D P : Type 0} (spec : Abstraction D P) (has : HasFreePlaces spec) wher
       works = λ h. record {
         setting = refl;
         surplus = λ _. same;
+        beside = λ _ g untouched. refl;
         leaks = refl;
         stops = stops_none (abstract_image spec d out) (abstract_image spec d out') [] [] refl (λ _. refl);
       };
@@ -101,4 +102,4 @@ module _ {D P : Type 0} (spec : Abstraction D P) (has : HasFreePlaces spec) wher
       let full : List (Option P) = out ++ Some p ∷ [] in
       let To = λ (o : List (Option P)). AnsweredEffect (abstract_image spec old full) (abstract_image spec new o) [] [] ((guest_of (abstract_image spec new o)).disk ≡ (guest_of (abstract_image spec old full)).disk) in
       let first : To (out ++ None ∷ []) = subst To (set_last out (Some p) None) (does_if (λ e. ap (λ (h : Guest). h.disk) e) (discards full (length out) (get_last out (Some p)))) in
-      does_if (λ both. both.1 ∙ both.0) (does_then (λ _. none_within (abstract_image spec new (out ++ None ∷ [])) []) first (last_none new out))
+      does_if (λ both. both.1 ∙ both.0) (does_then (λ _ _. none_within (abstract_image spec new (out ++ None ∷ [])) []) first (last_none new out))

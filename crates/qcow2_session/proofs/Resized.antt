@@ -33,6 +33,8 @@ use Rattle.qcow2_image.proofs.HiddenBytes.{header_is}
 use Rattle.qcow2_image.proofs.Sizes.{disk_size}
 use Rattle.qcow2_image.proofs.Sizing.Tails.{given_as, given_is}
 use Rattle.qcow2_session.proofs.Answering.{error_is, first_of_all, not_both}
+use Rattle.qcow2_disk.proofs.Compose.{TouchesLess}
+use Rattle.qcow2_image.proofs.Untouched.{touches_less}
 
 -- ---- what an answered shrink uncovered is a part of what it might uncover
 
@@ -68,6 +70,9 @@ module _ (x : Setting) (d d' : Disk) (size answer : ℕ) (some : 0 < x.cluster_s
       let below = is.1 in
       let most = uncovered_within in
       given_as x d (up size) (up d.size - up size) o w from (omega (arith, from, below, most)) is.2
+
+  touches_within : TouchesLess x.cluster_size (given_by_shrunk x d size answer ∷ []) (given_by_shrink x d size ∷ [])
+  touches_within = let most = uncovered_within in touches_less x.cluster_size _ _ [] (omega arith) (λ some. omega (arith, some, most))
 
 -- ---- what is refused before any work is no fault
 
@@ -151,6 +156,7 @@ module _ {S F : Type 0} (view : S → StorageView) (backing : F → BackingView)
           (record { sized = written_last last; failed = λ f. absurd (not_both (first_of_all old _ _ early f)); may = λ _. tt })
           (sees out)
           (λ sound. let is = ((sees out).answer sound).1 in gives_within before.setting (guest_of before).disk is.0 size answer (pow_pos old.file.header.fields.cluster_bits) is.1)
+          (λ sound. let is = ((sees out).answer sound).1 in touches_within before.setting (guest_of before).disk is.0 size answer (pow_pos old.file.header.fields.cluster_bits) is.1)
           (λ f. f) (λ _ _. refl) tt
 
       pub shrink_refused : (e : ImageError) → IsEarly {A = ℕ} (Err e) → (refuses_to_resize old ≡ None → size_of old ≤ size → (refusal ℕ e ≡ Ok (size_of old)) × (new ≡ old)) → Shrinks view backing old new size (Err e)

@@ -6,7 +6,7 @@ use Rattle.qcow2_disk.specs.Stops.{GivenBytes, IsGiven}
 use Rattle.qcow2_disk.specs.Disk.{disk}
 use Rattle.qcow2_disk.specs.AbstractImages.{AbstractImage}
 use Rattle.qcow2_disk.specs.Calls.{Refusal, memory, storage, not_compressed, another, IsRefusalByFault, EffectOnSound, CallEffect, AnsweredEffect, RefusedEffect}
-use Rattle.qcow2_disk.proofs.Compose.{works_less, works_then, rests_then, stops_resting}
+use Rattle.qcow2_disk.proofs.Compose.{works_less, works_then, rests_then, stops_resting, TouchesLess}
 
 -- a refusal that was passed on
 pub refused_is : {A E : Type 0} (r : Result A E) (e : E) → IsErr r × IsErrAnd r (λ x. x ≡ e) → r ≡ Err e
@@ -24,12 +24,16 @@ pub nothing_refused : {A E : Type 0} (S : Type 0) (X : E → Type 0) (o : Option
 nothing_refused S X None r a early was = tt
 nothing_refused S X (Some x) r a early was = absurd (let no : Ok a ≡ Err x = sym was ∙ early.0 in cc)
 
--- what a call gives was there already, or is given anyway
-abbrev pub IsWithin : AbstractImage → List GivenBytes → List GivenBytes → Type 0
-IsWithin v more gs = (o : ℕ) (w : Value) → IsGiven more o w → (w ≡ (disk v.known v.setting.backing).value o) ⊎ IsGiven gs o w
+-- what a call gives was there already, or is given anyway, and it touches no more guest clusters
+pub record IsWithin (v : AbstractImage) (more gs : List GivenBytes) : Type 0 where
+  pub values : (o : ℕ) (w : Value) → IsGiven more o w → (w ≡ (disk v.known v.setting.backing).value o) ⊎ IsGiven gs o w
+  pub touches : TouchesLess v.setting.cluster_size more gs
 
 pub none_within : (v : AbstractImage) (gs : List GivenBytes) → IsWithin v [] gs
-none_within v gs o w h = absurd h
+none_within v gs = record { values = λ o w h. absurd h; touches = λ g untouched. tt }
+
+pub all_within : (v : AbstractImage) (gs : List GivenBytes) → IsWithin v gs gs
+all_within v gs = record { values = λ o w h. inr h; touches = λ g untouched. untouched }
 
 module _ {old new : AbstractImage} {given : List GivenBytes} {asked : List ℕ} {A B : Type 0} where
   pub does_if : (A → B) → AnsweredEffect old new given asked A → AnsweredEffect old new given asked B
@@ -58,7 +62,7 @@ refuses_fault {new = new} {A = A} B (another n) why to r = record { acts = r.act
 
 module _ {old new : AbstractImage} {gs fewer : List GivenBytes} (within : IsWithin old gs fewer) where
   pub acts_less : CallEffect old new gs [] → CallEffect old new fewer []
-  acts_less a = record { number = a.number; works = λ sound. works_less old new gs fewer [] within (a.works sound); rests = a.rests }
+  acts_less a = record { number = a.number; works = λ sound. works_less old new gs fewer [] within.values within.touches (a.works sound); rests = a.rests }
 
   pub does_less : {A : Type 0} → AnsweredEffect old new gs [] A → AnsweredEffect old new fewer [] A
   does_less d = record { acts = acts_less d.acts; answer = d.answer }
@@ -67,11 +71,11 @@ module _ {old new : AbstractImage} {gs fewer : List GivenBytes} (within : IsWith
   refuses_less r = record { acts = acts_less r.acts; answer = r.answer; fault = r.fault }
 
 -- a call after one that was answered
-module _ {old mid new : AbstractImage} {gs more : List GivenBytes} {A : Type 0} (within : A → IsWithin mid more gs) (first : AnsweredEffect old mid gs [] A) where
+module _ {old mid new : AbstractImage} {gs more : List GivenBytes} {A : Type 0} (within : old.is_sound → A → IsWithin mid more gs) (first : AnsweredEffect old mid gs [] A) where
   pub acts_then : CallEffect mid new more [] → CallEffect old new gs []
   acts_then acts = record {
     number = acts.number ∙ first.acts.number;
-    works = λ sound. let a = first.answer sound in works_then old mid new gs [] a.0 (first.acts.works sound) (works_less mid new more gs [] (within a.1) (acts.works a.0));
+    works = λ sound. let a = first.answer sound in works_then old mid new gs [] a.0 (first.acts.works sound) (works_less mid new more gs [] (within sound a.1).values (within sound a.1).touches (acts.works a.0));
     rests = λ failed. let r = first.acts.rests failed in rests_then old mid new r (acts.rests r.failed);
   }
 
@@ -94,6 +98,7 @@ module _ {old mid new : AbstractImage} {gs : List GivenBytes} {e : Refusal} {A B
   works_broken w failed = let r = then.acts.rests failed in record {
     setting = r.setting ∙ w.setting;
     surplus = λ sound. absurd (never failed sound);
+    beside = λ sound. absurd (never failed sound);
     leaks = r.leaks ∙ w.leaks;
     stops = λ m starts. stops_resting old mid new gs [] r (never failed) m (w.stops m starts);
   }
@@ -103,7 +108,7 @@ module _ {old mid new : AbstractImage} {gs : List GivenBytes} {e : Refusal} {A B
     acts = record {
       number = then.acts.number ∙ first.acts.number;
       works = λ sound. ⊎_elim
-          (λ (a : mid.is_sound × A). works_then old mid new gs [] a.0 (first.acts.works sound) (works_less mid new [] gs [] (none_within mid gs) (then.acts.works a.0)))
+          (λ (a : mid.is_sound × A). works_then old mid new gs [] a.0 (first.acts.works sound) (works_less mid new [] gs [] (none_within mid gs).values (none_within mid gs).touches (then.acts.works a.0)))
           (λ (f : IsRefusalByFault e × IsTrue mid.is_failed). works_broken (first.acts.works sound) f.1) (first.answer sound);
       rests = λ failed. let r = first.acts.rests failed in rests_then old mid new r (then.acts.rests r.failed);
     };

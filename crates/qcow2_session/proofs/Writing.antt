@@ -11,6 +11,7 @@ use Rattle.qcow2_image.specs.declared.image.Qcow2.{Qcow2}
 use Rattle.qcow2_session.specs.Sessions.{cluster_size_of, EndsCluster}
 use Rattle.qcow2_session.proofs.Bytes.{no_bytes, with_both, part_within, rest_long, rest_part}
 use Rattle.qcow2_session.proofs.Turns.{IsWithin, does_if, refuses_if, does_then, refuses_then}
+use Rattle.qcow2_image.proofs.Untouched.{touches_part}
 
 -- a cluster ends where it ends of the image as it was
 pub ends_on : {S F : Type 0} (old mid : Qcow2 S F) → cluster_size_of mid ≡ cluster_size_of old → (offset done count at : ℕ) → at ≡ offset + done → EndsCluster mid (at + count) → EndsCluster old (offset + (done + count))
@@ -67,14 +68,17 @@ module _ (offset at count : ℕ) (bytes : List ℕ) (le : count ≤ length bytes
 
   module _ (old mid new : AbstractImage) (first : AnsweredEffect old mid (given_of offset bytes ∷ []) [] (guest_of mid ≡ with_disk (guest_of old) (with_bytes (guest_of old).disk offset (take count bytes)))) where
     rest_within : IsWithin mid (given_of at (drop count bytes) ∷ []) (given_of offset bytes ∷ [])
-    rest_within o w h = inr (part_within offset at count bytes (drop count bytes) there (rest_long count bytes le) (λ i lt. rest_part count bytes i le lt) o w h)
+    rest_within = record {
+      values = λ o w h. inr (part_within offset at count bytes (drop count bytes) there (rest_long count bytes le) (λ i lt. rest_part count bytes i le lt) o w h);
+      touches = let begins = there in let long = rest_long count bytes le in touches_part mid.setting.cluster_size _ _ [] (omega (arith, begins)) (omega (arith, begins, long));
+    }
 
     pub writes_more : (n : ℕ) → AnsweredEffect mid new (given_of at (drop count bytes) ∷ []) [] (guest_of new ≡ with_disk (guest_of mid) (with_bytes (guest_of mid).disk at (take n (drop count bytes))))
         → AnsweredEffect old new (given_of offset bytes ∷ []) [] (guest_of new ≡ with_disk (guest_of old) (with_bytes (guest_of old).disk offset (take (count + n) bytes)))
     writes_more n next =
         does_if (λ h. h.1 ∙ ap (λ (v : Guest). with_disk v (with_bytes v.disk at (take n (drop count bytes)))) h.0 ∙ ap (λ (d : Disk). with_disk (guest_of old) d) (more_bytes (guest_of old).disk n))
-        (does_then (λ _. rest_within) first next)
+        (does_then (λ _ _. rest_within) first next)
 
     pub write_refused : (e : Refusal) → RefusedEffect mid new (given_of at (drop count bytes) ∷ []) [] e (MayWrite e (guest_of mid) at (drop count bytes) 0 (guest_of new))
         → RefusedEffect old new (given_of offset bytes ∷ []) [] e (MayWrite e (guest_of old) offset bytes count (guest_of new))
-    write_refused e next = refuses_if (λ h. may_write_more e (guest_of old) (guest_of mid) (guest_of new) h.0 h.1) (refuses_then (λ _. rest_within) first next)
+    write_refused e next = refuses_if (λ h. may_write_more e (guest_of old) (guest_of mid) (guest_of new) h.0 h.1) (refuses_then (λ _ _. rest_within) first next)

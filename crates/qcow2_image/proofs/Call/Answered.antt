@@ -24,10 +24,11 @@ use Rattle.qcow2_image.specs.declared.prepared.Prepared.{Prepared}
 use Rattle.qcow2_image.specs.ImageInvariant.{below_of, of_data, of_tables, to_free, new_data_by, over_all, pending_in, abstract_of, meaning, is_entered, is_new, is_private, is_hidden, place_of, share_of, backing_bytes, ImageInvariant}
 use Rattle.qcow2_image.specs.MovedTables.{MovesTables}
 use Rattle.qcow2_image.specs.UnseenSteps.{pending_with_listed, ListGrows, UnseenStep, UnseenFreeingStep}
-use Rattle.qcow2_image.proofs.Moved.{format_file_step}
+use Rattle.qcow2_image.proofs.Moved.{format_file_step, format_stay}
 use Rattle.qcow2_image.proofs.Shares.{private_used, used_unlaid}
 use Rattle.qcow2_image.proofs.Sound.{free_more, pending_is}
 use Rattle.qcow2_disk.proofs.Compose.{stops_of}
+use Rattle.qcow2_image.proofs.Untouched.{all_stay}
 
 pub same_guest : (a b : Guest) → a.disk ≡ b.disk → a.slots ≡ b.slots → a ≡ b
 same_guest a b disks slots = ap (λ d. record a { disk = d }) disks ∙ ap (λ f. record b { slots = f }) slots
@@ -128,6 +129,7 @@ module _ {S F : Type 0} (view : S → StorageView) (backing : F → BackingView)
     works_now = record {
       setting = same_setting _ _ (ap (λ (h : HeaderFields). cluster_size h) keeps.unseen.header) keeps.below;
       surplus = λ still. ap (λ (q : Pending). q.surplus) (sym pending_now);
+      beside = λ still. all_stay view old.file new.file (pending_in view backing old out) (pending_with_listed (pending_in view backing old out) old new) sound.file.caches.kept.kept.crash_invariant keeps.sound.file.caches.kept.kept.crash_invariant [] (format_stay old.file.header.fields new.file.header.fields (known_in view old.file) (known_in view new.file) keeps.unseen.header keeps.unseen.covers);
       leaks = keeps.leaks;
       stops = stops_of (abstract_of view backing old out) (abstract_of view backing new out) nothing_given [] keeps.since (λ still. keeps.safe_step.known);
     }

@@ -71,6 +71,7 @@ module _ {S F : Type 0} (view : S → StorageView) (backing : F → BackingView)
     still_works sound = let w = acts sound in record {
       setting = w.setting;
       surplus = λ now. w.surplus (still sound);
+      beside = λ now. w.beside (still sound);
       leaks = w.leaks;
       stops = λ m starts.
           stops_as (abstract_of view backing old out) (abstract_of view backing new out') (abstract_of view backing old out) (abstract_of view backing (record new { is_failed = marked }) out') given [] refl refl refl (λ now. (still sound, refl)) m (w.stops m starts);

@@ -32,6 +32,7 @@ module _ (v : AbstractImage) where
   works_none sound = record {
     setting = refl;
     surplus = λ still. refl;
+    beside = λ still g untouched. refl;
     leaks = refl;
     stops = stops_none v v [] [] refl (λ still. refl);
   }

@@ -28,6 +28,7 @@ use Rattle.qcow2_image.proofs.Sound.{free_more}
 use Rattle.qcow2_image.proofs.Call.Answered.{same_setting, same_now, sound_now, works_now}
 use Rattle.qcow2_image.proofs.Call.CallOutcomes.{is_fault, outcome, outcome_refused}
 use Rattle.qcow2_image.proofs.Call.Stepped.{Steps, stepped_sound, stepped_works}
+use Rattle.qcow2_image.proofs.Untouched.{all_stay}
 
 -- a fault, or want of memory that was noted, marks the image
 pub marks_fault : (e : ImageError) (before marked noted : Bool) → FaultOfTables e → (e ≡ I.Memory → IsTrue noted) → MayMark e before marked → (e ≡ I.Memory → IsTrue noted → IsTrue marked) → IsTrue marked × IsRefusalByFault (refusal_of e)
@@ -58,6 +59,7 @@ module _ {S F : Type 0} (view : S → StorageView) (backing : F → BackingView)
     works = record {
       setting = same_setting _ _ size below;
       surplus = λ now. absurd (let f : true ≡ false = now.works in cc);
+      beside = λ now. absurd (let f : true ≡ false = now.works in cc);
       leaks = leaks;
       stops = stops_of (abstract_of view backing old out) (abstract_of view backing (record new { is_failed = true }) out) nothing_given [] interrupted.since (λ now. absurd (let f : true ≡ false = now.works in cc));
     };
@@ -118,8 +120,8 @@ module _ {S F : Type 0} (view : S → StorageView) (backing : F → BackingView)
   finds old new sound rest offset (Err e) ready = left_refused old new e sound rest ready
 
   -- a mapping was made ready, or that was refused
-  pub image_step_stays : (old new : Qcow2 S F) → UnseenFillingStep view backing (pending_in view backing old out) (pending_with_listed (pending_in view backing old out) old new) old new out → UnseenCall view backing old new out
-  image_step_stays old new image_step =
+  pub image_step_stays : (old new : Qcow2 S F) → ImageInvariant view backing (pending_in view backing old out) old out → UnseenFillingStep view backing (pending_in view backing old out) (pending_with_listed (pending_in view backing old out) old new) old new out → UnseenCall view backing old new out
+  image_step_stays old new sound image_step =
       stays_stepped old new (pending_with_listed (pending_in view backing old out) old new) (record {
         sound = image_step.sound;
         only = record {
@@ -134,12 +136,13 @@ module _ {S F : Type 0} (view : S → StorageView) (backing : F → BackingView)
         below = image_step.below;
         surplus = refl;
         leaks = image_step.leaks;
+        beside = all_stay view old.file new.file (pending_in view backing old out) (pending_with_listed (pending_in view backing old out) old new) sound.file.caches.kept.kept.crash_invariant image_step.sound.file.caches.kept.kept.crash_invariant [] (format_stay old.file.header.fields new.file.header.fields (known_in view old.file) (known_in view new.file) image_step.header image_step.covers);
       }) image_step.seen image_step.covers
 
   -- a part that was refused is a call that was
-  pub back_refused : (old new : Qcow2 S F) (e : ImageError) → RefusedFillingStep view backing (pending_in view backing old out) old new out e → RefusedCall view backing old new out e
-  back_refused old new e (inl image_step) = inl (image_step_stays old new image_step)
-  back_refused old new e (inr interruption) = inr (break_off old new e interruption)
+  pub back_refused : (old new : Qcow2 S F) (e : ImageError) → ImageInvariant view backing (pending_in view backing old out) old out → RefusedFillingStep view backing (pending_in view backing old out) old new out e → RefusedCall view backing old new out e
+  back_refused old new e sound (inl image_step) = inl (image_step_stays old new sound image_step)
+  back_refused old new e sound (inr interruption) = inr (break_off old new e interruption)
 
   -- what is to be freed is freed after a refusal
   pub back_then_freed : (old mid new : Qcow2 S F) (e e' : ImageError) → RefusedCall view backing old mid out e → (FaultOfTables e → (e' ≡ e) × (new ≡ mid))

@@ -200,7 +200,7 @@ module _ {S F : Type 0} (view : S → StorageView) (backing : F → BackingView)
         let x = abstract_of view backing new out in
         let given_bytes = given_bytes_between view backing old how from to in
         record {
-          works = works_then v w x given_bytes [] first.sound (works_less v w [] given_bytes [] (λ o value never. absurd never) first.works) (subst (λ gs. EffectOnSound w x gs []) (ap (λ (d : Disk). given_shown d from to ∷ []) cleared_same) part.works);
+          works = works_then v w x given_bytes [] first.sound (works_less v w [] given_bytes [] (λ o value never. absurd never) (λ g u. tt) first.works) (subst (λ gs. EffectOnSound w x gs []) (ap (λ (d : Disk). given_shown d from to ∷ []) cleared_same) part.works);
           sound = part.sound;
           shows = part.shows ∙ ap (λ (d : Disk). with_disk (guest_of w) d) cleared_same ∙ ap (λ (g : Guest). with_disk g (cleared (setting_of view backing old) (disk_of view backing old) (shown_by how) from to)) first.same;
           header = file_step_then old.file.header.fields mid.file.header.fields new.file.header.fields first.header part.header;

@@ -95,7 +95,7 @@ none_cleared x d to_kept_zero from to le = none_laid from to (λ f i. known_byte
 -- what is refused gives nothing more
 pub refuses_more : (v w : AbstractImage) (gs : List GivenBytes) (e : Refusal) (still : Type 0) → RefusedEffect v w [] [] e still → RefusedEffect v w gs [] e still
 refuses_more v w gs e still r = record {
-  acts = record { number = r.acts.number; works = λ sound. works_less v w [] gs [] (λ o x never. absurd never) (r.acts.works sound); rests = r.acts.rests };
+  acts = record { number = r.acts.number; works = λ sound. works_less v w [] gs [] (λ o x never. absurd never) (λ g u. tt) (r.acts.works sound); rests = r.acts.rests };
   answer = r.answer;
   fault = r.fault;
 }
@@ -162,7 +162,7 @@ module _ {S F : Type 0} (view : S → StorageView) (backing : F → BackingView)
   -- nothing is touched
   pub clears_nothing : to ≤ from → Clears view backing how old old offset n (Ok (from, 0))
   clears_nothing le = λ out.
-      outcome_answered view backing old old out out given_bytes (λ sound. works_less (v out sound) (v out sound) [] given_bytes [] (λ o x never. absurd never) (works_none (v out sound) sound)) (λ sound. sound) refl usable
+      outcome_answered view backing old old out out given_bytes (λ sound. works_less (v out sound) (v out sound) [] given_bytes [] (λ o x never. absurd never) (λ g u. tt) (works_none (v out sound) sound)) (λ sound. sound) refl usable
       (λ sound. (answer_none out sound le, ap (λ d. with_disk (guest_of (v out sound)) d) (sym (none_cleared (setting_of view backing old) (disk_of view backing old) (shown_by how) from to le) ∙ disk_is out sound)))
 
   -- ---- it begins, and clusters are cleared
@@ -221,7 +221,7 @@ module _ {S F : Type 0} (view : S → StorageView) (backing : F → BackingView)
           let f = abstract_of view backing freed out in
           let call : ImageInvariant view backing (pending_in view backing old out) old out → UnseenCall view backing entries freed out = λ sound. subst (EndsFreeing view backing entries freed out) ok (ends out (part out sound).sound) in
           outcome_answered view backing old freed out out given_bytes
-          (λ sound. works_then a e f given_bytes [] (part out sound).sound (part_works out sound) (works_less e f [] given_bytes [] (λ o x never. absurd never) (call sound).works))
+          (λ sound. works_then a e f given_bytes [] (part out sound).sound (part_works out sound) (works_less e f [] given_bytes [] (λ o x never. absurd never) (λ g u. tt) (call sound).works))
           (λ sound. (call sound).sound) number usable
           (λ sound. (answer_some out sound lt, (call sound).same ∙ (part out sound).shows ∙ ap (λ d. with_disk (guest_of a) d) (disk_is out sound)))
 
@@ -236,7 +236,7 @@ module _ {S F : Type 0} (view : S → StorageView) (backing : F → BackingView)
           record {
             acts = record {
               number = number;
-              works = λ sound. works_then a e f given_bytes [] (part out sound).sound (part_works out sound) (works_less e f [] given_bytes [] (λ o y never. absurd never) ((ended sound).0.acts.works (part out sound).sound));
+              works = λ sound. works_then a e f given_bytes [] (part out sound).sound (part_works out sound) (works_less e f [] given_bytes [] (λ o y never. absurd never) (λ g u. tt) ((ended sound).0.acts.works (part out sound).sound));
               rests = λ was. absurd (let no : true ≡ false = sym was ∙ usable in cc);
             };
             answer = λ sound. inr ((ended sound).1, failed sound);

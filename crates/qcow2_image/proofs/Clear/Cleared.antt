@@ -40,6 +40,8 @@ use Rattle.qcow2_image.proofs.Clear.Entries.{OneCleared, one_cleared}
 use Rattle.qcow2_image.proofs.Commit.Committing.{listed_tables}
 use Rattle.qcow2_image.proofs.Open.Reftables.{reftable_still}
 use Rattle.qcow2_image.proofs.Sound.{free_more}
+use Rattle.qcow2_image.proofs.Untouched.{untouched_stay}
+use Rattle.qcow2_disk.specs.UntouchedCovers.{IsUntouched}
 
 -- what is listed is no table
 listed_no_table : (how : Clearance) (h : HeaderFields) (known : Bytes) (first n k : ℕ) → to_free of_tables (listed_by how h known first n) k ≡ 0
@@ -235,6 +237,24 @@ module _ {S F : Type 0} (view : S → StorageView) (backing : F → BackingView)
     abbrev given : Bytes → List GivenBytes
     given below = given_shown (disk s'.known below) from to ∷ []
 
+    -- what stands beside the range stays
+    covers_beside : (c : ℕ) → IsUntouched (cluster_size h') (given (backing_bytes view backing a.backing)) c → cover h' (known_in view a.file) c ≡ cover h' (known_in view final.file) c
+    covers_beside c untouched = elim (cases_lt c g) [
+      | inl below ↦ all.stays c (inl below)
+      | inr le ↦ elim (cases_lt c (g + n)) [
+        | inl inside ↦
+            let some : 0 < cluster_size h' = pow_pos h'.cluster_bits in
+            let first : c ≡ g + (c - g) = omega (arith, le) in
+            let last : g + n ≡ c + 1 + (g + n - c - 1) = omega (arith, inside) in
+            let first_at : c * cluster_size h' ≡ (g + (c - g)) * cluster_size h' = ap (λ x. x * cluster_size h') first in
+            let last_at : to ≡ (c + 1 + (g + n - c - 1)) * cluster_size h' = ap (λ x. x * cluster_size h') last in
+            let first_sum : (g + (c - g)) * cluster_size h' ≡ from + (c - g) * cluster_size h' = omega arith in
+            let last_sum : (c + 1 + (g + n - c - 1)) * cluster_size h' ≡ c * cluster_size h' + cluster_size h' + (g + n - c - 1) * cluster_size h' = omega arith in
+            absurd (untouched.0 (omega (arith, some, first_at, last_at, first_sum, last_sum), omega (arith, some, first_at, first_sum), omega (arith, some, first_at, last_at, first_sum, last_sum)))
+        | inr past ↦ all.stays c (inr past)
+      ]
+    ]
+
     steps : Steps view backing a final out out given all.now
     steps = record {
       sound = record {
@@ -259,6 +279,7 @@ module _ {S F : Type 0} (view : S → StorageView) (backing : F → BackingView)
       below = refl;
       surplus = all.surplus;
       leaks = refl;
+      beside = untouched_stay view a.file final.file (pending_in view backing a out) all.now sound.file.caches.kept.kept.crash_invariant range.safe_step.sound (given (backing_bytes view backing a.backing)) covers_beside;
     }
 
     given_is : given (backing_bytes view backing a.backing) ≡ given_bytes_between view backing a how from to

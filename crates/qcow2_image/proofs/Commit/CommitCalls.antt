@@ -72,7 +72,7 @@ module _ {S F : Type 0} (view : S → StorageView) (backing : F → BackingView)
     pub commit_existing : AnsweredEffect v0 w0 given_before [] (guest_of w0 ≡ with_slot (with_disk (guest_of v0) (committed (guest_of v0).disk m0)) k None)
     commit_existing =
         let does = discards out k placed in
-        outcome_answered view backing old new out (slice_set out k None) given_before (λ sound. works_less v0 w0 [] given_before [] (λ o x never. absurd never) (does.acts.works sound)) (λ sound. (does.answer sound).0) does.acts.number usable
+        outcome_answered view backing old new out (slice_set out k None) given_before (λ sound. works_less v0 w0 [] given_before [] (λ o x never. absurd never) (λ g u. tt) (does.acts.works sound)) (λ sound. (does.answer sound).0) does.acts.number usable
         (λ sound. (does.answer sound).1 ∙ ap (λ d. with_slot (with_disk (guest_of v0) d) k None) (sym (nothing_new sound)))
 
 -- ---- it begins, and its shares are entered
@@ -131,7 +131,7 @@ module _ {S F : Type 0} (view : S → StorageView) (backing : F → BackingView)
           ∙ ap (λ x. given_by_commit v.setting.cluster_size (guest_of v).disk x ∷ []) same_meaning
 
       entered_works : EffectOnSound v e given_bytes []
-      entered_works = works_then v b e given_bytes [] begun_sound (works_less v b [] given_bytes [] (λ o x never. absurd never) begun_works) (subst (λ gs. EffectOnSound b e gs []) given_is all.part.works)
+      entered_works = works_then v b e given_bytes [] begun_sound (works_less v b [] given_bytes [] (λ o x never. absurd never) (λ g u. tt) begun_works) (subst (λ gs. EffectOnSound b e gs []) given_is all.part.works)
 
       entered_shows : ShowsPart (guest_of v) (guest_of e) k m (meaning view backing entered q)
       entered_shows = subst (λ x. ShowsPart (guest_of v) (guest_of e) k x (meaning view backing entered q)) same_meaning (subst (λ (g : Guest). ShowsPart g (guest_of e) k (meaning view backing begun p) (meaning view backing entered q)) begun_same all.part.shows)
@@ -156,9 +156,9 @@ module _ {S F : Type 0} (view : S → StorageView) (backing : F → BackingView)
         works_all : EffectOnSound v w given_bytes []
         works_all =
             let last = (release_prepared.acts.works freed_call.sound) in
-            let freeing : EffectOnSound v f given_bytes [] = works_then v e f given_bytes [] all.part.sound entered_works (works_less e f [] given_bytes [] (λ o x never. absurd never) freed_call.works) in
+            let freeing : EffectOnSound v f given_bytes [] = works_then v e f given_bytes [] all.part.sound entered_works (works_less e f [] given_bytes [] (λ o x never. absurd never) (λ g u. tt) freed_call.works) in
             subst (λ now. EffectOnSound v (abstract_of view backing new now) given_bytes []) end
-            (works_then v f (abstract_of view backing new (slice_set left k None)) given_bytes [] freed_call.sound freeing (works_less f (abstract_of view backing new (slice_set left k None)) [] given_bytes [] (λ o x never. absurd never) last))
+            (works_then v f (abstract_of view backing new (slice_set left k None)) given_bytes [] freed_call.sound freeing (works_less f (abstract_of view backing new (slice_set left k None)) [] given_bytes [] (λ o x never. absurd never) (λ g u. tt) last))
 
         sound_all : ImageInvariant view backing (pending_in view backing new (slice_set out k None)) new (slice_set out k None)
         sound_all = subst (λ now. ImageInvariant view backing (pending_in view backing new now) new now) end (release_prepared.answer freed_call.sound).0
@@ -182,10 +182,11 @@ module _ {S F : Type 0} (view : S → StorageView) (backing : F → BackingView)
       works_refused : (now : Option Prepared) → IsTrue (is_failed freed) → (sound : ImageInvariant view backing (pending_in view backing old out) old out) → EffectOnSound v (abstract_of view backing freed (slice_set out k now)) given_bytes []
       works_refused now failed sound =
           let then = (failed_freeing sound).0.acts.works (all sound).part.sound in
-          let both = works_then v e f given_bytes [] (all sound).part.sound (entered_works sound) (works_less e f [] given_bytes [] (λ o y never. absurd never) then) in
+          let both = works_then v e f given_bytes [] (all sound).part.sound (entered_works sound) (works_less e f [] given_bytes [] (λ o y never. absurd never) (λ g u. tt) then) in
           record {
             setting = both.setting;
             surplus = λ still. absurd (let no : true ≡ false = sym failed ∙ still.works in cc);
+            beside = λ still. absurd (let no : true ≡ false = sym failed ∙ still.works in cc);
             leaks = both.leaks;
             stops = λ c starts. stops_as v f v (abstract_of view backing freed (slice_set out k now)) given_bytes [] refl refl refl (λ still. absurd (let no : true ≡ false = sym failed ∙ still.works in cc)) c (both.stops c starts);
           }
@@ -217,7 +218,7 @@ module _ {S F : Type 0} (view : S → StorageView) (backing : F → BackingView)
             record {
               acts = record {
                 number = number;
-                works = λ sound. works_then v e w given_bytes [] (all sound).part.sound (entered_works sound) (works_less e w [] given_bytes [] (λ o y never. absurd never) ((refuses sound).acts.works (all sound).part.sound));
+                works = λ sound. works_then v e w given_bytes [] (all sound).part.sound (entered_works sound) (works_less e w [] given_bytes [] (λ o y never. absurd never) (λ g u. tt) ((refuses sound).acts.works (all sound).part.sound));
                 rests = λ was. absurd (let no : true ≡ false = sym was ∙ usable in cc);
               };
               answer = λ sound. elim ((refuses sound).answer (all sound).part.sound) [

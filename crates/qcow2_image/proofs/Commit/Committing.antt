@@ -26,13 +26,13 @@ use Rattle.qcow2_laws.specs.CrashInvariant.{Pending, CrashInvariant}
 use Rattle.qcow2_laws.specs.GuestLaws.{Kept as HostedKept, Held as HostedHeld}
 use Rattle.qcow2_laws.specs.Guests.{names, marks, marked_by_cover, table_at}
 use Rattle.qcow2_laws.specs.SafeSteps.{DriverState, StateInvariant, SafeStep}
-use Rattle.qcow2_disk.specs.Mappings.{PreparedMapping, given_shown, given_by_commit, committed}
+use Rattle.qcow2_disk.specs.Mappings.{PreparedMapping, given_shown, given_by_commit, committed, first_of, end_of}
 use Rattle.qcow2_disk.specs.Stops.{GivenBytes, IsGiven}
 use Rattle.qcow2_laws.specs.Steps.{guest_at, EntryChanges}
 use Rattle.qcow2_disk.specs.AbstractImages.{guest_of}
 use Rattle.qcow2_laws.proofs.Blocks.{entry_top, entry_counts}
 use Rattle.qcow2_laws.proofs.CachedChanges.{Takes, takes_new_data, takes_own}
-use Rattle.qcow2_disk.proofs.Compose.{works_less}
+use Rattle.qcow2_disk.proofs.Compose.{works_less, TouchesLess}
 use Rattle.qcow2_laws.proofs.KeptClusters.{kept_committed}
 use Rattle.qcow2_laws.proofs.MappedAnew.{Maps, pending_after, private_committed, committed_new_data, committed_old_data}
 use Rattle.qcow2_laws.proofs.Places.{Sizes-from, cover_at}
@@ -62,6 +62,7 @@ use Rattle.qcow2_image.proofs.Open.Reftables.{reftable_still}
 use Rattle.qcow2_image.proofs.Call.Slots.{get_set_other, get_set_same, length_set, over_all_set, slot_set}
 use Rattle.qcow2_image.proofs.Call.Stepped.{Steps, stepped_sound, stepped_works}
 use Rattle.qcow2_image.proofs.Shares.{new_data_less, over_all_at, place_in, private_is}
+use Rattle.qcow2_image.proofs.Untouched.{touches_part, untouched_stay, touches_own}
 
 -- ---- the entry of a held table changes to a held cluster
 module _ (s : DriverState) (known' : Bytes) (i j entry : ℕ) (sound : StateInvariant s) (real : table_at s.header s.known i ≢ 0) (within : j < entries_per_cluster s.header)
@@ -419,6 +420,7 @@ module _ {S F : Type 0} (view : S → StorageView) (backing : F → BackingView)
       below = refl;
       surplus = made.surplus;
       leaks = refl;
+      beside = untouched_stay view old.file final.file before made.after sound.file.caches.kept.kept.crash_invariant safe_step.sound (given (backing_bytes view backing old.backing)) (λ g untouched. made.mapped.unseen.covers g (λ same. untouched.0 (touches_own (cluster_size h) (pow_pos h.cluster_bits) (guest_at h row column) g same)));
     }
 
     -- ---- what it shows
@@ -475,11 +477,16 @@ module _ {S F : Type 0} (view : S → StorageView) (backing : F → BackingView)
       visible = visible_now;
     }
 
+    -- a mapping that is out has bytes, so it gives up to the end of its clusters
+    whole_count : (if m.length == 0 then first_of (cluster_size h) m else end_of (cluster_size h) m) ≡ end_of (cluster_size h) m
+    whole_count = cond-false (m.length == 0) (first_of (cluster_size h) m) (end_of (cluster_size h) m) (ne_eqb m.length 0 (λ none. absurd (let some = pending.some in omega (arith, some, none))))
+
     -- what it gives is of what the whole mapping gives
     gives_less : (o : ℕ) (v : Value) → IsGiven (given below) o v → (v ≡ d.value o) ⊎ IsGiven (given_by_commit (cluster_size h) d m ∷ []) o v
     gives_less o v (inr never) = absurd never
     gives_less o v (inl is) =
         let lt = within in
+        let all = whole_count in
         let some : 0 < cluster_size h = pow_pos h.cluster_bits in
         let g = guest_is in
         let at : guest_at h row column * cluster_size h ≡ (cluster_of h p + i) * cluster_size h = ap (λ n. n * cluster_size h) g in
@@ -495,6 +502,18 @@ module _ {S F : Type 0} (view : S → StorageView) (backing : F → BackingView)
         let back : guest_at h row column * cluster_size h + (o - guest_at h row column * cluster_size h) ≡ o = omega arith in
         let back_all : cluster_of h p * cluster_size h + (o - cluster_of h p * cluster_size h) ≡ o = omega arith in
         inr (inl (omega arith, omega arith, is.2 ∙ ap (λ n. (disk known below).value n) back ∙ disk_here o here ∙ ap (λ n. (committed d m).value n) (sym back_all)))
+
+    touches_fewer : TouchesLess (cluster_size h) (given below) (given_by_commit (cluster_size h) d m ∷ [])
+    touches_fewer =
+        let lt = within in
+        let g = guest_is in
+        let at : guest_at h row column * cluster_size h ≡ (cluster_of h p + i) * cluster_size h = ap (λ n. n * cluster_size h) g in
+        let r : (cluster_of h p + i) * cluster_size h ≡ cluster_of h p * cluster_size h + i * cluster_size h = omega arith in
+        let end = ends_at h s.known s.on_storage p t pending in
+        let more : length p.shares.items ≡ i + 1 + (length p.shares.items - i - 1) = omega (arith, lt) in
+        let span : (cluster_of h p + length p.shares.items) * cluster_size h ≡ (cluster_of h p + (i + 1 + (length p.shares.items - i - 1))) * cluster_size h = ap (λ n. (cluster_of h p + n) * cluster_size h) more in
+        let parts : (cluster_of h p + (i + 1 + (length p.shares.items - i - 1))) * cluster_size h ≡ cluster_of h p * cluster_size h + i * cluster_size h + cluster_size h + (length p.shares.items - i - 1) * cluster_size h = omega arith in
+        let all = whole_count in touches_part (cluster_size h) _ _ [] (omega (arith, at, r)) (omega (arith, at, r, end, span, parts, all))
 
     -- it is none of those beside the mapping
     beside_mine : (g : ℕ) → (g < p.guest / cluster_size h) ⊎ (p.guest + p.length ≤ g * cluster_size h) → g ≡ cluster_of h p + i → ⊥
@@ -512,7 +531,7 @@ module _ {S F : Type 0} (view : S → StorageView) (backing : F → BackingView)
 
     enters_q : CommitsPart view backing old final out k p q
     enters_q = record {
-      works = works_less (abstract_of view backing old out) (abstract_of view backing final now) (given below) (given_by_commit (cluster_size h) d m ∷ []) [] gives_less (stepped_works view backing old final out now given made.after steps);
+      works = works_less (abstract_of view backing old out) (abstract_of view backing final now) (given below) (given_by_commit (cluster_size h) d m ∷ []) [] gives_less touches_fewer (stepped_works view backing old final out now given made.after steps);
       sound = stepped_sound view backing old final out now given made.after steps;
       shows = shows_part;
       beside = λ g outside. made.mapped.unseen.covers g (λ same. beside_mine g outside (same ∙ guest_is));

@@ -106,7 +106,7 @@ module _ {S F : Type 0} (view : S → StorageView) (backing : F → BackingView)
       let m = meaning view backing image p in
       let given_bytes = given_by_commit v.setting.cluster_size (guest_of v).disk (meaning view backing image p) ∷ [] in
       record {
-        works = subst (λ now. EffectOnSound v (abstract_of view backing image now) given_bytes []) (sym same) (works_less v v [] given_bytes [] (λ o x never. absurd never) (works_none v sound));
+        works = subst (λ now. EffectOnSound v (abstract_of view backing image now) given_bytes []) (sym same) (works_less v v [] given_bytes [] (λ o x never. absurd never) (λ g u. tt) (works_none v sound));
         sound = subst (λ now. ImageInvariant view backing (pending_in view backing image now) image now) (sym same) sound;
         shows = subst (λ now. ShowsPart (guest_of v) (guest_of (abstract_of view backing image now)) k m m) (sym same) (shows_none (guest_of v) k m (ap (meaning_at (meaning view backing image)) placed));
         beside = λ g outside. refl;

@@ -36,6 +36,7 @@ use Rattle.qcow2_image.proofs.Open.Reftables.{reftable_still}
 use Rattle.qcow2_image.proofs.Call.Slots.{others_left, over_all_left, slot_set}
 use Rattle.qcow2_image.proofs.Call.Stepped.{Steps, stepped_sound, stepped_works}
 use Rattle.qcow2_disk.proofs.Compose.{rests_none}
+use Rattle.qcow2_metadata.specs.Header.{header}
 
 -- what is kept of the caches is kept while something else is pending that is guarded too
 pub sound_while : {S : Type 0} (h : HeaderFields) (p q : Pending) (caches : MetadataCaches S) (on_storage : Bytes) → CrashInvariant h (order_of caches) q on_storage (known_of h caches on_storage) → CacheInvariant h p caches on_storage → CacheInvariant h q caches on_storage
@@ -127,6 +128,7 @@ module _ {S F : Type 0} (view : S → StorageView) (backing : F → BackingView)
         below = refl;
         surplus = refl;
         leaks = refl;
+        beside = λ g untouched. ap (λ (b : Bytes). cover (header b) b g) (sym same_known);
       }
 
     slots_left : guest_of (abstract_of view backing left (slice_set out k None)) ≡ with_slot (guest_of (abstract_of view backing old out)) k None

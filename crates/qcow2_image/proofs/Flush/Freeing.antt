@@ -37,6 +37,8 @@ use Rattle.qcow2_image.proofs.Call.Called.{copied_then}
 use Rattle.qcow2_image.proofs.Moving.{file_tidied}
 use Rattle.qcow2_image.proofs.Call.Refused.{break_off, marks_fault, refuses_left, stays_stepped}
 use Rattle.qcow2_image.proofs.Call.CallOutcomes.{outcome_answered}
+use Rattle.qcow2_image.proofs.Untouched.{all_stay}
+use Rattle.qcow2_image.proofs.Moved.{format_stay}
 
 module _ {S F : Type 0} (view : S → StorageView) (backing : F → BackingView) (out : List (Option Prepared)) where
   pub freeing_step_then : (a b c : Qcow2 S F) (p q r : Pending) → ((k : ℕ) → 0 < p.new_data k → 0 < q.new_data k) → UnseenFreeingStep view backing p q a b out → UnseenFreeingStep view backing q r b c out → UnseenFreeingStep view backing p r a c out
@@ -122,6 +124,7 @@ module _ {S F : Type 0} (view : S → StorageView) (backing : F → BackingView)
           below = freeing_step.below;
           surplus = refl;
           leaks = freeing_step.leaks;
+          beside = all_stay view old.file new.file (pending_in view backing old out) (with_listed beside new.file.free_list) sound.file.caches.kept.kept.crash_invariant freeing_step.sound.file.caches.kept.kept.crash_invariant [] (format_stay old.file.header.fields new.file.header.fields (known_in view old.file) (known_in view new.file) freeing_step.unseen.header freeing_step.unseen.covers);
         })
         (still_seen view backing old new out (with_listed beside old.file.free_list) (with_listed beside new.file.free_list) (subst (λ (p : Pending). ImageInvariant view backing p old out) all_listed sound) (λ k. omega arith) (λ k. omega arith) freeing_step) freeing_step.unseen.covers
 

@@ -54,6 +54,7 @@ use Rattle.qcow2_image.proofs.Prepare.Entering.{as_listed_after, interrupted_on,
 use Rattle.qcow2_image.proofs.Prepare.Gaining.{listed_after_on}
 use Rattle.qcow2_image.proofs.Sound.{free_more}
 use Rattle.qcow2_disk.proofs.Compose.{stops_of}
+use Rattle.qcow2_image.proofs.Untouched.{all_stay}
 
 -- a run has each cluster once at most
 run_few : (first n k : ℕ) → run_at first n k ≤ 1
@@ -326,6 +327,7 @@ module _ {S F : Type 0} (view : S → StorageView) (backing : F → BackingView)
       works = record {
         setting = same_setting _ _ (ap (λ (h : HeaderFields). cluster_size h) file_step.header) file_step.below;
         surplus = λ still. ap (λ (q : Pending). q.surplus) (sym pending_now);
+        beside = λ still. all_stay view old.file new.file (pending_in view backing old out) (pending_with_listed (pending_in view backing old out) old new) sound.file.caches.kept.kept.crash_invariant file_step.sound.file.caches.kept.kept.crash_invariant [] file_step.covers;
         leaks = file_step.leaks;
         stops = stops_of (abstract_of view backing old out) (abstract_of view backing new out) nothing_given [] file_step.since (λ still. file_step.safe_step.known);
       };

@@ -38,7 +38,8 @@ use Rattle.std.proofs.lemmas.Nat.{pow_pos}
 use Rattle.qcow2_image.proofs.Preallocate.Covers.{covers_before, covers_cleared, covers_from, covers_none, covers_stay, covers_then}
 use Rattle.qcow2_image.proofs.Preallocate.Pieces.{none_of}
 use Rattle.qcow2_image.proofs.Preallocate.Untaken.{untaken_before, untaken_none, untaken_then, untaken_zeros}
-use Rattle.qcow2_image.proofs.Preallocate.Zeros.{may_none, may_then, may_wider, may_zeroed, shown_zeros, zeroed_before, zeroed_none, zeroed_then, zeros_wider}
+use Rattle.qcow2_image.proofs.Preallocate.Zeros.{may_none, may_then, may_wider, may_zeroed, shown_zeros, zeroed_before, zeroed_none, zeroed_then, zeros_wider, zeros_touch}
+use Rattle.qcow2_image.proofs.Untouched.{touches_part}
 
 -- what comes where the work meets it isn't that a table is prepared
 pub met_taken : {A : Type 0} (e : ImageError) → IsMet e → e ≡ I.TablePrepared → A
@@ -76,7 +77,7 @@ module _ {S F : Type 0} (view : S → StorageView) (backing : F → BackingView)
   wider_works : (old new : Qcow2 S F) (from to from' to' : ℕ) → from' ≤ from → to ≤ to' → EffectOnSound (abstract_of view backing old out) (abstract_of view backing new out) (given_by_zeros from to ∷ []) []
       → EffectOnSound (abstract_of view backing old out) (abstract_of view backing new out) (given_by_zeros from' to' ∷ []) []
   wider_works old new from to from' to' low high works =
-      works_less (abstract_of view backing old out) (abstract_of view backing new out) (given_by_zeros from to ∷ []) (given_by_zeros from' to' ∷ []) [] (λ o w given. inr (zeros_wider from to from' to' low high o w given)) works
+      works_less (abstract_of view backing old out) (abstract_of view backing new out) (given_by_zeros from to ∷ []) (given_by_zeros from' to' ∷ []) [] (λ o w given. inr (zeros_wider from to from' to' low high o w given)) (zeros_touch (cluster_size old.file.header.fields) from to from' to' low high) works
 
   -- a sound image that is marked as failed
   pub given_broken : (given : List GivenBytes) (old new : Qcow2 S F) (e : ImageError) → FaultOfTables e → (e ≡ I.Memory → IsTrue (has_noted_change new)) → ImageInvariant view backing (pending_in view backing new out) new out
@@ -87,6 +88,7 @@ module _ {S F : Type 0} (view : S → StorageView) (backing : F → BackingView)
     works = record {
       setting = works.setting;
       surplus = λ now. absurd (let f : true ≡ false = now.works in cc);
+      beside = λ now. absurd (let f : true ≡ false = now.works in cc);
       leaks = works.leaks;
       stops = λ m starts.
           stops_as (abstract_of view backing old out) (abstract_of view backing new out) (abstract_of view backing old out) (abstract_of view backing (record new { is_failed = true }) out) given [] refl refl refl (λ now. (sound, refl)) m (works.stops m starts);
@@ -259,7 +261,7 @@ module _ {S F : Type 0} (view : S → StorageView) (backing : F → BackingView)
   pub cleared_fills : (old new : Qcow2 S F) (from to : ℕ) → from < to → ReachesOffset from old.file.header.fields new.file.header.fields → from % cluster_size old.file.header.fields ≡ 0 → ClearsPart view backing KeptZeros from to old new out
       → ChangesFree (cluster_size old.file.header.fields) 0 from to old.file.header.fields (known_in view old.file) out → FillsPart view backing 0 from to old new out
   cleared_fills old new from to lt reaches whole part free = record {
-    works = works_less (abstract_of view backing old out) (abstract_of view backing new out) _ (given_by_zeros from to ∷ []) [] (λ o w given. inr (shown_zeros (disk_of view backing old) from to o w given)) part.works;
+    works = works_less (abstract_of view backing old out) (abstract_of view backing new out) _ (given_by_zeros from to ∷ []) [] (λ o w given. inr (shown_zeros (disk_of view backing old) from to o w given)) (touches_part (cluster_size old.file.header.fields) _ _ [] (omega arith) (omega arith)) part.works;
     sound = part.sound;
     shows = part.shows;
     header = part.header;

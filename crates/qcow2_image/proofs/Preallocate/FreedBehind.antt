@@ -37,13 +37,13 @@ module _ {S F : Type 0} (view : S → StorageView) (backing : F → BackingView)
         elim left [
           | inl part ↦ elim (frees part.sound) [
             | inl still ↦ inl (record {
-              works = works_then a m n given [] part.sound part.works (works_less m n [] given [] (λ o x never. absurd never) still.works);
+              works = works_then a m n given [] part.sound part.works (works_less m n [] given [] (λ o x never. absurd never) (λ g u. tt) still.works);
               sound = still.sound;
               now = part.now;
               may = part.may;
               shows = still.same ∙ part.shows;
             })
-            | inr broken ↦ inr (record { fault = broken.fault; noted = broken.noted; works = works_then a m failed given [] part.sound part.works (works_less m failed [] given [] (λ o x never. absurd never) broken.works) })
+            | inr broken ↦ inr (record { fault = broken.fault; noted = broken.noted; works = works_then a m failed given [] part.sound part.works (works_less m failed [] given [] (λ o x never. absurd never) (λ g u. tt) broken.works) })
           ]
           | inr broken ↦ let is = fault broken.fault in inr (subst (λ (x : ImageError). InterruptedGiving view backing given old new out x) (sym is.0) (subst (λ (image : Qcow2 S F). InterruptedGiving view backing given old image out e) (sym is.1) broken))
         ]

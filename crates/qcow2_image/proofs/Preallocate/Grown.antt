@@ -14,7 +14,7 @@ use Rattle.qcow2_disk.specs.Calls.{shows_old, with_disk}
 use Rattle.qcow2_disk.specs.Disk.{Disk, zeroed_between}
 use Rattle.qcow2_disk.specs.Mappings.{given_shown}
 use Rattle.qcow2_disk.specs.Stops.{GivenBytes, IsGiven}
-use Rattle.qcow2_disk.proofs.Compose.{works_less}
+use Rattle.qcow2_disk.proofs.Compose.{works_less, TouchesLess}
 use Rattle.qcow2_alloc.specs.ImageFile.{known_in}
 use Rattle.qcow2_alloc.specs.declared.error.ImageError.{ImageError}
 use Rattle.qcow2_image.specs.declared.image.Qcow2.{Qcow2}
@@ -30,6 +30,7 @@ use Rattle.qcow2_image.proofs.Preallocate.Pieces.{none_of}
 use Rattle.qcow2_image.proofs.Preallocate.Zeros.{zeros_shown}
 use Rattle.qcow2_image.proofs.Prepare.Lacked.{limited_not}
 use Rattle.qcow2_image.proofs.Sizes.{disk_size}
+use Rattle.qcow2_image.proofs.Untouched.{touches_part}
 
 -- ---- a number rounded up
 pub up_whole : (cs n : ℕ) → 0 < cs → rounded_up cs n % cs ≡ 0
@@ -91,10 +92,13 @@ module _ {S F : Type 0} (view : S → StorageView) (backing : F → BackingView)
     given_zeros o w given =
         subst (λ (gs : List GivenBytes). IsGiven gs o w) (sym given_bytes_are) (zeros_shown d d.size end o w (subst (λ n. IsGiven (given_by_zeros n end ∷ []) o w) size_is given))
 
+    zeros_touched : TouchesLess (cluster_size old.file.header.fields) (given_by_zeros (size_of old) end ∷ []) (all_given_by_growing view backing old size mode)
+    zeros_touched = subst (TouchesLess (cluster_size old.file.header.fields) (given_by_zeros (size_of old) end ∷ [])) (sym given_bytes_are) (touches_part (cluster_size old.file.header.fields) _ _ [] (let same = size_is in omega (arith, same)) (let same = size_is in omega (arith, same)))
+
     module _ (new : Qcow2 S F) where
       pub grown_all : (first : ℕ) → first ≡ first_zeros (cluster_size old.file.header.fields) (size_of old) size mode → FillsPart view backing first (size_of old) end old new out → FillsGrown view backing size mode old new out
       grown_all first begins part = record {
-        works = works_less (abstract_of view backing old out) (abstract_of view backing new out) (given_by_zeros (size_of old) end ∷ []) (all_given_by_growing view backing old size mode) [] (λ o w given. inr (given_zeros o w given)) part.works;
+        works = works_less (abstract_of view backing old out) (abstract_of view backing new out) (given_by_zeros (size_of old) end ∷ []) (all_given_by_growing view backing old size mode) [] (λ o w given. inr (given_zeros o w given)) zeros_touched part.works;
         sound = part.sound;
         shows = part.shows ∙ ap (λ (e : Disk). with_disk (guest_of (abstract_of view backing old out)) e) (ap (λ n. zeroed_between d n end) size_is ∙ sym (cond-false (shows_old mode) d (zeroed_between d d.size end) hides));
         header = part.header;
@@ -108,7 +112,7 @@ module _ {S F : Type 0} (view : S → StorageView) (backing : F → BackingView)
 
       in_part : FillsSome view backing (size_of old) end old new out → FillsGrownInPart view backing size mode old new out
       in_part part = record {
-        works = works_less (abstract_of view backing old out) (abstract_of view backing new out) (given_by_zeros (size_of old) end ∷ []) (all_given_by_growing view backing old size mode) [] (λ o w given. inr (given_zeros o w given)) part.works;
+        works = works_less (abstract_of view backing old out) (abstract_of view backing new out) (given_by_zeros (size_of old) end ∷ []) (all_given_by_growing view backing old size mode) [] (λ o w given. inr (given_zeros o w given)) zeros_touched part.works;
         sound = part.sound;
         now = part.now;
         may = record {
@@ -123,7 +127,7 @@ module _ {S F : Type 0} (view : S → StorageView) (backing : F → BackingView)
       broken e interrupted = record {
         fault = interrupted.fault;
         noted = interrupted.noted;
-        works = works_less (abstract_of view backing old out) (abstract_of view backing (record new { is_failed = true }) out) (given_by_zeros (size_of old) end ∷ []) (all_given_by_growing view backing old size mode) [] (λ o w given. inr (given_zeros o w given)) interrupted.works;
+        works = works_less (abstract_of view backing old out) (abstract_of view backing (record new { is_failed = true }) out) (given_by_zeros (size_of old) end ∷ []) (all_given_by_growing view backing old size mode) [] (λ o w given. inr (given_zeros o w given)) zeros_touched interrupted.works;
       }
 
       pub grown_refused : (first : ℕ) → first ≡ first_zeros (cluster_size old.file.header.fields) (size_of old) size mode → (e : ImageError) → RefusedFill view backing first (size_of old) end old new out e

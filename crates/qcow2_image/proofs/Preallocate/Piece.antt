@@ -253,7 +253,7 @@ module _ {S F : Type 0} (view : S → StorageView) (backing : F → BackingView)
     piece_filled mid2 new put commits header2 header3 long first covers free =
         let cs = (abstract_of view backing mid2 (Some p ∷ out)).setting.cluster_size in
         record {
-          works = filled_works (image_abstraction view backing) (free_places view backing) (λ _. refl) old mid p out (cluster_size old.file.header.fields) from n sound ready.sound ready.works ready.prepared ready.is fits mid2 put.sound put.works put.is new cs commits.sound commits.works commits.shows;
+          works = filled_works (image_abstraction view backing) (free_places view backing) (λ _. refl) old mid p out (cluster_size old.file.header.fields) from n sound ready.sound ready.works ready.prepared ready.is fits mid2 put.sound put.works put.is new cs commits.sound commits.works commits.shows refl (pow_pos mid2.file.header.fields.cluster_bits);
           sound = filled_sound (image_abstraction view backing) (free_places view backing) (λ _. refl) old mid p out (cluster_size old.file.header.fields) from n sound ready.sound ready.works ready.prepared ready.is fits mid2 put.sound put.works put.is new cs commits.sound commits.works commits.shows;
           shows = filled_shows (image_abstraction view backing) (free_places view backing) (λ _. refl) old mid p out (cluster_size old.file.header.fields) from n sound ready.sound ready.works ready.prepared ready.is fits mid2 put.sound put.works put.is new cs commits.sound commits.works commits.shows;
           header = subst (λ (h : HeaderFields). MovesTables old.file.header.fields h) (ap (λ x. x.fields) (sym (header3 ∙ header2))) ready.header;

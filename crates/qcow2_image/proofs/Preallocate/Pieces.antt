@@ -8,13 +8,15 @@ use Rattle.qcow2_disk.specs.Mappings.{PreparedMapping, IsPrepared, committed, gi
 use Rattle.qcow2_disk.specs.Stops.{GivenBytes, IsGiven}
 use Rattle.qcow2_disk.specs.AbstractImages.{Abstraction, AbstractImage, Guest, HasFreePlaces, abstract_image, guest_of}
 use Rattle.qcow2_disk.specs.Calls.{EffectOnSound, with_disk, with_slot}
-use Rattle.qcow2_disk.proofs.Compose.{shown_is, works_less, works_then, stops_none}
+use Rattle.qcow2_disk.proofs.Compose.{TouchesLess, shown_is, works_less, works_then, stops_none}
 use Rattle.qcow2_image.specs.Preallocation.{given_by_zeros}
 use Rattle.qcow2_image.proofs.Preallocate.Zeros.{commit_within, filled, put_within, zeros_of}
+use Rattle.qcow2_image.proofs.Untouched.{touches_part}
+use Rattle.qcow2_image.proofs.WholeClusters.{commit_touches}
 
 -- nothing is given
 pub none_of : (v w : AbstractImage) (given : List GivenBytes) → EffectOnSound v w [] [] → EffectOnSound v w given []
-none_of v w given works = works_less v w [] given [] (λ o x never. absurd never) works
+none_of v w given works = works_less v w [] given [] (λ o x never. absurd never) (λ g u. tt) works
 
 -- the guest without its first place
 abbrev pub behind_first : Guest → Guest
@@ -32,10 +34,10 @@ module _ {D P : Type 0} (spec : Abstraction D P) (has : HasFreePlaces spec) (in_
 
   -- a free place more, or less
   pub enters : (d : D) (out : List (Option P)) → EffectOnSound (abstract_image spec d out) (at_place d None out) [] []
-  enters d out = record { setting = refl; surplus = λ _. has.surplus d [] out; leaks = refl; stops = stops_none (abstract_image spec d out) (at_place d None out) [] [] refl (λ _. refl) }
+  enters d out = record { setting = refl; surplus = λ _. has.surplus d [] out; beside = λ _ g untouched. refl; leaks = refl; stops = stops_none (abstract_image spec d out) (at_place d None out) [] [] refl (λ _. refl) }
 
   pub leaves : (d : D) (out : List (Option P)) → EffectOnSound (at_place d None out) (abstract_image spec d out) [] []
-  leaves d out = record { setting = refl; surplus = λ _. sym (has.surplus d [] out); leaks = refl; stops = stops_none (at_place d None out) (abstract_image spec d out) [] [] refl (λ _. refl) }
+  leaves d out = record { setting = refl; surplus = λ _. sym (has.surplus d [] out); beside = λ _ g untouched. refl; leaks = refl; stops = stops_none (at_place d None out) (abstract_image spec d out) [] [] refl (λ _. refl) }
 
   -- it is prepared
   module _ (d0 d1 : D) (p : P) (out : List (Option P)) (size offset n : ℕ) (sound0 : spec.is_sound d0 out) (sound1 : spec.is_sound d1 (Some p ∷ out)) (readies : EffectOnSound (at_place d0 None out) (at_place d1 (Some p) out) [] [])
@@ -73,8 +75,14 @@ module _ {D P : Type 0} (spec : Abstraction D P) (has : HasFreePlaces spec) (in_
           ⊎_elim (λ (same : w ≡ disk0.value o). inl (same ∙ ap (λ (d : Disk). d.value o) (sym ready_disk ∙ shown_is (at_place d1 (Some p) out) (in_image d1)))) (λ (zero : IsGiven given_bytes o w). inr zero)
           (put_within size disk0 m offset n prepared fits o w (subst (λ (d : Disk). IsGiven (given_by_put d m 0 zeros ∷ []) o w) ready_disk given))
 
+      puts_touch : TouchesLess (spec.setting d1).cluster_size (given_by_put (guest_of (at_place d1 (Some p) out)).disk m 0 zeros ∷ []) given_bytes
+      puts_touch =
+          let from = prepared.from in
+          let long : length zeros ≡ m.length = length-replicate m.length 0 in
+          touches_part (spec.setting d1).cluster_size _ _ [] (omega (arith, from)) (omega (arith, from, long))
+
       pub put_works : EffectOnSound (abstract_image spec d0 out) (at_place d2 (Some p) out) given_bytes []
-      put_works = works_then (abstract_image spec d0 out) (at_place d1 (Some p) out) (at_place d2 (Some p) out) given_bytes [] sound1 (ready_works given_bytes) (works_less _ _ _ given_bytes [] puts_given puts)
+      put_works = works_then (abstract_image spec d0 out) (at_place d1 (Some p) out) (at_place d2 (Some p) out) given_bytes [] sound1 (ready_works given_bytes) (works_less _ _ _ given_bytes [] puts_given puts_touch puts)
 
       -- and it is let go
       pub gone_works : (d3 : D) → EffectOnSound (at_place d2 (Some p) out) (at_place d3 None out) [] [] → spec.is_sound d3 (None ∷ out) → EffectOnSound (abstract_image spec d0 out) (abstract_image spec d3 out) given_bytes []
@@ -115,10 +123,18 @@ module _ {D P : Type 0} (spec : Abstraction D P) (has : HasFreePlaces spec) (in_
             (subst (λ (d : Disk). IsGiven (given_by_commit cs d mapping2 ∷ []) o w) disk2_is
             (subst (λ (x : PreparedMapping). IsGiven (given_by_commit cs (guest_of (at_place d2 (Some p) out)).disk x ∷ []) o w) means_is given)))
 
-        pub filled_works : EffectOnSound (abstract_image spec d0 out) (abstract_image spec d3 out) given_bytes []
-        filled_works =
+        -- the mapping's whole clusters are those that the zeros touch
+        commits_touch : cs ≡ (spec.setting d2).cluster_size → 0 < cs → TouchesLess (spec.setting d2).cluster_size (given_by_commit cs (guest_of (at_place d2 (Some p) out)).disk (spec.means d2 p) ∷ []) given_bytes
+        commits_touch size_is some =
+            let begin : (spec.means d2 p).from ≡ offset = ap (λ (x : PreparedMapping). x.from) means_is ∙ prepared.from in
+            let long : (spec.means d2 p).length ≡ m.length = ap (λ (x : PreparedMapping). x.length) means_is in
+            subst (λ size. TouchesLess size (given_by_commit cs (guest_of (at_place d2 (Some p) out)).disk (spec.means d2 p) ∷ []) given_bytes) size_is
+            (commit_touches cs some (guest_of (at_place d2 (Some p) out)).disk (spec.means d2 p) (given_by_zeros offset end) offset m.length begin refl (omega arith) (λ zero. long ∙ zero) (λ past. absurd (omega (arith, long, past))))
+
+        pub filled_works : cs ≡ (spec.setting d2).cluster_size → 0 < cs → EffectOnSound (abstract_image spec d0 out) (abstract_image spec d3 out) given_bytes []
+        filled_works size_is some =
             works_then (abstract_image spec d0 out) (at_place d3 None out) (abstract_image spec d3 out) given_bytes [] sound3
-            (works_then (abstract_image spec d0 out) (at_place d2 (Some p) out) (at_place d3 None out) given_bytes [] sound2 put_works (works_less _ _ _ given_bytes [] commits_given commits)) (none_of _ _ given_bytes (leaves d3 out))
+            (works_then (abstract_image spec d0 out) (at_place d2 (Some p) out) (at_place d3 None out) given_bytes [] sound2 put_works (works_less _ _ _ given_bytes [] commits_given (commits_touch size_is some) commits)) (none_of _ _ given_bytes (leaves d3 out))
 
         pub filled_sound : spec.is_sound d3 out
         filled_sound = has.left d3 [] out sound3

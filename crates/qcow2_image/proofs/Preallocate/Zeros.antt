@@ -13,6 +13,8 @@ use Rattle.qcow2_disk.specs.Stops.{IsGiven}
 use Rattle.qcow2_disk.proofs.ForUsers.{laid_inside, laid_outside, put_given}
 use Rattle.qcow2_disk.proofs.Within.{within_is}
 use Rattle.qcow2_image.specs.Preallocation.{MayBeZero, given_by_zeros}
+use Rattle.qcow2_image.proofs.Untouched.{touches_less}
+use Rattle.qcow2_disk.proofs.Compose.{TouchesLess}
 
 -- where an offset lies
 pub cases_range : (from to o : ℕ) → ((from ≤ o) × (o < to)) ⊎ ((o < from) ⊎ (to ≤ o))
@@ -98,6 +100,9 @@ may_then from to d e f first then = record {
 pub zeros_wider : (from to from' to' : ℕ) → from' ≤ from → to ≤ to' → (o : ℕ) (w : Value) → IsGiven (given_by_zeros from to ∷ []) o w → IsGiven (given_by_zeros from' to' ∷ []) o w
 zeros_wider from to from' to' low high o w (inr none) = absurd none
 zeros_wider from to from' to' low high o w (inl given) = inl (omega (arith, given.0, low), omega (arith, given.0, given.1, low, high), given.2)
+
+pub zeros_touch : (size_of_cluster from to from' to' : ℕ) → from' ≤ from → to ≤ to' → TouchesLess size_of_cluster (given_by_zeros from to ∷ []) (given_by_zeros from' to' ∷ [])
+zeros_touch size_of_cluster from to from' to' low high = touches_less size_of_cluster _ _ [] low (λ some. omega (arith, low, high, some))
 
 pub zeros_shown : (d : Disk) (from to o : ℕ) (w : Value) → IsGiven (given_by_zeros from to ∷ []) o w → IsGiven (given_shown (zeroed_between d from to) from to ∷ []) o w
 zeros_shown d from to o w (inr none) = absurd none

@@ -94,7 +94,7 @@ module _ {S F : Type 0} (view : S → StorageView) (backing : F → BackingView)
 
   -- nothing changed
   unseen_none : UnseenCall view backing old old out
-  unseen_none = image_step_stays view backing out old old (subst (λ q. UnseenFillingStep view backing (pending_in view backing old out) q old old out) (sym (listed_after_same view backing out (pending_in view backing old out) old old refl))
+  unseen_none = image_step_stays view backing out old old sound (subst (λ q. UnseenFillingStep view backing (pending_in view backing old out) q old old out) (sym (listed_after_same view backing out (pending_in view backing old out) old old refl))
       (image_step_none view backing out old (pending_in view backing old out) sound))
 
   -- copied data elsewhere
@@ -218,5 +218,5 @@ module _ {S F : Type 0} (view : S → StorageView) (backing : F → BackingView)
       let ends : Ends view new p = record {
         cluster = ap (λ s. (p.guest + p.length) % s) same ∙ next_begins;
         because = inr (inr (not_own (λ own. never (sym here ∙ own)) (subst (λ (x : HeaderFields). (IsHostCluster x.cluster_bits ((p.offset + p.length) / cluster_size x) → ⊥) ⊎ (count_of new.file.header.fields (known_in view new.file) ((p.offset + p.length) / cluster_size x) ≢ 0)) (sym is.0.header) is.1)));
-      } in (image_step_stays view backing out old new is.0, ends)
-  finds_shared new mapping reach other never covered (Err e) is = back_refused view backing out old new e is
+      } in (image_step_stays view backing out old new sound is.0, ends)
+  finds_shared new mapping reach other never covered (Err e) is = back_refused view backing out old new e sound is

@@ -25,6 +25,9 @@ use Rattle.qcow2_image.proofs.Call.Answered.{same_guest}
 use Rattle.qcow2_image.proofs.Call.Slots.{get_set, over_all_set, slot_set}
 use Rattle.qcow2_image.proofs.Call.Stepped.{Steps, stepped_sound, stepped_works}
 use Rattle.qcow2_image.proofs.Shares.{private_is, private_shared}
+use Rattle.qcow2_image.proofs.Untouched.{all_stay}
+use Rattle.qcow2_image.proofs.Moved.{format_stay}
+use Rattle.qcow2_laws.specs.SafeSteps.{StateInvariant}
 
 -- ---- one more behind others
 
@@ -164,8 +167,8 @@ module _ {S F : Type 0} (view : S → StorageView) (backing : F → BackingView)
       let more : new_data_in like.shares.items c ≡ new_data_in p.shares.items c + new_data_in (share ∷ []) c = ap (λ (l : List Share). new_data_in l c) items ∙ new_data_behind p.shares.items share c in
       omega arith
 
-  steps : Steps view backing old mid out now nothing_given behind.pending
-  steps = record {
+  steps : StateInvariant (state_in view old.file (pending_in view backing old out)) → Steps view backing old mid out now nothing_given behind.pending
+  steps was = record {
     sound = record {
       works = behind.image_step.sound.works;
       file = behind.image_step.sound.file;
@@ -183,6 +186,7 @@ module _ {S F : Type 0} (view : S → StorageView) (backing : F → BackingView)
     below = behind.image_step.below;
     surplus = behind.surplus;
     leaks = behind.image_step.leaks;
+    beside = all_stay view old.file mid.file (pending_in view backing old out) behind.pending was behind.image_step.sound.file.caches.kept.kept.crash_invariant [] (format_stay old.file.header.fields mid.file.header.fields (known_in view old.file) (known_in view mid.file) behind.image_step.header behind.image_step.covers);
   }
 
   -- what a guest sees
@@ -242,14 +246,15 @@ module _ {S F : Type 0} (view : S → StorageView) (backing : F → BackingView)
     still_prepared = subst (λ (x : HeaderFields). IsPrepared (cluster_size x) (guest_of (abstract_of view backing old out)).disk p.guest n overwrite (meaning view backing mid q)) behind.image_step.header (record {
       from = refl;
       some = λ any. let lt = longer in omega arith;
+      most = λ past. absurd (omega (arith, past));
       inside = inside;
       old_values = old_values;
     })
 
-  pub extended : IsExtended view backing old mid out k n overwrite p q
-  extended = record {
-    works = stepped_works view backing old mid out now nothing_given behind.pending steps;
-    sound = stepped_sound view backing old mid out now nothing_given behind.pending steps;
+  pub extended : StateInvariant (state_in view old.file (pending_in view backing old out)) → IsExtended view backing old mid out k n overwrite p q
+  extended was = record {
+    works = stepped_works view backing old mid out now nothing_given behind.pending (steps was);
+    sound = stepped_sound view backing old mid out now nothing_given behind.pending (steps was);
     header = behind.image_step.header;
     covers = behind.image_step.covers;
     prepared = still_prepared;

@@ -132,6 +132,7 @@ module _ {S F : Type 0} (view : S → StorageView) (backing : F → BackingView)
         (record {
           setting = works.setting;
           surplus = λ now. absurd (let f : true ≡ false = now.works in cc);
+          beside = λ now. absurd (let f : true ≡ false = now.works in cc);
           leaks = works.leaks;
           stops = λ m starts.
               let left = abstract_of view backing (record new { file = record new.file { caches = end.file.caches; free_list = end.file.free_list }; is_failed = true }) out in
@@ -325,6 +326,7 @@ module _ {S F : Type 0} (view : S → StorageView) (backing : F → BackingView)
       record {
         setting = w.setting;
         surplus = λ now. sym (free.surplus image [] out) ∙ w.surplus (free.free image [] out now) ∙ free.surplus old [] out;
+        beside = λ now. w.beside (free.free image [] out now);
         leaks = w.leaks;
         stops = λ m starts.
             stops_as (abstract_of view backing old (None ∷ out)) (abstract_of view backing image (None ∷ out)) (abstract_of view backing old out) (abstract_of view backing image out) [] [] refl refl refl (λ now. (free.free image [] out now, refl)) m (w.stops m starts);

@@ -59,6 +59,7 @@ module _ {S F : Type 0} (view : S → StorageView) (backing : F → BackingView)
       below = refl;
       surplus = refl;
       leaks = refl;
+      beside = λ g untouched. refl;
     }
 
     never_private : (o : ℕ) → IsTrue (is_private view backing image p o) → ⊥
@@ -74,6 +75,7 @@ module _ {S F : Type 0} (view : S → StorageView) (backing : F → BackingView)
       prepared = record {
         from = existing.guest_is;
         some = λ any. let long = existing.length_is in omega arith;
+        most = λ past. let long = existing.length_is in absurd (omega (arith, long, past));
         inside = λ o private. absurd (never_private o private);
         old_values = λ o private opened. absurd (never_private o private);
       };

@@ -14,7 +14,7 @@ use Rattle.qcow2_laws.specs.Caches.{AreNamedBlocks}
 use Rattle.qcow2_disk.specs.Calls.{with_slot}
 use Rattle.qcow2_disk.specs.Disk.{disk}
 use Rattle.qcow2_laws.specs.CrashInvariant.{Pending, SameCovers}
-use Rattle.qcow2_laws.specs.SafeSteps.{SafeStep}
+use Rattle.qcow2_laws.specs.SafeSteps.{SafeStep, StateInvariant}
 use Rattle.qcow2_disk.specs.Mappings.{IsPrepared}
 use Rattle.qcow2_disk.specs.AbstractImages.{Guest, guest_of}
 use Rattle.qcow2_alloc.specs.CachePins.{l2_pins, SameTables}
@@ -35,6 +35,7 @@ use Rattle.qcow2_image.proofs.Shares.{private_shared}
 use Rattle.qcow2_image.proofs.Open.Reftables.{reftable_still}
 use Rattle.qcow2_image.proofs.Call.Slots.{get_set, over_all_put, slot_set}
 use Rattle.qcow2_image.proofs.Call.Stepped.{Steps, stepped_sound, stepped_works}
+use Rattle.qcow2_image.proofs.Untouched.{all_stay}
 
 -- the mapping of the rest of a guest cluster that stands at a place, with the shares of another
 abbrev pub mapping_at : HeaderFields → ℕ → ℕ → ℕ → ℕ → Prepared → Prepared
@@ -53,7 +54,7 @@ one_share share other zero at = (refl, cc)
 one_share share other (suc i) at = absurd cc
 
 -- a range within one cluster rounds to that cluster
-rounds_up : (size guest length : ℕ) → 0 < size → 0 < length → guest % size + length ≤ size → rounded_up size (guest + length) ≡ guest / size * size + size
+pub rounds_up : (size guest length : ℕ) → 0 < size → 0 < length → guest % size + length ≤ size → rounded_up size (guest + length) ≡ guest / size * size + size
 rounds_up size guest length some any within =
     let g_is : guest / size * size + guest % size ≡ guest = div-add-mod' guest size in
     let q : (guest / size + 1) * size ≡ guest / size * size + size = omega arith in
@@ -156,8 +157,8 @@ module _ {S F : Type 0} (view : S → StorageView) (backing : F → BackingView)
     once = pinned_once;
   }
 
-  steps : Steps view backing old new out now nothing_given q
-  steps = record {
+  steps : StateInvariant (state_in view old.file (pending_in view backing old out)) → Steps view backing old new out now nothing_given q
+  steps was = record {
     sound = sound_now;
     only = record {
       new_data = λ c. is.new_data c ∙ sym (over_all_put new_data_by out k p free c);
@@ -171,6 +172,8 @@ module _ {S F : Type 0} (view : S → StorageView) (backing : F → BackingView)
     below = image_step.below;
     surplus = is.surplus;
     leaks = image_step.leaks;
+    beside = all_stay view old.file new.file (pending_in view backing old out) q was sound_now.file.caches.kept.kept.crash_invariant []
+        (format_stay old.file.header.fields mid.file.header.fields (known_in view old.file) (known_in view new.file) image_step.header (subst (λ (b : Bytes). SameCovers old.file.header.fields (known_in view old.file) b) (sym same_known) image_step.covers));
   }
 
   seen_now : guest_of (abstract_of view backing new now) ≡ with_slot (guest_of (abstract_of view backing old out)) k (Some (meaning view backing new p))
@@ -178,10 +181,10 @@ module _ {S F : Type 0} (view : S → StorageView) (backing : F → BackingView)
       same_guest _ (with_slot (guest_of (abstract_of view backing mid out)) k (Some (meaning view backing new p))) (ap (λ b. disk b (backing_bytes view backing mid.backing)) same_known) (fun_ext (λ j. slot_set (meaning view backing mid) out k (Some p) None free j))
       ∙ ap (λ (x : Guest). with_slot x k (Some (meaning view backing new p))) image_step.seen
 
-  pub readied : (n : ℕ) (overwrite : Bool) → IsPrepared (cluster_size old.file.header.fields) (guest_of (abstract_of view backing old out)).disk offset n overwrite (meaning view backing new p) → IsReadied view backing old new out k offset n overwrite p
-  readied n overwrite prepared = record {
-    works = stepped_works view backing old new out now nothing_given q steps;
-    sound = stepped_sound view backing old new out now nothing_given q steps;
+  pub readied : StateInvariant (state_in view old.file (pending_in view backing old out)) → (n : ℕ) (overwrite : Bool) → IsPrepared (cluster_size old.file.header.fields) (guest_of (abstract_of view backing old out)).disk offset n overwrite (meaning view backing new p) → IsReadied view backing old new out k offset n overwrite p
+  readied was n overwrite prepared = record {
+    works = stepped_works view backing old new out now nothing_given q (steps was);
+    sound = stepped_sound view backing old new out now nothing_given q (steps was);
     header = format_file_step old.file.header.fields mid.file.header.fields image_step.header;
     covers = format_stay old.file.header.fields mid.file.header.fields (known_in view old.file) (known_in view new.file) image_step.header (subst (λ (b : Bytes). SameCovers old.file.header.fields (known_in view old.file) b) (sym same_known) image_step.covers);
     prepared = prepared;
@@ -200,6 +203,7 @@ module _ {S F : Type 0} (view : S → StorageView) (backing : F → BackingView)
   prepared_by n overwrite olds = subst (λ (x : HeaderFields). IsPrepared (cluster_size x) (guest_of (abstract_of view backing old out)).disk offset n overwrite (meaning view backing new p)) image_step.header (record {
     from = refl;
     some = λ any. some_left;
+    most = λ longer. refl;
     inside = λ o private.
         let here = private_inside o private in
         let lt = mod_below offset (cluster_size h) (pow_pos h.cluster_bits) in

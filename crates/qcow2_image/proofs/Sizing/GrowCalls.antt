@@ -29,7 +29,7 @@ module _ {S F : Type 0} (view : S → StorageView) (backing : F → BackingView)
       let r = refuses_early v (refusal_of e) none in
       let gs = all_given_by_grow view backing old size mode in
       record {
-        acts = record { number = r.acts.number; works = λ sound. works_asking v v gs (size ∷ []) (works_less v v [] gs [] (λ o x never. absurd never) (r.acts.works sound)); rests = r.acts.rests };
+        acts = record { number = r.acts.number; works = λ sound. works_asking v v gs (size ∷ []) (works_less v v [] gs [] (λ o x never. absurd never) (λ g u. tt) (r.acts.works sound)); rests = r.acts.rests };
         answer = λ sound. elim (r.answer sound) [ inl still ↦ inl (still.0, ((guest_of v).disk, record { same_size = refl; values = λ o. inl refl }, still.1)) | inr failed ↦ inr failed ];
         fault = r.fault;
       }
@@ -49,7 +49,7 @@ module _ {S F : Type 0} (view : S → StorageView) (backing : F → BackingView)
       record {
         acts = record {
           number = refl;
-          works = λ sound. works_asking v v gs (size ∷ []) (works_less v v [] gs [] (λ o x never. absurd never) (works_none v sound));
+          works = λ sound. works_asking v v gs (size ∷ []) (works_less v v [] gs [] (λ o x never. absurd never) (λ g u. tt) (works_none v sound));
           rests = λ failed. absurd (let no : true ≡ false = sym failed ∙ usable in cc);
         };
         answer = λ sound. let s = disk_size view backing old out sound in

@@ -55,7 +55,7 @@ module _ {S F : Type 0} (view : S → StorageView) (backing : F → BackingView)
       let v = abstract_of view backing old out in
       let w = abstract_of view backing new out in
       record {
-        acts = record { number = r.acts.number; works = λ sound. works_asking v w given_bytes (size ∷ []) (works_less v w [] given_bytes [] (λ o x never. absurd never) (r.acts.works sound)); rests = r.acts.rests };
+        acts = record { number = r.acts.number; works = λ sound. works_asking v w given_bytes (size ∷ []) (works_less v w [] given_bytes [] (λ o x never. absurd never) (λ g u. tt) (r.acts.works sound)); rests = r.acts.rests };
         answer = λ sound. elim (r.answer sound) [
           | inl still ↦ inl (still.0, ((guest_of v).disk, record { same_size = refl; values = λ o. inl refl }, still.1))
           | inr failed ↦ inr failed
@@ -100,7 +100,7 @@ module _ {S F : Type 0} (view : S → StorageView) (backing : F → BackingView)
       behind new works =
           let v = abstract_of view backing old out in
           let m = abstract_of view backing mid out in
-          works_then v m (abstract_of view backing new out) given_bytes [] call.sound (works_less v m [] given_bytes [] (λ o x never. absurd never) call.works) (subst (λ gs. EffectOnSound m (abstract_of view backing new out) gs []) given_bytes_are works)
+          works_then v m (abstract_of view backing new out) given_bytes [] call.sound (works_less v m [] given_bytes [] (λ o x never. absurd never) (λ g u. tt) call.works) (subst (λ gs. EffectOnSound m (abstract_of view backing new out) gs []) given_bytes_are works)
 
       may_be : (d : Disk) → MayGrow (setting_of view backing mid) (disk_of view backing mid) size mode d → MayGrow (setting_of view backing old) (disk_of view backing old) size mode d
       may_be d may = subst (λ e. MayGrow (setting_of view backing old) e size mode d) disk_is (subst (λ s. MayGrow s (disk_of view backing mid) size mode d) setting_is may)
@@ -123,6 +123,7 @@ module _ {S F : Type 0} (view : S → StorageView) (backing : F → BackingView)
       flagged out sound works = record {
         setting = works.setting;
         surplus = λ now. works.surplus sound;
+        beside = λ now. works.beside sound;
         leaks = works.leaks;
         stops = λ m starts. stops_as (abstract_of view backing old out) (abstract_of view backing filled out) (abstract_of view backing old out) (abstract_of view backing final out) given_bytes [] refl refl refl (λ now. (sound, refl)) m (works.stops m starts);
       }
@@ -188,7 +189,7 @@ module _ {S F : Type 0} (view : S → StorageView) (backing : F → BackingView)
             record {
               acts = record {
                 number = number;
-                works = λ sound. works_then v l w given_bytes (size ∷ []) (fills_sound out sound) (works_asking v l given_bytes (size ∷ []) (fills_works out sound)) (works_less l w [] given_bytes (size ∷ []) (λ o x never. absurd never) (sets out (fills_sound out sound)).works);
+                works = λ sound. works_then v l w given_bytes (size ∷ []) (fills_sound out sound) (works_asking v l given_bytes (size ∷ []) (fills_works out sound)) (works_less l w [] given_bytes (size ∷ []) (λ o x never. absurd never) (λ g u. tt) (sets out (fills_sound out sound)).works);
                 rests = λ failed. absurd (let no : true ≡ false = sym failed ∙ usable in cc);
               };
               answer = λ sound.
@@ -219,16 +220,17 @@ module _ {S F : Type 0} (view : S → StorageView) (backing : F → BackingView)
                 let first = works_asking v l given_bytes (size ∷ []) (fills_works out sound) in
                 elim (writes out (fills_sound out sound)) [
                   | inl stays ↦
-                      let works = works_then v l w given_bytes (size ∷ []) (fills_sound out sound) first (works_asking l w given_bytes (size ∷ []) (works_less l w [] given_bytes [] (λ o x never. absurd never) stays.works)) in
+                      let works = works_then v l w given_bytes (size ∷ []) (fills_sound out sound) first (works_asking l w given_bytes (size ∷ []) (works_less l w [] given_bytes [] (λ o x never. absurd never) (λ g u. tt) stays.works)) in
                       record {
                         setting = works.setting;
                         surplus = λ now. works.surplus stays.sound;
+                        beside = λ now. works.beside stays.sound;
                         leaks = works.leaks;
                         stops = λ k starts. stops_as v w v (abstract_of view backing (record new { is_failed = marked }) out) given_bytes (size ∷ []) refl refl refl (λ now. (stays.sound, refl)) k (works.stops k starts);
                       }
                   | inr stands ↦
                       subst (λ (b : Bool). EffectOnSound v (abstract_of view backing (record new { is_failed = b }) out) given_bytes (size ∷ [])) (sym so)
-                      (works_then v l (abstract_of view backing (record new { is_failed = true }) out) given_bytes (size ∷ []) (fills_sound out sound) first (works_less l (abstract_of view backing (record new { is_failed = true }) out) [] given_bytes (size ∷ []) (λ o x never. absurd never) stands.works))
+                      (works_then v l (abstract_of view backing (record new { is_failed = true }) out) given_bytes (size ∷ []) (fills_sound out sound) first (works_less l (abstract_of view backing (record new { is_failed = true }) out) [] given_bytes (size ∷ []) (λ o x never. absurd never) (λ g u. tt) stands.works))
                 ]
 
         pub grows_sized : (r : Result (Unit {0}) ImageError) (marked : Bool) → MayMarkBy r (is_failed new) marked → IfErr r IsFaultOfTables → IfErr r (λ e. IsFaultOfTables e → IsTrue marked)

@@ -49,6 +49,7 @@ module _ {S F : Type 0} (view : S → StorageView) (backing : F → BackingView)
     works_noted works = record {
       setting = works.setting;
       surplus = λ sound. works.surplus (back sound);
+      beside = λ sound. works.beside (back sound);
       leaks = works.leaks;
       stops = λ m starts. let t = works.stops m starts in record { moments = t.moments; contents = t.contents; known = λ sound. t.known (back sound) };
     }

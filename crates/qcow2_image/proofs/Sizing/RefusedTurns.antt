@@ -93,7 +93,7 @@ module _ {S F : Type 0} (view : S → StorageView) (backing : F → BackingView)
         }
 
       pub turn_ended : UncoversNext view backing old new at (Err last)
-      turn_ended = ((λ out. refuses_giving (abstract_of view backing old out) (abstract_of view backing new out) [] _ (refusal_of last) _ (λ sound o x is. absurd is) (refused_ungiven out)), (λ fault out. refused_ungiven out))
+      turn_ended = ((λ out. refuses_giving (abstract_of view backing old out) (abstract_of view backing new out) [] _ (refusal_of last) _ (λ sound o x is. absurd is) (λ sound g u. tt) (refused_ungiven out)), (λ fault out. refused_ungiven out))
 
 module _ {S F : Type 0} (view : S → StorageView) (backing : F → BackingView) where
   -- before a turn nothing is to be freed, or it is the first one, and a whole cluster lies behind it

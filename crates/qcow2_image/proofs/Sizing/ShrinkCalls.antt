@@ -58,7 +58,7 @@ module _ {S F : Type 0} (view : S → StorageView) (backing : F → BackingView)
       let r = refuses_early v (refusal_of e) none in
       let gs = all_given_by_shrink view backing old size in
       record {
-        acts = record { number = r.acts.number; works = λ sound. works_asking v v gs (size ∷ []) (works_less v v [] gs [] (λ o x never. absurd never) (r.acts.works sound)); rests = r.acts.rests };
+        acts = record { number = r.acts.number; works = λ sound. works_asking v v gs (size ∷ []) (works_less v v [] gs [] (λ o x never. absurd never) (λ g u. tt) (r.acts.works sound)); rests = r.acts.rests };
         answer = r.answer;
         fault = r.fault;
       }
@@ -77,7 +77,7 @@ module _ {S F : Type 0} (view : S → StorageView) (backing : F → BackingView)
       record {
         acts = record {
           number = refl;
-          works = λ sound. works_asking v v gs (size ∷ []) (works_less v v [] gs [] (λ o x never. absurd never) (works_none v sound));
+          works = λ sound. works_asking v v gs (size ∷ []) (works_less v v [] gs [] (λ o x never. absurd never) (λ g u. tt) (works_none v sound));
           rests = λ failed. absurd (let no : true ≡ false = sym failed ∙ usable in cc);
         };
         answer = λ sound. let s = disk_size view backing old out sound in

@@ -58,6 +58,7 @@ use Rattle.qcow2_image.proofs.Ready.{still_ready}
 use Rattle.qcow2_image.proofs.Shares.{private_used}
 use Rattle.qcow2_image.proofs.Sound.{pending_is}
 use Rattle.qcow2_disk.proofs.Compose.{stops_of}
+use Rattle.qcow2_image.proofs.Untouched.{all_stay}
 
 -- ---- what is read with a header of another size
 module _ (h : HeaderFields) (size : ℕ) where
@@ -244,6 +245,7 @@ module _ {S F : Type 0} (view : S → StorageView) (backing : F → BackingView)
           works = record {
             setting = refl;
             surplus = λ still. ap (λ (x : Pending). x.surplus) (sym pending_now);
+            beside = λ still. all_stay view old.file now.file q q sound.file.caches.kept.kept.crash_invariant safe_step.sound [] (covers_stay view backing out q old sound size fits storage is honest);
             leaks = refl;
             stops = stops_of (abstract_of view backing old out) (abstract_of view backing now out) nothing_given (size ∷ []) since (λ still. safe_step.known);
           };
@@ -263,6 +265,7 @@ module _ {S F : Type 0} (view : S → StorageView) (backing : F → BackingView)
       works = record {
         setting = refl;
         surplus = λ still. absurd (let no : true ≡ false = still.works in cc);
+        beside = λ still. absurd (let no : true ≡ false = still.works in cc);
         leaks = refl;
         stops = stops_of (abstract_of view backing old out) (abstract_of view backing (record unsized { is_failed = true }) out) nothing_given (size ∷ []) since (λ still. absurd (let no : true ≡ false = still.works in cc));
       };

@@ -27,6 +27,7 @@ use Rattle.qcow2_image.specs.ImageInvariant.{ImageInvariant, abstract_of, disk_o
 use Rattle.qcow2_image.specs.Resizing.{IsTurnEnd, UncoversPart, boundary_in}
 use Rattle.qcow2_image.proofs.Clear.Ranges.{to_whole}
 use Rattle.qcow2_image.proofs.Clear.Touched.{on_boundary, rounded_from}
+use Rattle.qcow2_image.proofs.Untouched.{touches_part}
 
 -- ---- boundaries
 module _ (cs : ℕ) (some : 0 < cs) where
@@ -249,6 +250,7 @@ pub works_asking : (old new : AbstractImage) (gs : List GivenBytes) (asked : Lis
 works_asking old new gs asked w = record {
   setting = w.setting;
   surplus = w.surplus;
+  beside = w.beside;
   leaks = w.leaks;
   stops = λ m starts. stops_less old new gs gs [] asked m (more m) (w.stops m starts);
 }
@@ -264,7 +266,7 @@ module _ {S F : Type 0} (view : S → StorageView) (backing : F → BackingView)
       let v = abstract_of view backing old out in
       let none : boundary_in old size - boundary_in old size ≡ 0 = omega arith in
       record {
-        works = works_less v (abstract_of view backing new out) [] (given_below (setting_of view backing old) (disk_of view backing old) (boundary_in old size) (boundary_in old size - boundary_in old size)) [] (λ o w never. absurd never) call.works;
+        works = works_less v (abstract_of view backing new out) [] (given_below (setting_of view backing old) (disk_of view backing old) (boundary_in old size) (boundary_in old size - boundary_in old size)) [] (λ o w never. absurd never) (λ g u. tt) call.works;
         sound = call.sound;
         shows = call.same ∙ ap (λ d. with_disk (guest_of v) d) (sym (none_below (setting_of view backing old) (disk_of view backing old) (boundary_in old size) (boundary_in old size - boundary_in old size) none));
       }
@@ -277,7 +279,7 @@ module _ {S F : Type 0} (view : S → StorageView) (backing : F → BackingView)
       let m = abstract_of view backing mid out in
       let w = abstract_of view backing new out in
       let gs = given_below (setting_of view backing old) (disk_of view backing old) (boundary_in old size) (boundary_in old at - boundary_in old size) in
-      record { works = works_then v m w gs [] part.sound part.works (works_less m w [] gs [] (λ o x never. absurd never) works); sound = sound; shows = same ∙ part.shows }
+      record { works = works_then v m w gs [] part.sound part.works (works_less m w [] gs [] (λ o x never. absurd never) (λ g u. tt) works); sound = sound; shows = same ∙ part.shows }
 
   -- so does another turn
   module _ (size at next : ℕ) (old mid new : Qcow2 S F) (first : UncoversPart view backing size at old mid out) (second : UncoversPart view backing at next mid new out) (le : boundary_in old size ≤ boundary_in old at) (on : boundary_in old at ≤ boundary_in old next) where
@@ -339,8 +341,8 @@ module _ {S F : Type 0} (view : S → StorageView) (backing : F → BackingView)
         let w = abstract_of view backing new out in
         let gs = given_below x d start (boundary_in old next - boundary_in old size) in
         record {
-          works = works_then v m w gs [] first.sound (works_less v m (given_below x d start n) gs [] (λ o z is. inr (first_less o z is)) first.works)
-              (works_less m w (given_below (setting_of view backing mid) (disk_of view backing mid) (boundary_in mid at) (boundary_in mid next - boundary_in mid at)) gs [] (λ o z is. inr (second_less o z is)) second.works);
+          works = works_then v m w gs [] first.sound (works_less v m (given_below x d start n) gs [] (λ o z is. inr (first_less o z is)) (touches_part x.cluster_size _ _ [] (omega arith) (omega (arith, le, on))) first.works)
+              (works_less m w (given_below (setting_of view backing mid) (disk_of view backing mid) (boundary_in mid at) (boundary_in mid next - boundary_in mid at)) gs [] (λ o z is. inr (second_less o z is)) (touches_part (setting_of view backing mid).cluster_size _ _ [] (let here = boundary_is at in omega (arith, here, le)) (let here = boundary_is at in let there = boundary_is next in omega (arith, here, there, le, on))) second.works);
           sound = second.sound;
           shows = second.shows ∙ ap (λ (g : Guest). with_disk g (shown_below (setting_of view backing mid) (disk_of view backing mid) (boundary_in mid at) (boundary_in mid next - boundary_in mid at))) first.shows ∙ ap (λ e. with_disk (guest_of v) e) second_shows;
         }

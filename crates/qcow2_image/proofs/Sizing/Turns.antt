@@ -14,7 +14,7 @@ use Rattle.qcow2_disk.specs.Calls.{Refusal, RefusedEffect, EffectOnSound, with_d
 use Rattle.qcow2_disk.specs.Disk.{Disk}
 use Rattle.qcow2_disk.specs.Rules.{answered, touched_from, touched_to}
 use Rattle.qcow2_disk.specs.Stops.{GivenBytes, IsGiven}
-use Rattle.qcow2_disk.proofs.Compose.{works_less}
+use Rattle.qcow2_disk.proofs.Compose.{works_less, TouchesLess}
 use Rattle.qcow2_laws.proofs.Places.{Sizes-from}
 use Rattle.qcow2_alloc.specs.declared.error.ImageError.{ImageError}
 use Rattle.qcow2_alloc.specs.declared.error.ImageError.TheVariants as I
@@ -32,11 +32,12 @@ use Rattle.qcow2_image.specs.Refusals.{passes, refuse_if}
 use Rattle.qcow2_image.specs.Resizing.{IsFaultOrCantUncover, IsTurnEnd, UncoversNext, UncoversPart, boundary_in, refuses_to_resize}
 use Rattle.qcow2_image.proofs.Sizes.{disk_size}
 use Rattle.qcow2_image.proofs.Sizing.Tails.{given_as, given_below, given_is, mono_up, passes_boundary, shown_below, to_at_most, touches_before, turn_numbers}
+use Rattle.qcow2_image.proofs.Untouched.{touches_less}
 
 -- a call that gives fewer bytes gives these too
-pub refuses_giving : (v w : AbstractImage) (gs more : List GivenBytes) (e : Refusal) (still : Type 0) → (v.is_sound → (o : ℕ) (x : Value) → IsGiven gs o x → IsGiven more o x) → RefusedEffect v w gs [] e still → RefusedEffect v w more [] e still
-refuses_giving v w gs more e still within r = record {
-  acts = record { number = r.acts.number; works = λ sound. works_less v w gs more [] (λ o x is. inr (within sound o x is)) (r.acts.works sound); rests = r.acts.rests };
+pub refuses_giving : (v w : AbstractImage) (gs more : List GivenBytes) (e : Refusal) (still : Type 0) → (v.is_sound → (o : ℕ) (x : Value) → IsGiven gs o x → IsGiven more o x) → (v.is_sound → TouchesLess v.setting.cluster_size gs more) → RefusedEffect v w gs [] e still → RefusedEffect v w more [] e still
+refuses_giving v w gs more e still within touches r = record {
+  acts = record { number = r.acts.number; works = λ sound. works_less v w gs more [] (λ o x is. inr (within sound o x is)) (touches sound) (r.acts.works sound); rests = r.acts.rests };
   answer = r.answer;
   fault = r.fault;
 }
@@ -117,6 +118,12 @@ module _ {S F : Type 0} (view : S → StorageView) (backing : F → BackingView)
         let same = ap (λ n. touched_to (cluster_size h) n at (end - at)) size in
         let last = ap (rounded_up (cluster_size h)) is in
         given_as x d from (boundary_in old (size_of old) - from) o w g.0 (let b = g.1 in omega (arith, b, most, same, last)) g.2)
+        (λ sound.
+        let size : d.size ≡ end = sym (shown_end out sound) ∙ sym is in
+        let most = to_at_most h (some out sound) (rows out sound) end at (omega (arith, lt, is)) in
+        let same = ap (λ n. touched_to (cluster_size h) n at (end - at)) size in
+        let last = ap (rounded_up (cluster_size h)) is in
+        touches_less (cluster_size h) _ _ [] (omega arith) (λ some. omega (arith, some, most, same, last)))
         (clears out)),
     ungiven,
   )

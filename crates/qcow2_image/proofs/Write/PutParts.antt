@@ -71,7 +71,7 @@ module _ {S F : Type 0} (view : S → StorageView) (backing : F → BackingView)
   -- a part that no guest sees, and is refused then
   pub puts_refused : (old new : Qcow2 S F) (e : ImageError) → Quietly view backing out old new → ImageInvariant view backing (pending_in view backing old out) old out → PutsPart view backing old new out k p at bytes (Err e)
   puts_refused old new e quiet sound = record {
-    works = works_less (abstract_of view backing old out) (abstract_of view backing new out) [] (given_bytes old) [] (λ o v none. absurd none) (quiet_works view backing out old new (λ _. quiet) sound);
+    works = works_less (abstract_of view backing old out) (abstract_of view backing new out) [] (given_bytes old) [] (λ o v none. absurd none) (λ g u. tt) (quiet_works view backing out old new (λ _. quiet) sound);
     sound = quiet_sound view backing out old new (λ _. quiet) sound;
     is = inl (quiet_same view backing out old new (λ _. quiet) sound);
   }
@@ -92,7 +92,7 @@ module _ {S F : Type 0} (view : S → StorageView) (backing : F → BackingView)
       let gives : given_bytes b ≡ given_bytes a = ap (λ (g : Guest). given_by_put g.disk (meaning view backing b p) at bytes ∷ []) same ∙ ap (λ (m : PreparedMapping). given_by_put (guest_of (abstract_of view backing a out)).disk m at bytes ∷ []) mean in
       record {
         works = works_then (abstract_of view backing a out) (abstract_of view backing b out) (abstract_of view backing c out) (given_bytes a) [] mid
-            (works_less (abstract_of view backing a out) (abstract_of view backing b out) [] (given_bytes a) [] (λ o v none. absurd none) (quiet_works view backing out a b (λ _. quiet) sound))
+            (works_less (abstract_of view backing a out) (abstract_of view backing b out) [] (given_bytes a) [] (λ o v none. absurd none) (λ g u. tt) (quiet_works view backing out a b (λ _. quiet) sound))
             (subst (λ (given : List GivenBytes). EffectOnSound (abstract_of view backing b out) (abstract_of view backing c out) given []) gives part.works);
         sound = part.sound;
         is = is_put_of (guest_of (abstract_of view backing a out)) (guest_of (abstract_of view backing b out)) (put_guest (guest_of (abstract_of view backing a out)) k (meaning view backing a p) at bytes)
@@ -189,7 +189,7 @@ module _ {S F : Type 0} (view : S → StorageView) (backing : F → BackingView)
   puts_none none done = λ out k placed.
       let v = abstract_of view backing old out in
       outcome_answered view backing old old out out (all_given_by_put view backing old old v p at bytes)
-      (λ sound. works_less v v [] (all_given_by_put view backing old old v p at bytes) [] (λ o w never. absurd never) (works_none v sound)) (λ sound. sound) refl usable
+      (λ sound. works_less v v [] (all_given_by_put view backing old old v p at bytes) [] (λ o w never. absurd never) (λ g u. tt) (works_none v sound)) (λ sound. sound) refl usable
       (λ sound. sym (ap (λ b. put_guest (guest_of v) k (meaning view backing old p) at b) none ∙ put_none (guest_of v) k (meaning view backing old p) at (ap (meaning_at (meaning view backing old)) placed)))
 
   -- refused before any work

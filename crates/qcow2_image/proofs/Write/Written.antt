@@ -30,9 +30,10 @@ use Rattle.qcow2_alloc.proofs.KeptAllocators.{allocator_kept}
 use Rattle.qcow2_alloc.proofs.CountsStay.{counts_follow, fixed_more}
 use Rattle.qcow2_image.specs.declared.image.Qcow2.{Qcow2}
 use Rattle.qcow2_image.specs.declared.prepared.Prepared.{Prepared}
-use Rattle.qcow2_image.specs.ImageInvariant.{cluster_of, pending_in, ImageInvariant}
+use Rattle.qcow2_image.specs.ImageInvariant.{cluster_of, pending_in, ImageInvariant, backing_bytes}
 use Rattle.qcow2_image.proofs.Ready.{still_ready}
 use Rattle.qcow2_image.proofs.Call.Stepped.{Steps}
+use Rattle.qcow2_image.proofs.Untouched.{all_stay}
 
 module _ {S F : Type 0} {p : Pending} (view : S → StorageView) (backing : F → BackingView) (old : Qcow2 S F) (out : List (Option Prepared)) (sound : ImageInvariant view backing p old out)
     (storage : ImageStorage S) (host : ℕ) (bytes : List ℕ) (is : (view (storage_of storage)).contents ≡ overwritten (view_in view old.file).contents host bytes) where
@@ -143,4 +144,5 @@ steps_written view backing old out sound storage host bytes is free given honest
   below = refl;
   surplus = refl;
   leaks = refl;
+  beside = all_stay view old.file (written view backing old out sound storage host bytes is).file (pending_in view backing old out) (pending_in view backing old out) sound.file.caches.kept.kept.crash_invariant safe_step.sound (given (backing_bytes view backing old.backing)) covers;
 }

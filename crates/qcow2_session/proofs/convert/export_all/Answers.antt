@@ -22,7 +22,7 @@ returns-in_err-export_at-clause-same g c =
     let view = g.S.Storage.view in
     let below = g.F.BackingDisk.backing in
     unchanged_refused view below c.args.image.now c.export_at.new.image c.in_err-export_at.field-0.0 _ (refused_is _ c.in_err-export_at.field-0.0 c.from_residual.ensures)
-    (λ out. interrupted_if (λ h. h.1 ∙ h.0) (interrupted_then {more = []} (λ _. none_within (abstract_of view below c.loop-at.image out) []) (c.loop-at.invariant.same out) (c.in_err-export_at.ensures.same out)))
+    (λ out. interrupted_if (λ h. h.1 ∙ h.0) (interrupted_then {more = []} (λ _ _. none_within (abstract_of view below c.loop-at.image out) []) (c.loop-at.invariant.same out) (c.in_err-export_at.ensures.same out)))
 
 pub returns-in_err-export_at-clause-unwritten : goal.returns-in_err-export_at-clause-unwritten
 returns-in_err-export_at-clause-unwritten g c = λ reading out sound clean.
@@ -58,7 +58,7 @@ loop-at-preserved g c =
           let so_far = c.loop-at.invariant.unwritten reading out sound clean in
           read_then view so_far (c.export_at.ensures.unwritten (c.loop-at.invariant.image.writable ∙ reading) out ((c.loop-at.invariant.same out).answer sound).0 so_far.unmodified);
       honest = λ h. c.export_at.ensures.honest (c.loop-at.invariant.honest h);
-      same = λ out. does_if (λ h. h.1 ∙ h.0) (does_then {more = []} (λ _. none_within (abstract_of view below c.loop-at.image out) []) (c.loop-at.invariant.same out) (c.in_ok-export_at.ensures.same out));
+      same = λ out. does_if (λ h. h.1 ∙ h.0) (does_then {more = []} (λ _ _. none_within (abstract_of view below c.loop-at.image out) []) (c.loop-at.invariant.same out) (c.in_ok-export_at.ensures.same out));
       filled = λ h.
           let long : length (take c.min-count.result c.loop-at.bytes) ≡ c.min-count.result = grind (arith, common_steps) in
           fills_more view below c.args.image.now c.loop-at.image 0 c.loop-at.at (length (take c.min-count.result c.loop-at.bytes)) c.min-count.result (g.R.Storage.view c.args.raw.now).contents (g.R.Storage.view c.loop-at.raw).contents (g.R.Storage.view c.export_at.new.raw).contents

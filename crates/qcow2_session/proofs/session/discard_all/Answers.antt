@@ -27,7 +27,7 @@ loop-slot-preserved g c =
       quiet = written_then view c.loop-slot.invariant.quiet c.release_slot.ensures.quiet;
       unwritten = λ clean. let so_far = c.loop-slot.invariant.unwritten clean in read_then view so_far (c.release_slot.ensures.unwritten so_far.unmodified);
       gone = does_if (λ h. h.1 ∙ h.0)
-          (does_then (λ _. none_within (abstract_of view below c.loop-slot.image (rest ++ c.in-Some.slot ∷ [])) [])
+          (does_then (λ _ _. none_within (abstract_of view below c.loop-slot.image (rest ++ c.in-Some.slot ∷ [])) [])
           (subst (λ o. ReleasesMappings view below c.args.image.now c.loop-slot.image c.args.slots.prepared.items o) c.in-Some.ensures.items c.loop-slot.invariant.gone) (c.release_slot.ensures.sees rest));
     }
 

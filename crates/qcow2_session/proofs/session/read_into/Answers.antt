@@ -30,7 +30,7 @@ returns-in_err-done-clause-sees g c =
     let view = g.S.Storage.view in
     let below = g.F.BackingDisk.backing in
     reads_refused view below c.args.image.now c.read_some.new.image c.args.offset _ c.in_err-done.field-0.0 _ (refused_is _ c.in_err-done.field-0.0 c.from_residual-in_err-done.ensures)
-    (λ out. refuses_if (λ h. h.1 ∙ h.0.1) (refuses_then (λ _. none_within (abstract_of view below c.loop-done.image out) []) (c.loop-done.invariant.shown out) (c.in_err-done.ensures.sees out)))
+    (λ out. refuses_if (λ h. h.1 ∙ h.0.1) (refuses_then (λ _ _. none_within (abstract_of view below c.loop-done.image out) []) (c.loop-done.invariant.shown out) (c.in_err-done.ensures.sees out)))
 
 pub loop-done-preserved : goal.loop-done-preserved
 loop-done-preserved g c = record {
@@ -55,7 +55,7 @@ loop-done-preserved g c = record {
             (shows_both (guest_of (abstract_of view below c.args.image.now out)).disk c.args.offset first (take n c.read_some.new.bytes) h.0.0 (shows_as (ap (λ (v : Guest). v.disk) h.0.1) place refl h.1.0)),
         h.1.1 ∙ h.0.1,
       ))
-      (does_then (λ _. none_within (abstract_of view below c.loop-done.image out) []) (c.loop-done.invariant.shown out) (c.in_ok-done.ensures.sees out));
+      (does_then (λ _ _. none_within (abstract_of view below c.loop-done.image out) []) (c.loop-done.invariant.shown out) (c.in_ok-done.ensures.sees out));
 }
 
 pub returns-clause-sees : goal.returns-clause-sees

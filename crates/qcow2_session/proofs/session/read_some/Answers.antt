@@ -34,7 +34,7 @@ returns-in_err-read_mapped-clause-sees g c =
     let below = g.F.BackingDisk.backing in
     subst (λ r. ReadsFirst view below c.args.image.now c.read_mapped.new.self c.args.offset (c.read_mapped.new.bytes ++ drop c.in_ok-mapping.found c.args.bytes.now) r)
     (sym (refused_is _ c.in_err-read_mapped.field-0.0 c.from_residual-in_err-read_mapped.ensures))
-    (λ out. refuses_if (λ h. h.1 ∙ h.0) (refuses_then (λ _. none_within (abstract_of view below c.get_mapping.new.self out) []) (c.in_ok-mapping.ensures.sees out) (c.in_err-read_mapped.ensures.sees out)))
+    (λ out. refuses_if (λ h. h.1 ∙ h.0) (refuses_then (λ _ _. none_within (abstract_of view below c.get_mapping.new.self out) []) (c.in_ok-mapping.ensures.sees out) (c.in_err-read_mapped.ensures.sees out)))
 
 pub returns-clause-sees : goal.returns-clause-sees
 returns-clause-sees g c = λ out.
@@ -43,7 +43,7 @@ returns-clause-sees g c = λ out.
     let first : c.read_mapped.new.bytes ≡ take c.in_ok-mapping.found (c.read_mapped.new.bytes ++ drop c.in_ok-mapping.found c.args.bytes.now) = grind (arith, common_steps) in
     let place : c.in_ok-mapping.mapping.offset + 0 ≡ c.args.offset = omega (arith, c.in_ok-mapping.ensures.own.1) in
     does_if (λ h. (shows_as (ap (λ (v : Guest). v.disk) h.0) place first h.1.1, h.1.0 ∙ h.0))
-    (does_then (λ _. none_within (abstract_of view below c.get_mapping.new.self out) []) (c.in_ok-mapping.ensures.sees out) (c.in_ok-read_mapped.ensures.sees out))
+    (does_then (λ _ _. none_within (abstract_of view below c.get_mapping.new.self out) []) (c.in_ok-mapping.ensures.sees out) (c.in_ok-read_mapped.ensures.sees out))
 
 pub returns-in_err-read_mapped-clause-unwritten : goal.returns-in_err-read_mapped-clause-unwritten
 returns-in_err-read_mapped-clause-unwritten g c = λ reading out sound clean.

@@ -1,5 +1,5 @@
 use Rattle.std.proofs.Common.{◌≡◌, sym, subst, ap, ◌∙◌, Err, [], ◌∷◌, Some, None, min, length, refl, arith}
-use Rattle.std.specs.Prelude.{IfSome, Option, Result}
+use Rattle.std.specs.Prelude.{IfSome, IfOk, IsOk, Ok, Option, Result}
 use Rattle.qcow2_disk.specs.Mappings.{given_of}
 use Rattle.qcow2_disk.specs.AbstractImages.{Setting, guest_of}
 use Rattle.qcow2_image.specs.Calls.{refusal_of, Commits}
@@ -20,6 +20,9 @@ use Rattle.qcow2_image.specs.declared.image.Qcow2.{Qcow2}
 use Rattle.std.proofs.Common.{ℕ, ◌<◌, inl, inr, take}
 use Rattle.std.specs.Prelude.{IfErr}
 use Rattle.std.proofs.lemmas.Bool.{cases_lt}
+use Rattle.std.proofs.lemmas.Nat.{pow_pos}
+use Rattle.qcow2_image.specs.Preparing.{IsOfNothing}
+use Rattle.qcow2_image.specs.declared.prepared.Prepared.{Prepared}
 use Rattle.std.proofs.lemmas.Grind.{common_steps}
 use Rattle.qcow2_alloc.specs.declared.error.ImageError.{ImageError}
 use Rattle.qcow2_alloc.specs.declared.error.ImageError.TheVariants.{TablePrepared}
@@ -44,6 +47,15 @@ early_handed : {A B E : Type 0} (S : Type 0) (o : Option E) (r : Result A E) (e 
 early_handed S None r e r' early was handed = tt
 early_handed S (Some x) r e r' early was handed = (handed ∙ ap Err (one_cause r e x was early.0), early.1)
 
+-- a range of no bytes is prepared as a mapping of none
+none_long : {S F : Type 0} (old : Qcow2 S F) (offset n : ℕ) (new : Qcow2 S F) (r : Result Prepared ImageError) (p : Prepared) → IfSome (refuses_to_prepare old offset n) (λ e. (r ≡ Err e) × (new ≡ old))
+    → (refuses_to_prepare old offset 0 ≡ None → n ≡ 0 → IsOk r × IfOk r IsOfNothing × (new ≡ old)) → r ≡ Ok p → n ≡ 0 → length_of p ≡ 0
+none_long old offset n new r p early nothing was zero = subst (λ x. IfOk x IsOfNothing) was (nothing (unrefused (refuses_to_prepare old offset 0) (subst (λ k. IfSome (refuses_to_prepare old offset k) (λ e. (r ≡ Err e) × (new ≡ old))) zero early)) zero).1.2
+  where
+    unrefused : (o : Option ImageError) → IfSome o (λ e. (r ≡ Err e) × (new ≡ old)) → o ≡ None
+    unrefused None refuses = refl
+    unrefused (Some e) refuses = absurd (let no : Ok p ≡ Err e = sym was ∙ refuses.0 in cc)
+
 pub returns-in_err-prepared-clause-sees : goal.returns-in_err-prepared-clause-sees
 returns-in_err-prepared-clause-sees g c =
     let view = g.S.Storage.view in
@@ -61,7 +73,7 @@ returns-in-Err-clause-sees g c = λ out.
     let below = g.F.BackingDisk.backing in
     let p = c.in_ok-prepared.prepared in
     put_refused (image_abstraction view below) (free_places view below) (λ _. refl) c.args.image.now c.prepare_data_mapping.new.self p out c.args.offset c.min-count.result c.args.bytes.now
-    (c.min-count.ensures ∙ ap (λ k. min (length c.args.bytes.now) k) c.length.ensures) (c.in_ok-prepared.ensures.sees (None ∷ out) 0 refl)
+    (c.min-count.ensures ∙ ap (λ k. min (length c.args.bytes.now) k) c.length.ensures) (pow_pos c.args.image.now.file.header.fields.cluster_bits) (none_long c.args.image.now c.args.offset (length c.args.bytes.now) c.prepare_data_mapping.new.self c.prepare_data_mapping.result p c.prepare_data_mapping.ensures.early c.prepare_data_mapping.ensures.nothing c.in_ok-prepared.was) (c.in_ok-prepared.ensures.sees (None ∷ out) 0 refl)
     c.write_mapped.new.self c.release.new.image (refusal_of c.in-Err.refusal) (c.in-Err.ensures.sees (Some p ∷ out) 0 refl) (c.release.ensures.sees (Some p ∷ out) 0 refl)
 
 pub returns-in-Ok-clause-sees : goal.returns-in-Ok-clause-sees
@@ -70,7 +82,7 @@ returns-in-Ok-clause-sees g c = λ out.
     let below = g.F.BackingDisk.backing in
     let p = c.in_ok-prepared.prepared in
     written (image_abstraction view below) (free_places view below) (λ _. refl) c.args.image.now c.prepare_data_mapping.new.self p out c.args.offset c.min-count.result c.args.bytes.now
-    (c.min-count.ensures ∙ ap (λ k. min (length c.args.bytes.now) k) c.length.ensures) (c.in_ok-prepared.ensures.sees (None ∷ out) 0 refl)
+    (c.min-count.ensures ∙ ap (λ k. min (length c.args.bytes.now) k) c.length.ensures) (pow_pos c.args.image.now.file.header.fields.cluster_bits) (none_long c.args.image.now c.args.offset (length c.args.bytes.now) c.prepare_data_mapping.new.self c.prepare_data_mapping.result p c.prepare_data_mapping.ensures.early c.prepare_data_mapping.ensures.nothing c.in_ok-prepared.was) (c.in_ok-prepared.ensures.sees (None ∷ out) 0 refl)
     c.write_mapped.new.self (c.in_default.ensures.sees (Some p ∷ out) 0 refl) c.commit_data_mapping.new.self (c.in-Ok.ensures.sees (Some p ∷ out) 0 refl)
 
 pub returns-in-Err-Spent-clause-sees : goal.returns-in-Err-Spent-clause-sees
@@ -80,7 +92,7 @@ returns-in-Err-Spent-clause-sees g c = λ out.
     let p = c.in_ok-prepared.prepared in
     let refused = subst (λ r. Commits view below c.write_mapped.new.self c.commit_data_mapping.new.self p (Err r)) c.in-Err-Spent.field-0-is c.in-Err-Spent.ensures.sees (Some p ∷ out) 0 refl in
     commit_old_tables (image_abstraction view below) (free_places view below) (λ _. refl) c.args.image.now c.prepare_data_mapping.new.self p out c.args.offset c.min-count.result c.args.bytes.now
-    (c.min-count.ensures ∙ ap (λ k. min (length c.args.bytes.now) k) c.length.ensures) (c.in_ok-prepared.ensures.sees (None ∷ out) 0 refl)
+    (c.min-count.ensures ∙ ap (λ k. min (length c.args.bytes.now) k) c.length.ensures) (pow_pos c.args.image.now.file.header.fields.cluster_bits) (none_long c.args.image.now c.args.offset (length c.args.bytes.now) c.prepare_data_mapping.new.self c.prepare_data_mapping.result p c.prepare_data_mapping.ensures.early c.prepare_data_mapping.ensures.nothing c.in_ok-prepared.was) (c.in_ok-prepared.ensures.sees (None ∷ out) 0 refl)
     c.write_mapped.new.self (c.in_default.ensures.sees (Some p ∷ out) 0 refl) c.commit_data_mapping.new.self (refusal_of c.in-Err-Spent.refusal) refused.0 refused.1
 
 pub returns-in-Err-Kept-clause-sees : goal.returns-in-Err-Kept-clause-sees
@@ -91,7 +103,7 @@ returns-in-Err-Kept-clause-sees g c = λ out.
     let same : c.in-Err-Kept.prepared ≡ p = subst (λ r. IsHandedBackBy p r) c.in-Err-Kept.field-0-is c.in-Err-Kept.ensures.kept in
     let refused = subst (λ r. Commits view below c.write_mapped.new.self c.commit_data_mapping.new.self p (Err r)) (c.in-Err-Kept.field-0-is ∙ ap (λ q. Kept c.in-Err-Kept.refusal q) same) c.in-Err-Kept.ensures.sees (Some p ∷ out) 0 refl in
     commit_kept (image_abstraction view below) (free_places view below) (λ _. refl) c.args.image.now c.prepare_data_mapping.new.self p out c.args.offset c.min-count.result c.args.bytes.now
-    (c.min-count.ensures ∙ ap (λ k. min (length c.args.bytes.now) k) c.length.ensures) (c.in_ok-prepared.ensures.sees (None ∷ out) 0 refl)
+    (c.min-count.ensures ∙ ap (λ k. min (length c.args.bytes.now) k) c.length.ensures) (pow_pos c.args.image.now.file.header.fields.cluster_bits) (none_long c.args.image.now c.args.offset (length c.args.bytes.now) c.prepare_data_mapping.new.self c.prepare_data_mapping.result p c.prepare_data_mapping.ensures.early c.prepare_data_mapping.ensures.nothing c.in_ok-prepared.was) (c.in_ok-prepared.ensures.sees (None ∷ out) 0 refl)
     c.write_mapped.new.self (c.in_default.ensures.sees (Some p ∷ out) 0 refl) c.commit_data_mapping.new.self c.release-in-Err-Kept.new.image (refusal_of c.in-Err-Kept.refusal) refused.0 refused.1
     (c.release-in-Err-Kept.ensures.sees (Some p ∷ out) 0 (ap (λ q. Some (Some q)) (sym same)))
 

@@ -40,7 +40,7 @@ returns-in_err-prepared-clause-readies g c = λ out sound holds.
     let old = c.args.self.now in
     let mid = c.prepare_first.new.self in
     handed_on (λ r. PreparesRange view below old mid out c.args.offset c.args.length c.args.overwrite r) c.from_residual.result c.in_err-prepared.field-0.0 c.from_residual.ensures
-    (back_refused view below out old mid c.in_err-prepared.field-0.0 (c.in_err-prepared.ensures.readies out sound holds))
+    (back_refused view below out old mid c.in_err-prepared.field-0.0 sound (c.in_err-prepared.ensures.readies out sound holds))
 
 pub returns-in-Ok-clause-readies : goal.returns-in-Ok-clause-readies
 returns-in-Ok-clause-readies g c = λ out sound holds k free.

@@ -32,7 +32,7 @@ returns-clause-image_step g c = λ out k at may sound.
     let a = c.min-prepared.ensures in let b = c.saturating_add.ensures in let few = c.ranges.length.fits in omega arith in
     let like : Prepared = record p { shares = c.push_reserved.new.self } in
     subst (λ l. IsExtended view below old mid out k c.args.length c.args.overwrite p (record p { length = l; shares = c.push_reserved.new.self })) (sym longer)
-    (extended view below old mid out k p at n c.args.table c.args.overwrite may c.in-Some.share found like c.push_reserved.ensures.items)
+    (extended view below old mid out k p at n c.args.table c.args.overwrite may c.in-Some.share found like c.push_reserved.ensures.items sound.file.caches.kept.kept.crash_invariant)
 
 pub returns-in_default-clause-notes : goal.returns-in_default-clause-notes
 returns-in_default-clause-notes g c = c.share_behind.ensures.notes

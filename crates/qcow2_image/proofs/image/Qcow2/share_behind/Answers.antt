@@ -68,7 +68,7 @@ returns-in_err-fill_kept-in-None-clause-finds g c = λ out k at may sound.
     let image_step = c.fill_kept.ensures.image_step before out sound (λ m. omega arith) (subst (λ x. IsKeptAlone view below old out x host) (sym c.in-Some.ensures.1) alone) in
     let list = ap (λ (image : Qcow2 _ _). image.file.free_list) c.fill_kept.ensures.rest in
     handed_on (λ r. FindsBehind view below old new out c.args.length c.args.overwrite c.args.prepared.now r) c.from_residual-in_err-fill_kept-in-None.result c.in_err-fill_kept-in-None.field-0.0 c.from_residual-in_err-fill_kept-in-None.ensures
-    (back_refused view below out old new c.in_err-fill_kept-in-None.field-0.0 (inl (subst (λ q. UnseenFillingStep view below before q old new out) (sym (listed_after_same view below out before old new list)) image_step)))
+    (back_refused view below out old new c.in_err-fill_kept-in-None.field-0.0 sound (inl (subst (λ q. UnseenFillingStep view below before q old new out) (sym (listed_after_same view below out before old new list)) image_step)))
 
 pub returns-in_ok-fill_kept-in-None-clause-finds : goal.returns-in_ok-fill_kept-in-None-clause-finds
 returns-in_ok-fill_kept-in-None-clause-finds g c = λ out k at may sound.
