@@ -160,7 +160,7 @@ module _ {D P : Type 0} (spec : Abstraction D P) (has : HasFreePlaces spec) (in_
   puts_within r = record {
     values = λ o w h. ⊎_elim (λ (e : w ≡ (guest_of (abstract_image spec d1 (Some p ∷ out))).disk.value o). inl (e ∙ ap (λ (d : Disk). d.value o) (shown_is (abstract_image spec d1 (Some p ∷ out)) (in_image d1)))) (λ (g : IsGiven given_bytes o w). inr g)
         (put_within (spec.setting d0).cluster_size (guest_of (abstract_image spec d0 out)).disk (spec.means d1 p) offset bytes chunk long short part r.0 (guest_of (abstract_image spec d1 (Some p ∷ out))).disk o w h);
-    touches = let from = r.0.from in let few = short in touches_part (spec.setting d1).cluster_size _ _ [] (omega (arith, from)) (omega (arith, from, few));
+    touches = let from = r.0.from in let few = short in touches_part (spec.setting d1).cluster_size _ _ _ _ (omega (arith, from)) (omega (arith, from, few));
   }
 
   module _ (prepares : AnsweredEffect (abstract_image spec d0 (None ∷ out)) (abstract_image spec d1 (Some p ∷ out)) [] [] Ready) where

@@ -167,13 +167,13 @@ module _ (old mid new : AbstractImage) (contents : List ℕ) (at count : ℕ) (f
   chunk_within = record {
     values = λ o w h. inr (part_within at at 0 (drop at contents) (take count (drop at contents)) (omega arith) (omega (arith, cut_short count (drop at contents)))
         (λ i lt. cut_part count (drop at contents) i lt ∙ ap (byte_at (drop at contents)) (omega arith)) o w (subst (λ (b : List ℕ). IsGiven (given_of at b ∷ []) o w) chunk_is h));
-    touches = let same = ap length chunk_is in let cut = cut_short count (drop at contents) in touches_part mid.setting.cluster_size _ _ [] (omega arith) (omega (arith, same, cut));
+    touches = let same = ap length chunk_is in let cut = cut_short count (drop at contents) in touches_part mid.setting.cluster_size _ _ _ _ (omega arith) (omega (arith, same, cut));
   }
 
   rest_within : IsWithin mid (given_of at (drop at contents) ∷ []) (given_of 0 contents ∷ [])
   rest_within = record {
     values = λ o w h. inr (part_within 0 at at contents (drop at contents) (omega arith) (rest_long at contents short) (λ i lt. rest_part at contents i short lt) o w h);
-    touches = let long = rest_long at contents short in touches_part mid.setting.cluster_size _ _ [] (omega arith) (omega (arith, long));
+    touches = let long = rest_long at contents short in touches_part mid.setting.cluster_size _ _ _ _ (omega arith) (omega (arith, long));
   }
 
   pub imports_more : AnsweredEffect mid new (given_of at chunk ∷ []) [] (HasWritten at chunk (guest_of mid) (guest_of new))
@@ -316,7 +316,7 @@ module _ (read whole : List ℕ) (at : ℕ) (long : length read ≡ at) (front :
   first_within : (v : AbstractImage) → IsWithin v (given_of 0 read ∷ []) (given_of 0 whole ∷ [])
   first_within v = record {
     values = λ o w h. inr (part_within 0 0 0 whole (take at whole) (omega arith) (omega (arith, cut_short at whole)) (λ i lt. cut_part at whole i lt ∙ ap (byte_at whole) (omega arith)) o w (subst (λ (b : List ℕ). IsGiven (given_of 0 b ∷ []) o w) (sym front) h));
-    touches = let same = ap length front in let cut = cut_short at whole in touches_part v.setting.cluster_size _ _ [] (omega arith) (omega (arith, same, cut));
+    touches = let same = ap length front in let cut = cut_short at whole in touches_part v.setting.cluster_size _ _ _ _ (omega arith) (omega (arith, same, cut));
   }
 
   pub first_of : (v m : AbstractImage) → AnsweredEffect v m (given_of 0 read ∷ []) [] (HasWritten 0 read (guest_of v) (guest_of m))

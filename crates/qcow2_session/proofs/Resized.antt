@@ -72,7 +72,7 @@ module _ (x : Setting) (d d' : Disk) (size answer : ℕ) (some : 0 < x.cluster_s
       given_as x d (up size) (up d.size - up size) o w from (omega (arith, from, below, most)) is.2
 
   touches_within : TouchesLess x.cluster_size (given_by_shrunk x d size answer ∷ []) (given_by_shrink x d size ∷ [])
-  touches_within = let most = uncovered_within in touches_less x.cluster_size _ _ [] (omega arith) (λ some. omega (arith, some, most))
+  touches_within = let most = uncovered_within in touches_less x.cluster_size _ _ _ _ (omega arith) (λ some. omega (arith, some, most))
 
 -- ---- what is refused before any work is no fault
 

@@ -70,7 +70,7 @@ module _ (offset at count : ℕ) (bytes : List ℕ) (le : count ≤ length bytes
     rest_within : IsWithin mid (given_of at (drop count bytes) ∷ []) (given_of offset bytes ∷ [])
     rest_within = record {
       values = λ o w h. inr (part_within offset at count bytes (drop count bytes) there (rest_long count bytes le) (λ i lt. rest_part count bytes i le lt) o w h);
-      touches = let begins = there in let long = rest_long count bytes le in touches_part mid.setting.cluster_size _ _ [] (omega (arith, begins)) (omega (arith, begins, long));
+      touches = let begins = there in let long = rest_long count bytes le in touches_part mid.setting.cluster_size _ _ _ _ (omega (arith, begins)) (omega (arith, begins, long));
     }
 
     pub writes_more : (n : ℕ) → AnsweredEffect mid new (given_of at (drop count bytes) ∷ []) [] (guest_of new ≡ with_disk (guest_of mid) (with_bytes (guest_of mid).disk at (take n (drop count bytes))))

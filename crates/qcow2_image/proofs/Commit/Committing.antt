@@ -1,6 +1,6 @@
 -- A share of a prepared mapping is entered in its table: its private bytes become visible.
 use Rattle.std.proofs.Common.{◌≡◌, ◌≢◌, ◌⊎◌, inl, inr, ℕ, ◌+◌, ◌-◌, ◌*◌, ◌/◌, ◌%◌, ◌<◌, ◌≤◌, true, false, List, length, [], ◌∷◌, ◌++◌, refl, sym, ap, ◌∙◌, subst, arith, cond, Bool}
-use Rattle.std.specs.Prelude.{Option, Some, None, IsSome, IsTrue, nat_le, nat_lt, ◌&&◌, slice_get, slice_set, ◌==◌}
+use Rattle.std.specs.Prelude.{Option, Some, None, IsSome, IsTrue, nat_le, nat_lt, ◌&&◌, slice_get, slice_set, ◌==◌, if◌then◌else◌}
 use Rattle.std.specs.Option.{option_map_or}
 use Rattle.std.proofs.lemmas.Bool.{cases_lt, cases_eq, cond-true, cond-false, eq-eqb, ne_eqb, lt-leb}
 use Rattle.std.proofs.lemmas.Nat.{div-mul-add, mod-mul-add, div-add-mod', pow_pos}
@@ -513,7 +513,7 @@ module _ {S F : Type 0} (view : S → StorageView) (backing : F → BackingView)
         let more : length p.shares.items ≡ i + 1 + (length p.shares.items - i - 1) = omega (arith, lt) in
         let span : (cluster_of h p + length p.shares.items) * cluster_size h ≡ (cluster_of h p + (i + 1 + (length p.shares.items - i - 1))) * cluster_size h = ap (λ n. (cluster_of h p + n) * cluster_size h) more in
         let parts : (cluster_of h p + (i + 1 + (length p.shares.items - i - 1))) * cluster_size h ≡ cluster_of h p * cluster_size h + i * cluster_size h + cluster_size h + (length p.shares.items - i - 1) * cluster_size h = omega arith in
-        let all = whole_count in touches_part (cluster_size h) _ _ [] (omega (arith, at, r)) (omega (arith, at, r, end, span, parts, all))
+        let all = whole_count in touches_part (cluster_size h) _ _ _ _ (omega (arith, at, r)) (omega (arith, at, r, end, span, parts, all))
 
     -- it is none of those beside the mapping
     beside_mine : (g : ℕ) → (g < p.guest / cluster_size h) ⊎ (p.guest + p.length ≤ g * cluster_size h) → g ≡ cluster_of h p + i → ⊥

@@ -3,7 +3,7 @@ use Rattle.qcow2_alloc.specs.KeptMarks.{KeepsFileNotes}
 use Rattle.qcow2_image.proofs.Call.Notes.{same_kept, table_kept}
 use Rattle.qcow2_alloc.proofs.KeptMarks.{notes_none, notes_then}
 use Rattle.std.proofs.Common.{◌≡◌, ◌⊎◌, inl, inr, ℕ, ◌+◌, ◌-◌, ◌*◌, ◌/◌, ◌%◌, ◌^◌, ◌<◌, ◌≤◌, Bool, true, false, List, length, [], ◌∷◌, ◌++◌, refl, sym, ap, ◌∙◌, subst, arith, min}
-use Rattle.std.specs.Prelude.{Option, Some, None, IsSome, IsTrue, slice_get, slice_set, ◌==◌}
+use Rattle.std.specs.Prelude.{if◌then◌else◌, ◌==◌, Option, Some, None, IsSome, IsTrue, slice_get, slice_set, ◌==◌}
 use Rattle.std.specs.Option.{option_map, option_map_or}
 use Rattle.std.specs.Map.{lookup}
 use Rattle.std.proofs.lemmas.Bool.{cases_eq, cond-true, cond-false, eq-eqb, ne_eqb}
@@ -72,23 +72,23 @@ module _ (a b c : Guest) (k : ℕ) (ma mb mc : PreparedMapping) (first : ShowsPa
 
   pub given_same : (size : ℕ) → given_by_commit size b.disk mb ≡ given_by_commit size a.disk ma
   given_same size =
-      ap (λ d. given_shown d (first_of size mb) (end_of size mb)) committed_same
-      ∙ ap (λ f. given_shown (committed a.disk ma) (rounded_down size f) (rounded_up size (f + mb.length))) first.from
-      ∙ ap (λ l. given_shown (committed a.disk ma) (rounded_down size ma.from) (rounded_up size (ma.from + l))) first.length
+      ap (λ d. given_shown d (first_of size mb) (if mb.length == 0 then first_of size mb else end_of size mb)) committed_same
+      ∙ ap (λ f. given_shown (committed a.disk ma) (rounded_down size f) (if mb.length == 0 then rounded_down size f else rounded_up size (f + mb.length))) first.from
+      ∙ ap (λ l. given_shown (committed a.disk ma) (rounded_down size ma.from) (if l == 0 then rounded_down size ma.from else rounded_up size (ma.from + l))) first.length
 
   pub shows_then : ShowsPart b c k mb mc → ShowsPart a c k ma mc
-  shows_then then = record {
+  shows_then next = record {
     slots = λ j. elim (cases_eq j k) [
-      | inl here ↦ then.slots j ∙ cond-true (j == k) (Some mc) (b.slots j) (eq-eqb _ _ here) ∙ sym (cond-true (j == k) (Some mc) (a.slots j) (eq-eqb _ _ here))
+      | inl here ↦ next.slots j ∙ cond-true (j == k) (Some mc) (b.slots j) (eq-eqb _ _ here) ∙ sym (cond-true (j == k) (Some mc) (a.slots j) (eq-eqb _ _ here))
       | inr other ↦
-          then.slots j ∙ cond-false (j == k) (Some mc) (b.slots j) (ne_eqb _ _ other) ∙ first.slots j ∙ cond-false (j == k) (Some mb) (a.slots j) (ne_eqb _ _ other)
+          next.slots j ∙ cond-false (j == k) (Some mc) (b.slots j) (ne_eqb _ _ other) ∙ first.slots j ∙ cond-false (j == k) (Some mb) (a.slots j) (ne_eqb _ _ other)
           ∙ sym (cond-false (j == k) (Some mc) (a.slots j) (ne_eqb _ _ other))
     ];
-    size = then.size ∙ first.size;
-    from = then.from ∙ first.from;
-    length = then.length ∙ first.length;
-    private = λ o private. let last = then.private o private in let was = first.private o last.0 in (was.0, last.1 ∙ was.1, last.2 ∙ was.2);
-    visible = λ o isnt. then.visible o isnt ∙ value_same o (mb.is_private o) refl;
+    size = next.size ∙ first.size;
+    from = next.from ∙ first.from;
+    length = next.length ∙ first.length;
+    private = λ o private. let last = next.private o private in let was = first.private o last.0 in (was.0, last.1 ∙ was.1, last.2 ∙ was.2);
+    visible = λ o isnt. next.visible o isnt ∙ value_same o (mb.is_private o) refl;
   }
 
 -- a cluster beside a range is beside the same range
@@ -113,7 +113,7 @@ module _ {S F : Type 0} (view : S → StorageView) (backing : F → BackingView)
       }
 
   pub parts_then : (a b c : Qcow2 S F) (p q r : Prepared) → CommitsPart view backing a b out k p q → CommitsPart view backing b c (slice_set out k (Some q)) k q r → CommitsPart view backing a c out k p r
-  parts_then a b c p q r first then =
+  parts_then a b c p q r first next =
       let mid = slice_set out k (Some q) in
       let end : slice_set (slice_set out k (Some q)) k (Some r) ≡ slice_set out k (Some r) = set_set out k (Some q) (Some r) in
       let va = abstract_of view backing a out in
@@ -127,11 +127,11 @@ module _ {S F : Type 0} (view : S → StorageView) (backing : F → BackingView)
       ap (λ n. given_by_commit n (guest_of vb).disk mb ∷ []) sizes ∙ ap (λ g. g ∷ []) (given_same (guest_of va) (guest_of vb) (guest_of vb) k ma mb mb first.shows va.setting.cluster_size) in
       record {
         works = works_then va vb (abstract_of view backing c (slice_set out k (Some r))) given_bytes [] first.sound first.works
-            (subst (λ now. EffectOnSound vb (abstract_of view backing c now) given_bytes []) end (subst (λ gs. EffectOnSound vb (abstract_of view backing c (slice_set mid k (Some r))) gs []) bytes_given then.works));
-        sound = subst (λ now. ImageInvariant view backing (pending_in view backing c now) c now) end then.sound;
+            (subst (λ now. EffectOnSound vb (abstract_of view backing c now) given_bytes []) end (subst (λ gs. EffectOnSound vb (abstract_of view backing c (slice_set mid k (Some r))) gs []) bytes_given next.works));
+        sound = subst (λ now. ImageInvariant view backing (pending_in view backing c now) c now) end next.sound;
         shows = shows_then (guest_of va) (guest_of vb) (guest_of (abstract_of view backing c (slice_set out k (Some r)))) k ma mb mc first.shows
-            (subst (λ now. ShowsPart (guest_of vb) (guest_of (abstract_of view backing c now)) k mb mc) end then.shows);
-        beside = λ g outside. first.beside g outside ∙ then.beside g (outside_same p.guest q.guest p.length q.length va.setting.cluster_size vb.setting.cluster_size g first.shows.from first.shows.length sizes outside);
+            (subst (λ now. ShowsPart (guest_of vb) (guest_of (abstract_of view backing c now)) k mb mc) end next.shows);
+        beside = λ g outside. first.beside g outside ∙ next.beside g (outside_same p.guest q.guest p.length q.length va.setting.cluster_size vb.setting.cluster_size g first.shows.from first.shows.length sizes outside);
       }
 
 -- ---- one share is entered

@@ -37,6 +37,7 @@ use Rattle.qcow2_image.proofs.Call.Slots.{others_left, over_all_left, slot_set}
 use Rattle.qcow2_image.proofs.Call.Stepped.{Steps, stepped_sound, stepped_works}
 use Rattle.qcow2_disk.proofs.Compose.{rests_none}
 use Rattle.qcow2_metadata.specs.Header.{header}
+use Rattle.qcow2_metadata.specs.Cover.{cover}
 
 -- what is kept of the caches is kept while something else is pending that is guarded too
 pub sound_while : {S : Type 0} (h : HeaderFields) (p q : Pending) (caches : MetadataCaches S) (on_storage : Bytes) → CrashInvariant h (order_of caches) q on_storage (known_of h caches on_storage) → CacheInvariant h p caches on_storage → CacheInvariant h q caches on_storage

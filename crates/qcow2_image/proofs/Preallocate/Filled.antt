@@ -261,7 +261,7 @@ module _ {S F : Type 0} (view : S → StorageView) (backing : F → BackingView)
   pub cleared_fills : (old new : Qcow2 S F) (from to : ℕ) → from < to → ReachesOffset from old.file.header.fields new.file.header.fields → from % cluster_size old.file.header.fields ≡ 0 → ClearsPart view backing KeptZeros from to old new out
       → ChangesFree (cluster_size old.file.header.fields) 0 from to old.file.header.fields (known_in view old.file) out → FillsPart view backing 0 from to old new out
   cleared_fills old new from to lt reaches whole part free = record {
-    works = works_less (abstract_of view backing old out) (abstract_of view backing new out) _ (given_by_zeros from to ∷ []) [] (λ o w given. inr (shown_zeros (disk_of view backing old) from to o w given)) (touches_part (cluster_size old.file.header.fields) _ _ [] (omega arith) (omega arith)) part.works;
+    works = works_less (abstract_of view backing old out) (abstract_of view backing new out) _ (given_by_zeros from to ∷ []) [] (λ o w given. inr (shown_zeros (disk_of view backing old) from to o w given)) (touches_part (cluster_size old.file.header.fields) _ _ _ _ (omega arith) (omega arith)) part.works;
     sound = part.sound;
     shows = part.shows;
     header = part.header;

@@ -93,7 +93,7 @@ module _ {S F : Type 0} (view : S → StorageView) (backing : F → BackingView)
         subst (λ (gs : List GivenBytes). IsGiven gs o w) (sym given_bytes_are) (zeros_shown d d.size end o w (subst (λ n. IsGiven (given_by_zeros n end ∷ []) o w) size_is given))
 
     zeros_touched : TouchesLess (cluster_size old.file.header.fields) (given_by_zeros (size_of old) end ∷ []) (all_given_by_growing view backing old size mode)
-    zeros_touched = subst (TouchesLess (cluster_size old.file.header.fields) (given_by_zeros (size_of old) end ∷ [])) (sym given_bytes_are) (touches_part (cluster_size old.file.header.fields) _ _ [] (let same = size_is in omega (arith, same)) (let same = size_is in omega (arith, same)))
+    zeros_touched = subst (TouchesLess (cluster_size old.file.header.fields) (given_by_zeros (size_of old) end ∷ [])) (sym given_bytes_are) (touches_part (cluster_size old.file.header.fields) _ _ _ _ (let same = size_is in omega (arith, same)) (let same = size_is in omega (arith, same)))
 
     module _ (new : Qcow2 S F) where
       pub grown_all : (first : ℕ) → first ≡ first_zeros (cluster_size old.file.header.fields) (size_of old) size mode → FillsPart view backing first (size_of old) end old new out → FillsGrown view backing size mode old new out

@@ -1,5 +1,6 @@
 -- Zeros are put into a mapping that is prepared at a place of its own, and it is committed.
-use Rattle.std.proofs.Common.{◌≡◌, ◌⊎◌, ⊎_elim, inl, inr, ℕ, suc, eqb, ◌+◌, ◌≤◌, List, [], ◌∷◌, Option, Some, None, true, refl, sym, ap, ◌∙◌, subst, arith}
+use Rattle.std.proofs.Common.{◌≡◌, ◌⊎◌, ⊎_elim, inl, inr, ℕ, suc, eqb, ◌+◌, ◌≤◌, ◌<◌, length, List, [], ◌∷◌, Option, Some, None, true, refl, sym, ap, ◌∙◌, subst, arith}
+use Rattle.std.proofs.lemmas.List.{length-replicate}
 use Rattle.std.proofs.lemmas.Bool.{cond-false, ne_eqb}
 use mathlib.Core.Path.{fun_ext}
 use Rattle.qcow2_metadata.specs.Guest.{Value}
@@ -79,7 +80,7 @@ module _ {D P : Type 0} (spec : Abstraction D P) (has : HasFreePlaces spec) (in_
       puts_touch =
           let from = prepared.from in
           let long : length zeros ≡ m.length = length-replicate m.length 0 in
-          touches_part (spec.setting d1).cluster_size _ _ [] (omega (arith, from)) (omega (arith, from, long))
+          touches_part (spec.setting d1).cluster_size _ _ _ _ (omega (arith, from)) (omega (arith, from, long))
 
       pub put_works : EffectOnSound (abstract_image spec d0 out) (at_place d2 (Some p) out) given_bytes []
       put_works = works_then (abstract_image spec d0 out) (at_place d1 (Some p) out) (at_place d2 (Some p) out) given_bytes [] sound1 (ready_works given_bytes) (works_less _ _ _ given_bytes [] puts_given puts_touch puts)

@@ -102,7 +102,7 @@ zeros_wider from to from' to' low high o w (inr none) = absurd none
 zeros_wider from to from' to' low high o w (inl given) = inl (omega (arith, given.0, low), omega (arith, given.0, given.1, low, high), given.2)
 
 pub zeros_touch : (size_of_cluster from to from' to' : ℕ) → from' ≤ from → to ≤ to' → TouchesLess size_of_cluster (given_by_zeros from to ∷ []) (given_by_zeros from' to' ∷ [])
-zeros_touch size_of_cluster from to from' to' low high = touches_less size_of_cluster _ _ [] low (λ some. omega (arith, low, high, some))
+zeros_touch size_of_cluster from to from' to' low high = touches_less size_of_cluster _ _ _ _ low (λ some. omega (arith, low, high, some))
 
 pub zeros_shown : (d : Disk) (from to o : ℕ) (w : Value) → IsGiven (given_by_zeros from to ∷ []) o w → IsGiven (given_shown (zeroed_between d from to) from to ∷ []) o w
 zeros_shown d from to o w (inr none) = absurd none

@@ -14,12 +14,12 @@ use Rattle.qcow2_metadata.specs.Header.{cluster_size, entries_per_cluster, round
 use Rattle.qcow2_disk.specs.AbstractImages.{Guest, guest_of, meaning_at}
 use Rattle.qcow2_disk.specs.Calls.{with_slot}
 use Rattle.qcow2_disk.specs.Mappings.{PreparedMapping, IsPrepared}
-use Rattle.qcow2_alloc.specs.ImageFile.{contents_in, known_in, nothing_given}
+use Rattle.qcow2_alloc.specs.ImageFile.{contents_in, known_in, nothing_given, state_in}
 use Rattle.qcow2_image.specs.declared.image.Qcow2.{Qcow2}
 use Rattle.qcow2_image.specs.declared.prepared.Prepared.{Prepared}
 use Rattle.qcow2_image.specs.declared.prepared.Share.{Share}
 use Rattle.qcow2_image.specs.declared.prepared.Share.TheVariants.{InPlace, Kept, New}
-use Rattle.qcow2_image.specs.ImageInvariant.{new_data_in, new_data_by, pins_by, over_all, abstract_of, meaning, is_private, cluster_of, is_entered, IsReady, IsReadyWith, IsShareAt, IsPending}
+use Rattle.qcow2_image.specs.ImageInvariant.{new_data_in, new_data_by, pins_by, over_all, abstract_of, meaning, is_private, cluster_of, is_entered, IsReady, IsReadyWith, IsShareAt, IsPending, pending_in}
 use Rattle.qcow2_image.specs.Ranges.{IsExtended, MayGoOn, StandsBehind}
 use Rattle.qcow2_image.proofs.Call.Answered.{same_guest}
 use Rattle.qcow2_image.proofs.Call.Slots.{get_set, over_all_set, slot_set}

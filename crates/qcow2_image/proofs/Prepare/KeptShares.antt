@@ -144,7 +144,7 @@ module _ {S F : Type 0} (view : S → StorageView) (backing : F → BackingView)
           let more = pins.pins found unpinned_now in
           subst (λ (image : Qcow2 S F). IsReadied view backing old image out k offset length overwrite ready) (sym pins.rest)
           (readied view backing old mid out k free before image_step offset table host Kept like one holds_now unpinned_now stands new.file.caches pins.tables more now sound.file.caches.kept.kept.crash_invariant length overwrite
-          (prepared_by view backing old mid out k free before image_step offset table host Kept like one holds_now unpinned_now stands new.file.caches pins.tables more now sound.file.caches.kept.kept.crash_invariant length overwrite old_values))
+          (prepared_by view backing old mid out k free before image_step offset table host Kept like one holds_now unpinned_now stands new.file.caches pins.tables more now length overwrite old_values))
 
 -- ---- the cluster behind a mapping that is out
 module _ {S F : Type 0} (view : S → StorageView) (backing : F → BackingView) (old : Qcow2 S F) (out : List (Option Prepared)) (k : ℕ) (p : Prepared) (at : slice_get out k ≡ Some (Some p)) (n table : ℕ) (overwrite : Bool) (may : MayGoOn old.file.header.fields n table p)

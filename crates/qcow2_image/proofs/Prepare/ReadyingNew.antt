@@ -161,7 +161,7 @@ module _ {S F : Type 0} (view : S → StorageView) (backing : F → BackingView)
       let more = pins.pins holds.new_data unpinned in
       subst (λ (image : Qcow2 S F). IsReadied view backing old image out k offset n overwrite (mapping_at old.file.header.fields (number_of old) table offset host like)) (sym pins.rest)
       (readied view backing old old out k free q image_step offset table host InPlace like one holds unpinned stands new.file.caches pins.tables more now sound.file.caches.kept.kept.crash_invariant n overwrite
-      (prepared_by view backing old old out k free q image_step offset table host InPlace like one holds unpinned stands new.file.caches pins.tables more now sound.file.caches.kept.kept.crash_invariant n overwrite (λ o private. absurd (never_private old p one o private))))
+      (prepared_by view backing old old out k free q image_step offset table host InPlace like one holds unpinned stands new.file.caches pins.tables more now n overwrite (λ o private. absurd (never_private old p one o private))))
 
   -- ---- in a new cluster
   module _ (old filled mid : Qcow2 S F) (n : ClustersToFreeEntry) (mapping : L2Mapping) (reach : IsInReach mapping) (other : is_copied_data mapping ≡ false) (taken old_data : List ClustersToFreeEntry) (taken_is : taken ≡ n ∷ []) (old_data_is : old_data ≡ listed_run (named_run old.file.header.fields.cluster_bits mapping)) (like : Prepared) (one : like.shares.items ≡ New taken old_data ∷ []) (k offset length table host : ℕ) (overwrite : Bool) (free : slice_get out k ≡ Some None) (sound : ImageInvariant view backing (pending_in view backing old out) old out)
@@ -250,4 +250,4 @@ module _ {S F : Type 0} (view : S → StorageView) (backing : F → BackingView)
           let more = pins.pins found unpinned_now in
           subst (λ (image : Qcow2 S F). IsReadied view backing old image out k offset length overwrite p) (sym pins.rest)
           (readied view backing old mid out k free q image_step_on offset table host (New taken old_data) like one holds_now unpinned_now stands new.file.caches pins.tables more now sound.file.caches.kept.kept.crash_invariant length overwrite
-          (prepared_by view backing old mid out k free q image_step_on offset table host (New taken old_data) like one holds_now unpinned_now stands new.file.caches pins.tables more now sound.file.caches.kept.kept.crash_invariant length overwrite old_values))
+          (prepared_by view backing old mid out k free q image_step_on offset table host (New taken old_data) like one holds_now unpinned_now stands new.file.caches pins.tables more now length overwrite old_values))

@@ -173,8 +173,8 @@ module _ {S F : Type 0} (view : S → StorageView) (backing : F → BackingView)
           (let lt = g.1 in let a = up in let b = up_end in omega (arith, lt, here, there, a, b)) (g.2 ∙ ap (λ (s : Setting). known_byte (s.backing o)) part.works.setting)
 
       fault_works : EffectOnSound v w all []
-      fault_works = works_then v m w all [] part.sound (works_less v m (given_below (setting_of view backing old) (disk_of view backing old) start (boundary_in old at - start)) all [] (λ o y is. inr (part_less o y is)) (touches_part (cluster_size old.file.header.fields) _ _ [] (omega arith) (let a = up in let b = up_end in omega (arith, a, b))) part.works)
-          (works_less m w (given_below (setting_of view backing now) (disk_of view backing now) (boundary_in now at) (boundary_in now (size_of now) - boundary_in now at)) all [] (λ o y is. inr (turn_less o y is)) (touches_part (cluster_size now.file.header.fields) _ _ [] (let here = boundary_is at in let b = up in omega (arith, here, b)) (let here = boundary_is at in let there = boundary_is (size_of now) ∙ ap (boundary_in old) so.image.size in let a = up in let b = up_end in omega (arith, here, there, a, b))) ((turn.0 out).acts.works part.sound))
+      fault_works = works_then v m w all [] part.sound (works_less v m (given_below (setting_of view backing old) (disk_of view backing old) start (boundary_in old at - start)) all [] (λ o y is. inr (part_less o y is)) (touches_part (cluster_size old.file.header.fields) _ _ _ _ (omega arith) (let a = up in let b = up_end in omega (arith, a, b))) part.works)
+          (works_less m w (given_below (setting_of view backing now) (disk_of view backing now) (boundary_in now at) (boundary_in now (size_of now) - boundary_in now at)) all [] (λ o y is. inr (turn_less o y is)) (touches_part (cluster_size now.file.header.fields) _ _ _ _ (let here = boundary_is at in let b = up in omega (arith, here, b)) (let here = boundary_is at in let there = boundary_is (size_of now) ∙ ap (boundary_in old) so.image.size in let a = up in let b = up_end in omega (arith, here, there, a, b))) ((turn.0 out).acts.works part.sound))
 
       fault_leaves : (ImageInvariant view backing (pending_in view backing new out) new out × ShowsBelow view backing size at old new out × IsShrinkEnd (cluster_size old.file.header.fields) (size_of old) size at) ⊎ IsTrue (is_failed new)
       fault_leaves = elim ((turn.0 out).answer part.sound) [
@@ -253,7 +253,7 @@ module _ {S F : Type 0} (view : S → StorageView) (backing : F → BackingView)
           works_asking before m (all_given_by_shrink view backing old size) asked
           (subst (λ gs. EffectOnSound before m gs []) all_is
           (works_less before m (given_below x d first (boundary_in old at - first)) (given_below x d first (boundary_in old (size_of old) - first)) []
-          (λ o y is. let g = given_is x d first (boundary_in old at - first) o y is in inr (given_as x d first (boundary_in old (size_of old) - first) o y g.0 (let lt = g.1 in omega (arith, lt, most, least)) g.2)) (touches_part cs _ _ [] (omega arith) (omega (arith, most, least))) works))
+          (λ o y is. let g = given_is x d first (boundary_in old at - first) o y is in inr (given_as x d first (boundary_in old (size_of old) - first) o y g.0 (let lt = g.1 in omega (arith, lt, most, least)) g.2)) (touches_part cs _ _ _ _ (omega arith) (omega (arith, most, least))) works))
 
       -- it was done
       module _ (new : Qcow2 S F) (part : UncoversPart view backing size at old mid out) (ends : Ends) (sets : SetsSize view backing size mid new out) where

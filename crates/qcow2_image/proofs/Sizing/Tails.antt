@@ -341,8 +341,8 @@ module _ {S F : Type 0} (view : S → StorageView) (backing : F → BackingView)
         let w = abstract_of view backing new out in
         let gs = given_below x d start (boundary_in old next - boundary_in old size) in
         record {
-          works = works_then v m w gs [] first.sound (works_less v m (given_below x d start n) gs [] (λ o z is. inr (first_less o z is)) (touches_part x.cluster_size _ _ [] (omega arith) (omega (arith, le, on))) first.works)
-              (works_less m w (given_below (setting_of view backing mid) (disk_of view backing mid) (boundary_in mid at) (boundary_in mid next - boundary_in mid at)) gs [] (λ o z is. inr (second_less o z is)) (touches_part (setting_of view backing mid).cluster_size _ _ [] (let here = boundary_is at in omega (arith, here, le)) (let here = boundary_is at in let there = boundary_is next in omega (arith, here, there, le, on))) second.works);
+          works = works_then v m w gs [] first.sound (works_less v m (given_below x d start n) gs [] (λ o z is. inr (first_less o z is)) (touches_part x.cluster_size _ _ _ _ (omega arith) (omega (arith, le, on))) first.works)
+              (works_less m w (given_below (setting_of view backing mid) (disk_of view backing mid) (boundary_in mid at) (boundary_in mid next - boundary_in mid at)) gs [] (λ o z is. inr (second_less o z is)) (touches_part (setting_of view backing mid).cluster_size _ _ _ _ (let here = boundary_is at in omega (arith, here, le)) (let here = boundary_is at in let there = boundary_is next in omega (arith, here, there, le, on))) second.works);
           sound = second.sound;
           shows = second.shows ∙ ap (λ (g : Guest). with_disk g (shown_below (setting_of view backing mid) (disk_of view backing mid) (boundary_in mid at) (boundary_in mid next - boundary_in mid at))) first.shows ∙ ap (λ e. with_disk (guest_of v) e) second_shows;
         }

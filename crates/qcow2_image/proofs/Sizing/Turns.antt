@@ -123,7 +123,7 @@ module _ {S F : Type 0} (view : S → StorageView) (backing : F → BackingView)
         let most = to_at_most h (some out sound) (rows out sound) end at (omega (arith, lt, is)) in
         let same = ap (λ n. touched_to (cluster_size h) n at (end - at)) size in
         let last = ap (rounded_up (cluster_size h)) is in
-        touches_less (cluster_size h) _ _ [] (omega arith) (λ some. omega (arith, some, most, same, last)))
+        touches_less (cluster_size h) _ _ _ _ (omega arith) (λ some. omega (arith, some, most, same, last)))
         (clears out)),
     ungiven,
   )
