@@ -8,7 +8,7 @@ use Rattle.qcow2_disk.specs.Disk.{disk, disk_with}
 use Rattle.qcow2_disk.specs.Stops.{GivenBytes, IsGiven, Checkpoint, checkpoint_with, StopOkEverywhere, SafeThroughout}
 use Rattle.qcow2_disk.specs.AbstractImages.{Setting, AbstractImage, stored_bytes, guest_of}
 use Rattle.qcow2_disk.specs.Calls.{StartsAt, Stops, EffectOnSound, EffectOnFailed}
-use Rattle.qcow2_disk.specs.UntouchedCovers.{IsUntouched}
+use Rattle.qcow2_disk.specs.UngivenCovers.{IsUngiven}
 use Rattle.qcow2_disk.proofs.Stops.{given_more, given_front, given_split, kept_more, kept_twice}
 
 -- ---- where a stop may find an image, for each step of a call
@@ -102,9 +102,9 @@ module _ (v : AbstractImage) (gs fewer : List GivenBytes) (asked : List ℕ) (wi
         (k.values o);
   }
 
--- a guest cluster that is untouched by these gifts is so by those
+-- a guest cluster of which no byte of these gifts is, has none of those
 abbrev pub TouchesLess : ℕ → (gs fewer : List GivenBytes) → Type 0
-TouchesLess size_of_cluster gs fewer = (g : ℕ) → IsUntouched size_of_cluster fewer g → IsUntouched size_of_cluster gs g
+TouchesLess size_of_cluster gs fewer = (g : ℕ) → IsUngiven size_of_cluster fewer g → IsUngiven size_of_cluster gs g
 
 -- a call that gives only what is there already or is one of fewer gifts, which touch no fewer guest clusters, gives those
 pub works_less : (old new : AbstractImage) (gs fewer : List GivenBytes) (asked : List ℕ) → ((o : ℕ) (w : Value) → IsGiven gs o w → (w ≡ (disk old.known old.setting.backing).value o) ⊎ IsGiven fewer o w)
@@ -124,7 +124,7 @@ works_then old mid new gs asked there a b =
     record {
       setting = b.setting ∙ a.setting;
       surplus = λ h. b.surplus h ∙ a.surplus there;
-      beside = λ h g untouched. a.beside there g untouched ∙ b.beside h g (subst (λ (y : Setting). IsUntouched y.cluster_size gs g) (sym a.setting) untouched);
+      beside = λ h g untouched. a.beside there g untouched ∙ b.beside h g (subst (λ (y : Setting). IsUngiven y.cluster_size gs g) (sym a.setting) untouched);
       leaks = b.leaks ∙ a.leaks;
       stops = λ m starts.
           let f = a.stops m starts in

@@ -13,7 +13,7 @@ use Rattle.qcow2_disk.specs.Mappings.{PreparedMapping}
 use Rattle.qcow2_disk.specs.AbstractImages.{Setting, Guest, Abstraction, AbstractImage, abstract_image, guest_of, stored_bytes, IsWhole}
 use Rattle.qcow2_disk.specs.Calls.{Refusal, memory, storage, not_compressed, another, CallEffect, AnsweredEffect, RefusedEffect, IsRefusalByFault, EffectOnSound, EffectOnFailed, Stops}
 use Rattle.qcow2_disk.specs.Runs.{Command, Reply, Found, CommandMeaning, IsFaultReply, IsStorageReply, MayAnswer, IsAnswerOfFailed, IsRightlyTold, ResizesLast, State, CommandStep, Run, IsSafeWhile, IsCommandInterval, RefinesGuest, RefinesAlong, IsStopIn, RefinesState, RefinesCommand, RefinesRun, RefinesWholeRun, RefinesDisk, IsOwnInterval, started, checkpoint_during, checkpoint_after, stepped, given_by, asked_by, flush, shrink, done, number_is}
-use Rattle.qcow2_disk.specs.UntouchedCovers.{UntouchedStay}
+use Rattle.qcow2_disk.specs.UngivenCovers.{UngivenStay}
 use Rattle.qcow2_disk.proofs.Compose.{TouchesLess, works_less, stops_none, rests_none}
 use Rattle.qcow2_disk.proofs.HeaderRest.{header_rest_same}
 use Rattle.qcow2_disk.proofs.Stops.{stop_of_kept, stop_more}
@@ -155,7 +155,7 @@ module _ (x : Setting) (old new : AbstractImage) (s : State) (command : Command)
             own = λ _. own;
             sized = λ _. sized;
             told = λ _. subst (λ y. IsRightlyTold y old.known new command reply) (acts.setting ∙ stands.setting) finds;
-            beside = λ _. subst (λ (y : Setting). UntouchedStay y.cluster_size (given_by x s.guest command) old.known new.known) stands.setting (acts.beside sound);
+            beside = λ _. subst (λ (y : Setting). UngivenStay y.cluster_size (given_by x s.guest command) old.known new.known) stands.setting (acts.beside sound);
           };
           surplus = λ _. acts.surplus sound;
           leaks = acts.leaks;

@@ -11,7 +11,7 @@ use Rattle.qcow2_disk.specs.Stops.{GivenBytes, Checkpoint, checkpoint_with, Stop
 use Rattle.qcow2_disk.specs.Mappings.{PreparedMapping, given_shown}
 use Rattle.qcow2_disk.specs.Rules.{touched_from, touched_to}
 use Rattle.qcow2_disk.specs.AbstractImages.{Setting, Guest, AbstractImage, guest_of, stored_bytes}
-use Rattle.qcow2_disk.specs.UntouchedCovers.{UntouchedStay}
+use Rattle.qcow2_disk.specs.UngivenCovers.{UngivenStay}
 
 -- why a call was refused, as far as the state after it and what it tells depend on that
 pub data Refusal : Type 0 where
@@ -43,7 +43,7 @@ StartsAt v m = StopOkEverywhere v.setting.backing m (stored_bytes v) × StopOkEv
 pub record EffectOnSound (old new : AbstractImage) (given : List GivenBytes) (asked : List ℕ) : Type 0 where
   pub setting : new.setting ≡ old.setting
   pub surplus : new.is_sound → new.surplus ≡ old.surplus
-  pub beside : new.is_sound → UntouchedStay old.setting.cluster_size given old.known new.known
+  pub beside : new.is_sound → UngivenStay old.setting.cluster_size given old.known new.known
   pub leaks : new.leaked ≡ old.leaked
   pub stops : (m : Checkpoint) → StartsAt old m → Stops old new given asked m
 

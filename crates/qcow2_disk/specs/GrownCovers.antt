@@ -9,7 +9,7 @@ use Rattle.qcow2_metadata.specs.Header.{header, cluster_size, rounded_up}
 use Rattle.qcow2_disk.specs.Calls.{shows_old, to_kept_zero}
 use Rattle.qcow2_disk.specs.ClearedCovers.{cleared_cover}
 use Rattle.qcow2_disk.specs.Mappings.{is_copied_data}
-pub use Rattle.qcow2_disk.specs.UntouchedCovers.{Touches}
+pub use Rattle.qcow2_disk.specs.UngivenCovers.{Touches}
 
 -- What stands for guest clusters once a range is filled. Those with a byte of it are explicit zeros, from a first offset on, and copied data before it. All others stand as before.
 pub record FilledCovers (size_of_cluster first from to : ℕ) (h : HeaderFields) (known : Bytes) (h' : HeaderFields) (known' : Bytes) : Type 0 where

@@ -12,4 +12,4 @@ pub mod Runs
 pub mod Headline
 pub mod ForUsers
 pub mod Alike
-pub mod UntouchedCovers
+pub mod UngivenCovers

@@ -13,7 +13,7 @@ use Rattle.qcow2_disk.specs.Found.{Kind, IsFoundIn, IsCompressedAt}
 use Rattle.qcow2_disk.specs.AbstractImages.{Setting, HostRange, Guest, Abstraction, AbstractImage, abstract_image, guest_of, stored_bytes}
 use Rattle.qcow2_disk.specs.ClearedCovers.{IsRightlyCleared}
 use Rattle.qcow2_disk.specs.GrownCovers.{IsRightlyGrown}
-use Rattle.qcow2_disk.specs.UntouchedCovers.{UntouchedStay}
+use Rattle.qcow2_disk.specs.UngivenCovers.{UngivenStay}
 use Rattle.qcow2_disk.specs.Calls.{Refusal, memory, storage, not_compressed, another, IsRefusalByFault, Shows, with_disk, with_slot, MayWrite, Clearing, cleared_at, given_by_clear, grown_to, given_by_grow, MayGrow, IsShrunk, given_by_shrink, given_by_shrunk}
 
 pub data Command : Type 0 where
@@ -279,7 +279,7 @@ pub record IsCommandInterval (x : Setting) (old : StorageView) (known : Bytes) (
   pub own : s.is_failed ≡ false → IsOwnInterval x.backing old new.storage known (given_by x s.guest command) (asked_by command)
   pub sized : s.is_failed ≡ false → ResizesLast s.guest.disk.size old new.storage command
   pub told : end.is_failed ≡ false → IsRightlyTold x known new command reply
-  pub beside : end.is_failed ≡ false → UntouchedStay x.cluster_size (given_by x s.guest command) known new.known
+  pub beside : end.is_failed ≡ false → UngivenStay x.cluster_size (given_by x s.guest command) known new.known
 
 -- Along a run: for each command there is the image at its return, with the mappings that are prepared then, and its stretch is as said.
 abbrev pub RefinesAlong : {D P : Type 0} (spec : Abstraction D P) (x : Setting) (before : ℕ → ℕ) (leaked : ℕ) (old new : D) (s end : State) (commands : List Command) (replies : List Reply) → Run x s commands replies end → Type 0

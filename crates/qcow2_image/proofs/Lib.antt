@@ -5,7 +5,7 @@ pub mod Shares
 pub mod Apart
 pub mod Moving
 pub mod Moved
-pub mod Untouched
+pub mod UngivenCovers
 pub mod WholeClusters
 pub mod Free
 pub mod HiddenBytes

@@ -10,7 +10,7 @@ use Rattle.qcow2_disk.specs.Stops.{GivenBytes}
 use Rattle.qcow2_disk.proofs.Compose.{TouchesLess}
 use Rattle.qcow2_image.proofs.Prepare.Readying.{rounds_up}
 use Rattle.qcow2_image.proofs.Sizing.Tails.{mono_up}
-use Rattle.qcow2_image.proofs.Untouched.{touches_less, touches_whole}
+use Rattle.qcow2_image.proofs.UngivenCovers.{touches_less, touches_whole}
 
 -- where the whole clusters of a range end, as what a disk shows there tells it
 pub whole_end : (size_of_cluster from to : ℕ) → from ≤ to → rounded_down size_of_cluster from + (rounded_up size_of_cluster to - rounded_down size_of_cluster from) ≡ rounded_up size_of_cluster to

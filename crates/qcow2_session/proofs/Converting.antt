@@ -29,7 +29,7 @@ use Rattle.qcow2_session.proofs.Chunks.{may_write_none}
 use Rattle.qcow2_session.proofs.Turns.{IsWithin, all_within, none_within, does_if, does_why, does_less, does_then, acts_less, acts_then}
 use Rattle.qcow2_session.proofs.Writing.{writes_more, may_write_more}
 use Rattle.qcow2_disk.proofs.Compose.{stops_none, rests_none}
-use Rattle.qcow2_image.proofs.Untouched.{touches_part}
+use Rattle.qcow2_image.proofs.UngivenCovers.{touches_part}
 
 -- no call at all
 pub does_nothing : (v : AbstractImage) → AnsweredEffect v v [] [] (guest_of v ≡ guest_of v)

@@ -34,7 +34,7 @@ use Rattle.qcow2_image.proofs.Sizes.{disk_size}
 use Rattle.qcow2_image.proofs.Sizing.Tails.{given_as, given_is}
 use Rattle.qcow2_session.proofs.Answering.{error_is, first_of_all, not_both}
 use Rattle.qcow2_disk.proofs.Compose.{TouchesLess}
-use Rattle.qcow2_image.proofs.Untouched.{touches_less}
+use Rattle.qcow2_image.proofs.UngivenCovers.{touches_less}
 
 -- ---- what an answered shrink uncovered is a part of what it might uncover
 

@@ -28,7 +28,7 @@ use Rattle.qcow2_image.proofs.Moved.{format_file_step, format_stay}
 use Rattle.qcow2_image.proofs.Shares.{private_used, used_unlaid}
 use Rattle.qcow2_image.proofs.Sound.{free_more, pending_is}
 use Rattle.qcow2_disk.proofs.Compose.{stops_of}
-use Rattle.qcow2_image.proofs.Untouched.{all_stay}
+use Rattle.qcow2_image.proofs.UngivenCovers.{all_stay}
 
 pub same_guest : (a b : Guest) → a.disk ≡ b.disk → a.slots ≡ b.slots → a ≡ b
 same_guest a b disks slots = ap (λ d. record a { disk = d }) disks ∙ ap (λ f. record b { slots = f }) slots

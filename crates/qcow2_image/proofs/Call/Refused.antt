@@ -28,7 +28,7 @@ use Rattle.qcow2_image.proofs.Sound.{free_more}
 use Rattle.qcow2_image.proofs.Call.Answered.{same_setting, same_now, sound_now, works_now}
 use Rattle.qcow2_image.proofs.Call.CallOutcomes.{is_fault, outcome, outcome_refused}
 use Rattle.qcow2_image.proofs.Call.Stepped.{Steps, stepped_sound, stepped_works}
-use Rattle.qcow2_image.proofs.Untouched.{all_stay}
+use Rattle.qcow2_image.proofs.UngivenCovers.{all_stay}
 
 -- a fault, or want of memory that was noted, marks the image
 pub marks_fault : (e : ImageError) (before marked noted : Bool) → FaultOfTables e → (e ≡ I.Memory → IsTrue noted) → MayMark e before marked → (e ≡ I.Memory → IsTrue noted → IsTrue marked) → IsTrue marked × IsRefusalByFault (refusal_of e)

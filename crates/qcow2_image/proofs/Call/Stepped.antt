@@ -10,7 +10,7 @@ use Rattle.qcow2_laws.specs.CrashInvariant.{Pending}
 use Rattle.qcow2_laws.specs.SafeSteps.{SafeStep}
 use Rattle.qcow2_disk.specs.Stops.{SafeThroughout, GivenBytes}
 use Rattle.qcow2_disk.specs.Calls.{EffectOnSound}
-use Rattle.qcow2_disk.specs.UntouchedCovers.{UntouchedStay}
+use Rattle.qcow2_disk.specs.UngivenCovers.{UngivenStay}
 use Rattle.qcow2_laws.specs.Unseen.{KeepsFormat}
 use Rattle.qcow2_alloc.specs.ImageFile.{state_in, view_in, known_in}
 use Rattle.qcow2_image.specs.declared.image.Qcow2.{Qcow2}
@@ -32,7 +32,7 @@ module _ {S F : Type 0} (view : S → StorageView) (backing : F → BackingView)
     pub below : below_of view backing new.backing ≡ below_of view backing old.backing
     pub surplus : p.surplus ≡ (pending_in view backing old out).surplus
     pub leaks : leaked_in new ≡ leaked_in old
-    pub beside : UntouchedStay (cluster_size old.file.header.fields) (given (backing_bytes view backing old.backing)) (known_in view old.file) (known_in view new.file)
+    pub beside : UngivenStay (cluster_size old.file.header.fields) (given (backing_bytes view backing old.backing)) (known_in view old.file) (known_in view new.file)
 
   module _ (given : Bytes → List GivenBytes) (p : Pending) (steps : Steps given p) where
     pending_now : p ≡ pending_in view backing new out'

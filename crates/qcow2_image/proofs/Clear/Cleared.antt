@@ -40,8 +40,8 @@ use Rattle.qcow2_image.proofs.Clear.Entries.{OneCleared, one_cleared}
 use Rattle.qcow2_image.proofs.Commit.Committing.{listed_tables}
 use Rattle.qcow2_image.proofs.Open.Reftables.{reftable_still}
 use Rattle.qcow2_image.proofs.Sound.{free_more}
-use Rattle.qcow2_image.proofs.Untouched.{untouched_stay}
-use Rattle.qcow2_disk.specs.UntouchedCovers.{IsUntouched}
+use Rattle.qcow2_image.proofs.UngivenCovers.{ungiven_stay}
+use Rattle.qcow2_disk.specs.UngivenCovers.{IsUngiven}
 
 -- what is listed is no table
 listed_no_table : (how : Clearance) (h : HeaderFields) (known : Bytes) (first n k : ℕ) → to_free of_tables (listed_by how h known first n) k ≡ 0
@@ -238,7 +238,7 @@ module _ {S F : Type 0} (view : S → StorageView) (backing : F → BackingView)
     given below = given_shown (disk s'.known below) from to ∷ []
 
     -- what stands beside the range stays
-    covers_beside : (c : ℕ) → IsUntouched (cluster_size h') (given (backing_bytes view backing a.backing)) c → cover h' (known_in view a.file) c ≡ cover h' (known_in view final.file) c
+    covers_beside : (c : ℕ) → IsUngiven (cluster_size h') (given (backing_bytes view backing a.backing)) c → cover h' (known_in view a.file) c ≡ cover h' (known_in view final.file) c
     covers_beside c untouched = elim (cases_lt c g) [
       | inl below ↦ all.stays c (inl below)
       | inr le ↦ elim (cases_lt c (g + n)) [
@@ -279,7 +279,7 @@ module _ {S F : Type 0} (view : S → StorageView) (backing : F → BackingView)
       below = refl;
       surplus = all.surplus;
       leaks = refl;
-      beside = untouched_stay view a.file final.file (pending_in view backing a out) all.now sound.file.caches.kept.kept.crash_invariant range.safe_step.sound (given (backing_bytes view backing a.backing)) covers_beside;
+      beside = ungiven_stay view a.file final.file (pending_in view backing a out) all.now sound.file.caches.kept.kept.crash_invariant range.safe_step.sound (given (backing_bytes view backing a.backing)) covers_beside;
     }
 
     given_is : given (backing_bytes view backing a.backing) ≡ given_bytes_between view backing a how from to

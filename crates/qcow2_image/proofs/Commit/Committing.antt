@@ -62,7 +62,7 @@ use Rattle.qcow2_image.proofs.Open.Reftables.{reftable_still}
 use Rattle.qcow2_image.proofs.Call.Slots.{get_set_other, get_set_same, length_set, over_all_set, slot_set}
 use Rattle.qcow2_image.proofs.Call.Stepped.{Steps, stepped_sound, stepped_works}
 use Rattle.qcow2_image.proofs.Shares.{new_data_less, over_all_at, place_in, private_is}
-use Rattle.qcow2_image.proofs.Untouched.{touches_part, untouched_stay, touches_own}
+use Rattle.qcow2_image.proofs.UngivenCovers.{touches_part, ungiven_stay, touches_own}
 
 -- ---- the entry of a held table changes to a held cluster
 module _ (s : DriverState) (known' : Bytes) (i j entry : ℕ) (sound : StateInvariant s) (real : table_at s.header s.known i ≢ 0) (within : j < entries_per_cluster s.header)
@@ -420,7 +420,7 @@ module _ {S F : Type 0} (view : S → StorageView) (backing : F → BackingView)
       below = refl;
       surplus = made.surplus;
       leaks = refl;
-      beside = untouched_stay view old.file final.file before made.after sound.file.caches.kept.kept.crash_invariant safe_step.sound (given (backing_bytes view backing old.backing)) (λ g untouched. made.mapped.unseen.covers g (λ same. untouched.0 (touches_own (cluster_size h) (pow_pos h.cluster_bits) (guest_at h row column) g same)));
+      beside = ungiven_stay view old.file final.file before made.after sound.file.caches.kept.kept.crash_invariant safe_step.sound (given (backing_bytes view backing old.backing)) (λ g untouched. made.mapped.unseen.covers g (λ same. untouched.0 (touches_own (cluster_size h) (pow_pos h.cluster_bits) (guest_at h row column) g same)));
     }
 
     -- ---- what it shows

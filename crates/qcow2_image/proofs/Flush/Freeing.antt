@@ -37,7 +37,7 @@ use Rattle.qcow2_image.proofs.Call.Called.{copied_then}
 use Rattle.qcow2_image.proofs.Moving.{file_tidied}
 use Rattle.qcow2_image.proofs.Call.Refused.{break_off, marks_fault, refuses_left, stays_stepped}
 use Rattle.qcow2_image.proofs.Call.CallOutcomes.{outcome_answered}
-use Rattle.qcow2_image.proofs.Untouched.{all_stay}
+use Rattle.qcow2_image.proofs.UngivenCovers.{all_stay}
 use Rattle.qcow2_image.proofs.Moved.{format_stay}
 
 module _ {S F : Type 0} (view : S → StorageView) (backing : F → BackingView) (out : List (Option Prepared)) where

@@ -54,7 +54,7 @@ use Rattle.qcow2_image.proofs.Prepare.Entering.{as_listed_after, interrupted_on,
 use Rattle.qcow2_image.proofs.Prepare.Gaining.{listed_after_on}
 use Rattle.qcow2_image.proofs.Sound.{free_more}
 use Rattle.qcow2_disk.proofs.Compose.{stops_of}
-use Rattle.qcow2_image.proofs.Untouched.{all_stay}
+use Rattle.qcow2_image.proofs.UngivenCovers.{all_stay}
 
 -- a run has each cluster once at most
 run_few : (first n k : ℕ) → run_at first n k ≤ 1

@@ -39,7 +39,7 @@ use Rattle.qcow2_image.proofs.Preallocate.Covers.{covers_before, covers_cleared,
 use Rattle.qcow2_image.proofs.Preallocate.Pieces.{none_of}
 use Rattle.qcow2_image.proofs.Preallocate.Untaken.{untaken_before, untaken_none, untaken_then, untaken_zeros}
 use Rattle.qcow2_image.proofs.Preallocate.Zeros.{may_none, may_then, may_wider, may_zeroed, shown_zeros, zeroed_before, zeroed_none, zeroed_then, zeros_wider, zeros_touch}
-use Rattle.qcow2_image.proofs.Untouched.{touches_part}
+use Rattle.qcow2_image.proofs.UngivenCovers.{touches_part}
 
 -- what comes where the work meets it isn't that a table is prepared
 pub met_taken : {A : Type 0} (e : ImageError) → IsMet e → e ≡ I.TablePrepared → A

@@ -30,7 +30,7 @@ use Rattle.qcow2_image.proofs.Preallocate.Pieces.{none_of}
 use Rattle.qcow2_image.proofs.Preallocate.Zeros.{zeros_shown}
 use Rattle.qcow2_image.proofs.Prepare.Lacked.{limited_not}
 use Rattle.qcow2_image.proofs.Sizes.{disk_size}
-use Rattle.qcow2_image.proofs.Untouched.{touches_part}
+use Rattle.qcow2_image.proofs.UngivenCovers.{touches_part}
 
 -- ---- a number rounded up
 pub up_whole : (cs n : ℕ) → 0 < cs → rounded_up cs n % cs ≡ 0

@@ -12,7 +12,7 @@ use Rattle.qcow2_disk.specs.Calls.{EffectOnSound, with_disk, with_slot}
 use Rattle.qcow2_disk.proofs.Compose.{TouchesLess, shown_is, works_less, works_then, stops_none}
 use Rattle.qcow2_image.specs.Preallocation.{given_by_zeros}
 use Rattle.qcow2_image.proofs.Preallocate.Zeros.{commit_within, filled, put_within, zeros_of}
-use Rattle.qcow2_image.proofs.Untouched.{touches_part}
+use Rattle.qcow2_image.proofs.UngivenCovers.{touches_part}
 use Rattle.qcow2_image.proofs.WholeClusters.{commit_touches}
 
 -- nothing is given

@@ -13,7 +13,7 @@ use Rattle.qcow2_disk.specs.Stops.{IsGiven}
 use Rattle.qcow2_disk.proofs.ForUsers.{laid_inside, laid_outside, put_given}
 use Rattle.qcow2_disk.proofs.Within.{within_is}
 use Rattle.qcow2_image.specs.Preallocation.{MayBeZero, given_by_zeros}
-use Rattle.qcow2_image.proofs.Untouched.{touches_less}
+use Rattle.qcow2_image.proofs.UngivenCovers.{touches_less}
 use Rattle.qcow2_disk.proofs.Compose.{TouchesLess}
 
 -- where an offset lies

@@ -25,7 +25,7 @@ use Rattle.qcow2_image.proofs.Call.Answered.{same_guest}
 use Rattle.qcow2_image.proofs.Call.Slots.{get_set, over_all_set, slot_set}
 use Rattle.qcow2_image.proofs.Call.Stepped.{Steps, stepped_sound, stepped_works}
 use Rattle.qcow2_image.proofs.Shares.{private_is, private_shared}
-use Rattle.qcow2_image.proofs.Untouched.{all_stay}
+use Rattle.qcow2_image.proofs.UngivenCovers.{all_stay}
 use Rattle.qcow2_image.proofs.Moved.{format_stay}
 use Rattle.qcow2_laws.specs.SafeSteps.{StateInvariant}
 

@@ -35,7 +35,7 @@ use Rattle.qcow2_image.proofs.Shares.{private_shared}
 use Rattle.qcow2_image.proofs.Open.Reftables.{reftable_still}
 use Rattle.qcow2_image.proofs.Call.Slots.{get_set, over_all_put, slot_set}
 use Rattle.qcow2_image.proofs.Call.Stepped.{Steps, stepped_sound, stepped_works}
-use Rattle.qcow2_image.proofs.Untouched.{all_stay}
+use Rattle.qcow2_image.proofs.UngivenCovers.{all_stay}
 
 -- the mapping of the rest of a guest cluster that stands at a place, with the shares of another
 abbrev pub mapping_at : HeaderFields → ℕ → ℕ → ℕ → ℕ → Prepared → Prepared

@@ -40,7 +40,7 @@ use Rattle.qcow2_image.proofs.Clear.Touched.{rounded_from}
 use Rattle.qcow2_image.proofs.Prepare.Entering.{may_still}
 use Rattle.qcow2_image.proofs.Sizes.{disk_size}
 use Rattle.qcow2_image.proofs.Sizing.Tails.{end_so_far, given_as, given_below, given_is, mono_up, none_below, none_between, shown_below, uncovers_none, uncovers_still, uncovers_then, works_asking}
-use Rattle.qcow2_image.proofs.Untouched.{touches_part}
+use Rattle.qcow2_image.proofs.UngivenCovers.{touches_part}
 
 -- ---- refusals
 pub fault_of : (e : ImageError) → IsRefusalByFault (refusal_of e) → IsFaultOfTables e

@@ -58,7 +58,7 @@ use Rattle.qcow2_image.proofs.Ready.{still_ready}
 use Rattle.qcow2_image.proofs.Shares.{private_used}
 use Rattle.qcow2_image.proofs.Sound.{pending_is}
 use Rattle.qcow2_disk.proofs.Compose.{stops_of}
-use Rattle.qcow2_image.proofs.Untouched.{all_stay}
+use Rattle.qcow2_image.proofs.UngivenCovers.{all_stay}
 
 -- ---- what is read with a header of another size
 module _ (h : HeaderFields) (size : ℕ) where

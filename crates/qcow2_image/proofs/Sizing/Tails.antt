@@ -27,7 +27,7 @@ use Rattle.qcow2_image.specs.ImageInvariant.{ImageInvariant, abstract_of, disk_o
 use Rattle.qcow2_image.specs.Resizing.{IsTurnEnd, UncoversPart, boundary_in}
 use Rattle.qcow2_image.proofs.Clear.Ranges.{to_whole}
 use Rattle.qcow2_image.proofs.Clear.Touched.{on_boundary, rounded_from}
-use Rattle.qcow2_image.proofs.Untouched.{touches_part}
+use Rattle.qcow2_image.proofs.UngivenCovers.{touches_part}
 
 -- ---- boundaries
 module _ (cs : ℕ) (some : 0 < cs) where

@@ -32,7 +32,7 @@ use Rattle.qcow2_image.specs.Refusals.{passes, refuse_if}
 use Rattle.qcow2_image.specs.Resizing.{IsFaultOrCantUncover, IsTurnEnd, UncoversNext, UncoversPart, boundary_in, refuses_to_resize}
 use Rattle.qcow2_image.proofs.Sizes.{disk_size}
 use Rattle.qcow2_image.proofs.Sizing.Tails.{given_as, given_below, given_is, mono_up, passes_boundary, shown_below, to_at_most, touches_before, turn_numbers}
-use Rattle.qcow2_image.proofs.Untouched.{touches_less}
+use Rattle.qcow2_image.proofs.UngivenCovers.{touches_less}
 
 -- a call that gives fewer bytes gives these too
 pub refuses_giving : (v w : AbstractImage) (gs more : List GivenBytes) (e : Refusal) (still : Type 0) → (v.is_sound → (o : ℕ) (x : Value) → IsGiven gs o x → IsGiven more o x) → (v.is_sound → TouchesLess v.setting.cluster_size gs more) → RefusedEffect v w gs [] e still → RefusedEffect v w more [] e still

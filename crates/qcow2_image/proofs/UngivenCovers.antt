@@ -7,8 +7,7 @@ use Rattle.qcow2_metadata.specs.Cover.{cover}
 use Rattle.qcow2_metadata.specs.Header.{cluster_size, rounded_down, rounded_up}
 use Rattle.qcow2_metadata.specs.declared.header.HeaderFields.{HeaderFields}
 use Rattle.qcow2_disk.specs.Stops.{GivenBytes}
-use Rattle.qcow2_disk.specs.UntouchedCovers.{IsUntouched, Touches, UntouchedStay}
-use Rattle.qcow2_disk.proofs.Compose.{TouchesLess}
+use Rattle.qcow2_disk.specs.UngivenCovers.{IsUngiven, Touches, UngivenStay}
 use Rattle.qcow2_laws.specs.CrashInvariant.{Pending}
 use Rattle.qcow2_laws.specs.SafeSteps.{StateInvariant}
 use Rattle.qcow2_laws.proofs.Unseen.{known_header}
@@ -18,18 +17,14 @@ use Rattle.qcow2_image.specs.MovedTables.{CoversStay}
 
 module _ {S : Type 0} (view : S → StorageView) (old new : ImageFile S) (p p' : Pending) (sound : StateInvariant (state_in view old p)) (sound' : StateInvariant (state_in view new p')) where
   -- by the headers in memory, and so by those that the known bytes hold
-  pub untouched_stay : (given : List GivenBytes) → ((g : ℕ) → IsUntouched (cluster_size old.header.fields) given g → cover old.header.fields (known_in view old) g ≡ cover new.header.fields (known_in view new) g)
-      → UntouchedStay (cluster_size old.header.fields) given (known_in view old) (known_in view new)
-  untouched_stay given covers g untouched =
+  pub ungiven_stay : (given : List GivenBytes) → ((g : ℕ) → IsUngiven (cluster_size old.header.fields) given g → cover old.header.fields (known_in view old) g ≡ cover new.header.fields (known_in view new) g)
+      → UngivenStay (cluster_size old.header.fields) given (known_in view old) (known_in view new)
+  ungiven_stay given covers g untouched =
       ap (λ (h : HeaderFields). cover h (known_in view old) g) (known_header (state_in view old p) sound) ∙ covers g untouched ∙ ap (λ (h : HeaderFields). cover h (known_in view new) g) (sym (known_header (state_in view new p') sound'))
 
   -- so where the same stands for all of them
-  pub all_stay : (given : List GivenBytes) → CoversStay old.header.fields (known_in view old) new.header.fields (known_in view new) → UntouchedStay (cluster_size old.header.fields) given (known_in view old) (known_in view new)
-  all_stay given covers = untouched_stay given (λ g untouched. covers g)
-
--- nothing touches no cluster
-pub touches_none : (size_of_cluster : ℕ) (given : List GivenBytes) → TouchesLess size_of_cluster [] given
-touches_none size_of_cluster given g untouched = tt
+  pub all_stay : (given : List GivenBytes) → CoversStay old.header.fields (known_in view old) new.header.fields (known_in view new) → UngivenStay (cluster_size old.header.fields) given (known_in view old) (known_in view new)
+  all_stay given covers = ungiven_stay given (λ g untouched. covers g)
 
 -- a part of a range touches no more clusters than the range
 module _ (size_of_cluster part_from part_count from count : ℕ) (low : from ≤ part_from) where

@@ -10,10 +10,10 @@ abbrev pub Touches : (size_of_cluster from to g : ℕ) → Type 0
 Touches size_of_cluster from to g = (from < to) × (from < g * size_of_cluster + size_of_cluster) × (g * size_of_cluster < to)
 
 -- none of the bytes that are given is one of a guest cluster
-abbrev pub IsUntouched : (size_of_cluster : ℕ) → List GivenBytes → (g : ℕ) → Type 0
-IsUntouched size_of_cluster [] g = Unit {0}
-IsUntouched size_of_cluster (given ∷ others) g = (Touches size_of_cluster given.from (given.from + given.count) g → ⊥) × IsUntouched size_of_cluster others g
+abbrev pub IsUngiven : (size_of_cluster : ℕ) → List GivenBytes → (g : ℕ) → Type 0
+IsUngiven size_of_cluster [] g = Unit {0}
+IsUngiven size_of_cluster (given ∷ others) g = (Touches size_of_cluster given.from (given.from + given.count) g → ⊥) × IsUngiven size_of_cluster others g
 
 -- what stands for each guest cluster of which no byte is given is as before
-abbrev pub UntouchedStay : (size_of_cluster : ℕ) → List GivenBytes → (before after : Bytes) → Type 0
-UntouchedStay size_of_cluster given before after = (g : ℕ) → IsUntouched size_of_cluster given g → cover (header before) before g ≡ cover (header after) after g
+abbrev pub UngivenStay : (size_of_cluster : ℕ) → List GivenBytes → (before after : Bytes) → Type 0
+UngivenStay size_of_cluster given before after = (g : ℕ) → IsUngiven size_of_cluster given g → cover (header before) before g ≡ cover (header after) after g
