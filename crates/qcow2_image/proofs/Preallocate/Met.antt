@@ -38,6 +38,7 @@ use Rattle.qcow2_image.proofs.Grow.Lengths.{index_moved, index_rising, last_clus
 use Rattle.qcow2_image.proofs.Preallocate.Covers.{touches_or}
 use Rattle.qcow2_image.proofs.Preallocate.Grown.{up_rising}
 use Rattle.qcow2_image.proofs.Preallocate.Turns.{same_size, same_version}
+use Rattle.qcow2_image.proofs.Prepare.MetRanges.{place_then}
 
 -- ---- refusals
 
@@ -104,10 +105,7 @@ compressed_moved h h' known known' from to file_step was has = record {
 
 -- ---- where the L1 entries lie
 
--- the table stays where it is, part after part
-pub place_then : (h h' h'' : HeaderFields) → KeepsL1Place h h' → KeepsL1Place h' h'' → KeepsL1Place h h''
-place_then h h' h'' first then = (then.0 ∙ first.0, then.1 ∙ first.1)
-
+-- the table stays where it is, also where a header is the same
 pub place_same : (h : HeaderFields) (v v' : HeaderView) → v' ≡ v → KeepsL1Place h v.fields → KeepsL1Place h v'.fields
 place_same h v v' same kept = subst (λ (x : HeaderView). KeepsL1Place h x.fields) (sym same) kept
 

@@ -10,7 +10,7 @@ use Rattle.qcow2_metadata.specs.Bytes.{Bytes}
 use Rattle.qcow2_metadata.specs.Consistent.{CoverIsAligned}
 use Rattle.qcow2_metadata.specs.Cover.{cover, cover_of, cover_under}
 use Rattle.qcow2_metadata.specs.Entries.{host_offset}
-use Rattle.qcow2_metadata.specs.Header.{cluster_size, entries_per_cluster}
+use Rattle.qcow2_metadata.specs.Header.{cluster_size, entries_per_cluster, HeaderView}
 use Rattle.qcow2_metadata.specs.L2Mapping.{greatest_offset}
 use Rattle.qcow2_metadata.specs.declared.header.HeaderFields.{HeaderFields}
 use Rattle.qcow2_metadata.specs.declared.l2_mapping.L2Mapping.{L2Mapping}
@@ -18,7 +18,7 @@ use Rattle.qcow2_metadata.specs.declared.l2_mapping.L2Mapping.TheVariants as M
 use Rattle.qcow2_disk.specs.Found.{IsCompressed}
 use Rattle.qcow2_disk.specs.GrownCovers.{Touches}
 use Rattle.qcow2_laws.proofs.Places.{Sizes, Sizes-from, l1_entry-past}
-use Rattle.qcow2_alloc.specs.ImageFile.{contents_in, known_in}
+use Rattle.qcow2_alloc.specs.ImageFile.{contents_in, known_in, KeepsHeader}
 use Rattle.qcow2_alloc.specs.MetadataCaches.{IsEntryAt, l2_at}
 use Rattle.qcow2_alloc.specs.declared.error.ImageError.{ImageError}
 use Rattle.qcow2_image.specs.declared.image.Qcow2.{Qcow2}
@@ -26,7 +26,7 @@ use Rattle.qcow2_image.specs.declared.prepared.Prepared.{Prepared}
 use Rattle.qcow2_image.specs.declared.prepared.Share.{Share}
 use Rattle.qcow2_image.specs.declared.prepared.Share.TheVariants.{InPlace, Kept, New}
 use Rattle.qcow2_image.specs.ImageInvariant.{cluster_of, host_begin_of, pending_in, pins_by, IsPending, IsReadyWith, IsShareAt, ImageInvariant}
-use Rattle.qcow2_image.specs.MetAlone.{HasCompressedIn, IsMetAlone}
+use Rattle.qcow2_image.specs.MetAlone.{HasCompressedIn, IsMetAlone, KeepsL1Place}
 use Rattle.qcow2_image.specs.MovedTables.{CoversStay}
 use Rattle.qcow2_image.specs.Ranges.{MayGoOn}
 use Rattle.qcow2_image.proofs.Apart.{pins_own}
@@ -207,3 +207,10 @@ compressed_as h h' known known' from to size covers found =
       touched = subst (λ s. Touches s from to found.guest) size found.touched;
       is = subst IsCompressed (sym (covers found.guest)) found.is;
     }
+
+-- ---- the L1 table stays where it is
+pub place_kept : (v v' : HeaderView) → KeepsHeader v v' → KeepsL1Place v.fields v'.fields
+place_kept v v' keeps = (ap (λ (x : HeaderView). x.fields.l1_offset) keeps, ap (λ (x : HeaderView). x.fields.l1_entries) keeps)
+
+pub place_then : (h h' h'' : HeaderFields) → KeepsL1Place h h' → KeepsL1Place h' h'' → KeepsL1Place h h''
+place_then h h' h'' first later = (later.0 ∙ first.0, later.1 ∙ first.1)

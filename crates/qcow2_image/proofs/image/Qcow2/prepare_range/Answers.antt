@@ -25,8 +25,8 @@ use Rattle.qcow2_metadata.specs.Header.{cluster_size}
 use Rattle.qcow2_metadata.specs.declared.header.HeaderFields.{HeaderFields}
 use Rattle.qcow2_image.specs.L1Entries.{NeedsFarEntry}
 use Rattle.qcow2_image.specs.MetAlone.{HasCompressedIn}
-use Rattle.qcow2_image.proofs.Prepare.MetTables.{hands_alone, place_kept, place_then}
-use Rattle.qcow2_image.proofs.Prepare.MetRanges.{alone_as, compressed_as}
+use Rattle.qcow2_image.proofs.Prepare.MetTables.{hands_alone}
+use Rattle.qcow2_image.proofs.Prepare.MetRanges.{alone_as, compressed_as, place_kept, place_then}
 use Rattle.qcow2_image.proofs.image.Qcow2.prepare_range.Goals as goal
 
 pub returns-in_err-table-clause-readies : goal.returns-in_err-table-clause-readies
