@@ -9,7 +9,8 @@ use Rattle.qcow2_image.proofs.Preallocate.Turns.{same_version, still_at}
 use Rattle.qcow2_image.proofs.Call.BehindHeader.{behind_then}
 use Rattle.qcow2_alloc.specs.ImageFile.{known_in}
 use Rattle.qcow2_image.specs.MetAlone.{HasCompressedIn, IsMetAlone}
-use Rattle.qcow2_image.proofs.Preallocate.Met.{entry_reached, hands_met, met_before, near_moved, place_then}
+use Rattle.qcow2_image.proofs.Preallocate.Met.{entry_reached, hands_met, met_before, near_moved}
+use Rattle.qcow2_image.proofs.Prepare.MetRanges.{place_then}
 use Rattle.qcow2_image.proofs.Prepare.Taken.{if_err}
 use Rattle.qcow2_image.proofs.image.Qcow2.zero_between.Goals as goal
 
