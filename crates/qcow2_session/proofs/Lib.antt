@@ -2,6 +2,7 @@ pub mod Turns
 mod Places
 mod Bytes
 mod Beyond
+mod Copied
 mod Marking
 mod Meanings
 mod Answering

@@ -2,6 +2,7 @@
 ghost use Rattle.std.specs.Prelude.{◌≡◌, ◌+◌, ◌^◌, ◌≤◌, ◌⊎◌, ◌<◌, ◌++◌, ◌∷◌, ℕ, List, [], length, vec_len, IfSome, IfErr, IfOk, IsTrue, MatchResult, OnOk, Option, None, Some, Err, false};
 ghost use Rattle.qcow2_alloc.specs.declared.error.ImageError.TheVariants.{Memory, OutdatedMapping, TablePrepared};
 ghost use Rattle.qcow2_image.specs.BehindHeader.{StaysBehindHeader};
+ghost use Rattle.qcow2_image.specs.CallParts.{AreCopied};
 ghost use Rattle.qcow2_image.specs.Clearing.{IsUnderMapping};
 ghost use Rattle.qcow2_image.specs.Found.{IsFoundWhole, further_by};
 ghost use Rattle.qcow2_image.specs.Preallocation.{IsUnderMappingIn};
@@ -284,6 +285,7 @@ pub fn write<S: Storage, F: WrappedFormat<S>>(
     ensures cause { IfErr result (λ (e, n). IsOfWriting e) }
     ensures ends { (out : List (Option Prepared)) → (abstract_of S.view F.backing image.old out).is_sound → IfErr result (λ (e, n). 0 < n → (n < length bytes.now) × EndsCluster image.old (offset + n)) }
     ensures sees { Writes S.view F.backing image.old image.new offset bytes.now result }
+    ensures copied { 0 < length bytes.now → (out : List (Option Prepared)) → (abstract_of S.view F.backing image.old out).is_sound → OnOk result (AreCopied S.view offset (offset + length bytes.now) image.new) }
     ensures quiet { StaysQuiet S.view image.old image.new }
 {
     let mut done = match write_some(image, offset, bytes) {
@@ -324,6 +326,7 @@ fn write_some<S: Storage, F: WrappedFormat<S>>(
     ensures end { IfOk result (λ n. (is_failed image.new ≡ is_failed image.old) × (offset + length bytes.now < 2 ^ 64)) }
     ensures ends { (out : List (Option Prepared)) → (abstract_of S.view F.backing image.old out).is_sound → IfOk result (λ n. n < length bytes.now → EndsCluster image.old (offset + n)) }
     ensures sees { WritesFirst S.view F.backing image.old image.new offset bytes.now result }
+    ensures copied { 0 < length bytes.now → (out : List (Option Prepared)) → (abstract_of S.view F.backing image.old out).is_sound → IfOk result (λ n. AreCopied S.view offset (offset + n) image.new) }
     ensures quiet { StaysQuiet S.view image.old image.new }
 {
     let prepared = image.prepare_data_mapping(offset, bytes.len() as u64, true)?;

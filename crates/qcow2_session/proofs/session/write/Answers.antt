@@ -19,6 +19,8 @@ use Rattle.qcow2_session.proofs.Parts.{not_failed_yet, part_prepares, part_under
 use Rattle.qcow2_session.proofs.Marking.{fails_behind}
 use Rattle.qcow2_image.proofs.Call.BehindHeader.{behind_then}
 use Rattle.qcow2_alloc.proofs.KeptTables.AllWritten.{written_then}
+use Rattle.qcow2_image.specs.CallParts.{AreCopied}
+use Rattle.qcow2_session.proofs.Copied.{copied_on}
 use Rattle.qcow2_session.proofs.session.write.Goals as goal
 
 pub returns-in_default-clause-sees : goal.returns-in_default-clause-sees
@@ -42,6 +44,14 @@ loop-done-preserved g c = record {
       let rest : c.in-Ok-write_some.count < length (drop c.loop-done.done c.args.bytes.now) = grind (arith, common_steps) in
       ends_on c.args.image.now c.loop-done.image (ap (λ (x : Setting). x.cluster_size) ((c.loop-done.invariant.written out).acts.works sound).setting) c.args.offset c.loop-done.done c.in-Ok-write_some.count c.in-Some.at c.in-Some.ensures.1
       ((rw (take_rest c.args.bytes.now c.loop-done.done) at (c.in-Ok-write_some.ensures.ends out still.0)) rest);
+  copied = λ some out sound.
+      let view = g.S.Storage.view in
+      let below = g.F.BackingDisk.backing in
+      let still = ((c.loop-done.invariant.written out).answer sound).0 in
+      let more : 0 < length (drop c.loop-done.done c.args.bytes.now) = grind (arith, common_steps) in
+      let part = rw (take_rest c.args.bytes.now c.loop-done.done) at (c.in-Ok-write_some.ensures.sees out) in
+      copied_on view below c.loop-done.image c.write_some-in-loop-done.new.image out still (part.answer still).0 c.args.offset c.in-Some.at c.loop-done.done c.in-Ok-write_some.count (drop c.loop-done.done c.args.bytes.now) c.in-Some.ensures.1
+      (part.acts.works still) (c.loop-done.invariant.copied some out sound) ((rw (take_rest c.args.bytes.now c.loop-done.done) at (c.in-Ok-write_some.ensures.copied)) more out still);
   end = c.loop-done.invariant.end;
   written = λ out. writes_more c.args.offset c.in-Some.at c.loop-done.done c.args.bytes.now c.loop-done.invariant.within c.in-Some.ensures.1
       (abstract_of g.S.Storage.view g.F.BackingDisk.backing c.args.image.now out) (abstract_of g.S.Storage.view g.F.BackingDisk.backing c.loop-done.image out) (abstract_of g.S.Storage.view g.F.BackingDisk.backing c.write_some-in-loop-done.new.image out)
@@ -142,3 +152,8 @@ returns-in-Err-write_some-clause-header_cluster g c = behind_then c.loop-done.in
 
 pub returns-in-Err-write_some-clause-quiet : goal.returns-in-Err-write_some-clause-quiet
 returns-in-Err-write_some-clause-quiet g c = λ reading. written_then g.S.Storage.view (c.loop-done.invariant.quiet reading) (c.write_some-in-loop-done.ensures.quiet (c.loop-done.invariant.image.writable ∙ reading))
+
+pub returns-clause-copied : goal.returns-clause-copied
+returns-clause-copied g c = λ some out sound.
+    let all : c.args.offset + c.loop-done.done ≡ c.args.offset + length c.args.bytes.now = grind (arith, common_steps) in
+    subst (λ k. AreCopied g.S.Storage.view c.args.offset k c.loop-done.image) all (c.loop-done.invariant.copied some out sound)

@@ -5,6 +5,7 @@ use Rattle.qcow2_disk.specs.Disk.{with_bytes}
 use Rattle.qcow2_disk.specs.Mappings.{given_of}
 use Rattle.qcow2_disk.specs.AbstractImages.{guest_of}
 use Rattle.qcow2_image.specs.BehindHeader.{StaysBehindHeader}
+use Rattle.qcow2_image.specs.CallParts.{AreCopied}
 use Rattle.qcow2_image.specs.Image.{IsSameImage, is_failed}
 use Rattle.qcow2_image.specs.ImageInvariant.{abstract_of}
 use Rattle.qcow2_image.specs.declared.prepared.Prepared.{Prepared}
@@ -22,6 +23,7 @@ invariant-loop-done g l = record {
   image : IsSameImage l.fn.image l.image;
   ends : (out : List (Option Prepared)) → (abstract_of g.S.Storage.view g.F.BackingDisk.backing l.fn.image out).is_sound → l.done < length l.bytes → EndsCluster l.fn.image (l.fn.offset + l.done);
   end : l.fn.offset + length l.bytes < 2 ^ 64;
+  copied : 0 < length l.bytes → (out : List (Option Prepared)) → (abstract_of g.S.Storage.view g.F.BackingDisk.backing l.fn.image out).is_sound → AreCopied g.S.Storage.view l.fn.offset (l.fn.offset + l.done) l.image;
   quiet : StaysQuiet g.S.Storage.view l.fn.image l.image;
   unwritten : StaysUnwritten g.S.Storage.view g.F.BackingDisk.backing l.fn.image l.image;
   written : (out : List (Option Prepared)) → let v = abstract_of g.S.Storage.view g.F.BackingDisk.backing l.fn.image out in let w = abstract_of g.S.Storage.view g.F.BackingDisk.backing l.image out in

@@ -17,7 +17,7 @@ use Rattle.qcow2_session.proofs.Turns.{refused_is, none_within, refuses_if, refu
 use Rattle.qcow2_image.proofs.Map.Unmodified.{read_same, read_then}
 use Rattle.qcow2_session.proofs.Unwritten.{nothing_prepared, prepare_same, put_same, read_release_prepared}
 use Rattle.qcow2_image.specs.declared.image.Qcow2.{Qcow2}
-use Rattle.std.proofs.Common.{ℕ, ◌<◌, inl, inr, take}
+use Rattle.std.proofs.Common.{ℕ, ◌+◌, ◌<◌, List, inl, inr, take}
 use Rattle.std.specs.Prelude.{IfErr}
 use Rattle.std.proofs.lemmas.Bool.{cases_lt}
 use Rattle.std.proofs.lemmas.Nat.{pow_pos}
@@ -37,6 +37,10 @@ use Rattle.qcow2_session.proofs.Marking.{fails_before, fails_behind, hands_on, r
 use Rattle.qcow2_image.proofs.Call.BehindHeader.{behind_then}
 use Rattle.qcow2_alloc.proofs.KeptTables.AllWritten.{written_then}
 use Rattle.qcow2_session.proofs.Quiet.{quiet_commit, quiet_image, quiet_release}
+use Rattle.std.specs.Prelude.{is_some}
+use Rattle.qcow2_image.specs.CallParts.{AreCopied}
+use Rattle.qcow2_image.specs.Prepared.{guest_offset_of, offset_of, table_of}
+use Rattle.qcow2_session.proofs.Copied.{entered_copied, existing_or_not, kept_copied}
 use Rattle.qcow2_session.proofs.session.write_some.Goals as goal
 
 -- what refused a call that begins another one before any work refused that one
@@ -386,3 +390,37 @@ returns-in-Err-Kept-clause-quiet g c = λ reading.
     let own = c.in_ok-prepared.ensures.own ∙ sym (ap number_of same) in
     let second = written_then view first (quiet_commit view put c.commit_data_mapping.new.self (c.commit_data_mapping.ensures.failed own) (λ works. c.commit_data_mapping.ensures.existing own works none.0)) in
     written_then view second (quiet_release view c.commit_data_mapping.new.self c.release-in-Err-Kept.new.image c.release-in-Err-Kept.ensures.rest)
+
+-- so many of the first bytes are put
+chunk_long : (n m : ℕ) (bytes : List ℕ) → n ≡ min (length bytes) m → length (take n bytes) ≡ n
+chunk_long n m bytes is = grind (arith, common_steps)
+
+pub returns-in-Ok-clause-copied : goal.returns-in-Ok-clause-copied
+returns-in-Ok-clause-copied g c = λ some out sound.
+    let view = g.S.Storage.view in
+    let below = g.F.BackingDisk.backing in
+    let old = c.args.image.now in
+    let mid = c.prepare_data_mapping.new.self in
+    let put = c.write_mapped.new.self in
+    let new = c.commit_data_mapping.new.self in
+    let p = c.in_ok-prepared.prepared in
+    let offset = c.args.offset in
+    let count = c.min-count.result in
+    let n = length c.args.bytes.now in
+    let count_is : count ≡ min n (length_of p) = c.min-count.ensures ∙ ap (λ k. min n k) c.length.ensures in
+    let long : length (take count c.args.bytes.now) ≡ count = chunk_long count (length_of p) c.args.bytes.now count_is in
+    let less : 0 < length_of p = c.in_ok-prepared.ensures.some some in
+    let any : 0 < count = omega (arith, count_is, some, less) in
+    let prepared = (c.in_ok-prepared.ensures.sees (None ∷ out) 0 refl).answer ((free_places view below).free old [] out sound) in
+    let ready = (c.in_default.ensures.sees (Some p ∷ out) 0 refl).answer prepared.0 in
+    let from_is : guest_offset_of p ≡ offset = prepared.1.0.from in
+    let none = none_refused _ (refuses_to_prepare old offset n) p c.in_ok-prepared.ensures.early in
+    let usable = mapping_usable old mid c.prepare_data_mapping.ensures.image (image_of p) c.in_ok-prepared.ensures.own c.in_ok-prepared.ensures.marks (prepares_usable old offset n none) in
+    let own = c.in_ok-prepared.ensures.own ∙ sym (c.write_mapped.ensures.image.number ∙ c.prepare_data_mapping.ensures.image.number) in
+    let left : AreCopied view (guest_offset_of p) (guest_offset_of p + count) new =
+    existing_or_not (table_of p)
+    (λ existing.
+    kept_copied view below put (Some p ∷ out) ready.0 new (guest_offset_of p) (offset_of p) (length (take count c.args.bytes.now)) count long any (c.commit_data_mapping.ensures.existing own ready.0.works (ap is_some existing)).1
+    (c.in_default.ensures.held usable existing (omega (arith, any, long))))
+    (λ table. entered_copied view new (guest_offset_of p) (offset_of p) (length_of p) count any (omega (arith, count_is)) (c.in-Ok.ensures.copied (Some p ∷ out) 0 refl ready.0 table)) in
+    subst (λ k. AreCopied view k (k + count) new) from_is left

@@ -1,0 +1,210 @@
+-- What a write leaves: copied data, in the image's own file.
+use Rattle.std.proofs.Common.{◌≡◌, ⊎_elim, inl, inr, ℕ, ◌+◌, ◌-◌, ◌*◌, ◌/◌, ◌%◌, ◌^◌, ◌<◌, ◌≤◌, Bool, true, false, Option, Some, None, List, [], ◌∷◌, length, is_some, refl, sym, ap, ◌∙◌, subst, arith}
+use Rattle.std.specs.Prelude.{IsSome}
+use Rattle.std.proofs.Math.Nat.{div-div-eq-div-mul}
+use Rattle.std.proofs.lemmas.Bool.{cases_lt, cond-false, le-ltb}
+use Rattle.std.proofs.lemmas.Nat.{div-add-mod', div-mul-add, mod_below, pow_pos}
+use Rattle.std.proofs.Math.Pow.{shr_mono}
+use Rattle.image_access.specs.Backing.{BackingView}
+use Rattle.image_access.specs.Moments.{StorageView}
+use Rattle.qcow2_metadata.specs.Bytes.{Bytes}
+use Rattle.qcow2_metadata.specs.Cover.{cover}
+use Rattle.qcow2_metadata.specs.Entries.{host_offset, l1_entry}
+use Rattle.qcow2_metadata.specs.Header.{cluster_size, entries_per_cluster}
+use Rattle.qcow2_metadata.specs.declared.header.HeaderFields.{HeaderFields}
+use Rattle.qcow2_metadata.specs.declared.l2_mapping.L2Mapping.{L2Mapping}
+use Rattle.qcow2_metadata.specs.declared.l2_mapping.L2Mapping.TheVariants.{Data, Zero, Compressed, Uncovered}
+use Rattle.qcow2_disk.specs.AbstractImages.{Setting}
+use Rattle.qcow2_disk.specs.Alike.{AreDataAt, IsAlike, IsDataAt}
+use Rattle.qcow2_disk.specs.Calls.{EffectOnSound}
+use Rattle.qcow2_disk.specs.Found.{kind_at, raw, rest_of_table}
+use Rattle.qcow2_disk.specs.Mappings.{given_of, is_copied_data}
+use Rattle.qcow2_alloc.proofs.KeptTables.Mapping.{shown_if}
+use Rattle.qcow2_alloc.specs.ImageFile.{contents_in, known_in}
+use Rattle.qcow2_alloc.specs.MetadataCaches.{IsEntryAt, ShowsKnown}
+use Rattle.qcow2_image.proofs.HiddenBytes.{header_is}
+use Rattle.qcow2_image.proofs.Map.Looked.{cached_says}
+use Rattle.qcow2_image.specs.CallParts.{AreCopied}
+use Rattle.qcow2_image.specs.Found.{l1_index_of, mapping_of}
+use Rattle.qcow2_image.specs.HeldMappings.{IsHeldAs, IsMappedByNamed, named_place}
+use Rattle.qcow2_image.specs.ImageInvariant.{abstract_of, pending_in, ImageInvariant}
+use Rattle.qcow2_image.specs.Ranges.{ReleasesOneMapping}
+use Rattle.qcow2_image.specs.declared.image.Qcow2.{Qcow2}
+use Rattle.qcow2_image.specs.declared.mapping.MappingKind.TheVariants.{Raw}
+use Rattle.qcow2_image.specs.declared.mapping.Place.TheVariants.{Image}
+use Rattle.qcow2_image.specs.declared.prepared.Prepared.{Prepared}
+
+-- what is told as writable stands as copied data
+raw_copied : (h : HeaderFields) (is_backed : Bool) (offset place : ℕ) (m : L2Mapping) → raw false place true ≡ kind_at h is_backed offset m → is_copied_data m ≡ true
+raw_copied h is_backed offset place (Data host copied) is = cc
+raw_copied h is_backed offset place (Zero kept) is = absurd cc
+raw_copied h is_backed offset place (Compressed host sectors) is = absurd cc
+raw_copied h true offset place Uncovered is = absurd cc
+raw_copied h false offset place Uncovered is = absurd cc
+
+-- so does what is mapped like it
+alike_copied : (distance : ℕ) (a b : L2Mapping) → IsAlike distance a b → is_copied_data a ≡ true → is_copied_data b ≡ true
+alike_copied distance (Data host copied) (Data next marked) alike is = alike.1 ∙ is
+alike_copied distance (Data host copied) (Zero kept) alike is = absurd alike
+alike_copied distance (Data host copied) (Compressed next sectors) alike is = absurd alike
+alike_copied distance (Data host copied) Uncovered alike is = absurd alike
+alike_copied distance (Zero kept) b alike is = absurd (let no : false ≡ true = is in cc)
+alike_copied distance (Compressed host sectors) b alike is = absurd (let no : false ≡ true = is in cc)
+alike_copied distance Uncovered b alike is = absurd (let no : false ≡ true = is in cc)
+
+-- so it is of guest byte o
+abbrev pub IsCopiedAt : HeaderFields → Bytes → ℕ → Type 0
+IsCopiedAt h known o = is_copied_data (cover h known (o / cluster_size h)) ≡ true
+
+-- an L1 entry that names a table is one of the L1 table
+entry_none : (h : HeaderFields) (b : Bytes) (i : ℕ) → h.l1_entries ≤ i → l1_entry h b i ≡ 0
+unfolding l1_entry
+entry_none h b i past = cond-false _ _ _ (le-ltb i h.l1_entries past)
+
+is_below : (h : HeaderFields) (b : Bytes) (i : ℕ) → (host_offset (l1_entry h b i) ≡ 0 → ⊥) → i < h.l1_entries
+is_below h b i real = elim (cases_lt i h.l1_entries) [ inl lt ↦ lt | inr past ↦ absurd (real (ap host_offset (entry_none h b i past))) ]
+
+-- what lies within the reach of an offset's L2 table has the same L1 entry
+same_index : (h : HeaderFields) (offset i : ℕ) → i < rest_of_table h offset → l1_index_of h (offset + i) ≡ l1_index_of h offset
+same_index h offset i lt =
+    let whole = cluster_size h * entries_per_cluster h in
+    let split : offset / whole * whole + offset % whole ≡ offset = div-add-mod' offset whole in
+    let e : offset + i ≡ offset / whole * whole + (offset % whole + i) = omega (arith, split) in
+    div-div-eq-div-mul (offset + i) (cluster_size h) (entries_per_cluster h) ∙ ap (λ n. n / whole) e ∙ div-mul-add (offset / whole) whole (offset % whole + i) (omega (arith, lt))
+    ∙ sym (div-div-eq-div-mul offset (cluster_size h) (entries_per_cluster h))
+
+-- an L2 table that reaches past an offset has entries
+has_entries : (h : HeaderFields) (offset i : ℕ) → i < rest_of_table h offset → 0 < entries_per_cluster h
+has_entries h offset i lt = elim (cases_lt 0 (entries_per_cluster h)) [
+  | inl some ↦ some
+  | inr least ↦
+      let none : entries_per_cluster h ≡ 0 = omega (arith, least) in
+      let all : cluster_size h * entries_per_cluster h ≡ 0 = ap (λ n. cluster_size h * n) none ∙ omega arith in
+      absurd (omega (arith, lt, all))
+]
+
+-- a byte of data that is marked copied
+data_copied : (h : HeaderFields) (known : Bytes) (o place : ℕ) → IsDataAt h known true o place → IsCopiedAt h known o
+data_copied h known o place is = ap is_copied_data is.1
+
+module _ {S F : Type 0} (view : S → StorageView) where
+  -- the guest clusters that a range touches are those of its bytes
+  pub clusters_copied : (image : Qcow2 S F) (offset n : ℕ) → 0 < n → ((i : ℕ) → i < n → IsCopiedAt image.file.header.fields (known_in view image.file) (offset + i)) → AreCopied view offset (offset + n) image
+  clusters_copied image offset n some each g first last =
+      let h = image.file.header.fields in
+      let size = cluster_size h in
+      let known = known_in view image.file in
+      elim (cases_lt offset (g * size)) [
+        | inl behind ↦
+            let whole : offset + (g * size - offset) ≡ g * size + 0 = omega (arith, behind) in
+            let here : (offset + (g * size - offset)) / size ≡ g = ap (λ o. o / size) whole ∙ div-mul-add g size 0 (pow_pos h.cluster_bits) in
+            subst (λ k. is_copied_data (cover h known k) ≡ true) here (each (g * size - offset) (omega (arith, behind, last)))
+        | inr within ↦
+            let split : offset + 0 ≡ g * size + (offset - g * size) = omega (arith, within) in
+            let here : (offset + 0) / size ≡ g = ap (λ o. o / size) split ∙ div-mul-add g size (offset - g * size) (omega (arith, first, within)) in
+            subst (λ k. is_copied_data (cover h known k) ≡ true) here (each 0 some)
+      ]
+
+  module _ (backing : F → BackingView) (image : Qcow2 S F) (out : List (Option Prepared)) (sound : ImageInvariant view backing (pending_in view backing image out) image out) where
+    abbrev h : HeaderFields
+    h = image.file.header.fields
+
+    abbrev known : Bytes
+    known = known_in view image.file
+
+    abbrev on_storage : Bytes
+    on_storage = contents_in view image.file
+
+    module _ (offset : ℕ) where
+      abbrev index : ℕ
+      index = l1_index_of h offset
+
+      -- the L1 table in memory is the one on the storage, and the known one
+      named_there : host_offset (l1_entry h on_storage index) ≡ named_place h image.l1_table offset
+      named_there = ap host_offset (sym (sound.l1_table.entries index))
+
+      named_known : host_offset (l1_entry h known index) ≡ named_place h image.l1_table offset
+      named_known = ap host_offset (sym (sound.file.caches.kept.kept.crash_invariant.same_top.l1 index)) ∙ named_there
+
+      -- so each entry of the L2 table that it names is a known one
+      named_at : ¬ (named_place h image.l1_table offset ≡ 0) → (column : ℕ) → column < entries_per_cluster h → IsEntryAt h known index (named_place h image.l1_table offset / cluster_size h) column
+      named_at named column lt =
+          let place = named_place h image.l1_table offset in
+          let below = is_below h on_storage index (λ none. named (sym named_there ∙ none)) in
+          let aligned : place % cluster_size h ≡ 0 = ap (λ n. n % cluster_size h) (sym named_there) ∙ sound.file.caches.kept.kept.crash_invariant.top.l2_tables_aligned index below in
+          let split = div-add-mod' place (cluster_size h) in
+          record { real = λ none. named (sym named_known ∙ none); place = named_known ∙ omega (arith, split, aligned); within = lt }
+
+    -- a byte of a range that the tables in memory map as copied data is copied data as it is known
+    pub held_copied : (offset place n i : ℕ) → IsHeldAs image offset (Raw Image place true) n → i < n → IsCopiedAt h known (offset + i)
+    held_copied offset place n i held lt = ⊎_elim
+        (λ none. absurd (let no : false ≡ true = raw_copied h (is_some image.backing) offset place Uncovered none.kind_is in cc)) (λ by. by_table by)
+        held.mapped
+      where
+        by_table : IsMappedByNamed h (is_some image.backing) image.l1_table image.file.caches offset (Raw Image place true) n → IsCopiedAt h known (offset + i)
+        by_table by =
+            let t = by.table in
+            let size = cluster_size h in
+            let within = held.within in
+            let reach : i < rest_of_table h offset = omega (arith, lt, within) in
+            let shows : ShowsKnown image.file.caches (named_place h image.l1_table offset / size) t = shown_if image.file.caches (named_place h image.l1_table offset / size) (Some t) (sym by.held) in
+            let at = λ (g : ℕ). named_at offset by.named (g % entries_per_cluster h) (mod_below g (entries_per_cluster h) (has_entries h offset i reach)) in
+            let bits = (shows h (pending_in view backing image out) (contents_in view image.file) (l1_index_of h offset) (offset / size % entries_per_cluster h) sound.file.caches (at (offset / size))).format.bits in
+            let says = λ (g : ℕ) (here : g / entries_per_cluster h ≡ l1_index_of h offset). cached_says view image.file (pending_in view backing image out) t (named_place h image.l1_table offset / size) (l1_index_of h offset) g sound.file shows (at g) here in
+            let first : is_copied_data (mapping_of t (offset / size)) ≡ true = raw_copied h (is_some image.backing) offset place (mapping_of t (offset / size)) by.mapped.first in
+            let begins = div-add-mod' offset size in
+            let ends = div-add-mod' (offset + i) size in
+            let behind : offset / size ≤ (offset + i) / size = shr_mono h.cluster_bits (omega arith) in
+            let copied : is_copied_data (mapping_of t ((offset + i) / size)) ≡ true =
+            elim (cases_lt (offset / size) ((offset + i) / size)) [
+              | inl after ↦
+                  let k = (offset + i) / size - offset / size - 1 in
+                  let is : (offset + i) / size ≡ offset / size + (k + 1) = omega (arith, after) in
+                  let far : (offset + i) / size * size ≡ offset / size * size + k * size + size = ap (λ q. q * size) is ∙ omega arith in
+                  let bytes : k * 2 ^ t.cluster_bits ≡ k * size = ap (λ b. k * 2 ^ b) bits in
+                  let short : size - offset % size + k * 2 ^ t.cluster_bits < n = omega (arith, begins, ends, far, bytes, lt) in
+                  subst (λ q. is_copied_data (mapping_of t q) ≡ true) (sym is) (alike_copied ((k + 1) * 2 ^ t.cluster_bits) (mapping_of t (offset / size)) (mapping_of t (offset / size + (k + 1))) (by.mapped.alike k short) first)
+              | inr same ↦
+                  let is : offset / size ≡ (offset + i) / size = omega (arith, same, behind) in
+                  subst (λ q. is_copied_data (mapping_of t q) ≡ true) is first
+            ] in
+            subst (λ (m : L2Mapping). is_copied_data m ≡ true) (says ((offset + i) / size) (same_index h offset i reach)) copied
+
+    -- so are all clusters of the range that was put at the begin of a mapping, once that was let go
+    pub kept_copied : (new : Qcow2 S F) (offset place m n : ℕ) → m ≡ n → 0 < n → ReleasesOneMapping view image new → IsHeldAs image (offset + 0) (Raw Image (place + 0) true) m → AreCopied view offset (offset + n) new
+    kept_copied new offset place m n long some released held = clusters_copied new offset n some (λ i lt.
+        subst (λ (f : HeaderFields). IsCopiedAt f (known_in view new.file) (offset + i)) (sym (ap (λ (q : Qcow2 S F). q.file.header.fields) released.rest))
+        (subst (λ (b : Bytes). IsCopiedAt h b (offset + i)) (sym released.known)
+        (let begin : offset + 0 + i ≡ offset + i = omega arith in subst (IsCopiedAt h known) begin (held_copied (offset + 0) (place + 0) m i held (omega (arith, lt, long))))))
+
+  -- what was entered is copied data, and the first bytes of it are
+  pub entered_copied : (new : Qcow2 S F) (offset place length n : ℕ) → 0 < n → n ≤ length → AreDataAt new.file.header.fields (known_in view new.file) true offset place length → AreCopied view offset (offset + n) new
+  entered_copied new offset place length n some le each = clusters_copied new offset n some (λ i lt. data_copied new.file.header.fields (known_in view new.file) (offset + i) (place + i) (each i (omega (arith, lt, le))))
+
+-- a mapping is existing, or it isn't
+pub existing_or_not : {X : Type 0} (table : Option ℕ) → (table ≡ None → X) → (IsSome table → X) → X
+existing_or_not None existing not = existing refl
+existing_or_not (Some t) existing not = not refl
+
+module _ {S F : Type 0} (view : S → StorageView) (backing : F → BackingView) (old new : Qcow2 S F) (out : List (Option Prepared))
+    (sound : ImageInvariant view backing (pending_in view backing old out) old out) (sound' : ImageInvariant view backing (pending_in view backing new out) new out) where
+  -- what a part of a write leaves is copied data still behind the next part
+  pub copied_on : (offset at done count : ℕ) (bytes : List ℕ) → at ≡ offset + done → EffectOnSound (abstract_of view backing old out) (abstract_of view backing new out) (given_of at bytes ∷ []) []
+      → AreCopied view offset (offset + done) old → AreCopied view at (at + count) new → AreCopied view offset (offset + (done + count)) new
+  copied_on offset at done count bytes there effect before next g first last =
+      let size = cluster_size new.file.header.fields in
+      let same : size ≡ cluster_size old.file.header.fields = ap (λ (x : Setting). x.cluster_size) effect.setting in
+      elim (cases_lt at (g * size + size)) [
+        | inl touched ↦ next g touched (omega (arith, last, there))
+        | inr past ↦
+            let times : g * size ≡ g * cluster_size old.file.header.fields = ap (λ n. g * n) same in
+            let stays = effect.beside sound' g ((λ touched. let lies = touched.1 in omega (arith, lies, past, same, times)), tt) in
+            let known : cover old.file.header.fields (known_in view old.file) g ≡ cover new.file.header.fields (known_in view new.file) g =
+            ap (λ (h : HeaderFields). cover h (known_in view old.file) g) (sym (header_is view backing old out sound))
+            ∙ stays
+            ∙ ap (λ (h : HeaderFields). cover h (known_in view new.file) g) (header_is view backing new out sound') in
+            subst (λ (m : L2Mapping). is_copied_data m ≡ true) known (before g (omega (arith, first, same, times)) (omega (arith, past, there, same, times, cluster_some)))
+      ]
+    where
+      cluster_some : 0 < cluster_size old.file.header.fields
+      cluster_some = pow_pos old.file.header.fields.cluster_bits
