@@ -4,16 +4,17 @@ use Rattle.image_access.specs.Moments.{StorageView, EachMomentSince}
 use Rattle.image_access.specs.declared.storage.PreallocateMode.{PreallocateMode}
 use Rattle.qcow2_metadata.specs.Bytes.{Bytes, byte_at}
 use Rattle.qcow2_metadata.specs.Consistent.{IsConsistent}
-use Rattle.qcow2_metadata.specs.Header.{header}
+use Rattle.qcow2_metadata.specs.Cover.{cover}
+use Rattle.qcow2_metadata.specs.Header.{header, cluster_size}
 use Rattle.qcow2_disk.specs.Disk.{Disk, with_bytes}
 use Rattle.qcow2_disk.specs.Stops.{GivenBytes, Checkpoint, checkpoint_at, checkpoint_with, StopOkEverywhere, StopOk}
 use Rattle.qcow2_disk.specs.Rules.{answered}
-use Rattle.qcow2_disk.specs.Mappings.{PreparedMapping, IsPrepared, put_mapping, put_disk, committed, IsPrivateIn, IsHiddenIn, given_of, given_by_put, given_by_commit}
+use Rattle.qcow2_disk.specs.Mappings.{PreparedMapping, IsPrepared, put_mapping, put_disk, committed, is_copied_data, IsPrivateIn, IsHiddenIn, given_of, given_by_put, given_by_commit}
 use Rattle.qcow2_disk.specs.Found.{Kind, IsFoundIn, IsCompressedAt}
 use Rattle.qcow2_disk.specs.AbstractImages.{Setting, HostRange, Guest, Abstraction, AbstractImage, abstract_image, guest_of, stored_bytes}
 use Rattle.qcow2_disk.specs.ClearedCovers.{IsRightlyCleared}
 use Rattle.qcow2_disk.specs.GrownCovers.{IsRightlyGrown}
-use Rattle.qcow2_disk.specs.UngivenCovers.{UngivenStay}
+use Rattle.qcow2_disk.specs.UngivenCovers.{Touches, UngivenStay}
 use Rattle.qcow2_disk.specs.Calls.{Refusal, memory, storage, not_compressed, another, IsRefusalByFault, Shows, with_disk, with_slot, MayWrite, Clearing, cleared_at, given_by_clear, grown_to, given_by_grow, MayGrow, IsShrunk, given_by_shrink, given_by_shrunk}
 
 pub data Command : Type 0 where
@@ -255,10 +256,15 @@ abbrev pub IsRightlyPlain : (before : Bytes) → (offset n : ℕ) → Option ℕ
 IsRightlyPlain before offset n (Some at) = (0 < n) × (at ≡ offset) × (¬ IsCompressedAt before offset)
 IsRightlyPlain before offset n None = n ≡ 0
 
--- What a lookup answers is what is found in the known bytes, which it leaves as they were. What is told of preparing, clearing, special reads and a larger size is so. After a flush nothing is left to be freed.
+-- A range was written: each guest cluster that it touches is copied data.
+abbrev pub IsRightlyWritten : (offset n : ℕ) → (after : Bytes) → Type 0
+IsRightlyWritten offset n after = (g : ℕ) → Touches (cluster_size (header after)) offset (offset + n) g → is_copied_data (cover (header after) after g) ≡ true
+
+-- What a lookup answers is what is found in the known bytes, which it leaves as they were. What is told of preparing, clearing, special reads and a larger size is so. After a write its clusters are copied data. After a flush nothing is left to be freed.
 abbrev pub IsRightlyTold : Setting → (before : Bytes) → AbstractImage → Command → Reply → Type 0
 IsRightlyTold x before new (get_mapping place offset max) (mapping_is from kind n) = IsFoundIn new.known x.is_backed offset max kind n × (new.known ≡ before)
 IsRightlyTold x before new (prepare slot offset n overwrite) (prepared_is host count is_existing) = IsPreparedRightly before new slot n (record { offset = host; length = count; is_existing = is_existing })
+IsRightlyTold x before new (write offset bytes) done = IsRightlyWritten offset (length bytes) new.known
 IsRightlyTold x before new (clear how offset n) (range_is from count) = IsRightlyCleared how before new.known offset n
 IsRightlyTold x before new (read_special offset n) (refused e) = IsRightlySpecial before offset n e
 IsRightlyTold x before new (try_read_special offset n) (refused e) = IsRightlySpecial before offset n e

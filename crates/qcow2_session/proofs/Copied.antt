@@ -19,6 +19,8 @@ use Rattle.qcow2_disk.specs.Alike.{AreDataAt, IsAlike, IsDataAt}
 use Rattle.qcow2_disk.specs.Calls.{EffectOnSound}
 use Rattle.qcow2_disk.specs.Found.{kind_at, raw, rest_of_table}
 use Rattle.qcow2_disk.specs.Mappings.{given_of, is_copied_data}
+use Rattle.qcow2_disk.specs.Runs.{IsRightlyWritten}
+use Rattle.qcow2_disk.specs.UngivenCovers.{Touches}
 use Rattle.qcow2_alloc.proofs.KeptTables.Mapping.{shown_if}
 use Rattle.qcow2_alloc.specs.ImageFile.{contents_in, known_in}
 use Rattle.qcow2_alloc.specs.MetadataCaches.{IsEntryAt, ShowsKnown}
@@ -208,3 +210,11 @@ module _ {S F : Type 0} (view : S → StorageView) (backing : F → BackingView)
     where
       cluster_some : 0 < cluster_size old.file.header.fields
       cluster_some = pow_pos old.file.header.fields.cluster_bits
+
+-- so a run is told, by the header that the known bytes hold
+pub rightly_written : {S F : Type 0} (view : S → StorageView) (backing : F → BackingView) (image : Qcow2 S F) (out : List (Option Prepared)) → ImageInvariant view backing (pending_in view backing image out) image out → (offset n : ℕ)
+    → (0 < n → AreCopied view offset (offset + n) image) → IsRightlyWritten offset n (known_in view image.file)
+rightly_written view backing image out sound offset n copied =
+    let known = known_in view image.file in
+    subst (λ (h : HeaderFields). (g : ℕ) → Touches (cluster_size h) offset (offset + n) g → is_copied_data (cover h known g) ≡ true) (sym (header_is view backing image out sound))
+    (λ g touched. let some = touched.0 in copied (omega (arith, some)) g touched.1 touched.2)

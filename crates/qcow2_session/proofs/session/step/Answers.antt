@@ -11,6 +11,7 @@ use Rattle.qcow2_session.specs.Causes.{IsRightlyRefused}
 use Rattle.qcow2_session.proofs.Causing.{read_answered, read_refused, size_answered, write_answered, write_refused_for}
 use Rattle.qcow2_image.proofs.Call.BehindHeader.{behind_none}
 use Rattle.qcow2_image.proofs.Map.Quiet.{reads_none}
+use Rattle.qcow2_session.proofs.Copied.{rightly_written}
 use Rattle.qcow2_session.proofs.Quiet.{quiet_left}
 use Rattle.qcow2_session.proofs.session.step.Goals as goal
 
@@ -21,7 +22,9 @@ pub returns-in-Err-clause-command_step : goal.returns-in-Err-clause-command_step
 returns-in-Err-clause-command_step g c = λ x s stands founds. refused_as x _ _ s _ _ _ _ (ap command_of c.in-Read.is) stands (record { sized = λ _. tt; failed = λ f. error_is (reading_first c.args.image.now _ _ _ c.in-Err.ensures.early f); may = λ _. tt }) (c.in-Err.ensures.sees c.args.slots.now.prepared.items) (λ f. f) (λ f. f) (λ _ _. refl) tt
 
 pub returns-in-Ok-write-clause-command_step : goal.returns-in-Ok-write-clause-command_step
-returns-in-Ok-write-clause-command_step g c = λ x s stands founds. done_as x _ _ s _ _ _ (ap command_of c.in-Write.is) stands (writes_answer g.S.Storage.view g.F.BackingDisk.backing c.args.image.now c.args.slots.now.prepared.items _ (λ e h. not_both h) _ _ (rw c.deref.ensures.value at c.in-Ok-write.ensures.early)) (rw c.deref.ensures.value at (c.in-Ok-write.ensures.sees c.args.slots.now.prepared.items)) (λ f. f) (λ _ _. refl) (λ _. tt)
+returns-in-Ok-write-clause-command_step g c = λ x s stands founds. done_as x _ _ s _ _ _ (ap command_of c.in-Write.is) stands (writes_answer g.S.Storage.view g.F.BackingDisk.backing c.args.image.now c.args.slots.now.prepared.items _ (λ e h. not_both h) _ _ (rw c.deref.ensures.value at c.in-Ok-write.ensures.early)) (rw c.deref.ensures.value at (c.in-Ok-write.ensures.sees c.args.slots.now.prepared.items)) (λ f. f) (λ _ _. refl)
+    (λ sound. rightly_written g.S.Storage.view g.F.BackingDisk.backing c.write.new.image c.args.slots.now.prepared.items ((rw c.deref.ensures.value at (c.in-Ok-write.ensures.sees c.args.slots.now.prepared.items)).answer sound).0 _ _
+    (λ some. (rw c.deref.ensures.value at c.in-Ok-write.ensures.copied) some c.args.slots.now.prepared.items sound))
 
 pub returns-in-Err-write-clause-command_step : goal.returns-in-Err-write-clause-command_step
 returns-in-Err-write-clause-command_step g c = λ x s stands founds. refused_as x _ _ s _ _ _ _ (ap command_of c.in-Write.is) stands (write_refused_answer g.S.Storage.view g.F.BackingDisk.backing c.args.image.now c.args.slots.now.prepared.items _ _ _ _ _ (λ h. write_error_is h) (rw c.deref.ensures.value at c.in-Err-write.ensures.early) (rw c.deref.ensures.value at c.in-Err-write.ensures.within)) (rw c.deref.ensures.value at (c.in-Err-write.ensures.sees c.args.slots.now.prepared.items)) (λ f. f) (λ f. f) (λ _ _. refl) tt
