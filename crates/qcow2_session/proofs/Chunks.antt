@@ -1,5 +1,5 @@
 -- A chunk of a session's write: prepared, put and committed. Where one of these is refused the mapping is let go.
-use Rattle.std.proofs.Common.{◌≡◌, ◌⊎◌, ⊎_elim, inl, inr, ℕ, suc, eqb, ◌+◌, ◌-◌, ◌<◌, ◌≤◌, min, List, [], ◌∷◌, take, length, true, false, Option, Some, None, refl, sym, ap, ◌∙◌, subst, arith}
+use Rattle.std.proofs.Common.{◌≡◌, ◌⊎◌, ⊎_elim, inl, inr, ℕ, suc, eqb, ◌+◌, ◌-◌, ◌%◌, ◌<◌, ◌≤◌, min, List, [], ◌∷◌, take, length, true, false, Option, Some, None, refl, sym, ap, ◌∙◌, subst, arith}
 use Rattle.std.proofs.lemmas.Bool.{cond-true, cond-false, cases_Bool, ne_eqb}
 use Rattle.std.proofs.lemmas.Grind.{common_steps}
 use mathlib.Core.Path.{fun_ext}
@@ -9,7 +9,7 @@ use Rattle.qcow2_metadata.specs.Guest.{Value, known_byte}
 use Rattle.qcow2_disk.specs.Disk.{Disk, with_bytes}
 use Rattle.qcow2_disk.specs.Stops.{GivenBytes, IsGiven}
 use Rattle.qcow2_disk.specs.Mappings.{PreparedMapping, IsPrepared, put_disk, put_mapping, committed, given_of, given_by_put, given_by_commit}
-use Rattle.qcow2_disk.specs.AbstractImages.{Abstraction, HasFreePlaces, Guest, abstract_image, guest_of}
+use Rattle.qcow2_disk.specs.AbstractImages.{Abstraction, HasFreePlaces, Guest, Setting, abstract_image, guest_of}
 use Rattle.qcow2_disk.specs.Calls.{Refusal, memory, storage, not_compressed, another, IsRefusalByFault, AnsweredEffect, RefusedEffect, IsSame, MayWrite, WritesSome, with_disk, with_slot}
 use Rattle.qcow2_disk.proofs.ForUsers.{put_given}
 use Rattle.qcow2_disk.proofs.Within.{within_is}
@@ -17,6 +17,7 @@ use Rattle.qcow2_session.proofs.Bytes.{cut_long, cut_short, cut_part, byte_in, l
 use Rattle.qcow2_session.proofs.Places.{enters, leaves}
 use Rattle.qcow2_disk.proofs.Compose.{shown_is}
 use Rattle.qcow2_session.proofs.Turns.{none_within, does_if, refuses_if, refuses_fault, refuses_why, does_less, does_then, refuses_then, refused_then, IsWithin}
+use Rattle.qcow2_image.proofs.UngivenCovers.{touches_part}
 use Rattle.qcow2_image.proofs.WholeClusters.{commit_touches}
 
 some_is : {X : Type 0} {a b : X} → Some a ≡ Some b → a ≡ b

@@ -191,7 +191,7 @@ module _ (old mid new : AbstractImage) (contents : List ℕ) (at count : ℕ) (f
         inl start,
         may_write_more 0 at at contents short (omega arith) e (guest_of old) (guest_of mid) (guest_of new) h.0.0 (may_write_first e (guest_of mid) (guest_of new) at count (drop at contents) (subst (λ (b : List ℕ). MayWrite e (guest_of mid) at b 0 (guest_of new)) chunk_is (h.0.1 h.1))),
       ))
-      (interrupted_why is_aligned (interrupted_then {more = given_of at (drop at contents) ∷ []} (λ _. rest_within) first (interrupted_less chunk_within next)))
+      (interrupted_why is_aligned (interrupted_then {more = given_of at (drop at contents) ∷ []} (λ _ _. rest_within) first (interrupted_less chunk_within next)))
 
 -- ---- a range, in the calls' words
 module _ {S F : Type 0} (view : S → StorageView) (backing : F → BackingView) (old new : Qcow2 S F) (at : ℕ) (bytes : List ℕ) where
@@ -228,7 +228,7 @@ module _ {S F : Type 0} (view : S → StorageView) (backing : F → BackingView)
         let none : n ≡ 0 = none_of (cluster_size_of old) at n (length wanted) start short (λ some. let x = h.1.1 some in (x.0, subst (λ size. (at + n) % size ≡ 0) h.1.0 x.1)) in
         written_none (refusal_of e) (guest_of (abstract_of view backing old out)) (guest_of (abstract_of view backing new out)) at n wanted none
         (subst (λ (g : Guest). MayWrite (refusal_of e) g at wanted n (guest_of (abstract_of view backing new out))) h.0.0 h.0.1))
-        (interrupted_why {B = (cluster_size_of mid ≡ cluster_size_of old) × (0 < n → (n < length wanted) × EndsCluster mid (at + n))} (λ sound. (ap (λ (x : Setting). x.cluster_size) (first.acts.works sound).setting, ends out (first.answer sound).0)) (interrupted_then (λ _ o w h. inr h) first (interrupted (writes out)))))
+        (interrupted_why {B = (cluster_size_of mid ≡ cluster_size_of old) × (0 < n → (n < length wanted) × EndsCluster mid (at + n))} (λ sound. (ap (λ (x : Setting). x.cluster_size) (first.acts.works sound).setting, ends out (first.answer sound).0)) (interrupted_then (λ _ _. all_within (abstract_of view backing mid out) (given_of at wanted ∷ [])) first (interrupted (writes out)))))
 
 -- ---- all ranges, in the calls' words
 
@@ -275,7 +275,7 @@ module _ {S F : Type 0} (view : S → StorageView) (backing : F → BackingView)
         let v = abstract_of view backing old out in
         let w = abstract_of view backing new out in
         interrupted_if (λ h. (length contents, inr refl, may_write_all (refusal_of e) (guest_of v) (guest_of w) contents (h.1 ∙ h.0)))
-        (interrupted_then (λ _. none_within (abstract_of view backing mid out) (given_of 0 contents ∷ [])) (all out) (interrupted (flush out))))
+        (interrupted_then (λ _ _. none_within (abstract_of view backing mid out) (given_of 0 contents ∷ [])) (all out) (interrupted (flush out))))
 
     pub imports_flushed : (n : ℕ) → n ≡ length contents → ((out : List (Option Prepared)) → (abstract_of view backing old out).is_sound → length contents ≡ (guest_of (abstract_of view backing old out)).disk.size)
         → ImportsAll view backing old mid contents (Ok tt) → FlushesImage view backing mid new (Ok tt) → Imports view backing old new contents (Ok n)

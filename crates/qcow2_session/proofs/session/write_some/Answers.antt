@@ -50,7 +50,7 @@ early_handed S (Some x) r e r' early was handed = (handed ∙ ap Err (one_cause 
 -- a range of no bytes is prepared as a mapping of none
 none_long : {S F : Type 0} (old : Qcow2 S F) (offset n : ℕ) (new : Qcow2 S F) (r : Result Prepared ImageError) (p : Prepared) → IfSome (refuses_to_prepare old offset n) (λ e. (r ≡ Err e) × (new ≡ old))
     → (refuses_to_prepare old offset 0 ≡ None → n ≡ 0 → IsOk r × IfOk r IsOfNothing × (new ≡ old)) → r ≡ Ok p → n ≡ 0 → length_of p ≡ 0
-none_long old offset n new r p early nothing was zero = subst (λ x. IfOk x IsOfNothing) was (nothing (unrefused (refuses_to_prepare old offset 0) (subst (λ k. IfSome (refuses_to_prepare old offset k) (λ e. (r ≡ Err e) × (new ≡ old))) zero early)) zero).1.2
+none_long old offset n new r p early nothing was zero = (subst (λ x. IfOk x IsOfNothing) was (nothing (unrefused (refuses_to_prepare old offset 0) (subst (λ k. IfSome (refuses_to_prepare old offset k) (λ e. (r ≡ Err e) × (new ≡ old))) zero early)) zero).1).2
   where
     unrefused : (o : Option ImageError) → IfSome o (λ e. (r ≡ Err e) × (new ≡ old)) → o ≡ None
     unrefused None refuses = refl
