@@ -31,7 +31,7 @@ use Rattle.qcow2_image.specs.Growing.{FitsSize, GrowsDisk, KeepsSurplus, LosesNo
 use Rattle.qcow2_image.specs.declared.builder.NoBacking.{NoBacking}
 use Rattle.qcow2_image.specs.declared.builder.Qcow2CreateBuilder.{Qcow2CreateBuilder}
 use Rattle.qcow2_image.specs.declared.image.Qcow2.{Qcow2}
-use Rattle.qcow2_image.specs.Image.{HasNothingToFree, leaked_in, size_of}
+use Rattle.qcow2_image.specs.Image.{HasNothingToFree, leaked_in, size_of, storage_of_image}
 use Rattle.qcow2_image.specs.ImageInvariant.{abstract_of}
 use Rattle.qcow2_image.specs.LackedTables.{CantGrowDisk}
 use Rattle.qcow2_image.specs.Resizing.{GrowsTables, GrowsTo, IsResized, refuses_to_resize, size_after}
@@ -90,13 +90,14 @@ pub record StaysCreating (mode : PreallocateMode) (n : ℕ) (old new : StorageVi
 abbrev pub longest_disk : ℕ → ℕ
 longest_disk size = 4194304 * (size / 8) * size
 
--- An image with these contents was opened, and nothing was to be freed then. Making its disk larger in a mode was refused for a limit. It is sound still then, each surplus is as before, and no cluster was leaked.
-pub record CantEnlarge {S F : Type 0} (view : S → StorageView) (backing : F → BackingView) (mode : PreallocateMode) (size : ℕ) (contents : List ℕ) : Type 0 where
+-- An image with these contents was opened, and nothing was to be freed then. Making its disk larger in a mode was refused for a limit. It is sound still then, on the storage that is handed back. Each surplus is as before, and no cluster was leaked.
+pub record CantEnlarge {S F : Type 0} (view : S → StorageView) (backing : F → BackingView) (mode : PreallocateMode) (size : ℕ) (contents : List ℕ) (storage : S) : Type 0 where
   pub opened : Qcow2 S F
   pub is_opened : IsOpened (abstract_of view backing opened [])
   pub stands : (view_in view opened.file).contents ≡ contents
   pub emptied : HasNothingToFree opened
   pub left : Qcow2 S F
+  pub is_left : storage_of_image left ≡ storage
   pub lacks : CantGrowDisk view backing mode size opened left []
   pub keeps : KeepsSurplus view backing opened left
   pub leaks : leaked_in left ≡ leaked_in opened
@@ -106,12 +107,12 @@ abbrev pub none_below : NoBacking → BackingView
 none_below below = record { bytes = []; faults = 0; is_honest = Unit {0} }
 
 -- a new image was written, with the clusters and counts that were asked for, and its disk can't be made larger
-pub record LacksPlaceCreating {S : Type 0} (view : S → StorageView) (builder : Qcow2CreateBuilder S) : Type 0 where
+pub record LacksPlaceCreating {S : Type 0} (view : S → StorageView) (builder : Qcow2CreateBuilder S) (storage : S) : Type 0 where
   pub contents : List ℕ
   pub new_image : IsNewImage (header (byte_at contents)) (byte_at contents)
   pub clusters : cluster_size (header (byte_at contents)) ≡ builder.cluster_size
   pub counts : count_width (header (byte_at contents)) ≡ builder.refcount_width
-  pub lacks : CantEnlarge view none_below builder.preallocate builder.size contents
+  pub lacks : CantEnlarge view none_below builder.preallocate builder.size contents storage
 
 module _ {S : Type 0} where
   -- clusters and counts that images may have
@@ -125,12 +126,12 @@ module _ {S : Type 0} where
     pub no_wider : refcount_order ≤ 6
 
   -- Why an image isn't created: 5 only for an option that images don't have. 13 only for a disk that is too long, or where a place lacks for it. And else for want of memory or a fault of the storage.
-  abbrev pub IsReasonNotToCreate : (S → StorageView) → Qcow2CreateBuilder S → ImageError → Type 0
-  IsReasonNotToCreate view builder I.InvalidOption = ¬ IsAllowed builder
-  IsReasonNotToCreate view builder I.Limit = (longest_disk builder.cluster_size < builder.size) ⊎ LacksPlaceCreating view builder
-  IsReasonNotToCreate view builder I.Memory = Unit {0}
-  IsReasonNotToCreate view builder I.Storage = Unit {0}
-  IsReasonNotToCreate view builder e = ⊥
+  abbrev pub IsReasonNotToCreate : (S → StorageView) → Qcow2CreateBuilder S → S → ImageError → Type 0
+  IsReasonNotToCreate view builder storage I.InvalidOption = ¬ IsAllowed builder
+  IsReasonNotToCreate view builder storage I.Limit = (longest_disk builder.cluster_size < builder.size) ⊎ LacksPlaceCreating view builder storage
+  IsReasonNotToCreate view builder storage I.Memory = Unit {0}
+  IsReasonNotToCreate view builder storage I.Storage = Unit {0}
+  IsReasonNotToCreate view builder storage e = ⊥
 
   -- the image that was asked for stands on an honest storage
   pub record IsCreated (builder : Qcow2CreateBuilder S) (storage : StorageView) : Type 0 where
@@ -157,7 +158,7 @@ module _ {S : Type 0} where
 
   -- Why it isn't created and opened: it isn't created. Or it stands on the storage that is handed back, and is refused 13 since 64 bits don't hold the end of its reftable.
   abbrev pub IsReasonNotToCreateOpen : (S → StorageView) → Qcow2CreateBuilder S → S × ImageError → Type 0
-  IsReasonNotToCreateOpen view builder refused = IsReasonNotToCreate view builder refused.1 ⊎ ((refused.1 ≡ I.Limit) × HasFarReftable builder (view refused.0))
+  IsReasonNotToCreateOpen view builder refused = IsReasonNotToCreate view builder refused.0 refused.1 ⊎ ((refused.1 ≡ I.Limit) × HasFarReftable builder (view refused.0))
 
 -- ---- its parts
 

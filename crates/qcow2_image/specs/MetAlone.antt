@@ -4,7 +4,7 @@ use Rattle.image_access.specs.declared.storage.PreallocateMode.{PreallocateMode}
 use Rattle.image_access.specs.declared.storage.PreallocateMode.TheVariants as Mode
 use Rattle.qcow2_metadata.specs.Bytes.{Bytes}
 use Rattle.qcow2_metadata.specs.Cover.{cover}
-use Rattle.qcow2_metadata.specs.Header.{cluster_size}
+use Rattle.qcow2_metadata.specs.Header.{cluster_size, rounded_up}
 use Rattle.qcow2_metadata.specs.declared.header.HeaderFields.{HeaderFields}
 use Rattle.qcow2_disk.specs.Found.{IsCompressed}
 use Rattle.qcow2_disk.specs.GrownCovers.{Touches}
@@ -26,9 +26,17 @@ pub record HasCompressedIn (from to : ℕ) (h : HeaderFields) (known : Bytes) : 
   pub touched : Touches (cluster_size h) from to guest
   pub is : IsCompressed (cover h known guest)
 
--- Filling the range behind the end of a disk in a mode meets that too, by what is compressed there. Beside that 3 is met, for zeros without a cluster below version 3.
+-- up to where bytes may be copied while the range behind the end of a disk is filled: nowhere where nothing is filled; in the cluster of the old end, where zeros take no cluster; else in all of it
+abbrev pub copied_end : (size_of_cluster from to : ℕ) → PreallocateMode → ℕ
+copied_end size_of_cluster from to Mode.None = from
+copied_end size_of_cluster from to Mode.Zero = rounded_up size_of_cluster from
+copied_end size_of_cluster from to Mode.FormatAllocate = to
+copied_end size_of_cluster from to Mode.FullAllocate = to
+copied_end size_of_cluster from to Mode.WriteData = to
+
+-- Filling the range behind the end of a disk in a mode meets that too, by what is compressed where bytes are copied. Beside that 3 is met, for zeros without a cluster below version 3.
 abbrev pub IsMetFilling : PreallocateMode → (from to : ℕ) → HeaderFields → Bytes → ImageError → Type 0
-IsMetFilling mode from to h known e = IsMetAlone (HasCompressedIn from to h known) ⊥ e ⊎ ((e ≡ I.Version) × ((mode ≡ Mode.Zero) × (h.version < 3)))
+IsMetFilling mode from to h known e = IsMetAlone (HasCompressedIn from (copied_end (cluster_size h) from to mode) h known) ⊥ e ⊎ ((e ≡ I.Version) × ((mode ≡ Mode.Zero) × (h.version < 3)))
 
 -- the L1 table has an entry for the last byte before an offset, and 64 bits hold where its entries lie
 pub record HasNearEntries (to : ℕ) (h : HeaderFields) : Type 0 where

@@ -167,7 +167,7 @@ impl<S: Storage> Qcow2CreateBuilder<S> {
         ensures created { (S.view self.image).is_honest → IfOk result.1 (λ done. IsCreated self (S.view result.0)) }
         ensures refused { ¬ IsAllowed self → (result.1 ≡ Err InvalidOption) × (result.0 ≡ self.image) }
         ensures limit { IsAllowed self → longest_disk self.cluster_size < self.size → (result.1 ≡ Err Limit) × (result.0 ≡ self.image) }
-        ensures cause { (S.view self.image).is_honest → IfErr result.1 (IsReasonNotToCreate S.view self) }
+        ensures cause { (S.view self.image).is_honest → IfErr result.1 (IsReasonNotToCreate S.view self result.0) }
         ensures faults { FaultsTold (S.view self.image).faults (S.view result.0).faults result.1 }
     {
         let Qcow2CreateBuilder {
@@ -320,7 +320,7 @@ fn grow_new_image<S: Storage, F: WrappedFormat<S>>(
     ensures fault { (S.view (storage_of storage)).is_honest → IsUnwritten 0 (byte_at (S.view (storage_of storage)).contents) → (header_at (byte_at (S.view (storage_of storage)).contents)).version ≡ 3 → IfErr result.1 IsFaultOrLimit }
     ensures limit { (S.view (storage_of storage)).is_honest → IsUnwritten 0 (byte_at (S.view (storage_of storage)).contents)
         → IsNewImage (header_at (byte_at (S.view (storage_of storage)).contents)) (byte_at (S.view (storage_of storage)).contents) → (header_at (byte_at (S.view (storage_of storage)).contents)).autoclear ≡ 0
-        → IfErr result.1 (λ e. e ≡ Limit → CantEnlarge S.view F.backing mode size (S.view (storage_of storage)).contents) }
+        → IfErr result.1 (λ e. e ≡ Limit → CantEnlarge S.view F.backing mode size (S.view (storage_of storage)).contents result.0) }
     ensures faults { ((below : F) → (F.backing below).faults ≡ 0) → FaultsTold (S.view (storage_of storage)).faults (S.view result.0).faults result.1 }
 {
     match Qcow2::<S, F>::open(alloc, storage, true, 0, Missing::Nothing) {

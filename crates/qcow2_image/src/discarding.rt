@@ -125,7 +125,7 @@ impl<S: Storage, F: WrappedFormat<S>> Qcow2<S, F> {
     ) -> Result<(u64, u64), ImageError>
         ensures early { IfSome (refuses_to_clear self.old offset length Clearance.Uncovered) (λ e. (result ≡ Err e) × (self.new ≡ self.old)) }
         ensures late { refuses_to_clear self.old offset length Clearance.Uncovered ≡ None → IfErr result IsMetPreparing }
-        ensures met { refuses_to_clear self.old offset length Clearance.Uncovered ≡ None → (out : List (Option Prepared)) → (abstract_of S.view F.backing self.old out).is_sound → (HasPrepared out → ⊥) → IfErr result (IsMetAlone ⊥ (NeedsFarEntry self.old (from_in self.old offset length))) }
+        ensures refused { IfErr result (RefusesClearing S.view F.backing Clearance.Uncovered self.old self.new offset length) }
         ensures limit { refuses_to_clear self.old offset length Clearance.Uncovered ≡ None → from_in self.old offset length < to_in self.old offset length → (out : List (Option Prepared)) → (abstract_of S.view F.backing self.old out).is_sound → IfErr result (IsLimitedByTable S.view (from_in self.old offset length) self.old self.new) }
         ensures nothing { refuses_to_clear self.old offset length Clearance.Uncovered ≡ None → to_in self.old offset length ≤ from_in self.old offset length → (result ≡ Ok (from_in self.old offset length, 0)) × (self.new ≡ self.old) }
         ensures marks { MarksFailed self.old self.new result }
@@ -163,7 +163,7 @@ impl<S: Storage, F: WrappedFormat<S>> Qcow2<S, F> {
     ) -> Result<(u64, u64), ImageError>
         ensures early { IfSome (refuses_to_clear self.old offset length Clearance.Zeros) (λ e. (result ≡ Err e) × (self.new ≡ self.old)) }
         ensures late { refuses_to_clear self.old offset length Clearance.Zeros ≡ None → IfErr result IsMetPreparing }
-        ensures met { refuses_to_clear self.old offset length Clearance.Zeros ≡ None → (out : List (Option Prepared)) → (abstract_of S.view F.backing self.old out).is_sound → (HasPrepared out → ⊥) → IfErr result (IsMetAlone ⊥ (NeedsFarEntry self.old (from_in self.old offset length))) }
+        ensures refused { IfErr result (RefusesClearing S.view F.backing Clearance.Zeros self.old self.new offset length) }
         ensures limit { refuses_to_clear self.old offset length Clearance.Zeros ≡ None → from_in self.old offset length < to_in self.old offset length → (out : List (Option Prepared)) → (abstract_of S.view F.backing self.old out).is_sound → IfErr result (IsLimitedByTable S.view (from_in self.old offset length) self.old self.new) }
         ensures nothing { refuses_to_clear self.old offset length Clearance.Zeros ≡ None → to_in self.old offset length ≤ from_in self.old offset length → (result ≡ Ok (from_in self.old offset length, 0)) × (self.new ≡ self.old) }
         ensures marks { MarksFailed self.old self.new result }
@@ -201,7 +201,7 @@ impl<S: Storage, F: WrappedFormat<S>> Qcow2<S, F> {
     ) -> Result<(u64, u64), ImageError>
         ensures early { IfSome (refuses_to_clear self.old offset length Clearance.Zeros) (λ e. (result ≡ Err e) × (self.new ≡ self.old)) }
         ensures late { refuses_to_clear self.old offset length Clearance.Zeros ≡ None → IfErr result IsMetPreparing }
-        ensures met { refuses_to_clear self.old offset length Clearance.Zeros ≡ None → (out : List (Option Prepared)) → (abstract_of S.view F.backing self.old out).is_sound → (HasPrepared out → ⊥) → IfErr result (IsMetAlone ⊥ (NeedsFarEntry self.old (from_in self.old offset length))) }
+        ensures refused { IfErr result (RefusesClearing S.view F.backing Clearance.Zeros self.old self.new offset length) }
         ensures limit { refuses_to_clear self.old offset length Clearance.Zeros ≡ None → from_in self.old offset length < to_in self.old offset length → (out : List (Option Prepared)) → (abstract_of S.view F.backing self.old out).is_sound → IfErr result (IsLimitedByTable S.view (from_in self.old offset length) self.old self.new) }
         ensures nothing { refuses_to_clear self.old offset length Clearance.Zeros ≡ None → to_in self.old offset length ≤ from_in self.old offset length → (result ≡ Ok (from_in self.old offset length, 0)) × (self.new ≡ self.old) }
         ensures marks { MarksFailed self.old self.new result }
@@ -239,7 +239,7 @@ impl<S: Storage, F: WrappedFormat<S>> Qcow2<S, F> {
     ) -> Result<(u64, u64), ImageError>
         ensures early { IfSome (refuses_to_clear self.old offset length Clearance.KeptZeros) (λ e. (result ≡ Err e) × (self.new ≡ self.old)) }
         ensures late { refuses_to_clear self.old offset length Clearance.KeptZeros ≡ None → IfErr result IsMetPreparing }
-        ensures met { refuses_to_clear self.old offset length Clearance.KeptZeros ≡ None → (out : List (Option Prepared)) → (abstract_of S.view F.backing self.old out).is_sound → (HasPrepared out → ⊥) → IfErr result (IsMetAlone ⊥ (NeedsFarEntry self.old (from_in self.old offset length))) }
+        ensures refused { IfErr result (RefusesClearing S.view F.backing Clearance.KeptZeros self.old self.new offset length) }
         ensures limit { refuses_to_clear self.old offset length Clearance.KeptZeros ≡ None → from_in self.old offset length < to_in self.old offset length → (out : List (Option Prepared)) → (abstract_of S.view F.backing self.old out).is_sound → IfErr result (IsLimitedByTable S.view (from_in self.old offset length) self.old self.new) }
         ensures nothing { refuses_to_clear self.old offset length Clearance.KeptZeros ≡ None → to_in self.old offset length ≤ from_in self.old offset length → (result ≡ Ok (from_in self.old offset length, 0)) × (self.new ≡ self.old) }
         ensures marks { MarksFailed self.old self.new result }

@@ -154,17 +154,17 @@ module _ {S : Type 0} (builder : Qcow2CreateBuilder S) where
   too_long size is not = subst (λ n. longest_disk n < builder.size) (sym is) (elim (cases_lt (longest_disk size) builder.size) [ inl past ↦ past | inr le ↦ absurd (not le) ])
 
   module _ (view : S → StorageView) where
-    pub fault_reason : (e : ImageError) → IsFault e → IsReasonNotToCreate view builder e
-    fault_reason e (inl is) = subst (λ (x : ImageError). IsReasonNotToCreate view builder x) (sym is) tt
-    fault_reason e (inr is) = subst (λ (x : ImageError). IsReasonNotToCreate view builder x) (sym is) tt
+    pub fault_reason : (storage : S) (e : ImageError) → IsFault e → IsReasonNotToCreate view builder storage e
+    fault_reason storage e (inl is) = subst (λ (x : ImageError). IsReasonNotToCreate view builder storage x) (sym is) tt
+    fault_reason storage e (inr is) = subst (λ (x : ImageError). IsReasonNotToCreate view builder storage x) (sym is) tt
 
-    reason_of : (e : ImageError) → IsFaultOrLimit e → (e ≡ I.Limit → LacksPlaceCreating view builder) → IsReasonNotToCreate view builder e
-    reason_of e (inl fault) lacks = fault_reason e fault
-    reason_of e (inr is) lacks = subst (λ (x : ImageError). IsReasonNotToCreate view builder x) (sym is) (inr (lacks is))
+    reason_of : (storage : S) (e : ImageError) → IsFaultOrLimit e → (e ≡ I.Limit → LacksPlaceCreating view builder storage) → IsReasonNotToCreate view builder storage e
+    reason_of storage e (inl fault) lacks = fault_reason storage e fault
+    reason_of storage e (inr is) lacks = subst (λ (x : ImageError). IsReasonNotToCreate view builder storage x) (sym is) (inr (lacks is))
 
-    pub reasons_of : {T : Type 0} (r : Result T ImageError) → IfErr r IsFaultOrLimit → IfErr r (λ e. e ≡ I.Limit → LacksPlaceCreating view builder) → IfErr r (IsReasonNotToCreate view builder)
-    reasons_of (Ok x) why lacks = tt
-    reasons_of (Err e) why lacks = reason_of e why lacks
+    pub reasons_of : {T : Type 0} (storage : S) (r : Result T ImageError) → IfErr r IsFaultOrLimit → IfErr r (λ e. e ≡ I.Limit → LacksPlaceCreating view builder storage) → IfErr r (IsReasonNotToCreate view builder storage)
+    reasons_of storage (Ok x) why lacks = tt
+    reasons_of storage (Err e) why lacks = reason_of storage e why lacks
 
     -- a new image stands, and its disk can't be made larger
     module _ (bits order : ℕ) (v : HeaderView) (is : v ≡ new_header bits order None None None) (contents : List ℕ) (new_image : IsNewImage v.fields (byte_at contents)) where
@@ -180,10 +180,10 @@ module _ {S : Type 0} (builder : Qcow2CreateBuilder S) where
       pub stands_uncleared : (header (byte_at contents)).autoclear ≡ 0
       stands_uncleared = ap (λ (h : HeaderFields). h.autoclear) header_new
 
-      pub lacks_creating : builder.cluster_size ≡ 2 ^ bits → builder.refcount_width ≡ 2 ^ order → {T : Type 0} (r : Result T ImageError) → IfErr r (λ e. e ≡ I.Limit → CantEnlarge view none_below builder.preallocate builder.size contents)
-          → IfErr r (λ e. e ≡ I.Limit → LacksPlaceCreating view builder)
-      lacks_creating clusters counts r lacks =
-          limits_as (λ e. CantEnlarge view none_below builder.preallocate builder.size contents) (λ e. LacksPlaceCreating view builder) r
+      pub lacks_creating : builder.cluster_size ≡ 2 ^ bits → builder.refcount_width ≡ 2 ^ order → {T : Type 0} (storage : S) (r : Result T ImageError) → IfErr r (λ e. e ≡ I.Limit → CantEnlarge view none_below builder.preallocate builder.size contents storage)
+          → IfErr r (λ e. e ≡ I.Limit → LacksPlaceCreating view builder storage)
+      lacks_creating clusters counts storage r lacks =
+          limits_as (λ e. CantEnlarge view none_below builder.preallocate builder.size contents storage) (λ e. LacksPlaceCreating view builder storage) r
           (λ e cant. record {
             contents = contents;
             new_image = stands_new;
@@ -205,7 +205,7 @@ module _ {S : Type 0} (builder : Qcow2CreateBuilder S) where
 
       opening_reason : (e : ImageError) → StandsRefused true (view storage) (view last) e → IsRefusedRightly (view storage).contents true N.Nothing e → IsReasonNotToCreateOpen view builder (last, e)
       opening_reason e stands why = elim (opening_fault (view storage).contents consistent e why) [
-        | inl fault ↦ inl (fault_reason e fault)
+        | inl fault ↦ inl (fault_reason last e fault)
         | inr is ↦
             let stands_so = subst (λ (x : ImageError). StandsRefused true (view storage) (view last) x) is stands in
             let why_so = subst (λ (x : ImageError). IsRefusedRightly (view storage).contents true N.Nothing x) is why in

@@ -82,7 +82,7 @@ module _ {S F : Type 0} (view : S → StorageView) (old : Qcow2 S F) (unmapped :
   filling_fault mode from to e met = elim met [
     | inl alone ↦ elim alone [
       | inl plain ↦ plain
-      | inr other ↦ elim other [ inl compressed ↦ absurd (none_compressed from to compressed.1) | inr far ↦ absurd far.1 ]
+      | inr other ↦ elim other [ inl compressed ↦ absurd (none_compressed from _ compressed.1) | inr far ↦ absurd far.1 ]
     ]
     | inr version ↦ absurd (let third = unmapped.version in let below = version.1.1 in omega (arith, third, below))
   ]

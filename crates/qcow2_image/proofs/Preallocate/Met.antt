@@ -28,7 +28,7 @@ use Rattle.qcow2_image.specs.Found.{l1_index_of}
 use Rattle.qcow2_image.specs.ImageInvariant.{ImageInvariant, pending_in}
 use Rattle.qcow2_image.specs.L1Entries.{NeedsFarEntry, ReachesOffset}
 use Rattle.qcow2_image.specs.LackedPlaces.{IsPlacedNear}
-use Rattle.qcow2_image.specs.MetAlone.{HasCompressedIn, HasNearEntries, IsMetAlone, IsMetFilling, KeepsL1Place}
+use Rattle.qcow2_image.specs.MetAlone.{copied_end, HasCompressedIn, HasNearEntries, IsMetAlone, IsMetFilling, KeepsL1Place}
 use Rattle.qcow2_image.specs.MovedTables.{MovesTables}
 use Rattle.qcow2_image.specs.Preallocation.{FillsPart, IsWholeRange}
 use Rattle.qcow2_image.specs.Refusals.{IsFaultOrLimit}
@@ -237,11 +237,11 @@ module _ {S F : Type 0} (view : S → StorageView) (backing : F → BackingView)
   met_behind old long mode size from e call met =
       let h = old.file.header.fields in
       let h' = long.file.header.fields in
-      let end : rounded_up (cluster_size long.file.header.fields) size ≡ rounded_up (cluster_size old.file.header.fields) size = ap (λ s. rounded_up s size) (same_size h h' call.header) in
+      let end : copied_end (cluster_size h') from (rounded_up (cluster_size h') size) mode ≡ copied_end (cluster_size h) from (rounded_up (cluster_size h) size) mode = ap (λ s. copied_end s from (rounded_up s size) mode) (same_size h h' call.header) in
       elim met [
         | inl alone ↦ inl (met_as _ _ _ _ e
             (λ has. subst (λ n. HasCompressedIn from n h (known_in view old.file)) end
-            (compressed_moved h h' (known_in view old.file) (known_in view long.file) from (rounded_up (cluster_size h') size) call.header (λ g is. subst IsCompressed (sym (call.covers g)) is) has))
+            (compressed_moved h h' (known_in view old.file) (known_in view long.file) from (copied_end (cluster_size h') from (rounded_up (cluster_size h') size) mode) call.header (λ g is. subst IsCompressed (sym (call.covers g)) is) has))
             (λ never. never) alone)
         | inr version ↦ inr (version.0, (version.1.0, subst (λ v. v < 3) (same_version h h' call.header) version.1.1))
       ]

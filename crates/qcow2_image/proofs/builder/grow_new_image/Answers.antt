@@ -59,7 +59,7 @@ pub returns-in-Err-clause-limit : goal.returns-in-Err-clause-limit
 returns-in-Err-clause-limit g c = λ honest unwritten new_image uncleared.
     let view = g.S.Storage.view in
     let contents = (view (storage_of c.args.storage)).contents in
-    other_limit (CantEnlarge view g.F.BackingDisk.backing c.args.mode c.args.size contents) c.in-Err.refusal (opening_unlimited contents c.in-Err.refusal new_image (c.in-Err.ensures.cause.1 honest))
+    other_limit (CantEnlarge view g.F.BackingDisk.backing c.args.mode c.args.size contents _) c.in-Err.refusal (opening_unlimited contents c.in-Err.refusal new_image (c.in-Err.ensures.cause.1 honest))
 
 pub returns-in-Ok-clause-limit : goal.returns-in-Ok-clause-limit
 returns-in-Ok-clause-limit g c = λ honest unwritten new_image uncleared.
@@ -70,13 +70,14 @@ returns-in-Ok-clause-limit g c = λ honest unwritten new_image uncleared.
     let left = c.grow_and_flush-done.new.image in
     let is = (c.in-Ok.ensures.opens honest unwritten.consistent).opened in
     let usable = usable_opened view below image is c.in-Ok.ensures.ok.2 in
-    limits_as (λ e. CantGrowBy view below c.args.mode c.args.size image left) (λ e. CantEnlarge view below c.args.mode c.args.size contents) c.grow_and_flush-done.result
+    limits_as (λ e. CantGrowBy view below c.args.mode c.args.size image left) (λ e. CantEnlarge view below c.args.mode c.args.size contents c.into_storage.result) c.grow_and_flush-done.result
     (λ e lacks. record {
       opened = image;
       is_opened = is;
       stands = (c.in-Ok.ensures.storage.contents honest).contents ∙ opened_none true contents uncleared;
       emptied = c.in-Ok.ensures.list honest unwritten.consistent;
       left = left;
+      is_left = sym c.into_storage.ensures;
       lacks = lacks.0;
       keeps = lacks.1.0;
       leaks = lacks.1.1;

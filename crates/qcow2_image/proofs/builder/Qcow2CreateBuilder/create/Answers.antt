@@ -52,11 +52,11 @@ returns-clause-cause g c = λ honest.
     let contents = (view mid).contents in
     let is = c.new-header.ensures.value in
     let lacks = c.grow_new_image.ensures.limit there.0.honest none (stands_new builder view bits order v is contents there.1) (stands_uncleared builder view bits order v is contents there.1) in
-    reasons_of builder view c.grow_new_image.result.1 (c.grow_new_image.ensures.fault there.0.honest none (stands_third builder view bits order v is contents there.1))
-    (lacks_creating builder view bits order v is contents there.1 c.in-Some.ensures.some c.in-Some-power_of_two.ensures.some c.grow_new_image.result.1 lacks)
+    reasons_of builder view c.grow_new_image.result.0 c.grow_new_image.result.1 (c.grow_new_image.ensures.fault there.0.honest none (stands_third builder view bits order v is contents there.1))
+    (lacks_creating builder view bits order v is contents there.1 c.in-Some.ensures.some c.in-Some-power_of_two.ensures.some c.grow_new_image.result.0 c.grow_new_image.result.1 lacks)
 
 pub returns-in-Err-clause-cause : goal.returns-in-Err-clause-cause
-returns-in-Err-clause-cause g c = λ honest. fault_reason c.args.self g.S.Storage.view c.in-Err.refusal c.in-Err.ensures.fault
+returns-in-Err-clause-cause g c = λ honest. fault_reason c.args.self g.S.Storage.view _ c.in-Err.refusal c.in-Err.ensures.fault
 
 pub returns-then-not-has_l1_entries-clause-cause : goal.returns-then-not-has_l1_entries-clause-cause
 returns-then-not-has_l1_entries-clause-cause g c = λ honest.

@@ -18,7 +18,7 @@ returns-clause-new_disk g c = λ honest.
     c.open_image.ensures.since
 
 pub returns-in-Err-clause-cause : goal.returns-in-Err-clause-cause
-returns-in-Err-clause-cause g c = λ honest. inl (subst (λ (r : Result _ _). IfErr r (IsReasonNotToCreate g.S.Storage.view c.args.self)) c.in-Err.is (c.create-storage.ensures.cause honest))
+returns-in-Err-clause-cause g c = λ honest. inl (subst (λ (r : Result _ _). IfErr r (IsReasonNotToCreate g.S.Storage.view c.args.self c.create-storage.result.0)) c.in-Err.is (c.create-storage.ensures.cause honest))
 
 pub returns-in-Err-clause-faults : goal.returns-in-Err-clause-faults
 returns-in-Err-clause-faults g c = counts_refused g.S.Storage.view (g.S.Storage.view c.args.self.image).faults c.create-storage.result.0 c.in-Err.refusal c.create-storage.result.1 c.in-Err.is c.create-storage.ensures.faults

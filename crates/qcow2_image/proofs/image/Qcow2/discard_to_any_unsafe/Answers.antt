@@ -54,5 +54,5 @@ returns-clause-pinned g c = c.discard_to_zero_unsafe.ensures.pinned
 pub returns-clause-limit : goal.returns-clause-limit
 returns-clause-limit g c = c.discard_to_zero_unsafe.ensures.limit
 
-pub returns-clause-met : goal.returns-clause-met
-returns-clause-met g c = c.discard_to_zero_unsafe.ensures.met
+pub returns-clause-refused : goal.returns-clause-refused
+returns-clause-refused g c = c.discard_to_zero_unsafe.ensures.refused

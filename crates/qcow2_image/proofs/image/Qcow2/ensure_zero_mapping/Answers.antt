@@ -1,4 +1,3 @@
-use Rattle.qcow2_image.proofs.Prepare.MetTables.{alone_cleared}
 use Rattle.qcow2_image.specs.declared.discarding.Clearance.TheVariants.{KeptZeros}
 use Rattle.qcow2_image.proofs.image.Qcow2.ensure_zero_mapping.Goals as goal
 
@@ -56,5 +55,5 @@ returns-clause-pinned g c = c.clear_range.ensures.pinned
 pub returns-clause-limit : goal.returns-clause-limit
 returns-clause-limit g c = c.clear_range.ensures.limit
 
-pub returns-clause-met : goal.returns-clause-met
-returns-clause-met g c = alone_cleared g.S.Storage.view g.F.BackingDisk.backing KeptZeros c.args.self.now c.clear_range.new.self c.args.offset c.args.length c.clear_range.result c.clear_range.ensures.refused
+pub returns-clause-refused : goal.returns-clause-refused
+returns-clause-refused g c = c.clear_range.ensures.refused

@@ -13,6 +13,7 @@ use Rattle.qcow2_image.specs.MetAlone.{IsMetFilling}
 use Rattle.qcow2_image.proofs.Preallocate.Met.{hands_met}
 use Rattle.qcow2_image.proofs.Prepare.Taken.{if_err}
 use Rattle.qcow2_image.proofs.image.Qcow2.fill_behind.Goals as goal
+use Rattle.image_access.specs.declared.storage.PreallocateMode.{PreallocateMode}
 
 pub returns-in-None-clause-fills : goal.returns-in-None-clause-fills
 returns-in-None-clause-fills g c = λ out sound.
@@ -82,17 +83,29 @@ returns-in-Zero-clause-met g c = λ out sound alone near.
     let larger = c.requires.larger in
     elim (cases_lt h.version 3) [
       | inl low ↦ subst (λ (r : Result _ _). IfErr r (IsMetFilling c.args.mode c.args.old (rounded_up (cluster_size h) c.args.size) h (known_in g.S.Storage.view old.file))) (sym (c.zero_grown.ensures.version low).0) (inr (refl, (c.in-Zero.is, low)))
-      | inr high ↦ if_err c.zero_grown.result (λ e why. inl why) (c.zero_grown.ensures.met out sound alone (omega (arith, larger)) high near)
+      | inr high ↦ subst (λ (m : PreallocateMode). IfErr c.zero_grown.result (IsMetFilling m c.args.old (rounded_up (cluster_size h) c.args.size) h (known_in g.S.Storage.view old.file))) (sym c.in-Zero.is) (if_err c.zero_grown.result (λ e why. inl why) (c.zero_grown.ensures.met out sound alone (omega (arith, larger)) high near))
     ]
 
 pub returns-in-FormatAllocate-clause-met : goal.returns-in-FormatAllocate-clause-met
-returns-in-FormatAllocate-clause-met g c = λ out sound alone near. let larger = c.requires.larger in if_err c.allocate_grown.result (λ e why. inl why) (c.allocate_grown.ensures.met out sound alone (omega (arith, larger)) near)
+returns-in-FormatAllocate-clause-met g c = λ out sound alone near.
+    let old = c.args.self.now in
+    let h = old.file.header.fields in
+    let larger = c.requires.larger in
+    subst (λ (m : PreallocateMode). IfErr c.allocate_grown.result (IsMetFilling m c.args.old (rounded_up (cluster_size h) c.args.size) h (known_in g.S.Storage.view old.file))) (sym c.in-FormatAllocate.is) (if_err c.allocate_grown.result (λ e why. inl why) (c.allocate_grown.ensures.met out sound alone (omega (arith, larger)) near))
 
 pub returns-in-FullAllocate-clause-met : goal.returns-in-FullAllocate-clause-met
-returns-in-FullAllocate-clause-met g c = λ out sound alone near. let larger = c.requires.larger in if_err c.allocate_grown-in-FullAllocate.result (λ e why. inl why) (c.allocate_grown-in-FullAllocate.ensures.met out sound alone (omega (arith, larger)) near)
+returns-in-FullAllocate-clause-met g c = λ out sound alone near.
+    let old = c.args.self.now in
+    let h = old.file.header.fields in
+    let larger = c.requires.larger in
+    subst (λ (m : PreallocateMode). IfErr c.allocate_grown-in-FullAllocate.result (IsMetFilling m c.args.old (rounded_up (cluster_size h) c.args.size) h (known_in g.S.Storage.view old.file))) (sym c.in-FullAllocate.is) (if_err c.allocate_grown-in-FullAllocate.result (λ e why. inl why) (c.allocate_grown-in-FullAllocate.ensures.met out sound alone (omega (arith, larger)) near))
 
 pub returns-in_ok-writes-in-WriteData-clause-met : goal.returns-in_ok-writes-in-WriteData-clause-met
-returns-in_ok-writes-in-WriteData-clause-met g c = λ out sound alone near. let larger = c.requires.larger in if_err c.allocate_grown-in-WriteData.result (λ e why. inl why) (c.allocate_grown-in-WriteData.ensures.met out sound alone (omega (arith, larger)) near)
+returns-in_ok-writes-in-WriteData-clause-met g c = λ out sound alone near.
+    let old = c.args.self.now in
+    let h = old.file.header.fields in
+    let larger = c.requires.larger in
+    subst (λ (m : PreallocateMode). IfErr c.allocate_grown-in-WriteData.result (IsMetFilling m c.args.old (rounded_up (cluster_size h) c.args.size) h (known_in g.S.Storage.view old.file))) (sym c.in-WriteData.is) (if_err c.allocate_grown-in-WriteData.result (λ e why. inl why) (c.allocate_grown-in-WriteData.ensures.met out sound alone (omega (arith, larger)) near))
 
 pub returns-in_err-writes-in-WriteData-clause-met : goal.returns-in_err-writes-in-WriteData-clause-met
 returns-in_err-writes-in-WriteData-clause-met g c = λ out sound alone near.

@@ -79,7 +79,7 @@ returns-clause-notes g c = notes_then (notes_then c.zero_first.ensures.notes c.f
 pub returns-in_err-next-clause-met : goal.returns-in_err-next-clause-met
 returns-in_err-next-clause-met g c = λ out sound alone low high whole version near.
     let old = c.args.self.now in
-    hands_met (IsMetAlone (HasCompressedIn c.args.old c.args.end old.file.header.fields (known_in g.S.Storage.view old.file)) ⊥) c.from_residual.result c.in_err-next.field-0.0 c.from_residual.ensures
+    hands_met (IsMetAlone (HasCompressedIn c.args.old c.args.from old.file.header.fields (known_in g.S.Storage.view old.file)) ⊥) c.from_residual.result c.in_err-next.field-0.0 c.from_residual.ensures
     (inl (c.in_err-next.ensures.met out sound alone high whole version near))
 
 pub returns-in_err-fill_range-clause-met : goal.returns-in_err-fill_range-clause-met
@@ -93,8 +93,8 @@ returns-in_err-fill_range-clause-met g c = λ out sound alone low high whole ver
     let e = c.in_err-fill_range.field-0.0 in
     let first = c.in_ok-next.ensures.fills out sound high whole version in
     let kept = c.in_ok-next.ensures.l1_place (λ lt. entry_reached view below out (pending_in view below a out) a sound c.args.from c.args.end lt near) in
-    hands_met (IsMetAlone (HasCompressedIn c.args.old c.args.end h (known_in view a.file)) ⊥) c.from_residual-in_err-fill_range.result e c.from_residual-in_err-fill_range.ensures
-    (met_before view below out 0 c.args.from c.in_ok-next.next a b first c.args.old c.args.from c.args.old c.args.end (omega arith) high e
+    hands_met (IsMetAlone (HasCompressedIn c.args.old c.args.from h (known_in view a.file)) ⊥) c.from_residual-in_err-fill_range.result e c.from_residual-in_err-fill_range.ensures
+    (met_before view below out 0 c.args.from c.in_ok-next.next a b first c.args.old c.args.from c.args.old c.args.from (omega arith) (omega arith) e
     (c.in_err-fill_range.ensures.met out first.sound alone low (still_at h h' c.args.from first.header whole.0) (near_moved h h' c.args.end c.args.from first.header kept high near)))
 
 pub returns-clause-met : goal.returns-clause-met

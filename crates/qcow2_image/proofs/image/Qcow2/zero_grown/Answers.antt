@@ -96,6 +96,6 @@ returns-clause-met g c = λ out sound alone le version near.
     let end : c.in-Some-rounded_up.end ≡ rounded_up (cluster_size c.args.self.now.file.header.fields) c.args.size = c.in-Some-rounded_up.ensures.some ∙ ap (λ s. rounded_up s c.args.size) size in
     let least = up_least cs c.args.old some in
     let rising = up_rising cs c.args.old c.args.size some le in
-    subst (λ n. IfErr c.zero_between.result (IsMetAlone (HasCompressedIn c.args.old n h (known_in view old.file)) ⊥)) end
+    subst (λ n. IfErr c.zero_between.result (IsMetAlone (HasCompressedIn c.args.old n h (known_in view old.file)) ⊥)) from
     (c.zero_between.ensures.met out sound alone (omega (arith, from, least)) (omega (arith, from, end, rising)) (subst (λ n. n % cs ≡ 0) (sym from) (up_whole cs c.args.old some), subst (λ n. n % cs ≡ 0) (sym end) (up_whole cs c.args.size some)) version
     (subst (λ n. HasNearEntries n h) (sym end) near))
