@@ -39,6 +39,11 @@ pub if_some_to : {E : Type 0} {P Q : E → Type 0} (o : Option E) → ((e : E) �
 if_some_to None to is = tt
 if_some_to (Some e) to is = to e is
 
+-- what a call was refused for in the end
+pub if_err_to : {A E : Type 0} {P Q : E → Type 0} (r : Result A E) → ((e : E) → P e → Q e) → IfErr r P → IfErr r Q
+if_err_to (Ok a) to is = tt
+if_err_to (Err e) to is = to e is
+
 if_some_all : {E : Type 0} {P : E → Type 0} (o : Option E) → ((e : E) → P e) → IfSome o P
 if_some_all None to = tt
 if_some_all (Some e) to = to e
