@@ -26,6 +26,11 @@ module _ {S : Type 0} (view : S → StorageView) (old new : ImageFile S) (p p' :
   pub all_stay : (given : List GivenBytes) → CoversStay old.header.fields (known_in view old) new.header.fields (known_in view new) → UngivenStay (cluster_size old.header.fields) given (known_in view old) (known_in view new)
   all_stay given covers = ungiven_stay given (λ g untouched. covers g)
 
+  -- where no byte is given, the same stands for all of them by the headers in memory
+  pub none_given : (size_of_cluster : ℕ) → UngivenStay size_of_cluster [] (known_in view old) (known_in view new) → CoversStay old.header.fields (known_in view old) new.header.fields (known_in view new)
+  none_given size_of_cluster stay g =
+      sym (ap (λ (h : HeaderFields). cover h (known_in view old) g) (known_header (state_in view old p) sound)) ∙ stay g tt ∙ ap (λ (h : HeaderFields). cover h (known_in view new) g) (known_header (state_in view new p') sound')
+
 -- a part of a range touches no more clusters than the range
 module _ (size_of_cluster part_from part_count from count : ℕ) (low : from ≤ part_from) where
   pub touches_less : (0 < part_count → part_from + part_count ≤ from + count) → (g : ℕ) → (Touches size_of_cluster from (from + count) g → ⊥) × Unit {0} → (Touches size_of_cluster part_from (part_from + part_count) g → ⊥) × Unit {0}
