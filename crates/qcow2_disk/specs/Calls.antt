@@ -39,7 +39,7 @@ pub record Stops (old new : AbstractImage) (given : List GivenBytes) (asked : Li
 abbrev pub StartsAt : AbstractImage → Checkpoint → Type 0
 StartsAt v m = StopOkEverywhere v.setting.backing m (stored_bytes v) × StopOkEverywhere v.setting.backing m v.known
 
--- What a call does to a sound image. What stands for guest clusters of which it gives no byte stays. No cluster is leaked, even where the call was refused or broke off.
+-- What a call does to a sound image. While it is sound, what stands for guest clusters of which the call gives no byte stays. No cluster is leaked, even where the call was refused or broke off.
 pub record EffectOnSound (old new : AbstractImage) (given : List GivenBytes) (asked : List ℕ) : Type 0 where
   pub setting : new.setting ≡ old.setting
   pub surplus : new.is_sound → new.surplus ≡ old.surplus

@@ -1,5 +1,6 @@
 pub mod SizeWritten
 pub mod Noted
+pub mod UncoveredTails
 pub mod Tails
 pub mod Turns
 pub mod Shrinking

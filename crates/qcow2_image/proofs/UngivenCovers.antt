@@ -26,16 +26,23 @@ module _ {S : Type 0} (view : S → StorageView) (old new : ImageFile S) (p p' :
   pub all_stay : (given : List GivenBytes) → CoversStay old.header.fields (known_in view old) new.header.fields (known_in view new) → UngivenStay (cluster_size old.header.fields) given (known_in view old) (known_in view new)
   all_stay given covers = ungiven_stay given (λ g untouched. covers g)
 
+  -- where no byte is given, the same stands for all of them by the headers in memory
+  pub none_given : (size_of_cluster : ℕ) → UngivenStay size_of_cluster [] (known_in view old) (known_in view new) → CoversStay old.header.fields (known_in view old) new.header.fields (known_in view new)
+  none_given size_of_cluster stay g =
+      sym (ap (λ (h : HeaderFields). cover h (known_in view old) g) (known_header (state_in view old p) sound)) ∙ stay g tt ∙ ap (λ (h : HeaderFields). cover h (known_in view new) g) (known_header (state_in view new p') sound')
+
 -- a part of a range touches no more clusters than the range
 module _ (size_of_cluster part_from part_count from count : ℕ) (low : from ≤ part_from) where
   pub touches_less : (0 < part_count → part_from + part_count ≤ from + count) → (g : ℕ) → (Touches size_of_cluster from (from + count) g → ⊥) × Unit {0} → (Touches size_of_cluster part_from (part_from + part_count) g → ⊥) × Unit {0}
-  touches_less high g untouched =
-      (λ touched.
-      let some = touched.0 in
-      let first = touched.1 in
-      let last = touched.2 in
-      let end = high (omega (arith, some)) in
-      untouched.0 (omega (arith, low, end, some), omega (arith, low, first), omega (arith, end, last)), tt)
+  touches_less high g untouched = (
+    λ touched.
+        let some = touched.0 in
+        let first = touched.1 in
+        let last = touched.2 in
+        let end = high (omega (arith, some)) in
+        untouched.0 (omega (arith, low, end, some), omega (arith, low, first), omega (arith, end, last)),
+    tt,
+  )
 
   pub touches_part : part_from + part_count ≤ from + count → (g : ℕ) → (Touches size_of_cluster from (from + count) g → ⊥) × Unit {0} → (Touches size_of_cluster part_from (part_from + part_count) g → ⊥) × Unit {0}
   touches_part high = touches_less (λ some. high)
@@ -64,14 +71,16 @@ next_multiple step a b lt = elim (cases_lt a b) [
 -- the whole clusters of a range are those that it touches
 pub touches_whole : (size_of_cluster : ℕ) → 0 < size_of_cluster → (whole_from whole_count from count : ℕ) → 0 < count → whole_from ≡ rounded_down size_of_cluster from → whole_from + whole_count ≡ rounded_up size_of_cluster (from + count)
     → (g : ℕ) → (Touches size_of_cluster from (from + count) g → ⊥) × Unit {0} → (Touches size_of_cluster whole_from (whole_from + whole_count) g → ⊥) × Unit {0}
-touches_whole size_of_cluster some whole_from whole_count from count any begins ends g untouched =
-    (λ touched.
-    let above = touched.1 in
-    let below = touched.2 in
-    let f : from / size_of_cluster * size_of_cluster + from % size_of_cluster ≡ from = div-add-mod' from size_of_cluster in
-    let t : (from + count + size_of_cluster - 1) / size_of_cluster * size_of_cluster + (from + count + size_of_cluster - 1) % size_of_cluster ≡ from + count + size_of_cluster - 1 = div-add-mod' (from + count + size_of_cluster - 1) size_of_cluster in
-    let rest = mod_below from size_of_cluster some in
-    let next : (g + 1) * size_of_cluster ≡ g * size_of_cluster + size_of_cluster = omega arith in
-    let low = next_multiple size_of_cluster (from / size_of_cluster) (g + 1) (omega (arith, above, begins, next)) in
-    let high = next_multiple size_of_cluster g ((from + count + size_of_cluster - 1) / size_of_cluster) (omega (arith, below, ends)) in
-    untouched.0 (omega (arith, any), omega (arith, f, rest, low, next), omega (arith, t, high, some)), tt)
+touches_whole size_of_cluster some whole_from whole_count from count any begins ends g untouched = (
+  λ touched.
+      let above = touched.1 in
+      let below = touched.2 in
+      let f : from / size_of_cluster * size_of_cluster + from % size_of_cluster ≡ from = div-add-mod' from size_of_cluster in
+      let t : (from + count + size_of_cluster - 1) / size_of_cluster * size_of_cluster + (from + count + size_of_cluster - 1) % size_of_cluster ≡ from + count + size_of_cluster - 1 = div-add-mod' (from + count + size_of_cluster - 1) size_of_cluster in
+      let rest = mod_below from size_of_cluster some in
+      let next : (g + 1) * size_of_cluster ≡ g * size_of_cluster + size_of_cluster = omega arith in
+      let low = next_multiple size_of_cluster (from / size_of_cluster) (g + 1) (omega (arith, above, begins, next)) in
+      let high = next_multiple size_of_cluster g ((from + count + size_of_cluster - 1) / size_of_cluster) (omega (arith, below, ends)) in
+      untouched.0 (omega (arith, any), omega (arith, f, rest, low, next), omega (arith, t, high, some)),
+  tt,
+)

@@ -54,7 +54,7 @@ commit_touches size_of_cluster some d m range offset n from_is range_from range_
       let mine = whole_end size_of_cluster m.from (m.from + m.length) (omega arith) in
       let same : offset + n ≡ range.from + range.count = omega (arith, range_from, range_count) in
       λ g untouched. touches_less size_of_cluster (given_by_commit size_of_cluster d m).from (given_by_commit size_of_cluster d m).count (rounded_down size_of_cluster offset) (rounded_up size_of_cluster (offset + n) - rounded_down size_of_cluster offset) (omega (arith, begins))
-          (λ there. omega (arith, begins, ends, whole, last, all, mine)) g
-          (touches_whole size_of_cluster some (rounded_down size_of_cluster offset) (rounded_up size_of_cluster (offset + n) - rounded_down size_of_cluster offset) range.from range.count (omega (arith, any, range_count)) (ap (rounded_down size_of_cluster) (sym range_from))
-          (all ∙ ap (rounded_up size_of_cluster) same) g untouched)
+      (λ there. omega (arith, begins, ends, whole, last, all, mine)) g
+      (touches_whole size_of_cluster some (rounded_down size_of_cluster offset) (rounded_up size_of_cluster (offset + n) - rounded_down size_of_cluster offset) range.from range.count (omega (arith, any, range_count)) (ap (rounded_down size_of_cluster) (sym range_from))
+      (all ∙ ap (rounded_up size_of_cluster) same) g untouched)
 ]

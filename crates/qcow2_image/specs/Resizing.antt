@@ -20,7 +20,7 @@ use Rattle.qcow2_alloc.specs.declared.error.ImageError.TheVariants as I
 use Rattle.qcow2_image.specs.Backings.{HasPrepared}
 use Rattle.qcow2_image.specs.CallParts.{UnseenCall}
 use Rattle.qcow2_image.specs.Calls.{refusal_of}
-use Rattle.qcow2_image.specs.Clearing.{RefusesUngiven, given_bytes_between, setting_of}
+use Rattle.qcow2_image.specs.Clearing.{ClearsImageCovers, RefusesUngiven, given_bytes_between, setting_of}
 use Rattle.qcow2_image.specs.declared.discarding.Clearance.TheVariants.{Uncovered}
 use Rattle.qcow2_image.specs.declared.image.Qcow2.{Qcow2}
 use Rattle.qcow2_image.specs.declared.prepared.Prepared.{Prepared}
@@ -96,6 +96,10 @@ module _ {S F : Type 0} (view : S → StorageView) where
     pub stops : answer < size_of old → CantUncover (size_of old) new answer
     pub emptied : boundary_in old size < size_of old → HasNothingToFree new
 
+  -- Nothing stands for each guest cluster between two offsets, both rounded up. For all others stands what stood for them.
+  abbrev pub UncoversClusters : (at next : ℕ) → Qcow2 S F → Qcow2 S F → Type 0
+  UncoversClusters at next old new = ClearsImageCovers Uncovered (boundary_in old at) (boundary_in old next) old.file.header.fields (known_in view old.file) new.file.header.fields (known_in view new.file)
+
 module _ {S F : Type 0} (view : S → StorageView) (backing : F → BackingView) where
   -- The size is written last: each moment since has the old size, or is what stands on the storage then.
   abbrev pub WritesSizeLast : Qcow2 S F → Qcow2 S F → Type 0
@@ -165,6 +169,7 @@ module _ {S F : Type 0} (view : S → StorageView) (backing : F → BackingView)
     pub works : EffectOnSound (abstract_of view backing old out) (abstract_of view backing new out) (given_bytes_between view backing old Uncovered (boundary_in old at) (boundary_in old next)) []
     pub sound : ImageInvariant view backing (pending_in view backing new out) new out
     pub shows : ShowsBelow at next old new out
+    pub covers : UncoversClusters view at next old new
 
   -- one turn of that
   abbrev pub UncoversNext : Qcow2 S F → Qcow2 S F → ℕ → Result ℕ ImageError → Type 0

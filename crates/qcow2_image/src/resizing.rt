@@ -23,7 +23,7 @@ ghost use Rattle.qcow2_image.specs.LackedTables.{CantGrowDisk, LacksTableReachin
 ghost use Rattle.qcow2_image.specs.LongerTables.{MakesEntry};
 ghost use Rattle.qcow2_image.specs.PinnedTables.{HasPinnedTable};
 ghost use Rattle.qcow2_image.specs.Refusals.{FreesRefused, IsFaultOrLimit, IsMet, IsMetPreparing, MarksFailed, MarksRefused};
-ghost use Rattle.qcow2_image.specs.Resizing.{CantUncover, EndsTail, FreesTurn, GrowsTables, GrowsTo, IsFaultOrCantUncover, IsMetShrinking, IsResized, Shrinks, UncoversNext, UncoversTail, WritesSize, WritesSizeLast, boundary_in, refuses_to_resize, size_after, takes_over};
+ghost use Rattle.qcow2_image.specs.Resizing.{CantUncover, EndsTail, FreesTurn, GrowsTables, GrowsTo, IsFaultOrCantUncover, IsMetShrinking, IsResized, Shrinks, UncoversClusters, UncoversNext, UncoversTail, WritesSize, WritesSizeLast, boundary_in, refuses_to_resize, size_after, takes_over};
 ghost use Rattle.qcow2_image.specs.Faults.{CountsImageFaults, NoFewerFaults, TellsEachIn, TellsFault};
 
 use crate::Qcow2;
@@ -36,7 +36,7 @@ impl<S: Storage, F: WrappedFormat<S>> Qcow2<S, F> {
     /// Makes the disk smaller, and drops the whole clusters behind its new end, so that the disk below shows there should it grow again.
     /// Answers the offset up to which that was done, which is less than the old size only where dropping the next cluster is refused. A
     /// size that isn't smaller changes nothing, and answers the old one. Where a whole cluster lay behind the new end, none is left to be
-    /// freed.
+    /// freed. Nothing stands for the dropped clusters then, not even that they are zeros.
     /// Refused in this order: 16 (failed), 12 (dependency), 1 (read-only). Of a smaller size also 17 (mapping prepared) while a mapping
     /// is prepared that isn't existing. Where the work meets them: 14 (memory), 15 (storage).
     pub fn resize_shrink(&mut self, size: u64) -> Result<u64, ImageError>
@@ -48,6 +48,7 @@ impl<S: Storage, F: WrappedFormat<S>> Qcow2<S, F> {
         ensures marks { MarksFailed self.old self.new result }
         ensures image { size < size_of self.old → IsResized (size_after result (size_of self.old) size) self.old self.new }
         ensures sees { Shrinks S.view F.backing self.old self.new size result }
+        ensures covers { (out : List (Option Prepared)) → (abstract_of S.view F.backing self.old out).is_sound → IfOk result (λ answer. UncoversClusters S.view size answer self.old self.new) }
         ensures stops { (out : List (Option Prepared)) → (abstract_of S.view F.backing self.old out).is_sound → IfOk result (EndsTail S.view self.old self.new size) }
         ensures last { (out : List (Option Prepared)) → (abstract_of S.view F.backing self.old out).is_sound → WritesSizeLast S.view F.backing self.old self.new }
         ensures once_written { FailsOnceWritten S.view self.old self.new result }
@@ -83,6 +84,7 @@ impl<S: Storage, F: WrappedFormat<S>> Qcow2<S, F> {
         ensures marks { MarksFailed self.old self.new result }
         ensures image { IsResized (size_after result (size_of self.old) size) self.old self.new }
         ensures sees { Shrinks S.view F.backing self.old self.new size result }
+        ensures covers { (out : List (Option Prepared)) → (abstract_of S.view F.backing self.old out).is_sound → IfOk result (λ answer. UncoversClusters S.view size answer self.old self.new) }
         ensures stops { refuses_to_resize self.old ≡ None → (out : List (Option Prepared)) → (abstract_of S.view F.backing self.old out).is_sound → (HasPrepared out → ⊥)
             → IfOk result (EndsTail S.view self.old self.new size) }
         ensures last { (out : List (Option Prepared)) → (abstract_of S.view F.backing self.old out).is_sound → WritesSizeLast S.view F.backing self.old self.new }

@@ -10,9 +10,12 @@ use Rattle.image_access.specs.Moments.{StorageView}
 use Rattle.qcow2_disk.specs.Calls.{Clearing}
 use Rattle.qcow2_alloc.specs.declared.error.ImageError.{ImageError}
 use Rattle.qcow2_alloc.specs.declared.error.ImageError.TheVariants as I
+use Rattle.qcow2_image.specs.Backings.{HasPrepared}
 use Rattle.qcow2_image.specs.Clearing.{IsUnderMapping, from_in, to_in}
 use Rattle.qcow2_image.specs.Image.{is_external, is_failed, number_of, size_of}
 use Rattle.qcow2_image.specs.ImageInvariant.{abstract_of}
+use Rattle.qcow2_image.specs.L1Entries.{NeedsFarEntry}
+use Rattle.qcow2_image.specs.MetAlone.{IsMetAlone}
 use Rattle.qcow2_image.specs.declared.image.Qcow2.{Qcow2}
 use Rattle.qcow2_image.specs.declared.mapping.Mapping.{Mapping}
 use Rattle.qcow2_image.specs.declared.prepared.CommitRefused.{CommitRefused}
@@ -21,7 +24,7 @@ use Rattle.qcow2_image.specs.declared.prepared.Prepared.{Prepared}
 use Rattle.qcow2_image.specs.Preallocation.{IsUnderMappingIn}
 use Rattle.qcow2_image.specs.Prepared.{IsHandedBackBy}
 use Rattle.qcow2_image.specs.Refusals.{IsMet, IsMetPreparing, IsUnlimited, passes, refuse_if, refuses_mapping, refuses_to_prepare, refuses_to_read, unusable}
-use Rattle.qcow2_session.specs.Causes.{HasNothingToDo, HeedsPrepared, IsRightlyRefused, IsUntouchedUnder, MayMeet, TellsMisuse, first_cause, refuses_clearing}
+use Rattle.qcow2_session.specs.Causes.{HasNothingToDo, HeedsPrepared, IsRightlyRefused, IsUntouchedUnder, MayMeet, MeetsAlone, TellsMisuse, first_cause, refuses_clearing}
 use Rattle.qcow2_session.specs.Commands.{reply_of_clearing}
 use Rattle.qcow2_session.specs.CountedFaults.{refusal_in}
 use Rattle.qcow2_session.specs.Sessions.{IsOfReading}
@@ -35,6 +38,11 @@ use Rattle.qcow2_session.specs.declared.session.Reply.TheVariants as R
 pub if_some_to : {E : Type 0} {P Q : E → Type 0} (o : Option E) → ((e : E) → P e → Q e) → IfSome o P → IfSome o Q
 if_some_to None to is = tt
 if_some_to (Some e) to is = to e is
+
+-- what a call was refused for in the end
+pub if_err_to : {A E : Type 0} {P Q : E → Type 0} (r : Result A E) → ((e : E) → P e → Q e) → IfErr r P → IfErr r Q
+if_err_to (Ok a) to is = tt
+if_err_to (Err e) to is = to e is
 
 if_some_all : {E : Type 0} {P : E → Type 0} (o : Option E) → ((e : E) → P e) → IfSome o P
 if_some_all None to = tt
@@ -75,6 +83,7 @@ module _ {S F : Type 0} (view : S → StorageView) (backing : F → BackingView)
     still = λ _. same;
     early = if_some_all (first_cause old command) (λ e. (inr refl, same));
     late = λ _. tt;
+    met = λ _ _ _. tt;
     idle = λ _ _. refl;
     heeds = λ _ _. heeds;
   }
@@ -87,6 +96,7 @@ module _ {S F : Type 0} (view : S → StorageView) (backing : F → BackingView)
     still = λ is. absurd (never is);
     early = if_some_to (first_cause old command) (λ e no. absurd no) early;
     late = λ _. subst (λ o. IfSome o (MayMeet command)) (sym done) tt;
+    met = λ _ _ _. subst (λ o. IfSome o (MeetsAlone view old command)) (sym done) tt;
     idle = λ _ _. done;
     heeds = heeds;
   }
@@ -97,13 +107,15 @@ module _ {S F : Type 0} (view : S → StorageView) (backing : F → BackingView)
 
   -- it was refused
   pub is_refused : (e : ImageError) (reply : Reply) → (reply ≡ R.Misuse → ⊥) → TellsMisuse before found command reply → refusal_in reply ≡ Some e → IfSome (first_cause old command) (λ x. (e ≡ x) × (new ≡ old))
-      → (first_cause old command ≡ None → MayMeet command e) → (first_cause old command ≡ None → HasNothingToDo view backing old new before command → ⊥)
+      → (first_cause old command ≡ None → MayMeet command e) → (first_cause old command ≡ None → (abstract_of view backing old before).is_sound → (HasPrepared before → ⊥) → MeetsAlone view old command e)
+      → (first_cause old command ≡ None → HasNothingToDo view backing old new before command → ⊥)
       → (first_cause old command ≡ None → (abstract_of view backing old before).is_sound → HeedsPrepared view backing old new before found command reply) → IsRightlyRefused view backing old new before found command reply
-  is_refused e reply never misuse is early late idle heeds = record {
+  is_refused e reply never misuse is early late met idle heeds = record {
     misuse = misuse;
     still = λ is. absurd (never is);
     early = if_some_to (first_cause old command) (λ x h. (inl (is ∙ ap Some h.0), h.1)) early;
     late = λ none. subst (λ o. IfSome o (MayMeet command)) (sym is) (late none);
+    met = λ none sound free. subst (λ o. IfSome o (MeetsAlone view old command)) (sym is) (met none sound free);
     idle = λ none nothing. absurd (idle none nothing);
     heeds = heeds;
   }
@@ -147,7 +159,7 @@ module _ {S F : Type 0} (view : S → StorageView) (backing : F → BackingView)
       → ((out : List (Option Prepared)) → (abstract_of view backing old out).is_sound → IsUnlimited e) → IsRightlyRefused view backing old new before found (C.Read offset n) (R.Refused e)
   read_refused offset n e early late limited =
       is_refused view backing old new before (C.Read offset n) e (R.Refused e) (λ is. absurd cc) (λ is. absurd cc, λ is. absurd is) refl (begun_with (Vec ℕ Global) (new ≡ old) e (refuses_to_read old offset n) early)
-      (λ none. (late none).0) (λ none empty. let some = (late none).1 in omega (arith, some, empty)) (λ _ sound. limited before sound)
+      (λ none. (late none).0) (λ _ _ _. tt) (λ none empty. let some = (late none).1 in omega (arith, some, empty)) (λ _ sound. limited before sound)
 
   pub write_answered : (Same : Type 0) (offset : ℕ) (bytes : Vec ℕ Global) → IfSome (refuses_to_prepare old offset (length bytes.items)) (λ x. (◌≡◌ {A = Result (Unit {0}) (ImageError × ℕ)} (Ok tt) (Err (x, 0))) × Same) → IsRightlyRefused view backing old new before found (C.Write offset bytes) R.Done
   write_answered Same offset bytes early = is_done view backing old new before (C.Write offset bytes) R.Done (λ is. absurd cc) (λ is. absurd cc, λ is. absurd is) refl
@@ -158,7 +170,7 @@ module _ {S F : Type 0} (view : S → StorageView) (backing : F → BackingView)
       → (refuses_to_prepare old offset (length bytes.items) ≡ None → (abstract_of view backing old before).is_sound → e ≡ I.TablePrepared → IsUnderMappingIn old.file.header.fields offset (offset + length bytes.items) before)
       → IsRightlyRefused view backing old new before found (C.Write offset bytes) (R.WriteRefused e n)
   write_refused_for offset bytes e n early late taken = is_refused view backing old new before (C.Write offset bytes) e (R.WriteRefused e n) (λ is. absurd cc) (λ is. absurd cc, λ is. absurd is) refl
-      (if_some_to (refuses_to_prepare old offset (length bytes.items)) (λ x h. (let is = h.0 in let pair : (e, n) ≡ (x, 0) = same_error is in ap (λ (p : ImageError × ℕ). p.0) pair, h.1)) early) (λ none. (late none).0) (λ none empty. let some = (late none).1 in omega (arith, some, empty)) (λ none sound is. taken none sound (some_error is))
+      (if_some_to (refuses_to_prepare old offset (length bytes.items)) (λ x h. (let is = h.0 in let pair : (e, n) ≡ (x, 0) = same_error is in ap (λ (p : ImageError × ℕ). p.0) pair, h.1)) early) (λ none. (late none).0) (λ _ _ _. tt) (λ none empty. let some = (late none).1 in omega (arith, some, empty)) (λ none sound is. taken none sound (some_error is))
 
   pub size_answered : (n : ℕ) → IsRightlyRefused view backing old new before found C.Size (R.Size n)
   size_answered n = is_done view backing old new before C.Size (R.Size n) (λ is. absurd cc) (λ is. absurd cc, λ is. absurd is) refl tt (λ _ _. tt)
@@ -254,7 +266,7 @@ holds out slot None at is = absurd cc
 holds out slot (Some p) at is = (p.now, at)
 
 -- what refuses a larger disk, where its mode isn't what does
-pub grow_meets : (e : ImageError) (old size : ℕ) (takes : Bool) → (nat_lt old size && takes) ≡ false → (size ≤ old → ⊥) → IsMetPreparing e ⊎ ((e ≡ I.Preallocation) × IsTrue takes) → IsMetPreparing e
+pub grow_meets : {X : Type 0} (e : ImageError) (old size : ℕ) (takes : Bool) → (nat_lt old size && takes) ≡ false → (size ≤ old → ⊥) → X ⊎ ((e ≡ I.Preallocation) × IsTrue takes) → X
 grow_meets e old size takes none larger (inl met) = met
 grow_meets e old size takes none larger (inr mode) = absurd (elim (cases_lt old size) [ inl lt ↦ takes_none old size takes none lt mode.1 | inr le ↦ larger le ])
 
@@ -262,23 +274,23 @@ grow_meets e old size takes none larger (inr mode) = absurd (elim (cases_lt old 
 
 module _ {S F : Type 0} (view : S → StorageView) (backing : F → BackingView) (old new : Qcow2 S F) (before : List (Option Prepared)) {found : ℕ → Option Mapping} (offset n : ℕ) (how : Clearing) (command : Command)
     (cause : first_cause old command ≡ refuses_clearing old how offset n) (nothing : HasNothingToDo view backing old new before command → to_in old offset n ≤ from_in old offset n)
-    (may : (e : ImageError) → IsMetPreparing e → MayMeet command e) (heed : (reply : Reply) → IsUntouchedUnder view backing old new before offset n reply → HeedsPrepared view backing old new before found command reply)
+    (may : (e : ImageError) → IsMetPreparing e → MayMeet command e) (alone : (e : ImageError) → IsMetAlone ⊥ (NeedsFarEntry old (from_in old offset n)) e → MeetsAlone view old command e) (heed : (reply : Reply) → IsUntouchedUnder view backing old new before offset n reply → HeedsPrepared view backing old new before found command reply)
     (misuse : (reply : Reply) → (reply ≡ R.Misuse → ⊥) → TellsMisuse before found command reply) where
-  clears_as : (r : Result (ℕ × ℕ) ImageError) → IfSome (refuses_clearing old how offset n) (λ e. (r ≡ Err e) × (new ≡ old)) → (refuses_clearing old how offset n ≡ None → IfErr r IsMetPreparing)
+  clears_as : (r : Result (ℕ × ℕ) ImageError) → IfSome (refuses_clearing old how offset n) (λ e. (r ≡ Err e) × (new ≡ old)) → (refuses_clearing old how offset n ≡ None → IfErr r IsMetPreparing) → (refuses_clearing old how offset n ≡ None → (abstract_of view backing old before).is_sound → (HasPrepared before → ⊥) → IfErr r (IsMetAlone ⊥ (NeedsFarEntry old (from_in old offset n))))
       → (refuses_clearing old how offset n ≡ None → to_in old offset n ≤ from_in old offset n → (r ≡ Ok (from_in old offset n, 0)) × (new ≡ old))
       → (refuses_clearing old how offset n ≡ None → from_in old offset n < to_in old offset n → (abstract_of view backing old before).is_sound → IfErr r (λ e. e ≡ I.TablePrepared → IsUnderMapping old.file.header.fields (from_in old offset n) before) × IfOk r (λ range. ¬ IsUnderMapping old.file.header.fields (from_in old offset n) before))
       → IsRightlyRefused view backing old new before found command (reply_of_clearing r)
-  clears_as (Ok range) early late idle under =
+  clears_as (Ok range) early late met idle under =
       is_answered view backing old new before command (new ≡ old) range (R.Range range.0 range.1) (λ is. absurd cc) (misuse (R.Range range.0 range.1) (λ is. absurd cc)) refl (subst (λ o. IfSome o (λ e. (◌≡◌ {A = Result (ℕ × ℕ) ImageError} (Ok range) (Err e)) × (new ≡ old))) (sym cause) early)
       (λ none sound. heed (R.Range range.0 range.1) (λ some is. (under (sym cause ∙ none) some sound).1 is))
-  clears_as (Err e) early late idle under =
+  clears_as (Err e) early late met idle under =
       is_refused view backing old new before command e (R.Refused e) (λ is. absurd cc) (misuse (R.Refused e) (λ is. absurd cc)) refl (subst (λ o. IfSome o (λ x. (e ≡ x) × (new ≡ old))) (sym cause) (begun_with (ℕ × ℕ) (new ≡ old) e (refuses_clearing old how offset n) early))
-      (λ none. may e (late (sym cause ∙ none)))
+      (λ none. may e (late (sym cause ∙ none))) (λ none sound free. alone e (met (sym cause ∙ none) sound free))
       (λ none is. let no : (◌≡◌ {A = Result (ℕ × ℕ) ImageError} (Err e) (Ok (from_in old offset n, 0))) = (idle (sym cause ∙ none) (nothing is)).0 in absurd cc)
       (λ none sound. heed (R.Refused e) (λ some is. (under (sym cause ∙ none) some sound).0 (some_error is)))
 
-  pub clears_rightly : (r : Result (ℕ × ℕ) ImageError) (reply : Reply) → reply ≡ reply_of_clearing r → IfSome (refuses_clearing old how offset n) (λ e. (r ≡ Err e) × (new ≡ old)) → (refuses_clearing old how offset n ≡ None → IfErr r IsMetPreparing)
+  pub clears_rightly : (r : Result (ℕ × ℕ) ImageError) (reply : Reply) → reply ≡ reply_of_clearing r → IfSome (refuses_clearing old how offset n) (λ e. (r ≡ Err e) × (new ≡ old)) → (refuses_clearing old how offset n ≡ None → IfErr r IsMetPreparing) → (refuses_clearing old how offset n ≡ None → (abstract_of view backing old before).is_sound → (HasPrepared before → ⊥) → IfErr r (IsMetAlone ⊥ (NeedsFarEntry old (from_in old offset n))))
       → (refuses_clearing old how offset n ≡ None → to_in old offset n ≤ from_in old offset n → (r ≡ Ok (from_in old offset n, 0)) × (new ≡ old))
       → (refuses_clearing old how offset n ≡ None → from_in old offset n < to_in old offset n → (abstract_of view backing old before).is_sound → IfErr r (λ e. e ≡ I.TablePrepared → IsUnderMapping old.file.header.fields (from_in old offset n) before) × IfOk r (λ range. ¬ IsUnderMapping old.file.header.fields (from_in old offset n) before))
       → IsRightlyRefused view backing old new before found command reply
-  clears_rightly r reply is early late idle under = subst (λ q. IsRightlyRefused view backing old new before found command q) (sym is) (clears_as r early late idle under)
+  clears_rightly r reply is early late met idle under = subst (λ q. IsRightlyRefused view backing old new before found command q) (sym is) (clears_as r early late met idle under)

@@ -191,7 +191,7 @@ module _ (old mid new : AbstractImage) (contents : List ℕ) (at count : ℕ) (f
         inl start,
         may_write_more 0 at at contents short (omega arith) e (guest_of old) (guest_of mid) (guest_of new) h.0.0 (may_write_first e (guest_of mid) (guest_of new) at count (drop at contents) (subst (λ (b : List ℕ). MayWrite e (guest_of mid) at b 0 (guest_of new)) chunk_is (h.0.1 h.1))),
       ))
-      (interrupted_why is_aligned (interrupted_then {more = given_of at (drop at contents) ∷ []} (λ _. rest_within) first (interrupted_less chunk_within next)))
+      (interrupted_why is_aligned (interrupted_then {more = given_of at (drop at contents) ∷ []} (λ _ _. rest_within) first (interrupted_less chunk_within next)))
 
 -- ---- a range, in the calls' words
 module _ {S F : Type 0} (view : S → StorageView) (backing : F → BackingView) (old new : Qcow2 S F) (at : ℕ) (bytes : List ℕ) where

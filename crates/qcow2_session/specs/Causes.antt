@@ -4,7 +4,7 @@ use Rattle.std.specs.Option.{option_or}
 use Rattle.image_access.specs.Backing.{BackingView}
 use Rattle.image_access.specs.Moments.{StorageView}
 use Rattle.image_access.specs.declared.storage.PreallocateMode.{PreallocateMode}
-use Rattle.qcow2_metadata.specs.Header.{cluster_size}
+use Rattle.qcow2_metadata.specs.Header.{cluster_size, rounded_up}
 use Rattle.qcow2_disk.specs.Calls.{Clearing, shows_old, to_backing, to_kept_zero, to_zero}
 use Rattle.qcow2_disk.specs.ClearedCovers.{needs_zeros, rounds_past}
 use Rattle.qcow2_alloc.specs.ImageError.{IsFault, IsOfTables}
@@ -16,6 +16,8 @@ use Rattle.qcow2_image.specs.Clearing.{IsUnderMapping, from_in, to_in}
 use Rattle.qcow2_image.specs.Found.{IsFoundWhole, further_by}
 use Rattle.qcow2_image.specs.Image.{is_failed, is_writable, size_of}
 use Rattle.qcow2_image.specs.ImageInvariant.{abstract_of}
+use Rattle.qcow2_image.specs.L1Entries.{NeedsFarEntry}
+use Rattle.qcow2_image.specs.MetAlone.{HasCompressedIn, IsMetAlone, IsMetFilling}
 use Rattle.qcow2_image.specs.Preallocation.{IsUnderMappingIn}
 use Rattle.qcow2_image.specs.Prepared.{length_of, table_of}
 use Rattle.qcow2_image.specs.Preparing.{IsTaken}
@@ -103,6 +105,17 @@ MayMeet (C.ResizeShrink size) e = IsFault e ⊎ (e ≡ I.MappingPrepared)
 MayMeet C.Size e = ⊥
 MayMeet command e = IsMet e
 
+module _ {S F : Type 0} (view : S → StorageView) (old : Qcow2 S F) where
+  -- what it may be refused for then, on a sound image of which no mapping is prepared
+  abbrev pub MeetsAlone : Command → ImageError → Type 0
+  MeetsAlone (C.PrepareDataMapping slot offset n overwrite) e = IsMetAlone (HasCompressedIn offset (offset + n) old.file.header.fields (known_in view old.file)) (NeedsFarEntry old offset) e
+  MeetsAlone (C.EnsureZeroMapping offset n) e = IsMetAlone ⊥ (NeedsFarEntry old (from_in old offset n)) e
+  MeetsAlone (C.DiscardToZero offset n) e = IsMetAlone ⊥ (NeedsFarEntry old (from_in old offset n)) e
+  MeetsAlone (C.DiscardToAny offset n) e = IsMetAlone ⊥ (NeedsFarEntry old (from_in old offset n)) e
+  MeetsAlone (C.DiscardToBacking offset n) e = IsMetAlone ⊥ (NeedsFarEntry old (from_in old offset n)) e
+  MeetsAlone (C.ResizeGrow size mode) e = IsMetFilling mode (size_of old) (rounded_up (cluster_size old.file.header.fields) size) old.file.header.fields (known_in view old.file) e
+  MeetsAlone command e = Unit {0}
+
 module _ {S F : Type 0} (view : S → StorageView) (backing : F → BackingView) (old new : Qcow2 S F) (before : List (Option Prepared)) where
   -- there is nothing to do
   abbrev pub HasNothingToDo : Command → Type 0
@@ -171,11 +184,12 @@ module _ {S F : Type 0} (view : S → StorageView) (backing : F → BackingView)
   -- ---- a command
 
   -- Where its slot or its range is misused, it is replied so, and nothing changes. Else the first cause that holds before any work is the reply, and nothing changes.
-  -- Where none holds, it is refused for what the work meets alone. It isn't where there is nothing to do, and heeds what is prepared on a sound image.
+  -- Where none holds, it is refused for what the work meets alone, and on a sound image of which no mapping is prepared for less. It isn't refused where there is nothing to do, and heeds what is prepared on a sound image.
   pub record IsRightlyRefused (found : ℕ → Option Mapping) (command : Command) (reply : Reply) : Type 0 where
     pub misuse : TellsMisuse before found command reply
     pub still : reply ≡ R.Misuse → new ≡ old
     pub early : IfSome (first_cause old command) (λ e. ((refusal_in reply ≡ Some e) ⊎ (reply ≡ R.Misuse)) × (new ≡ old))
     pub late : first_cause old command ≡ None → IfSome (refusal_in reply) (MayMeet command)
+    pub met : first_cause old command ≡ None → (abstract_of view backing old before).is_sound → (HasPrepared before → ⊥) → IfSome (refusal_in reply) (MeetsAlone view old command)
     pub idle : first_cause old command ≡ None → HasNothingToDo command → refusal_in reply ≡ None
     pub heeds : first_cause old command ≡ None → (abstract_of view backing old before).is_sound → HeedsPrepared found command reply

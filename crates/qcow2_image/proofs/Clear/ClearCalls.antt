@@ -120,7 +120,7 @@ pub under_after : (h h' : HeaderFields) (offset : ℕ) (out : List (Option Prepa
 under_after h h' offset out format u =
     subst (λ (x : HeaderFields). IsUnderMapping x offset out) (sym format) (record { place = u.place; other = u.other; is_out = u.is_out; keeps_table = u.keeps_table; same_table = u.same_table })
 
-covers_after : (how : Clearance) (from to : ℕ) (h h' h'' : HeaderFields) (known known' known'' : Bytes) → ClearsImageCovers how from to h known h' known' → CoversStay h' known' h'' known'' → ClearsImageCovers how from to h known h'' known''
+pub covers_after : (how : Clearance) (from to : ℕ) (h h' h'' : HeaderFields) (known known' known'' : Bytes) → ClearsImageCovers how from to h known h' known' → CoversStay h' known' h'' known'' → ClearsImageCovers how from to h known h'' known''
 covers_after how from to h h' h'' known known' known'' covers same g = sym (same g) ∙ covers g
 
 module _ {S F : Type 0} (view : S → StorageView) (backing : F → BackingView) (old : Qcow2 S F) (how : Clearance) (offset n : ℕ) (usable : is_failed old ≡ false) where

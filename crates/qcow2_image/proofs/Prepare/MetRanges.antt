@@ -213,4 +213,4 @@ pub place_kept : (v v' : HeaderView) → KeepsHeader v v' → KeepsL1Place v.fie
 place_kept v v' keeps = (ap (λ (x : HeaderView). x.fields.l1_offset) keeps, ap (λ (x : HeaderView). x.fields.l1_entries) keeps)
 
 pub place_then : (h h' h'' : HeaderFields) → KeepsL1Place h h' → KeepsL1Place h' h'' → KeepsL1Place h h''
-place_then h h' h'' first later = (later.0 ∙ first.0, later.1 ∙ first.1)
+place_then h h' h'' first second = (second.0 ∙ first.0, second.1 ∙ first.1)

@@ -19,15 +19,19 @@ use Rattle.qcow2_disk.proofs.Compose.{works_less, works_then, stops_less}
 use Rattle.qcow2_disk.proofs.ForUsers.{laid_inside, laid_outside}
 use Rattle.qcow2_disk.proofs.Stops.{asked_more}
 use Rattle.qcow2_laws.proofs.Places.{div_mono}
+use Rattle.qcow2_alloc.specs.ImageFile.{known_in}
 use Rattle.qcow2_image.specs.CallParts.{UnseenCall}
 use Rattle.qcow2_image.specs.declared.image.Qcow2.{Qcow2}
 use Rattle.qcow2_image.specs.declared.prepared.Prepared.{Prepared}
-use Rattle.qcow2_image.specs.Clearing.{setting_of}
+use Rattle.qcow2_image.specs.Clearing.{ClearsImageCovers, setting_of}
+use Rattle.qcow2_image.specs.declared.discarding.Clearance.TheVariants.{Uncovered}
 use Rattle.qcow2_image.specs.ImageInvariant.{ImageInvariant, abstract_of, disk_of, pending_in}
 use Rattle.qcow2_image.specs.Resizing.{IsTurnEnd, UncoversPart, boundary_in}
+use Rattle.qcow2_image.proofs.Clear.ClearCalls.{covers_after}
 use Rattle.qcow2_image.proofs.Clear.Ranges.{to_whole}
 use Rattle.qcow2_image.proofs.Clear.Touched.{on_boundary, rounded_from}
-use Rattle.qcow2_image.proofs.UngivenCovers.{touches_part}
+use Rattle.qcow2_image.proofs.Sizing.UncoveredTails.{uncovers_more, uncovers_no_cluster}
+use Rattle.qcow2_image.proofs.UngivenCovers.{none_given, touches_part}
 
 -- ---- boundaries
 module _ (cs : ℕ) (some : 0 < cs) where
@@ -269,6 +273,7 @@ module _ {S F : Type 0} (view : S → StorageView) (backing : F → BackingView)
         works = works_less v (abstract_of view backing new out) [] (given_below (setting_of view backing old) (disk_of view backing old) (boundary_in old size) (boundary_in old size - boundary_in old size)) [] (λ o w never. absurd never) (λ g u. tt) call.works;
         sound = call.sound;
         shows = call.same ∙ ap (λ d. with_disk (guest_of v) d) (sym (none_below (setting_of view backing old) (disk_of view backing old) (boundary_in old size) (boundary_in old size - boundary_in old size) none));
+        covers = uncovers_no_cluster (boundary_in old size) (boundary_in old size) old.file.header.fields new.file.header.fields (known_in view old.file) (known_in view new.file) (omega arith) call.covers;
       }
 
   -- a part that no guest sees comes behind it
@@ -279,7 +284,13 @@ module _ {S F : Type 0} (view : S → StorageView) (backing : F → BackingView)
       let m = abstract_of view backing mid out in
       let w = abstract_of view backing new out in
       let gs = given_below (setting_of view backing old) (disk_of view backing old) (boundary_in old size) (boundary_in old at - boundary_in old size) in
-      record { works = works_then v m w gs [] part.sound part.works (works_less m w [] gs [] (λ o x never. absurd never) (λ g u. tt) works); sound = sound; shows = same ∙ part.shows }
+      record {
+        works = works_then v m w gs [] part.sound part.works (works_less m w [] gs [] (λ o x never. absurd never) (λ g u. tt) works);
+        sound = sound;
+        shows = same ∙ part.shows;
+        covers = covers_after Uncovered (boundary_in old size) (boundary_in old at) old.file.header.fields mid.file.header.fields new.file.header.fields (known_in view old.file) (known_in view mid.file) (known_in view new.file) part.covers
+            (none_given view mid.file new.file (pending_in view backing mid out) (pending_in view backing new out) part.sound.file.caches.kept.kept.crash_invariant sound.file.caches.kept.kept.crash_invariant (cluster_size mid.file.header.fields) (works.beside sound));
+      }
 
   -- so does another turn
   module _ (size at next : ℕ) (old mid new : Qcow2 S F) (first : UncoversPart view backing size at old mid out) (second : UncoversPart view backing at next mid new out) (le : boundary_in old size ≤ boundary_in old at) (on : boundary_in old at ≤ boundary_in old next) where
@@ -334,6 +345,11 @@ module _ {S F : Type 0} (view : S → StorageView) (backing : F → BackingView)
         let there = boundary_is next in
         given_as x d start (boundary_in old next - boundary_in old size) o w (let a = g.0 in omega (arith, a, here, le)) (let lt = g.1 in omega (arith, lt, here, there, le, on)) (g.2 ∙ ap (λ (s : Setting). known_byte (s.backing o)) setting_is)
 
+    second_covers : ClearsImageCovers Uncovered (boundary_in old at) (boundary_in old next) mid.file.header.fields (known_in view mid.file) new.file.header.fields (known_in view new.file)
+    second_covers =
+        subst (λ k. ClearsImageCovers Uncovered (boundary_in old at) k mid.file.header.fields (known_in view mid.file) new.file.header.fields (known_in view new.file)) (boundary_is next)
+        (subst (λ k. ClearsImageCovers Uncovered k (boundary_in mid next) mid.file.header.fields (known_in view mid.file) new.file.header.fields (known_in view new.file)) (boundary_is at) second.covers)
+
     pub uncovers_then : UncoversPart view backing size next old new out
     uncovers_then =
         let v = abstract_of view backing old out in
@@ -345,4 +361,6 @@ module _ {S F : Type 0} (view : S → StorageView) (backing : F → BackingView)
               (works_less m w (given_below (setting_of view backing mid) (disk_of view backing mid) (boundary_in mid at) (boundary_in mid next - boundary_in mid at)) gs [] (λ o z is. inr (second_less o z is)) (touches_part (setting_of view backing mid).cluster_size _ _ _ _ (let here = boundary_is at in omega (arith, here, le)) (let here = boundary_is at in let there = boundary_is next in omega (arith, here, there, le, on))) second.works);
           sound = second.sound;
           shows = second.shows ∙ ap (λ (g : Guest). with_disk g (shown_below (setting_of view backing mid) (disk_of view backing mid) (boundary_in mid at) (boundary_in mid next - boundary_in mid at))) first.shows ∙ ap (λ e. with_disk (guest_of v) e) second_shows;
+          covers = uncovers_more (boundary_in old size) (boundary_in old at) (boundary_in old next) old.file.header.fields mid.file.header.fields new.file.header.fields (known_in view old.file) (known_in view mid.file) (known_in view new.file) le on
+              (ap (λ (s : Setting). s.cluster_size) setting_is) first.covers second_covers;
         }

@@ -18,10 +18,10 @@ use Rattle.qcow2_disk.proofs.Compose.{works_less, TouchesLess}
 use Rattle.qcow2_laws.proofs.Places.{Sizes-from}
 use Rattle.qcow2_alloc.specs.declared.error.ImageError.{ImageError}
 use Rattle.qcow2_alloc.specs.declared.error.ImageError.TheVariants as I
-use Rattle.qcow2_alloc.specs.ImageFile.{contents_in}
+use Rattle.qcow2_alloc.specs.ImageFile.{contents_in, known_in}
 use Rattle.qcow2_image.specs.Backings.{HasPrepared}
 use Rattle.qcow2_image.specs.Calls.{refusal_of}
-use Rattle.qcow2_image.specs.Clearing.{Clears, RefusesClearing, RefusesUngiven, rounds_past, setting_of}
+use Rattle.qcow2_image.specs.Clearing.{Clears, ClearsImageCovers, RefusesClearing, RefusesUngiven, rounds_past, setting_of}
 use Rattle.qcow2_image.specs.declared.discarding.Clearance.TheVariants.{Uncovered}
 use Rattle.qcow2_image.specs.declared.image.Qcow2.{Qcow2}
 use Rattle.qcow2_image.specs.declared.prepared.Prepared.{Prepared}
@@ -32,6 +32,7 @@ use Rattle.qcow2_image.specs.Refusals.{passes, refuse_if}
 use Rattle.qcow2_image.specs.Resizing.{IsFaultOrCantUncover, IsTurnEnd, UncoversNext, UncoversPart, boundary_in, refuses_to_resize}
 use Rattle.qcow2_image.proofs.Sizes.{disk_size}
 use Rattle.qcow2_image.proofs.Sizing.Tails.{given_as, given_below, given_is, mono_up, passes_boundary, shown_below, to_at_most, touches_before, turn_numbers}
+use Rattle.qcow2_image.proofs.Sizing.UncoveredTails.{uncovers_as_many}
 use Rattle.qcow2_image.proofs.UngivenCovers.{touches_less}
 
 -- a call that gives fewer bytes gives these too
@@ -88,8 +89,10 @@ module _ {S F : Type 0} (view : S → StorageView) (backing : F → BackingView)
 
   pub turn_done : (range : ℕ × ℕ) → end ≡ size_of old → at < size_of old → end < 2 ^ 64 → Clears view backing Uncovered old new at (end - at) (Ok range) → (next : ℕ)
       → ((next ≡ min (range.0 + range.1) (2 ^ 64 - 1)) × (at < next) × (next < end)) ⊎ ((next ≡ end) × ((min (range.0 + range.1) (2 ^ 64 - 1) ≤ at) ⊎ (end ≤ min (range.0 + range.1) (2 ^ 64 - 1))))
-      → (out : List (Option Prepared)) → ImageInvariant view backing (pending_in view backing old out) old out → UncoversPart view backing at next old new out × IsTurnEnd (cluster_size old.file.header.fields) (size_of old) at next
-  turn_done range is lt near clears next branch out sound =
+      → (out : List (Option Prepared)) → ImageInvariant view backing (pending_in view backing old out) old out
+      → ClearsImageCovers Uncovered (touched_from (cluster_size h) at) (touched_to (cluster_size h) (size_of old) at (end - at)) old.file.header.fields (known_in view old.file) new.file.header.fields (known_in view new.file)
+      → UncoversPart view backing at next old new out × IsTurnEnd (cluster_size old.file.header.fields) (size_of old) at next
+  turn_done range is lt near clears next branch out sound covers =
       let v = abstract_of view backing old out in
       let does = clears out in
       let answer = does.answer sound in
@@ -101,6 +104,8 @@ module _ {S F : Type 0} (view : S → StorageView) (backing : F → BackingView)
           works = subst (λ n. EffectOnSound v (abstract_of view backing new out) (given_below x d (rounded_up (cluster_size h) at) n) []) count (does.acts.works sound);
           sound = answer.0;
           shows = answer.1.1 ∙ ap (λ n. with_disk (guest_of v) (shown_below x d (rounded_up (cluster_size h) at) n)) count;
+          covers = uncovers_as_many (boundary_in old at) (touched_to (cluster_size h) (size_of old) at (end - at)) (boundary_in old next) old.file.header.fields new.file.header.fields (known_in view old.file) (known_in view new.file)
+              (ap (λ n. touched_to (cluster_size h) n at (end - at) - rounded_up (cluster_size h) at) (sym is) ∙ numbers.1) covers;
         },
         subst (λ n. IsTurnEnd (cluster_size h) n at next) is numbers.0,
       )

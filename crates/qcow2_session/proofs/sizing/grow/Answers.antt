@@ -1,4 +1,5 @@
-use Rattle.std.proofs.Common.{ap}
+use Rattle.std.proofs.Common.{inl, inr, ap, arith}
+use Rattle.std.proofs.lemmas.Bool.{cases_lt}
 use Rattle.qcow2_session.proofs.Resized.{none_early, grow_done, grow_refused}
 use Rattle.qcow2_session.proofs.Unwritten.{resizes_failed, resized_itself, resizes_reading, same_early}
 use Rattle.qcow2_image.specs.Image.{size_of}
@@ -55,6 +56,10 @@ returns-in-Err-clause-causes g c = λ before found.
     (then_early (refuses_to_resize old) (nat_lt (size_of old) c.args.size && takes_over old c.args.mode) Preallocation _ (begun_with _ _ _ (refuses_to_resize old) c.in-Err.ensures.early)
     (λ none takes. let t = takes_larger (size_of old) c.args.size (takes_over old c.args.mode) takes in let h = c.in-Err.ensures.preallocation none t.0 t.1 in (same_error h.0, h.1)))
     (λ none. grow_meets e (size_of old) c.args.size (takes_over old c.args.mode) (first none).1 (λ le. let no = (c.in-Err.ensures.no_larger (first none).0 le).0 in absurd cc) (c.in-Err.ensures.late (first none).0))
+    (λ none sound free. elim (cases_lt (size_of old) c.args.size) [
+      | inl larger ↦ grow_meets e (size_of old) c.args.size (takes_over old c.args.mode) (first none).1 (λ le. omega (arith, le, larger)) (c.in-Err.ensures.met (first none).0 larger before sound free)
+      | inr le ↦ absurd (let no = (c.in-Err.ensures.no_larger (first none).0 le).0 in cc)
+    ])
     (λ none le. let no = (c.in-Err.ensures.no_larger (first none).0 le).0 in absurd cc)
     (λ none sound larger is. (c.in-Err.ensures.tables (first none).0 larger before sound).taken (some_error is))
 

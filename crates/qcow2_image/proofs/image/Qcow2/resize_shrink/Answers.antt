@@ -1,14 +1,17 @@
 use Rattle.qcow2_image.proofs.Call.OnceWritten.{once_none}
 use Rattle.std.proofs.Common.{◌≡◌, ◌≤◌, ◌∙◌, refl, sym, subst, arith}
 use Rattle.std.specs.Prelude.{None, Ok, Result, Some}
-use Rattle.qcow2_alloc.specs.ImageFile.{l2_pins}
-use Rattle.qcow2_image.specs.Resizing.{Shrinks, refuses_to_resize}
+use Rattle.qcow2_alloc.specs.ImageFile.{known_in, l2_pins}
+use Rattle.qcow2_image.specs.Image.{size_of}
+use Rattle.qcow2_image.specs.Resizing.{Shrinks, UncoversClusters, boundary_in, refuses_to_resize}
 use Rattle.std.proofs.lemmas.Nat.{pow_pos}
 use Rattle.qcow2_metadata.specs.Header.{cluster_size}
 use Rattle.qcow2_image.proofs.Backings.{found_pinned, none_prepared}
 use Rattle.qcow2_image.proofs.Clear.Touched.{rounded_from}
 use Rattle.qcow2_image.proofs.Clear.ClearCalls.{err_is, not_refused, refused_for}
 use Rattle.qcow2_image.proofs.Sizing.ShrinkCalls.{fault_unprepared, met_prepared, resize_works, shrinks_early, shrinks_nothing, shrinks_prepared}
+use Rattle.qcow2_image.proofs.Sizing.Tails.{mono_up}
+use Rattle.qcow2_image.proofs.Sizing.UncoveredTails.{uncovers_no_cluster}
 use Rattle.qcow2_image.proofs.image.Qcow2.resize_shrink.Goals as goal
 
 pub returns-in_err-check_resize-clause-sees : goal.returns-in_err-check_resize-clause-sees
@@ -55,6 +58,18 @@ returns-then-size-clause-stops g c = λ out sound.
     let le = subst (λ n. n ≤ c.args.size) c.size.ensures c.if-size.true in
     let up = rounded_from (cluster_size old.file.header.fields) c.args.size (pow_pos old.file.header.fields.cluster_bits) in
     record { stops = λ lt. absurd (omega (arith, lt, is)); emptied = λ before. absurd (omega (arith, le, up, before)) }
+
+pub returns-then-size-clause-covers : goal.returns-then-size-clause-covers
+returns-then-size-clause-covers g c = λ out sound.
+    let old = c.args.self.now in
+    let known = known_in g.S.Storage.view c.args.self.now.file in
+    let is : c.size-then-size.result ≡ size_of old = c.size-then-size.ensures in
+    let le = subst (λ n. n ≤ c.args.size) c.size.ensures c.if-size.true in
+    subst (λ answer. UncoversClusters g.S.Storage.view c.args.size answer old old) (sym is)
+    (uncovers_no_cluster (boundary_in old c.args.size) (boundary_in old (size_of old)) old.file.header.fields old.file.header.fields known known (mono_up (cluster_size old.file.header.fields) (pow_pos old.file.header.fields.cluster_bits) (size_of old) c.args.size le) (λ g. refl))
+
+pub returns-clause-covers : goal.returns-clause-covers
+returns-clause-covers g c = c.shrink.ensures.covers
 
 pub returns-in_err-check_resize-clause-once_written : goal.returns-in_err-check_resize-clause-once_written
 returns-in_err-check_resize-clause-once_written g c = λ memory. once_none g.S.Storage.view c.args.self.now

@@ -11,6 +11,8 @@ use Rattle.qcow2_image.specs.declared.image.Qcow2.{Qcow2}
 use Rattle.qcow2_image.specs.Image.{is_failed, size_of}
 use Rattle.qcow2_image.specs.Refusals.{MarksRefused}
 use Rattle.qcow2_image.specs.Resizing.{Shrinks, UncoversTail, WritesSizeLast, boundary_in}
+use Rattle.qcow2_image.specs.declared.discarding.Clearance.TheVariants.{Uncovered}
+use Rattle.qcow2_image.proofs.Clear.ClearCalls.{covers_after}
 use Rattle.qcow2_image.proofs.Sizing.Noted.{same_noted, shrinks_noted}
 use Rattle.qcow2_image.proofs.Sizing.Shrinking.{shrinks_done, shrinks_stopped, shrinks_unwritten, size_is_last, uncovered_honest, written_stops}
 use Rattle.qcow2_image.proofs.Sizing.ShrinkCalls.{resize_writable}
@@ -101,6 +103,16 @@ returns-clause-stops g c = λ none out sound unprepared.
           (c.uncover_tail-end.ensures.stops none out sound unprepared c.in_default.is lt);
       emptied = λ before. ap (λ (i : Qcow2 _ _). i.file.free_list) c.write_size.ensures.rest ∙ c.uncover_tail-end.ensures.emptied (resize_writable old none) out sound c.in_default.is before;
     }
+
+pub returns-clause-covers : goal.returns-clause-covers
+returns-clause-covers g c = λ out sound.
+    let view = g.S.Storage.view in
+    let below = g.F.BackingDisk.backing in
+    let old = c.args.self.now in
+    let mid = c.uncover_tail-end.new.self in
+    let at = c.uncover_tail-end.result.0 in
+    let tail = subst (λ r. UncoversTail view below old mid c.args.size at r out) c.in_default.is (c.uncover_tail-end.ensures.uncovers out sound) in
+    covers_after Uncovered (boundary_in old c.args.size) (boundary_in old at) old.file.header.fields mid.file.header.fields c.write_size.new.self.file.header.fields _ _ _ tail.0.covers (c.in_default-write_size.ensures.writes out tail.0.sound).covers
 
 pub returns-in-Some-clause-faults : goal.returns-in-Some-clause-faults
 returns-in-Some-clause-faults g c =

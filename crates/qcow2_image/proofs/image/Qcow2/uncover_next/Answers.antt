@@ -25,12 +25,12 @@ returns-in_err-from-clause-uncovers g c =
 pub returns-then-next-end-clause-uncovers : goal.returns-then-next-end-clause-uncovers
 returns-then-next-end-clause-uncovers g c = λ out sound.
     turn_done g.S.Storage.view g.F.BackingDisk.backing c.args.self.now c.clear_range.new.self c.args.at c.size-end.result (c.in_ok-from.from, c.in_ok-from.count) c.size-end.ensures c.requires.inside (omega (arith, c.size-end.type_inv)) c.in_ok-from.ensures.sees c.saturating_add-next.result
-    (inl (c.saturating_add-next.ensures, c.if-at-next.true, c.if-next-end.true)) out sound
+    (inl (c.saturating_add-next.ensures, c.if-at-next.true, c.if-next-end.true)) out sound (c.in_ok-from.ensures.covers out sound)
 
 pub returns-else-at-next-clause-uncovers : goal.returns-else-at-next-clause-uncovers
 returns-else-at-next-clause-uncovers g c = λ out sound.
     turn_done g.S.Storage.view g.F.BackingDisk.backing c.args.self.now c.clear_range.new.self c.args.at c.size-end.result (c.in_ok-from.from, c.in_ok-from.count) c.size-end.ensures c.requires.inside (omega (arith, c.size-end.type_inv)) c.in_ok-from.ensures.sees c.size-end.result
-    (inr (refl, (let h = c.saturating_add-next.ensures in elim c.else-at-next.branch [ else-at-next-via-then-at-next+else-next-end w ↦ inr (subst (λ n. c.size-end.result ≤ n) h w.if-next-end.false) | else-at-next-via-else-at-next w ↦ inl (subst (λ n. n ≤ c.args.at) h w.if-at-next.false) ]))) out sound
+    (inr (refl, (let h = c.saturating_add-next.ensures in elim c.else-at-next.branch [ else-at-next-via-then-at-next+else-next-end w ↦ inr (subst (λ n. c.size-end.result ≤ n) h w.if-next-end.false) | else-at-next-via-else-at-next w ↦ inl (subst (λ n. n ≤ c.args.at) h w.if-at-next.false) ]))) out sound (c.in_ok-from.ensures.covers out sound)
 
 pub returns-in_err-from-clause-stops : goal.returns-in_err-from-clause-stops
 returns-in_err-from-clause-stops g c = λ none out sound unprepared.
