@@ -7,6 +7,7 @@ pub mod Lacking
 pub mod Gaining
 pub mod Filling
 pub mod Copied
+pub mod Unannounced
 pub mod Keeping
 pub mod Readying
 pub mod ReadyingNew

@@ -1,11 +1,12 @@
 -- What stands in the way of a call that takes clusters, on a sound image of which no mapping is prepared: a fault or a limit, and what has a cause in the image.
-use Rattle.std.specs.Prelude.{ℕ, ◌+◌, ◌-◌, ◌*◌, ◌^◌, ◌<◌, ◌≤◌, ◌≡◌, ◌⊎◌}
+use Rattle.std.specs.Prelude.{ℕ, ◌+◌, ◌-◌, ◌*◌, ◌/◌, ◌^◌, ◌<◌, ◌≤◌, ◌≡◌, ◌⊎◌, ◌&&◌, Bool, false}
 use Rattle.image_access.specs.declared.storage.PreallocateMode.{PreallocateMode}
 use Rattle.image_access.specs.declared.storage.PreallocateMode.TheVariants as Mode
-use Rattle.qcow2_metadata.specs.Bytes.{Bytes}
+use Rattle.qcow2_metadata.specs.Bytes.{Bytes, is_within}
 use Rattle.qcow2_metadata.specs.Cover.{cover}
 use Rattle.qcow2_metadata.specs.Header.{cluster_size, rounded_up}
 use Rattle.qcow2_metadata.specs.declared.header.HeaderFields.{HeaderFields}
+use Rattle.qcow2_metadata.specs.declared.l2_mapping.L2Mapping.{L2Mapping}
 use Rattle.qcow2_disk.specs.Found.{IsCompressed}
 use Rattle.qcow2_disk.specs.GrownCovers.{Touches}
 use Rattle.qcow2_alloc.specs.ImageError.{IsFault}
@@ -15,6 +16,7 @@ use Rattle.qcow2_image.specs.declared.mapping.MappingKind.{MappingKind}
 use Rattle.qcow2_image.specs.declared.mapping.MappingKind.TheVariants as Kind
 use Rattle.qcow2_image.specs.Found.{l1_index_of}
 use Rattle.qcow2_image.specs.Refusals.{IsFaultOrLimit}
+use Rattle.qcow2_image.specs.UnseenSteps.{is_announced}
 
 -- A fault or a limit. Or 7, for bytes of a compressed cluster that have to be copied. Or 20, for an L1 entry past 64 bits that has to be written.
 abbrev pub IsMetAlone : (compressed far : Type 0) → ImageError → Type 0
@@ -25,6 +27,15 @@ pub record HasCompressedIn (from to : ℕ) (h : HeaderFields) (known : Bytes) : 
   pub guest : ℕ
   pub touched : Touches (cluster_size h) from to guest
   pub is : IsCompressed (cover h known guest)
+
+-- some guest cluster that has a byte of a range is compressed, and a byte of it isn't announced as overwritten
+pub record CopiesCompressed (offset n : ℕ) (overwrite : Bool) (h : HeaderFields) (known : Bytes) : Type 0 where
+  pub guest : ℕ
+  pub touched : Touches (cluster_size h) offset (offset + n) guest
+  pub is : IsCompressed (cover h known guest)
+  pub at : ℕ
+  pub within : at / cluster_size h ≡ guest
+  pub left : (overwrite && is_within offset n at) ≡ false
 
 -- up to where bytes may be copied while the range behind the end of a disk is filled: nowhere where nothing is filled; in the cluster of the old end, where zeros take no cluster; else in all of it
 abbrev pub copied_end : (size_of_cluster from to : ℕ) → PreallocateMode → ℕ
@@ -48,6 +59,16 @@ abbrev pub KeepsL1Place : HeaderFields → HeaderFields → Type 0
 KeepsL1Place h h' = (h'.l1_offset ≡ h.l1_offset) × (h'.l1_entries ≡ h.l1_entries)
 
 -- ---- parts of the work
+
+-- a byte of the cluster of an offset isn't announced as overwritten
+pub record HasUnannounced (size_of_cluster offset length : ℕ) (overwrite : Bool) : Type 0 where
+  pub at : ℕ
+  pub inside : at < size_of_cluster
+  pub left : is_announced size_of_cluster offset length overwrite at ≡ false
+
+-- the cluster of an offset is mapped as compressed, and a byte of it has to be copied
+abbrev pub IsCopiedCompressed : HeaderFields → L2Mapping → (offset length : ℕ) → Bool → Type 0
+IsCopiedCompressed h mapping offset length overwrite = IsCompressed mapping × HasUnannounced (cluster_size h) offset length overwrite
 
 -- bytes are mapped as compressed
 abbrev pub IsSpecial : MappingKind → Type 0

@@ -2,9 +2,8 @@
 ghost use Rattle.qcow2_image.specs.BehindHeader.{StaysBehindHeader};
 ghost use Rattle.qcow2_alloc.specs.KeptMarks.{KeepsFileNotes};
 ghost use Rattle.std.specs.Prelude.{◌≡◌, ◌/◌, ◌^◌, ◌<◌, ◌≤◌, ℕ, List, Option, Some, true, false, replicate, IfOk, IfErr, IfSome, ◌⊎◌};
-ghost use Rattle.qcow2_disk.specs.Found.{IsCompressed};
 ghost use Rattle.qcow2_alloc.specs.ImageError.{IsFault};
-ghost use Rattle.qcow2_image.specs.MetAlone.{IsMetReading};
+ghost use Rattle.qcow2_image.specs.MetAlone.{HasUnannounced, IsCopiedCompressed, IsMetReading};
 ghost use Rattle.qcow2_laws.specs.CrashInvariant.{Pending};
 ghost use Rattle.qcow2_alloc.specs.ImageFile.{known_in};
 ghost use Rattle.qcow2_image.specs.CallParts.{WritesBytes};
@@ -44,7 +43,7 @@ impl<S: Storage, F: WrappedFormat<S>> Qcow2<S, F> {
         ensures notes { KeepsFileNotes S.view self.old.file self.new.file }
         ensures header_cluster { StaysBehindHeader S.view self.old self.new }
         ensures cause { IfErr result IsMet }
-        ensures met { 0 < cluster → IfErr result (λ e. IsFault e ⊎ ((e ≡ ImageError.Compressed) × IsCompressed old.now)) }
+        ensures met { 0 < cluster → IfErr result (λ e. IsFault e ⊎ ((e ≡ ImageError.Compressed) × IsCopiedCompressed self.old.file.header.fields old.now offset length overwrite)) }
         ensures limited { IfErr result IsUnlimited }
         ensures image_step { (p : Pending) (out : List (Option Prepared)) → ImageInvariant S.view F.backing p self.old out → HoldsAll S.view F.backing p out → 0 < p.new_data cluster → over_all new_data_by out cluster ≡ 0 → UnseenFillingStep S.view F.backing p p self.old self.new out }
         ensures allocator { self.new.allocator ≡ self.old.allocator }
@@ -100,6 +99,7 @@ impl<S: Storage, F: WrappedFormat<S>> Qcow2<S, F> {
         ensures within { IfSome result (λ r. (r.start < r.end) × (r.end ≤ cluster_size self.now.file.header.fields)) }
         ensures few { IfSome result (λ r. r.end ≤ 2 ^ 21) }
         ensures all { (i : ℕ) → i < cluster_size self.now.file.header.fields → is_announced (cluster_size self.now.file.header.fields) offset length overwrite i ≡ false → HasByte result i }
+        ensures left { IfSome result (λ r. HasUnannounced (cluster_size self.now.file.header.fields) offset length overwrite) }
     {
         let size = self.file.header.cluster_size();
         let start = GuestOffset::new(offset).in_cluster_offset(self.file.header.cluster_bits());

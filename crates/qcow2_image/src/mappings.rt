@@ -5,7 +5,7 @@ ghost use Rattle.qcow2_image.specs.BehindHeader.{StaysBehindHeader};
 ghost use Rattle.std.specs.Prelude.{◌↔◌, ℕ, List, Option, ◌≡◌, ◌⊎◌, ◌≢◌, ◌+◌, ◌*◌, ◌-◌, ◌/◌, ◌%◌, true, Some, ◌^◌, ◌<◌, ◌≤◌, [], ◌∷◌, ◌++◌, length, slice_get, IfOk, IfErr, IfSome, IsErrAnd, OnOk, IsOk, IsNone, IsSome, IsTrue, IsFalse, MatchOption, MatchResult, Ok, Err, None, false};
 ghost use Rattle.qcow2_metadata.specs.EntryTable.{entry_count};
 ghost use Rattle.qcow2_image.specs.Backings.{HasPrepared};
-ghost use Rattle.qcow2_image.specs.MetAlone.{IsMetAlone, HasCompressedIn, KeepsL1Place};
+ghost use Rattle.qcow2_image.specs.MetAlone.{CopiesCompressed, IsMetAlone, KeepsL1Place};
 ghost use Rattle.qcow2_metadata.specs.L2Mapping.{IsInReach, greatest_offset, named_run};
 ghost use Rattle.qcow2_disk.specs.Mappings.{is_copied_data};
 ghost use Rattle.qcow2_image.specs.Image.{HasNothingToFree, ImageStays, IsSameImage, KeepsRest, is_failed, is_writable, number_of};
@@ -127,8 +127,8 @@ impl<S: Storage, F: WrappedFormat<S>> Qcow2<S, F> {
     /// than the range, and has to be committed or discarded. One that isn't existing has the rest of its first cluster at least.
     /// Refused in this order: 16 (failed), 12 (dependency), 2 (beyond size), 1 (read-only). A length of 0 is answered before 1. Then
     /// comes 9 (table prepared), where another mapping that isn't existing is prepared in its L2 table. Where the work meets them:
-    /// 4 (unaligned table), 7 (compressed), 8 (everything is in use), 13 (limit), 14 (memory), 15 (storage), and 20 (overflow) where an L1
-    /// entry past 64 bits would have to be written.
+    /// 4 (unaligned table), 7 (compressed) where a compressed cluster isn't announced as a whole, 8 (everything is in use), 13 (limit),
+    /// 14 (memory), 15 (storage), and 20 (overflow) where an L1 entry past 64 bits would have to be written.
     pub fn prepare_data_mapping(
         &mut self,
         offset: u64,
@@ -137,7 +137,7 @@ impl<S: Storage, F: WrappedFormat<S>> Qcow2<S, F> {
     ) -> Result<Prepared, ImageError>
         ensures early { IfSome (refuses_to_prepare self.old offset length) (λ e. (result ≡ Err e) × (self.new ≡ self.old)) }
         ensures late { refuses_to_prepare self.old offset length ≡ None → IfErr result IsMetPreparing }
-        ensures met { refuses_to_prepare self.old offset length ≡ None → 0 < length → (out : List (Option Prepared)) → (abstract_of S.view F.backing self.old out).is_sound → (HasPrepared out → ⊥) → IfErr result (IsMetAlone (HasCompressedIn offset (offset + length) self.old.file.header.fields (known_in S.view self.old.file)) (NeedsFarEntry self.old offset)) }
+        ensures met { refuses_to_prepare self.old offset length ≡ None → 0 < length → (out : List (Option Prepared)) → (abstract_of S.view F.backing self.old out).is_sound → (HasPrepared out → ⊥) → IfErr result (IsMetAlone (CopiesCompressed offset length overwrite self.old.file.header.fields (known_in S.view self.old.file)) (NeedsFarEntry self.old offset)) }
         ensures limit { refuses_to_prepare self.old offset length ≡ None → 0 < length → (out : List (Option Prepared)) → (abstract_of S.view F.backing self.old out).is_sound → IfErr result (λ e. e ≡ Limit → LacksPlaceFor S.view offset length self.old self.new) }
         ensures nothing { refuses_to_prepare self.old offset 0 ≡ None → length ≡ 0 → IsOk result × IfOk result IsOfNothing × (self.new ≡ self.old) }
         ensures marks { MarksFailed self.old self.new result }
@@ -212,7 +212,7 @@ impl<S: Storage, F: WrappedFormat<S>> Qcow2<S, F> {
         ensures notes { KeepsFileNotes S.view self.old.file self.new.file }
         ensures header_cluster { StaysBehindHeader S.view self.old self.new }
         ensures cause { IfErr result IsMetPreparing }
-        ensures met { 0 < length → (out : List (Option Prepared)) → ImageInvariant S.view F.backing (pending_in S.view F.backing self.old out) self.old out → (HasPrepared out → ⊥) → IfErr result (IsMetAlone (HasCompressedIn offset (offset + length) self.old.file.header.fields (known_in S.view self.old.file)) (NeedsFarEntry self.old offset)) }
+        ensures met { 0 < length → (out : List (Option Prepared)) → ImageInvariant S.view F.backing (pending_in S.view F.backing self.old out) self.old out → (HasPrepared out → ⊥) → IfErr result (IsMetAlone (CopiesCompressed offset length overwrite self.old.file.header.fields (known_in S.view self.old.file)) (NeedsFarEntry self.old offset)) }
         ensures l1_place { l1_index_of self.old.file.header.fields offset < entry_count self.old.l1_table → OnOk result (KeepsL1Place self.old.file.header.fields self.new.file.header.fields) }
         ensures limit { 0 < length → (out : List (Option Prepared)) → ImageInvariant S.view F.backing (pending_in S.view F.backing self.old out) self.old out → IfErr result (λ e. e ≡ Limit → LacksPlaceFor S.view offset length self.old self.new) }
         ensures taken { 0 < length → (out : List (Option Prepared)) → ImageInvariant S.view F.backing (pending_in S.view F.backing self.old out) self.old out → IfErr result (λ e. e ≡ TablePrepared → IsTaken self.old.file.header.fields (known_in S.view self.old.file) offset length out) }
@@ -245,7 +245,7 @@ impl<S: Storage, F: WrappedFormat<S>> Qcow2<S, F> {
         ensures notes { KeepsFileNotes S.view self.old.file self.new.file }
         ensures header_cluster { StaysBehindHeader S.view self.old self.new }
         ensures cause { IfErr result IsMetPreparing }
-        ensures met { 0 < length → (out : List (Option Prepared)) → ImageInvariant S.view F.backing (pending_in S.view F.backing self.old out) self.old out → (HasPrepared out → ⊥) → IfErr result (IsMetAlone (HasCompressedIn offset (offset + length) self.old.file.header.fields (known_in S.view self.old.file)) (NeedsFarEntry self.old offset)) }
+        ensures met { 0 < length → (out : List (Option Prepared)) → ImageInvariant S.view F.backing (pending_in S.view F.backing self.old out) self.old out → (HasPrepared out → ⊥) → IfErr result (IsMetAlone (CopiesCompressed offset length overwrite self.old.file.header.fields (known_in S.view self.old.file)) (NeedsFarEntry self.old offset)) }
         ensures l1_place { l1_index_of self.old.file.header.fields offset < entry_count self.old.l1_table → OnOk result (KeepsL1Place self.old.file.header.fields self.new.file.header.fields) }
         ensures limit { 0 < length → (out : List (Option Prepared)) → ImageInvariant S.view F.backing (pending_in S.view F.backing self.old out) self.old out → IfErr result (λ e. e ≡ Limit → LacksRange S.view offset length self.old self.new) }
         ensures taken { 0 < length → (out : List (Option Prepared)) → ImageInvariant S.view F.backing (pending_in S.view F.backing self.old out) self.old out → IfErr result (λ e. e ≡ TablePrepared → IsTaken self.old.file.header.fields (known_in S.view self.old.file) offset length out) }
@@ -330,7 +330,7 @@ impl<S: Storage, F: WrappedFormat<S>> Qcow2<S, F> {
         ensures notes { KeepsFileNotes S.view self.old.file self.new.file }
         ensures header_cluster { 0 < table → StaysBehindHeader S.view self.old self.new }
         ensures cause { IfErr result IsMetPreparing }
-        ensures met { (out : List (Option Prepared)) → ImageInvariant S.view F.backing (pending_in S.view F.backing self.old out) self.old out → (HasPrepared out → ⊥) → HoldsTable S.view F.backing self.old offset table → 0 < length → IfErr result (IsMetAlone (HasCompressedIn offset (offset + length) self.old.file.header.fields (known_in S.view self.old.file)) ⊥) }
+        ensures met { (out : List (Option Prepared)) → ImageInvariant S.view F.backing (pending_in S.view F.backing self.old out) self.old out → (HasPrepared out → ⊥) → HoldsTable S.view F.backing self.old offset table → 0 < length → IfErr result (IsMetAlone (CopiesCompressed offset length overwrite self.old.file.header.fields (known_in S.view self.old.file)) ⊥) }
         ensures limit { (out : List (Option Prepared)) → ImageInvariant S.view F.backing (pending_in S.view F.backing self.old out) self.old out → HoldsTable S.view F.backing self.old offset table → 0 < length → IfErr result (λ e. e ≡ Limit → LacksData S.view offset length self.old.file.free_list self.old self.new) }
         ensures taken { IfErr result (λ e. e ≡ TablePrepared → 0 < l2_pins self.old.file.caches table) }
         ensures unpinned { OnOk result (l2_pins self.old.file.caches table ≡ 0) }

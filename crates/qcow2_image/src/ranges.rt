@@ -3,12 +3,12 @@ ghost use Rattle.qcow2_image.specs.LackedPlaces.{CantGoBehind, CantTake, CantTak
 ghost use Rattle.qcow2_alloc.specs.declared.error.ImageError.TheVariants.{Limit};
 ghost use Rattle.qcow2_image.specs.BehindHeader.{StaysBehindHeader};
 ghost use Rattle.qcow2_alloc.specs.KeptMarks.{KeepsFileNotes};
-ghost use Rattle.std.specs.Prelude.{ℕ, List, Option, ◌≡◌, ◌≢◌, ◌+◌, ◌*◌, ◌%◌, ◌<◌, min, true, Some, None, Ok, slice_get, vec_len, vec_capacity, IfOk, IfErr, OnOk, IsTrue, IsSome, ◌/◌};
+ghost use Rattle.std.specs.Prelude.{ℕ, List, Option, ◌≡◌, ◌≢◌, ◌+◌, ◌-◌, ◌*◌, ◌%◌, ◌<◌, min, true, Some, None, Ok, slice_get, vec_len, vec_capacity, IfOk, IfErr, OnOk, IsTrue, IsSome, ◌/◌};
 ghost use Rattle.qcow2_metadata.specs.Cover.{cover};
-ghost use Rattle.qcow2_image.specs.MetAlone.{IsMetAlone, HasCompressedIn};
+ghost use Rattle.qcow2_image.specs.MetAlone.{CopiesCompressed, IsCopiedCompressed, IsMetAlone};
 ghost use Rattle.qcow2_metadata.specs.L2Mapping.{IsHostCluster, IsInReach};
 ghost use Rattle.qcow2_metadata.specs.Header.{cluster_size};
-ghost use Rattle.qcow2_disk.specs.Found.{rest_of_table, IsCompressed};
+ghost use Rattle.qcow2_disk.specs.Found.{rest_of_table};
 ghost use Rattle.qcow2_laws.specs.CrashInvariant.{Pending};
 ghost use Rattle.qcow2_alloc.specs.ImageFile.{KeepsHeader, known_in};
 ghost use Rattle.qcow2_alloc.specs.LowestRuns.{StaysUsed};
@@ -60,7 +60,7 @@ impl<S: Storage, F: WrappedFormat<S>> Qcow2<S, F> {
         ensures notes { KeepsFileNotes S.view self.old.file self.new.file }
         ensures header_cluster { StaysBehindHeader S.view self.old self.new }
         ensures cause { IfErr result IsMet }
-        ensures met { (start : Qcow2 S F) (out : List (Option Prepared)) (k : ℕ) → slice_get out k ≡ Some None → prepared.old.table ≡ Some table → IsReadied S.view F.backing start self.old out k prepared.old.guest length overwrite prepared.old → IfErr result (IsMetAlone (HasCompressedIn prepared.old.guest (prepared.old.guest + length) self.old.file.header.fields (known_in S.view self.old.file)) ⊥) }
+        ensures met { (start : Qcow2 S F) (out : List (Option Prepared)) (k : ℕ) → slice_get out k ≡ Some None → prepared.old.table ≡ Some table → IsReadied S.view F.backing start self.old out k prepared.old.guest length overwrite prepared.old → IfErr result (IsMetAlone (CopiesCompressed prepared.old.guest length overwrite self.old.file.header.fields (known_in S.view self.old.file)) ⊥) }
         ensures limit { (start : Qcow2 S F) (out : List (Option Prepared)) (k : ℕ) → slice_get out k ≡ Some None → prepared.old.table ≡ Some table
             → IsReadied S.view F.backing start self.old out k prepared.old.guest length overwrite prepared.old → IfErr result (λ e. e ≡ Limit → (prepared.new.length < min length (rest_of_table self.old.file.header.fields prepared.old.guest)) × CantGoBehind S.view prepared.new self.old self.new) }
         ensures longer { IsLongerMapping self.old.file.header.fields length prepared.old prepared.new }
@@ -95,7 +95,7 @@ impl<S: Storage, F: WrappedFormat<S>> Qcow2<S, F> {
         ensures notes { KeepsFileNotes S.view self.old.file self.new.file }
         ensures header_cluster { StaysBehindHeader S.view self.old self.new }
         ensures cause { IfErr result IsMet }
-        ensures met { (out : List (Option Prepared)) (k : ℕ) → slice_get out k ≡ Some (Some prepared.old) → MayGoOn self.old.file.header.fields length table prepared.old → ImageInvariant S.view F.backing (pending_in S.view F.backing self.old out) self.old out → IfErr result (IsMetAlone (IsCompressed (cover self.old.file.header.fields (known_in S.view self.old.file) ((prepared.old.guest + prepared.old.length) / cluster_size self.old.file.header.fields))) ⊥) }
+        ensures met { (out : List (Option Prepared)) (k : ℕ) → slice_get out k ≡ Some (Some prepared.old) → MayGoOn self.old.file.header.fields length table prepared.old → ImageInvariant S.view F.backing (pending_in S.view F.backing self.old out) self.old out → IfErr result (IsMetAlone (IsCopiedCompressed self.old.file.header.fields (cover self.old.file.header.fields (known_in S.view self.old.file) ((prepared.old.guest + prepared.old.length) / cluster_size self.old.file.header.fields)) (prepared.old.guest + prepared.old.length) (length - prepared.old.length) overwrite) ⊥) }
         ensures limit { (out : List (Option Prepared)) (k : ℕ) → slice_get out k ≡ Some (Some prepared.old) → MayGoOn self.old.file.header.fields length table prepared.old → ImageInvariant S.view F.backing (pending_in S.view F.backing self.old out) self.old out → IfErr result (λ e. e ≡ Limit → CantGoBehind S.view prepared.old self.old self.new) }
         ensures same { result ≢ Ok true → prepared.new ≡ prepared.old }
         ensures room { vec_capacity prepared.new.shares ≡ vec_capacity prepared.old.shares }
@@ -130,7 +130,7 @@ impl<S: Storage, F: WrappedFormat<S>> Qcow2<S, F> {
         ensures notes { KeepsFileNotes S.view self.old.file self.new.file }
         ensures header_cluster { StaysBehindHeader S.view self.old self.new }
         ensures cause { IfErr result IsMet }
-        ensures met { (out : List (Option Prepared)) (k : ℕ) → slice_get out k ≡ Some (Some prepared.now) → MayGoOn self.old.file.header.fields length table prepared.now → ImageInvariant S.view F.backing (pending_in S.view F.backing self.old out) self.old out → IfErr result (IsMetAlone (IsCompressed (cover self.old.file.header.fields (known_in S.view self.old.file) ((prepared.now.guest + prepared.now.length) / cluster_size self.old.file.header.fields))) ⊥) }
+        ensures met { (out : List (Option Prepared)) (k : ℕ) → slice_get out k ≡ Some (Some prepared.now) → MayGoOn self.old.file.header.fields length table prepared.now → ImageInvariant S.view F.backing (pending_in S.view F.backing self.old out) self.old out → IfErr result (IsMetAlone (IsCopiedCompressed self.old.file.header.fields (cover self.old.file.header.fields (known_in S.view self.old.file) ((prepared.now.guest + prepared.now.length) / cluster_size self.old.file.header.fields)) (prepared.now.guest + prepared.now.length) (length - prepared.now.length) overwrite) ⊥) }
         ensures limit { (out : List (Option Prepared)) (k : ℕ) → slice_get out k ≡ Some (Some prepared.now) → MayGoOn self.old.file.header.fields length table prepared.now → ImageInvariant S.view F.backing (pending_in S.view F.backing self.old out) self.old out → IfErr result (λ e. e ≡ Limit → CantGoBehind S.view prepared.now self.old self.new) }
         ensures finds { (out : List (Option Prepared)) (k : ℕ) → slice_get out k ≡ Some (Some prepared.now) → MayGoOn self.old.file.header.fields length table prepared.now
             → ImageInvariant S.view F.backing (pending_in S.view F.backing self.old out) self.old out → FindsBehind S.view F.backing self.old self.new out length overwrite prepared.now result }
@@ -175,7 +175,7 @@ impl<S: Storage, F: WrappedFormat<S>> Qcow2<S, F> {
         ensures notes { KeepsFileNotes S.view self.old.file self.new.file }
         ensures header_cluster { StaysBehindHeader S.view self.old self.new }
         ensures cause { IfErr result IsMet }
-        ensures met { (p : Pending) (out : List (Option Prepared)) → ImageInvariant S.view F.backing p self.old out → HoldsAll S.view F.backing p out → host % cluster_size self.old.file.header.fields ≡ 0 → IfErr result (IsMetAlone (IsCompressed old.now) ⊥) }
+        ensures met { (p : Pending) (out : List (Option Prepared)) → ImageInvariant S.view F.backing p self.old out → HoldsAll S.view F.backing p out → host % cluster_size self.old.file.header.fields ≡ 0 → IfErr result (IsMetAlone (IsCopiedCompressed self.old.file.header.fields old.now offset length overwrite) ⊥) }
         ensures limit { (p : Pending) (out : List (Option Prepared)) → ImageInvariant S.view F.backing p self.old out → HoldsAll S.view F.backing p out → IfErr result (λ e. e ≡ Limit → CantTakeAt S.view host self.old self.new) }
         ensures shares { (p : Pending) (out : List (Option Prepared)) → ImageInvariant S.view F.backing p self.old out → HoldsAll S.view F.backing p out
             → SharesAt S.view F.backing p self.old self.new out offset length overwrite old.now host result }
@@ -212,7 +212,7 @@ impl<S: Storage, F: WrappedFormat<S>> Qcow2<S, F> {
         ensures notes { KeepsFileNotes S.view self.old.file self.new.file }
         ensures header_cluster { StaysBehindHeader S.view self.old self.new }
         ensures cause { IfErr result IsMet }
-        ensures met { (p : Pending) (out : List (Option Prepared)) → ImageInvariant S.view F.backing p self.old out → HoldsAll S.view F.backing p out → IfErr result (IsMetAlone (IsCompressed old.now) ⊥) }
+        ensures met { (p : Pending) (out : List (Option Prepared)) → ImageInvariant S.view F.backing p self.old out → HoldsAll S.view F.backing p out → IfErr result (IsMetAlone (IsCopiedCompressed self.old.file.header.fields old.now offset length overwrite) ⊥) }
         ensures limit { (p : Pending) (out : List (Option Prepared)) → ImageInvariant S.view F.backing p self.old out → HoldsAll S.view F.backing p out → IfErr result (λ e. e ≡ Limit → CantTake S.view cluster self.old self.new) }
         ensures nameable { IfOk result (λ run. IsSome run → IsHostCluster self.old.file.header.fields.cluster_bits cluster) }
         ensures gains { (p : Pending) (out : List (Option Prepared)) → ImageInvariant S.view F.backing p self.old out → HoldsAll S.view F.backing p out

@@ -1,5 +1,5 @@
 -- What filling a range, and a larger disk, is refused for on a sound image of which nothing is prepared.
-use Rattle.std.proofs.Common.{◌≡◌, ◌⊎◌, inl, inr, ℕ, ◌+◌, ◌-◌, ◌*◌, ◌/◌, ◌%◌, ◌^◌, ◌<◌, ◌≤◌, true, false, List, Option, Some, None, pow_mono, sym, ap, ◌∙◌, subst, arith}
+use Rattle.std.proofs.Common.{◌≡◌, ◌⊎◌, inl, inr, ℕ, ◌+◌, ◌-◌, ◌*◌, ◌/◌, ◌%◌, ◌^◌, ◌<◌, ◌≤◌, Bool, true, false, List, Option, Some, None, pow_mono, sym, ap, ◌∙◌, subst, arith}
 use Rattle.std.specs.Prelude.{IfErr, IsErr, IsErrAnd, Result}
 use Rattle.std.proofs.Math.Nat.{div-lt_iff_lt-mul}
 use Rattle.std.proofs.lemmas.Bool.{cases_lt}
@@ -28,7 +28,7 @@ use Rattle.qcow2_image.specs.Found.{l1_index_of}
 use Rattle.qcow2_image.specs.ImageInvariant.{ImageInvariant, pending_in}
 use Rattle.qcow2_image.specs.L1Entries.{NeedsFarEntry, ReachesOffset}
 use Rattle.qcow2_image.specs.LackedPlaces.{IsPlacedNear}
-use Rattle.qcow2_image.specs.MetAlone.{copied_end, HasCompressedIn, HasNearEntries, IsMetAlone, IsMetFilling, KeepsL1Place}
+use Rattle.qcow2_image.specs.MetAlone.{copied_end, CopiesCompressed, HasCompressedIn, HasNearEntries, IsMetAlone, IsMetFilling, KeepsL1Place}
 use Rattle.qcow2_image.specs.MovedTables.{MovesTables}
 use Rattle.qcow2_image.specs.Preallocation.{FillsPart, IsWholeRange}
 use Rattle.qcow2_image.specs.Refusals.{IsFaultOrLimit}
@@ -39,6 +39,7 @@ use Rattle.qcow2_image.proofs.Preallocate.Covers.{touches_or}
 use Rattle.qcow2_image.proofs.Preallocate.Grown.{up_rising}
 use Rattle.qcow2_image.proofs.Preallocate.Turns.{same_size, same_version}
 use Rattle.qcow2_image.proofs.Prepare.MetRanges.{place_then}
+use Rattle.qcow2_image.proofs.Prepare.Unannounced.{compressed_in}
 
 -- ---- refusals
 
@@ -160,9 +161,9 @@ module _ {S F : Type 0} (view : S → StorageView) (backing : F → BackingView)
         needs.0.far (room_near h image.l1_table.cluster_bits image.l1_table.cluster (l1_index_of h from) sound.l1_table.bits (sound.l1_table.cluster (omega (arith, inside))) inside near.near)
 
     -- what preparing the first bytes of a range meets
-    pub met_piece : (n : ℕ) → from + n ≤ to → (e : ImageError) → IsMetAlone (HasCompressedIn from (from + n) image.file.header.fields (known_in view image.file)) (NeedsFarEntry image from) e
+    pub met_piece : (n : ℕ) → from + n ≤ to → (overwrite : Bool) (e : ImageError) → IsMetAlone (CopiesCompressed from n overwrite image.file.header.fields (known_in view image.file)) (NeedsFarEntry image from) e
         → IsMetAlone (HasCompressedIn from to image.file.header.fields (known_in view image.file)) ⊥ e
-    met_piece n within e met = met_as _ _ _ _ e (compressed_wider image.file.header.fields (known_in view image.file) from to from (from + n) (omega arith) within) never_far met
+    met_piece n within overwrite e met = met_as _ _ _ _ e (λ found. compressed_wider image.file.header.fields (known_in view image.file) from to from (from + n) (omega arith) within (compressed_in image.file.header.fields (known_in view image.file) from n overwrite found)) never_far met
 
   -- what ends within a range that they reach, rounded up to a cluster, doesn't pass 64 bits
   pub never_past : (p : Pending) (image : Qcow2 S F) → ImageInvariant view backing p image out → (size at cs : ℕ) → at ≤ size → cs ≡ cluster_size image.file.header.fields → HasNearEntries (rounded_up (cluster_size image.file.header.fields) size) image.file.header.fields → 2 ^ 64 ≤ rounded_up cs at → ⊥

@@ -57,8 +57,8 @@ pub limit_alone : (C : Type 0) (e : ImageError) → IsFaultOr C e → IsFaultOrL
 limit_alone C e why = elim why [ inl fault ↦ inl fault | inr limit ↦ inr limit.0 ]
 
 -- filling a cluster is part of taking one
-pub filling_met : (C D : Type 0) (e : ImageError) → IsFault e ⊎ ((e ≡ I.Compressed) × C) → IsMetAlone C D e
-filling_met C D e why = elim why [ inl fault ↦ inl (inl fault) | inr compressed ↦ inr (inl compressed) ]
+pub filling_met : (B C D : Type 0) (e : ImageError) → (B → C) → IsFault e ⊎ ((e ≡ I.Compressed) × B) → IsMetAlone C D e
+filling_met B C D e to why = elim why [ inl fault ↦ inl (inl fault) | inr compressed ↦ inr (inl (compressed.0, to compressed.1)) ]
 
 -- ---- kinds of mappings
 

@@ -1,4 +1,4 @@
--- What a range of a sound image is refused for. A mapping that goes on stays within 64 bits, at a place where a cluster begins. Its table is held, and reads. A compressed cluster that is met behind it lies in the range.
+-- What a range of a sound image is refused for. A mapping that goes on stays within 64 bits, at a place where a cluster begins. Its table is held, and reads.
 use Rattle.std.proofs.Common.{◌≡◌, inl, inr, ℕ, ◌+◌, ◌-◌, ◌*◌, ◌/◌, ◌%◌, ◌^◌, ◌<◌, ◌≤◌, Bool, true, false, List, length, [], ◌∷◌, Option, Some, refl, sym, ap, ◌∙◌, subst, arith, pow_mono}
 use Rattle.std.specs.Prelude.{IsSome, slice_get, if◌then◌else◌}
 use Rattle.std.proofs.lemmas.Bool.{cases_lt}
@@ -15,8 +15,6 @@ use Rattle.qcow2_metadata.specs.L2Mapping.{greatest_offset}
 use Rattle.qcow2_metadata.specs.declared.header.HeaderFields.{HeaderFields}
 use Rattle.qcow2_metadata.specs.declared.l2_mapping.L2Mapping.{L2Mapping}
 use Rattle.qcow2_metadata.specs.declared.l2_mapping.L2Mapping.TheVariants as M
-use Rattle.qcow2_disk.specs.Found.{IsCompressed}
-use Rattle.qcow2_disk.specs.GrownCovers.{Touches}
 use Rattle.qcow2_laws.proofs.Places.{Sizes, Sizes-from, l1_entry-past}
 use Rattle.qcow2_alloc.specs.ImageFile.{contents_in, known_in, KeepsHeader}
 use Rattle.qcow2_alloc.specs.MetadataCaches.{IsEntryAt, l2_at}
@@ -26,8 +24,7 @@ use Rattle.qcow2_image.specs.declared.prepared.Prepared.{Prepared}
 use Rattle.qcow2_image.specs.declared.prepared.Share.{Share}
 use Rattle.qcow2_image.specs.declared.prepared.Share.TheVariants.{InPlace, Kept, New}
 use Rattle.qcow2_image.specs.ImageInvariant.{cluster_of, host_begin_of, pending_in, pins_by, IsPending, IsReadyWith, IsShareAt, ImageInvariant}
-use Rattle.qcow2_image.specs.MetAlone.{HasCompressedIn, IsMetAlone, KeepsL1Place}
-use Rattle.qcow2_image.specs.MovedTables.{CoversStay}
+use Rattle.qcow2_image.specs.MetAlone.{IsMetAlone, KeepsL1Place}
 use Rattle.qcow2_image.specs.Ranges.{MayGoOn}
 use Rattle.qcow2_image.proofs.Apart.{pins_own}
 use Rattle.qcow2_image.proofs.Commit.Entered.{HasFirst, pinned_new_data}
@@ -184,29 +181,6 @@ module _ {S F : Type 0} (view : S → StorageView) (backing : F → BackingView)
   place_aligned =
       let none : p.offset + p.length ≡ (begin.first + count) * size + 0 = let is = place_is in omega (arith, is) in
       ap (λ o. o % size) none ∙ mod-mul-add (begin.first + count) size 0 sizes.some
-
--- ---- what is compressed in a range
-
--- a byte of the range lies in a compressed cluster
-pub compressed_at : (h h' : HeaderFields) (known known' : Bytes) (from to byte : ℕ) → from ≤ byte → byte < to → cluster_size h' ≡ cluster_size h → CoversStay h known h' known' → IsCompressed (cover h' known' (byte / cluster_size h')) → HasCompressedIn from to h known
-compressed_at h h' known known' from to byte above below size covers is =
-    let some : 0 < cluster_size h = pow_pos h.cluster_bits in
-    let whole : byte / cluster_size h * cluster_size h + byte % cluster_size h ≡ byte = div-add-mod' byte (cluster_size h) in
-    let rest = mod_below byte (cluster_size h) some in
-    record {
-      guest = byte / cluster_size h;
-      touched = (omega (arith, above, below), omega (arith, above, whole, rest), omega (arith, below, whole));
-      is = subst IsCompressed (ap (λ s. cover h' known' (byte / s)) size ∙ sym (covers (byte / cluster_size h))) is;
-    }
-
--- so it was where tables moved meanwhile
-pub compressed_as : (h h' : HeaderFields) (known known' : Bytes) (from to : ℕ) → cluster_size h' ≡ cluster_size h → CoversStay h known h' known' → HasCompressedIn from to h' known' → HasCompressedIn from to h known
-compressed_as h h' known known' from to size covers found =
-    record {
-      guest = found.guest;
-      touched = subst (λ s. Touches s from to found.guest) size found.touched;
-      is = subst IsCompressed (sym (covers found.guest)) found.is;
-    }
 
 -- ---- the L1 table stays where it is
 pub place_kept : (v v' : HeaderView) → KeepsHeader v v' → KeepsL1Place v.fields v'.fields

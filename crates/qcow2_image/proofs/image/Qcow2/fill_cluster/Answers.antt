@@ -1,4 +1,4 @@
-use Rattle.std.proofs.Common.{◌≡◌, ◌+◌, ◌-◌, ◌*◌, ◌/◌, ◌%◌, ◌^◌, ◌<◌, ℕ, sym, ap, ◌∙◌, arith, is_some, ◌⊎◌, ◌≤◌}
+use Rattle.std.proofs.Common.{◌≡◌, ◌+◌, ◌-◌, ◌*◌, ◌/◌, ◌%◌, ◌^◌, ◌<◌, ℕ, sym, ap, ◌∙◌, arith, is_some, ◌⊎◌, ◌≤◌, inl, inr}
 use Rattle.std.proofs.lemmas.Nat.{div-mul-add, div-add-mod'}
 use Rattle.qcow2_metadata.specs.Header.{cluster_size}
 use Rattle.qcow2_alloc.specs.ImageFile.{contents_in, known_in}
@@ -6,7 +6,7 @@ use Rattle.qcow2_image.specs.Found.{IsMappedAs}
 use Rattle.qcow2_image.specs.ImageInvariant.{disk_of}
 use Rattle.qcow2_metadata.specs.Cover.{cover}
 use Rattle.qcow2_metadata.specs.Guest.{known_byte}
-use Rattle.qcow2_disk.specs.Found.{kind_at, IsCompressed}
+use Rattle.qcow2_disk.specs.Found.{kind_at}
 use Rattle.qcow2_image.proofs.Prepare.Copied.{none_has, some_has}
 use Rattle.qcow2_image.proofs.Prepare.Filling.{alike_within, image_step_none}
 use Rattle.qcow2_image.proofs.Map.Loading.{if_ok}
@@ -15,7 +15,7 @@ use Rattle.qcow2_image.proofs.Call.BehindHeader.{behind_none}
 use Rattle.qcow2_image.proofs.Prepare.Met.{behind_start, met_as, reading_met, told_sum, within_cluster}
 use Rattle.qcow2_alloc.specs.ImageError.{IsFault}
 use Rattle.qcow2_alloc.specs.declared.error.ImageError.TheVariants as I
-use Rattle.qcow2_image.specs.MetAlone.{IsMetReading}
+use Rattle.qcow2_image.specs.MetAlone.{IsCopiedCompressed, IsMetReading}
 use Rattle.qcow2_image.proofs.image.Qcow2.fill_cluster.Goals as goal
 
 pub returns-in_default-checked_add-clause-image_step : goal.returns-in_default-checked_add-clause-image_step
@@ -101,6 +101,9 @@ returns-clause-met g c = λ some.
     let image = c.args.self.now in
     let size = cluster_size image.file.header.fields in
     let at : c.value.result ≡ c.args.cluster * size = c.value.ensures ∙ c.offset.ensures ∙ ap (λ b. c.args.cluster * 2 ^ b) c.cluster_bits-bits.ensures.value in
-    met_as (IsMetReading c.kind_of-kind.result) (λ e. IsFault e ⊎ ((e ≡ I.Compressed) × IsCompressed c.args.old.now)) c.copy_old.result
-    (reading_met image.file.header.fields (is_some image.backing) c.in-Some-checked_add.guest c.args.old.now c.kind_of-kind.result c.kind_of-kind.ensures.value)
+    met_as (IsMetReading c.kind_of-kind.result) (λ e. IsFault e ⊎ ((e ≡ I.Compressed) × IsCopiedCompressed image.file.header.fields c.args.old.now c.args.offset c.args.length c.args.overwrite)) c.copy_old.result
+    (λ e why. elim (reading_met image.file.header.fields (is_some image.backing) c.in-Some-checked_add.guest c.args.old.now c.kind_of-kind.result c.kind_of-kind.ensures.value e why) [
+      | inl fault ↦ inl fault
+      | inr compressed ↦ inr (compressed.0, (compressed.1, c.in-Some.ensures.left))
+    ])
     (c.copy_old.ensures.met (behind_start size c.args.cluster (c.value.result + c.in-Some.range.start) some (omega (arith, at))))

@@ -1,6 +1,6 @@
 use Rattle.qcow2_alloc.proofs.KeptMarks.{notes_then}
 use Rattle.std.specs.Prelude.{Err, IsTrue}
-use Rattle.std.proofs.Common.{◌≡◌, ◌∙◌, ◌+◌, ◌^◌, ◌≤◌, ◌<◌, ◌∷◌, [], None, inl, min, refl, sym, ap, subst, arith, rules}
+use Rattle.std.proofs.Common.{◌≡◌, ◌∙◌, ◌+◌, ◌^◌, ◌≤◌, ◌<◌, ◌∷◌, [], None, true, inl, min, refl, sym, ap, subst, arith, rules}
 use Rattle.qcow2_laws.specs.CrashInvariant.{Pending}
 use Rattle.qcow2_alloc.proofs.AllocationSteps.{handed_on}
 use Rattle.qcow2_image.specs.ImageInvariant.{ImageInvariant, abstract_of, pending_in}
@@ -180,7 +180,7 @@ returns-in_err-prepared-clause-met g c = λ out sound alone whole near.
     let lt = c.requires.some in
     let some : 0 < c.min.result = omega (arith, most, asked, few, lt) in
     hands_met (IsMetAlone (HasCompressedIn c.args.from c.args.to old.file.header.fields (known_in view old.file)) ⊥) c.from_residual.result e c.from_residual.ensures
-    (met_piece view below out (pending_in view below old out) old sound c.args.from c.args.to lt near c.min.result (omega (arith, asked, lt)) e (c.in_err-prepared.ensures.met some out sound alone))
+    (met_piece view below out (pending_in view below old out) old sound c.args.from c.args.to lt near c.min.result (omega (arith, asked, lt)) true e (c.in_err-prepared.ensures.met some out sound alone))
 
 pub returns-in-Err-clause-met : goal.returns-in-Err-clause-met
 returns-in-Err-clause-met g c = λ out sound alone whole near.

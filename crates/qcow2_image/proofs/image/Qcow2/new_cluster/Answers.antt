@@ -18,8 +18,8 @@ use Rattle.qcow2_image.proofs.Prepare.InUse.{used_stays}
 use Rattle.qcow2_image.proofs.Prepare.Lacked.{hands_limit, other_limit}
 use Rattle.qcow2_image.specs.LackedPlaces.{HasNoCluster, StandsInWay}
 use Rattle.qcow2_image.proofs.Prepare.Met.{filling_met, hands_met, new_behind}
-use Rattle.qcow2_image.specs.MetAlone.{IsMetAlone}
-use Rattle.qcow2_disk.specs.Found.{IsCompressed}
+use Rattle.qcow2_image.specs.MetAlone.{IsCopiedCompressed, IsMetAlone}
+use Rattle.qcow2_image.proofs.Prepare.Unannounced.{copied_as}
 use Rattle.qcow2_image.proofs.image.Qcow2.new_cluster.Goals as goal
 
 pub returns-in-Ok-clause-gains : goal.returns-in-Ok-clause-gains
@@ -113,7 +113,7 @@ returns-in-Err-clause-limit g c = λ p out sound. other_limit _ c.in-Err.refusal
 
 pub returns-in_err-pending-clause-met : goal.returns-in_err-pending-clause-met
 returns-in_err-pending-clause-met g c = λ p out sound holds.
-    hands_met (IsMetAlone (IsCompressed c.args.old.now) ⊥) c.from_residual.result c.in_err-pending.field-0.0 c.from_residual.ensures (inl (c.in_err-pending.ensures.fault p out sound))
+    hands_met (IsMetAlone (IsCopiedCompressed c.args.self.now.file.header.fields c.args.old.now c.args.offset c.args.length c.args.overwrite) ⊥) c.from_residual.result c.in_err-pending.field-0.0 c.from_residual.ensures (inl (c.in_err-pending.ensures.fault p out sound))
 
 pub returns-in-Err-clause-met : goal.returns-in-Err-clause-met
 returns-in-Err-clause-met g c = λ p out sound holds.
@@ -125,4 +125,10 @@ returns-in-Err-clause-met g c = λ p out sound holds.
     let took = c.in_ok-pending.ensures.takes p out sound holds in
     let new_data = with_new_data (pending_with_listed p old mid) (run_of n) in
     let some : 0 < new_data.new_data c.cluster.result = subst (λ k. 0 < new_data.new_data k) (sym c.cluster.ensures) (taken_new_data view below out old mid p n took.0 holds took.2) in
-    filling_met (IsCompressed c.args.old.now) ⊥ c.in-Err.refusal (c.in-Err.ensures.met (new_behind view below out new_data mid took.2.sound c.cluster.result some))
+    let h = old.file.header.fields in
+    let hm = mid.file.header.fields in
+    let offset = c.args.offset in
+    let n = c.args.length in
+    let overwrite = c.args.overwrite in
+    filling_met (IsCopiedCompressed hm c.args.old.now offset n overwrite) (IsCopiedCompressed h c.args.old.now offset n overwrite) ⊥ c.in-Err.refusal (copied_as h hm c.args.old.now offset n overwrite (size_format h hm took.2.header))
+    (c.in-Err.ensures.met (new_behind view below out new_data mid took.2.sound c.cluster.result some))

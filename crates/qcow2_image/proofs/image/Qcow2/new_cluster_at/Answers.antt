@@ -19,7 +19,8 @@ use Rattle.qcow2_image.proofs.Call.BehindHeader.{behind_by, behind_none, behind_
 use Rattle.qcow2_image.proofs.Prepare.InUse.{used_stays}
 use Rattle.qcow2_image.proofs.Prepare.Lacked.{hands_limit, other_limit}
 use Rattle.qcow2_image.specs.LackedPlaces.{CantTake}
-use Rattle.qcow2_disk.specs.Found.{IsCompressed}
+use Rattle.qcow2_image.specs.MetAlone.{IsCopiedCompressed}
+use Rattle.qcow2_image.proofs.Prepare.Unannounced.{copied_as}
 use Rattle.qcow2_image.proofs.Prepare.Met.{filling_met, new_behind}
 use Rattle.qcow2_image.proofs.Prepare.MetTables.{hands_alone}
 use Rattle.qcow2_image.proofs.image.Qcow2.new_cluster_at.Goals as goal
@@ -126,7 +127,7 @@ returns-in-Err-clause-limit g c = λ p out sound holds. other_limit _ c.in-Err.r
 
 pub returns-in_err-pending-clause-met : goal.returns-in_err-pending-clause-met
 returns-in_err-pending-clause-met g c = λ p out sound holds.
-    hands_alone (IsCompressed c.args.old.now) ⊥ c.from_residual.result c.in_err-pending.field-0.0 c.from_residual.ensures (inl (c.in_err-pending.ensures.fault p out sound))
+    hands_alone (IsCopiedCompressed c.args.self.now.file.header.fields c.args.old.now c.args.offset c.args.length c.args.overwrite) ⊥ c.from_residual.result c.in_err-pending.field-0.0 c.from_residual.ensures (inl (c.in_err-pending.ensures.fault p out sound))
 
 pub returns-in-Err-clause-met : goal.returns-in-Err-clause-met
 returns-in-Err-clause-met g c = λ p out sound holds.
@@ -138,4 +139,10 @@ returns-in-Err-clause-met g c = λ p out sound holds.
     let took = subst (λ v. TakesDataAt view below p old mid out c.args.cluster (Ok v)) c.in-Some.is (c.in_ok-pending.ensures.takes p out sound holds) in
     let new_data = with_new_data (pending_with_listed p old mid) (run_of n) in
     let some : 0 < new_data.new_data c.args.cluster = subst (λ k. 0 < new_data.new_data k) took.0 (taken_new_data view below out old mid p n took.1 holds took.3) in
-    filling_met (IsCompressed c.args.old.now) ⊥ c.in-Err.refusal (c.in-Err.ensures.met (new_behind view below out new_data mid took.3.sound c.args.cluster some))
+    let h = old.file.header.fields in
+    let hm = mid.file.header.fields in
+    let offset = c.args.offset in
+    let n = c.args.length in
+    let overwrite = c.args.overwrite in
+    filling_met (IsCopiedCompressed hm c.args.old.now offset n overwrite) (IsCopiedCompressed h c.args.old.now offset n overwrite) ⊥ c.in-Err.refusal (copied_as h hm c.args.old.now offset n overwrite (size_format h hm took.3.header))
+    (c.in-Err.ensures.met (new_behind view below out new_data mid took.3.sound c.args.cluster some))

@@ -11,7 +11,7 @@ use Rattle.qcow2_image.proofs.Prepare.LackedBehind.{range_freed}
 use Rattle.qcow2_image.specs.Image.{HasNothingToFree}
 use Rattle.qcow2_alloc.specs.ImageFile.{known_in}
 use Rattle.qcow2_image.specs.L1Entries.{NeedsFarEntry}
-use Rattle.qcow2_image.specs.MetAlone.{HasCompressedIn}
+use Rattle.qcow2_image.specs.MetAlone.{CopiesCompressed}
 use Rattle.qcow2_image.proofs.Prepare.MetTables.{alone_freed}
 use Rattle.qcow2_image.proofs.image.Qcow2.prepare.Goals as goal
 
@@ -98,5 +98,5 @@ pub returns-in-Err-clause-met : goal.returns-in-Err-clause-met
 returns-in-Err-clause-met g c = λ some out sound alone.
     let old = c.args.self.now in
     let h = old.file.header.fields in
-    alone_freed g.S.Storage.view g.F.BackingDisk.backing out (HasCompressedIn c.args.offset (c.args.offset + c.args.length) h (known_in g.S.Storage.view old.file)) (NeedsFarEntry old c.args.offset) old c.prepare_range.new.self c.free_after.new.self c.in-Err.refusal c.free_after.result
+    alone_freed g.S.Storage.view g.F.BackingDisk.backing out (CopiesCompressed c.args.offset c.args.length c.args.overwrite h (known_in g.S.Storage.view old.file)) (NeedsFarEntry old c.args.offset) old c.prepare_range.new.self c.free_after.new.self c.in-Err.refusal c.free_after.result
     (c.in-Err.ensures.readies some out sound) c.free_after.ensures.fault (c.free_after.ensures.told out) (c.in-Err.ensures.met some out sound alone)

@@ -33,8 +33,9 @@ use Rattle.qcow2_image.specs.LackedPlaces.{LacksPlaceFor}
 use Rattle.qcow2_metadata.specs.Header.{cluster_size}
 use Rattle.qcow2_metadata.specs.declared.header.HeaderFields.{HeaderFields}
 use Rattle.qcow2_image.specs.L1Entries.{NeedsFarEntry}
-use Rattle.qcow2_image.specs.MetAlone.{HasCompressedIn, IsMetAlone}
-use Rattle.qcow2_image.proofs.Prepare.MetRanges.{alone_as, compressed_as}
+use Rattle.qcow2_image.specs.MetAlone.{CopiesCompressed, IsMetAlone}
+use Rattle.qcow2_image.proofs.Prepare.MetRanges.{alone_as}
+use Rattle.qcow2_image.proofs.Prepare.Unannounced.{compressed_as}
 use Rattle.qcow2_image.proofs.Prepare.MetTables.{far_before}
 use Rattle.qcow2_image.proofs.image.Qcow2.prepare_data_mapping.Goals as goal
 
@@ -215,10 +216,11 @@ returns-clause-met g c = λ may some out sound alone.
     let old = c.args.self.now in
     let mid = c.begin.new.self in
     let from = c.args.offset in
-    let to = c.args.offset + c.args.length in
+    let n = c.args.length in
+    let overwrite = c.args.overwrite in
     let stays = stays_kept view below out old mid sound (listed view below out old mid (λ s. record { keeps = c.begin.ensures.keeps (pending_in view below old out) out s; list = c.begin.ensures.list }) sound) in
     let size : cluster_size mid.file.header.fields ≡ cluster_size old.file.header.fields = ap (λ (x : HeaderFields). cluster_size x) stays.header in
-    subst (λ (r : Result _ _). IfErr r (IsMetAlone (HasCompressedIn from to old.file.header.fields (known_in view old.file)) (NeedsFarEntry old from))) (sym c.mark_failure.ensures.answer)
+    subst (λ (r : Result _ _). IfErr r (IsMetAlone (CopiesCompressed from n overwrite old.file.header.fields (known_in view old.file)) (NeedsFarEntry old from))) (sym c.mark_failure.ensures.answer)
     (if_err c.prepare-prepared.result
-    (λ e met. far_before old mid (HasCompressedIn from to old.file.header.fields (known_in view old.file)) from e c.begin.ensures.begun.rest (alone_as (compressed_as old.file.header.fields mid.file.header.fields (known_in view old.file) (known_in view mid.file) from to size stays.covers) (λ far. far) e met))
+    (λ e met. far_before old mid (CopiesCompressed from n overwrite old.file.header.fields (known_in view old.file)) from e c.begin.ensures.begun.rest (alone_as (compressed_as old.file.header.fields mid.file.header.fields (known_in view old.file) (known_in view mid.file) from n overwrite size stays.covers) (λ far. far) e met))
     (c.prepare-prepared.ensures.met some out stays.sound alone))

@@ -27,8 +27,7 @@ use Rattle.qcow2_alloc.specs.CachePins.{l2_pins}
 use Rattle.qcow2_image.proofs.Clear.Between.{no_pins}
 use Rattle.qcow2_image.proofs.Prepare.Lacked.{hands_limit, other_limit}
 use Rattle.qcow2_image.specs.LackedPlaces.{IsLimitedByFirst, LacksFirstCluster, first_of_range}
-use Rattle.qcow2_image.specs.MetAlone.{IsMetAlone}
-use Rattle.qcow2_disk.specs.Found.{IsCompressed}
+use Rattle.qcow2_image.specs.MetAlone.{IsCopiedCompressed, IsMetAlone}
 use Rattle.qcow2_image.proofs.Backings.{pinned_by}
 use Rattle.qcow2_image.proofs.image.Qcow2.prepare_first.Goals as goal
 
@@ -180,4 +179,4 @@ returns-in-None-clause-met g c = λ out sound none holds.
     let old = c.args.self.now in
     let p = pending_in view g.F.BackingDisk.backing old out in
     let covered = first_stands view g.F.BackingDisk.backing old p c.args.offset c.args.table c.new.result c.cluster_bits.result c.cluster-cluster.result c.in_ok-old.old c.cluster-cluster.ensures c.new.ensures c.cluster_bits.ensures.value holds (c.in_ok-old.ensures.says p (l1_index_of old.file.header.fields c.args.offset) sound.file) in
-    subst (λ (x : L2Mapping). IfErr c.prepare_private.result (IsMetAlone (IsCompressed x) ⊥)) (sym covered) (c.prepare_private.ensures.met out sound none holds covered)
+    subst (λ (x : L2Mapping). IfErr c.prepare_private.result (IsMetAlone (IsCopiedCompressed old.file.header.fields x c.args.offset c.args.length c.args.overwrite) ⊥)) (sym covered) (c.prepare_private.ensures.met out sound none holds covered)

@@ -28,9 +28,10 @@ use Rattle.qcow2_image.proofs.Call.Slots.{get_set_same}
 use Rattle.qcow2_metadata.specs.Bytes.{Bytes}
 use Rattle.qcow2_metadata.specs.Entries.{count}
 use Rattle.qcow2_image.specs.UnseenSteps.{freed_by}
-use Rattle.qcow2_image.specs.MetAlone.{HasCompressedIn}
+use Rattle.qcow2_image.specs.MetAlone.{CopiesCompressed}
 use Rattle.qcow2_image.proofs.Prepare.MetTables.{hands_alone}
-use Rattle.qcow2_image.proofs.Prepare.MetRanges.{alone_as, compressed_as, compressed_at}
+use Rattle.qcow2_image.proofs.Prepare.MetRanges.{alone_as}
+use Rattle.qcow2_image.proofs.Prepare.Unannounced.{compressed_as, compressed_at}
 use Rattle.qcow2_image.proofs.image.Qcow2.prepare_in.Goals as goal
 
 pub returns-in_err-prepared-clause-readies : goal.returns-in_err-prepared-clause-readies
@@ -208,8 +209,8 @@ returns-in_err-prepared-clause-met g c = λ out sound alone holds some.
     let known = known_in g.S.Storage.view c.args.self.now.file in
     let offset = c.args.offset in
     let n = c.args.length in
-    hands_alone (HasCompressedIn offset (offset + n) h known) ⊥ c.from_residual.result c.in_err-prepared.field-0.0 c.from_residual.ensures
-    (alone_as (λ compressed. compressed_at h h known known offset (offset + n) offset (omega arith) (omega (arith, some)) refl (λ j. refl) compressed) (λ no. no) c.in_err-prepared.field-0.0 (c.in_err-prepared.ensures.met out sound alone holds))
+    hands_alone (CopiesCompressed offset n c.args.overwrite h known) ⊥ c.from_residual.result c.in_err-prepared.field-0.0 c.from_residual.ensures
+    (alone_as (λ copied. compressed_at h known offset n offset n c.args.overwrite (omega arith) some refl (inl refl) copied) (λ no. no) c.in_err-prepared.field-0.0 (c.in_err-prepared.ensures.met out sound alone holds))
 
 pub returns-in-Err-clause-met : goal.returns-in-Err-clause-met
 returns-in-Err-clause-met g c = λ out sound alone holds some.
@@ -225,5 +226,5 @@ returns-in-Err-clause-met g c = λ out sound alone holds some.
     let placed = (free_places view below).free old [] out sound in
     let ready = subst (λ o. IsReadied view below old mid (None ∷ out) 0 o n c.args.overwrite p) (sym first.guest) (c.in_ok-prepared.ensures.readies (None ∷ out) placed holds 0 refl) in
     let size : cluster_size hm ≡ cluster_size h = ap (λ (x : HeaderFields). cluster_size x) (header_format old.file.header mid.file.header c.in_ok-prepared.ensures.header) in
-    alone_as (λ found. compressed_as h hm (known_in view old.file) (known_in view mid.file) c.args.offset (c.args.offset + n) size ready.covers (subst (λ o. HasCompressedIn o (o + n) hm (known_in view mid.file)) first.guest found)) (λ no. no)
+    alone_as (λ found. compressed_as h hm (known_in view old.file) (known_in view mid.file) c.args.offset n c.args.overwrite size ready.covers (subst (λ o. CopiesCompressed o n c.args.overwrite hm (known_in view mid.file)) first.guest found)) (λ no. no)
     c.in-Err.refusal (c.in-Err.ensures.met old (None ∷ out) 0 refl first.under ready)

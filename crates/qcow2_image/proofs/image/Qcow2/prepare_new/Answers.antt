@@ -31,8 +31,7 @@ use Rattle.qcow2_metadata.specs.Header.{HeaderView}
 use Rattle.qcow2_alloc.specs.ImageFile.{known_in}
 use Rattle.qcow2_image.specs.Found.{l1_index_of}
 use Rattle.qcow2_image.proofs.Prepare.Met.{hands_met}
-use Rattle.qcow2_image.specs.MetAlone.{IsMetAlone}
-use Rattle.qcow2_disk.specs.Found.{IsCompressed}
+use Rattle.qcow2_image.specs.MetAlone.{IsCopiedCompressed, IsMetAlone}
 use Rattle.qcow2_image.proofs.image.Qcow2.prepare_new.Goals as goal
 
 pub returns-in_err-old_data-clause-readies : goal.returns-in_err-old_data-clause-readies
@@ -177,12 +176,12 @@ returns-in-Err-clause-limit g c = λ out sound holds.
 
 pub returns-in_err-old_data-clause-met : goal.returns-in_err-old_data-clause-met
 returns-in_err-old_data-clause-met g c = λ out sound none holds.
-    hands_met (IsMetAlone (IsCompressed c.args.old.now) ⊥) c.from_residual.result c.in_err-old_data.field-0.0 c.from_residual.ensures (inl (inl c.in_err-old_data.ensures.fault))
+    hands_met (IsMetAlone (IsCopiedCompressed c.args.self.now.file.header.fields c.args.old.now c.args.offset c.args.length c.args.overwrite) ⊥) c.from_residual.result c.in_err-old_data.field-0.0 c.from_residual.ensures (inl (inl c.in_err-old_data.ensures.fault))
 
 pub returns-in_err-pending-clause-met : goal.returns-in_err-pending-clause-met
 returns-in_err-pending-clause-met g c = λ out sound none holds.
     let p = pending_in g.S.Storage.view g.F.BackingDisk.backing c.args.self.now out in
-    hands_met (IsMetAlone (IsCompressed c.args.old.now) ⊥) c.from_residual-in_err-pending.result c.in_err-pending.field-0.0 c.from_residual-in_err-pending.ensures (c.in_err-pending.ensures.met p out sound (λ k. omega arith))
+    hands_met (IsMetAlone (IsCopiedCompressed c.args.self.now.file.header.fields c.args.old.now c.args.offset c.args.length c.args.overwrite) ⊥) c.from_residual-in_err-pending.result c.in_err-pending.field-0.0 c.from_residual-in_err-pending.ensures (c.in_err-pending.ensures.met p out sound (λ k. omega arith))
 
 pub returns-in-Err-clause-met : goal.returns-in-Err-clause-met
 returns-in-Err-clause-met g c = λ out sound none holds.

@@ -1,4 +1,4 @@
-use Rattle.std.proofs.Common.{◌≡◌, ◌+◌, min, sym, ap, ◌∙◌, subst, arith, ◌/◌}
+use Rattle.std.proofs.Common.{◌≡◌, ◌+◌, ◌-◌, min, sym, ap, ◌∙◌, subst, arith, ◌/◌}
 use Rattle.std.specs.Prelude.{Ok}
 use Rattle.qcow2_metadata.specs.Header.{cluster_size}
 use Rattle.qcow2_metadata.specs.declared.header.HeaderFields.{HeaderFields}
@@ -9,7 +9,7 @@ use Rattle.qcow2_image.proofs.Prepare.Extending.{extended}
 use Rattle.qcow2_image.proofs.Prepare.Lacked.{hands_limit}
 use Rattle.qcow2_image.specs.LackedPlaces.{CantGoBehind}
 use Rattle.qcow2_metadata.specs.Cover.{cover}
-use Rattle.qcow2_disk.specs.Found.{IsCompressed}
+use Rattle.qcow2_image.specs.MetAlone.{IsCopiedCompressed}
 use Rattle.qcow2_image.proofs.Prepare.MetTables.{hands_alone}
 use Rattle.qcow2_alloc.specs.ImageFile.{known_in}
 use Rattle.qcow2_image.proofs.image.Qcow2.prepare_next.Goals as goal
@@ -61,4 +61,4 @@ returns-in_err-share-clause-met g c = λ out k at may sound.
     let old = c.args.self.now in
     let p = c.args.prepared.now in
     let h = old.file.header.fields in
-    hands_alone (IsCompressed (cover h (known_in g.S.Storage.view old.file) ((p.guest + p.length) / cluster_size h))) ⊥ c.from_residual.result c.in_err-share.field-0.0 c.from_residual.ensures (c.in_err-share.ensures.met out k at may sound)
+    hands_alone (IsCopiedCompressed h (cover h (known_in g.S.Storage.view old.file) ((p.guest + p.length) / cluster_size h)) (p.guest + p.length) (c.args.length - p.length) c.args.overwrite) ⊥ c.from_residual.result c.in_err-share.field-0.0 c.from_residual.ensures (c.in_err-share.ensures.met out k at may sound)

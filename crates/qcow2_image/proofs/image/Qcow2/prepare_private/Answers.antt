@@ -6,8 +6,7 @@ use Rattle.qcow2_image.proofs.Prepare.Listing.{lists_none, lists_still}
 use Rattle.qcow2_image.proofs.Prepare.Lacked.{limits_as, needs_new, unlimited_all}
 use Rattle.qcow2_image.specs.LackedPlaces.{HasNoCluster, LacksFirstCluster, StandsInWay}
 use Rattle.qcow2_image.proofs.Prepare.Met.{met_as}
-use Rattle.qcow2_image.specs.MetAlone.{IsMetAlone}
-use Rattle.qcow2_disk.specs.Found.{IsCompressed}
+use Rattle.qcow2_image.specs.MetAlone.{IsCopiedCompressed, IsMetAlone}
 use Rattle.qcow2_alloc.specs.ImageError.{IsFault}
 use Rattle.qcow2_image.proofs.image.Qcow2.prepare_private.Goals as goal
 
@@ -55,7 +54,7 @@ returns-in-None-clause-limit g c = λ out sound holds.
 
 pub returns-in-Some-clause-met : goal.returns-in-Some-clause-met
 returns-in-Some-clause-met g c = λ out sound none holds covered.
-    met_as IsFault (IsMetAlone (IsCompressed c.args.old.now) ⊥) c.prepare_kept.result (λ e fault. inl (inl fault)) (c.prepare_kept.ensures.fault out sound (covered ∙ c.in-Some.ensures.place.0))
+    met_as IsFault (IsMetAlone (IsCopiedCompressed c.args.self.now.file.header.fields c.args.old.now c.args.offset c.args.length c.args.overwrite) ⊥) c.prepare_kept.result (λ e fault. inl (inl fault)) (c.prepare_kept.ensures.fault out sound (covered ∙ c.in-Some.ensures.place.0))
 
 pub returns-in-None-clause-met : goal.returns-in-None-clause-met
 returns-in-None-clause-met g c = λ out sound none holds covered. c.prepare_new.ensures.met out sound none holds

@@ -24,9 +24,10 @@ use Rattle.qcow2_image.specs.LackedPlaces.{LacksData, LacksRange}
 use Rattle.qcow2_metadata.specs.Header.{cluster_size}
 use Rattle.qcow2_metadata.specs.declared.header.HeaderFields.{HeaderFields}
 use Rattle.qcow2_image.specs.L1Entries.{NeedsFarEntry}
-use Rattle.qcow2_image.specs.MetAlone.{HasCompressedIn}
+use Rattle.qcow2_image.specs.MetAlone.{CopiesCompressed}
 use Rattle.qcow2_image.proofs.Prepare.MetTables.{hands_alone}
-use Rattle.qcow2_image.proofs.Prepare.MetRanges.{alone_as, compressed_as, place_kept, place_then}
+use Rattle.qcow2_image.proofs.Prepare.MetRanges.{alone_as, place_kept, place_then}
+use Rattle.qcow2_image.proofs.Prepare.Unannounced.{compressed_as}
 use Rattle.qcow2_image.proofs.image.Qcow2.prepare_range.Goals as goal
 
 pub returns-in_err-table-clause-readies : goal.returns-in_err-table-clause-readies
@@ -199,7 +200,7 @@ pub returns-in_err-table-clause-met : goal.returns-in_err-table-clause-met
 returns-in_err-table-clause-met g c = λ some out sound alone.
     let old = c.args.self.now in
     let h = old.file.header.fields in
-    hands_alone (HasCompressedIn c.args.offset (c.args.offset + c.args.length) h (known_in g.S.Storage.view old.file)) (NeedsFarEntry old c.args.offset) c.from_residual.result c.in_err-table.field-0.0 c.from_residual.ensures
+    hands_alone (CopiesCompressed c.args.offset c.args.length c.args.overwrite h (known_in g.S.Storage.view old.file)) (NeedsFarEntry old c.args.offset) c.from_residual.result c.in_err-table.field-0.0 c.from_residual.ensures
     (alone_as (λ no. absurd no) (λ far. far) c.in_err-table.field-0.0 (c.in_err-table.ensures.met out sound alone))
 
 pub returns-in_err-host-clause-met : goal.returns-in_err-host-clause-met
@@ -216,7 +217,7 @@ returns-in-None-clause-met g c = λ some out sound alone.
     let found = c.in_ok-table.ensures.finds out sound in
     let size : cluster_size mid.file.header.fields ≡ cluster_size old.file.header.fields = ap (λ (x : HeaderFields). cluster_size x) found.0.header in
     if_err c.prepare_in.result
-    (alone_as (compressed_as old.file.header.fields mid.file.header.fields (known_in view old.file) (known_in view mid.file) c.args.offset (c.args.offset + c.args.length) size found.0.covers) (λ no. absurd no))
+    (alone_as (compressed_as old.file.header.fields mid.file.header.fields (known_in view old.file) (known_in view mid.file) c.args.offset c.args.length c.args.overwrite size found.0.covers) (λ no. absurd no))
     (c.prepare_in.ensures.met out found.0.sound alone found.1 some)
 
 pub returns-in-Some-clause-l1_place : goal.returns-in-Some-clause-l1_place

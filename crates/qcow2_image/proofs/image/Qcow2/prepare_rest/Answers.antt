@@ -1,4 +1,4 @@
-use Rattle.std.proofs.Common.{◌≡◌, ◌*◌, ◌%◌, ◌<◌, true, false, refl, sym, ap, ◌∙◌, subst, arith, min, ◌+◌}
+use Rattle.std.proofs.Common.{◌≡◌, ◌-◌, ◌*◌, ◌%◌, ◌<◌, true, false, inr, refl, sym, ap, ◌∙◌, subst, arith, min, ◌+◌}
 use Rattle.std.specs.Prelude.{Ok, Err, Some, None, slice_set, vec_capacity}
 use Rattle.qcow2_metadata.specs.Header.{cluster_size}
 use Rattle.qcow2_alloc.proofs.AllocationSteps.{handed_on}
@@ -18,9 +18,11 @@ use Rattle.qcow2_disk.specs.Found.{rest_of_table}
 use Rattle.qcow2_image.specs.LackedPlaces.{CantGoBehind}
 use Rattle.qcow2_metadata.specs.declared.header.HeaderFields.{HeaderFields}
 use Rattle.qcow2_alloc.specs.ImageFile.{known_in}
-use Rattle.qcow2_image.specs.MetAlone.{HasCompressedIn}
+use Rattle.qcow2_image.specs.MetAlone.{CopiesCompressed}
 use Rattle.qcow2_image.proofs.Prepare.MetTables.{hands_alone}
-use Rattle.qcow2_image.proofs.Prepare.MetRanges.{alone_as, compressed_at}
+use Rattle.qcow2_image.proofs.Prepare.Behind.{next_begins}
+use Rattle.qcow2_image.proofs.Prepare.MetRanges.{alone_as}
+use Rattle.qcow2_image.proofs.Prepare.Unannounced.{compressed_as, compressed_at}
 use Rattle.qcow2_image.proofs.image.Qcow2.prepare_rest.Goals as goal
 
 pub returns-in_err-prepare_next-clause-image_step : goal.returns-in_err-prepare_next-clause-image_step
@@ -203,7 +205,10 @@ returns-in_err-prepare_next-clause-met g c = λ start out k free under is.
     let before = so.image_step start out k free under is in
     let size : cluster_size now.file.header.fields ≡ cluster_size h = ap (λ (x : HeaderFields). cluster_size x) (header_format old.file.header now.file.header so.header) in
     let guest = so.longer.guest in
-    hands_alone (HasCompressedIn p.guest (p.guest + n) h (known_in view old.file)) ⊥ c.from_residual.result e c.from_residual.ensures
+    hands_alone (CopiesCompressed p.guest n c.args.overwrite h (known_in view old.file)) ⊥ c.from_residual.result e c.from_residual.ensures
     (alone_as
-    (λ compressed. compressed_at h now.file.header.fields (known_in view old.file) (known_in view now.file) p.guest (p.guest + n) (q.guest + q.length) (omega (arith, guest)) (omega (arith, guest, bound, less)) size (λ j. sym (is.covers j) ∙ before.covers j) compressed)
+    (λ copied.
+    compressed_as h now.file.header.fields (known_in view old.file) (known_in view now.file) p.guest n c.args.overwrite size (λ j. sym (is.covers j) ∙ before.covers j)
+    (compressed_at now.file.header.fields (known_in view now.file) p.guest n (q.guest + q.length) (n - q.length) c.args.overwrite (omega (arith, guest)) (omega (arith, bound, less)) (omega (arith, guest, bound, less))
+    (inr (next_begins view below now (slice_set out k (Some q)) k q (get_set_same out k (Some q) None free) n c.args.table c.args.overwrite may before.sound)) copied))
     (λ no. no) e (c.in_err-prepare_next.ensures.met (slice_set out k (Some q)) k (get_set_same out k (Some q) None free) may before.sound))

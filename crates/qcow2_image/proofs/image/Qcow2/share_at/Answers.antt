@@ -14,7 +14,7 @@ use Rattle.qcow2_alloc.proofs.KeptMarks.{notes_none}
 use Rattle.qcow2_image.proofs.Call.BehindHeader.{behind_none}
 use Rattle.qcow2_image.proofs.Prepare.Lacked.{hands_limit, other_limit}
 use Rattle.qcow2_image.specs.LackedPlaces.{CantTakeAt}
-use Rattle.qcow2_disk.specs.Found.{IsCompressed}
+use Rattle.qcow2_image.specs.MetAlone.{IsCopiedCompressed}
 use Rattle.qcow2_image.proofs.Prepare.MetTables.{hands_alone}
 use Rattle.qcow2_image.proofs.image.Qcow2.share_at.Goals as goal
 
@@ -108,8 +108,8 @@ returns-in_default-clause-met g c = λ p out sound holds aligned.
 
 pub returns-in_err-old_data-clause-met : goal.returns-in_err-old_data-clause-met
 returns-in_err-old_data-clause-met g c = λ p out sound holds aligned.
-    hands_alone (IsCompressed c.args.old.now) ⊥ c.from_residual.result c.in_err-old_data.field-0.0 c.from_residual.ensures (inl (inl c.in_err-old_data.ensures.fault))
+    hands_alone (IsCopiedCompressed c.args.self.now.file.header.fields c.args.old.now c.args.offset c.args.length c.args.overwrite) ⊥ c.from_residual.result c.in_err-old_data.field-0.0 c.from_residual.ensures (inl (inl c.in_err-old_data.ensures.fault))
 
 pub returns-in_err-pending-clause-met : goal.returns-in_err-pending-clause-met
 returns-in_err-pending-clause-met g c = λ p out sound holds aligned.
-    hands_alone (IsCompressed c.args.old.now) ⊥ c.from_residual-in_err-pending.result c.in_err-pending.field-0.0 c.from_residual-in_err-pending.ensures (c.in_err-pending.ensures.met p out sound holds)
+    hands_alone (IsCopiedCompressed c.args.self.now.file.header.fields c.args.old.now c.args.offset c.args.length c.args.overwrite) ⊥ c.from_residual-in_err-pending.result c.in_err-pending.field-0.0 c.from_residual-in_err-pending.ensures (c.in_err-pending.ensures.met p out sound holds)

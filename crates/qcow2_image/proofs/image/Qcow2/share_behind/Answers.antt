@@ -21,6 +21,7 @@ use Rattle.qcow2_image.proofs.Prepare.InUse.{used_stays}
 use Rattle.qcow2_image.proofs.Prepare.Lacked.{hands_limit, limits_as, not_copied, other_limit}
 use Rattle.qcow2_image.specs.LackedPlaces.{CantGoBehind, CantTakeAt, IsNewThere}
 use Rattle.qcow2_disk.specs.Found.{IsCompressed}
+use Rattle.qcow2_image.specs.MetAlone.{HasUnannounced, IsCopiedCompressed}
 use Rattle.qcow2_image.proofs.Prepare.Taken.{if_err}
 use Rattle.qcow2_image.proofs.Prepare.Met.{kept_behind}
 use Rattle.qcow2_image.proofs.Prepare.MetTables.{hands_alone}
@@ -241,7 +242,7 @@ returns-in_err-fill_kept-in-None-clause-met g c = λ out k at may sound.
     let covered = next_says view below old out k p at c.args.length c.args.table c.args.overwrite may sound c.cluster-cluster.result c.in_ok-old.old cluster (c.in_ok-old.ensures.says (pending_in view below old out) (l1_index_of h p.guest) sound.file) in
     let kept : cover h (known_in view old.file) ((p.guest + p.length) / cluster_size h) ≡ Zero (Some (c.in-Some-checked_add.host, true)) =
     ap (cover h (known_in view old.file)) (next_cluster view below old out k p at c.args.length c.args.table c.args.overwrite may sound) ∙ covered ∙ c.keeps.ensures.answer.0 c.if-keeps.true in
-    hands_alone (IsCompressed (cover h (known_in view old.file) ((p.guest + p.length) / cluster_size h))) ⊥ c.from_residual-in_err-fill_kept-in-None.result c.in_err-fill_kept-in-None.field-0.0 c.from_residual-in_err-fill_kept-in-None.ensures
+    hands_alone (IsCopiedCompressed h (cover h (known_in view old.file) ((p.guest + p.length) / cluster_size h)) (p.guest + p.length) (c.args.length - p.length) c.args.overwrite) ⊥ c.from_residual-in_err-fill_kept-in-None.result c.in_err-fill_kept-in-None.field-0.0 c.from_residual-in_err-fill_kept-in-None.ensures
     (inl (inl (c.in_err-fill_kept-in-None.ensures.fault (kept_behind view below out (pending_in view below old out) old sound _ c.in-Some-checked_add.host kept))))
 
 pub returns-in-None-2-clause-met : goal.returns-in-None-2-clause-met
@@ -255,4 +256,9 @@ returns-in-None-2-clause-met g c = λ out k at may sound.
     let covered = next_says view below old out k p at c.args.length c.args.table c.args.overwrite may sound c.cluster-cluster.result c.in_ok-old.old cluster (c.in_ok-old.ensures.says (pending_in view below old out) (l1_index_of h p.guest) sound.file) in
     let here : cover h (known_in view old.file) ((p.guest + p.length) / cluster_size h) ≡ c.in_ok-old.old = ap (cover h (known_in view old.file)) (next_cluster view below old out k p at c.args.length c.args.table c.args.overwrite may sound) ∙ covered in
     let aligned : c.in-Some-checked_add.host % cluster_size h ≡ 0 = ap (λ b. b % cluster_size h) c.in-Some-checked_add.ensures.1 ∙ place_aligned view below old out k p at c.args.length c.args.table c.args.overwrite may sound in
-    if_err c.share_at.result (alone_as (λ compressed. subst IsCompressed (sym here) compressed) (λ no. no)) (c.share_at.ensures.met (pending_in view below old out) out sound (λ m. omega arith) aligned)
+    if_err c.share_at.result
+    (alone_as (λ copied. (
+      subst IsCompressed (sym here) copied.0,
+      subst (λ x. HasUnannounced (cluster_size h) x (c.args.length - p.length) c.args.overwrite) c.in-Some.ensures.1 (subst (λ x. HasUnannounced (cluster_size h) c.in-Some.next x c.args.overwrite) c.saturating_sub-left.ensures copied.1),
+    )) (λ no. no))
+    (c.share_at.ensures.met (pending_in view below old out) out sound (λ m. omega arith) aligned)
