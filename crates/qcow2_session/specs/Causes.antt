@@ -17,7 +17,7 @@ use Rattle.qcow2_image.specs.Found.{IsFoundWhole, further_by}
 use Rattle.qcow2_image.specs.Image.{is_failed, is_writable, size_of}
 use Rattle.qcow2_image.specs.ImageInvariant.{abstract_of}
 use Rattle.qcow2_image.specs.L1Entries.{NeedsFarEntry}
-use Rattle.qcow2_image.specs.MetAlone.{HasCompressedIn, IsMetAlone, IsMetFilling}
+use Rattle.qcow2_image.specs.MetAlone.{CopiesCompressed, IsMetAlone, IsMetFilling}
 use Rattle.qcow2_image.specs.Preallocation.{IsUnderMappingIn}
 use Rattle.qcow2_image.specs.Prepared.{length_of, table_of}
 use Rattle.qcow2_image.specs.Preparing.{IsTaken}
@@ -108,7 +108,7 @@ MayMeet command e = IsMet e
 module _ {S F : Type 0} (view : S → StorageView) (old : Qcow2 S F) where
   -- what it may be refused for then, on a sound image of which no mapping is prepared
   abbrev pub MeetsAlone : Command → ImageError → Type 0
-  MeetsAlone (C.PrepareDataMapping slot offset n overwrite) e = IsMetAlone (HasCompressedIn offset (offset + n) old.file.header.fields (known_in view old.file)) (NeedsFarEntry old offset) e
+  MeetsAlone (C.PrepareDataMapping slot offset n overwrite) e = IsMetAlone (CopiesCompressed offset n overwrite old.file.header.fields (known_in view old.file)) (NeedsFarEntry old offset) e
   MeetsAlone (C.EnsureZeroMapping offset n) e = IsMetAlone ⊥ (NeedsFarEntry old (from_in old offset n)) e
   MeetsAlone (C.DiscardToZero offset n) e = IsMetAlone ⊥ (NeedsFarEntry old (from_in old offset n)) e
   MeetsAlone (C.DiscardToAny offset n) e = IsMetAlone ⊥ (NeedsFarEntry old (from_in old offset n)) e
