@@ -24,7 +24,7 @@ use Rattle.qcow2_image.specs.declared.prepared.Prepared.{Prepared}
 use Rattle.qcow2_image.specs.Preallocation.{IsUnderMappingIn}
 use Rattle.qcow2_image.specs.Prepared.{IsHandedBackBy}
 use Rattle.qcow2_image.specs.Refusals.{IsMet, IsMetPreparing, IsUnlimited, passes, refuse_if, refuses_mapping, refuses_to_prepare, refuses_to_read, unusable}
-use Rattle.qcow2_session.specs.Causes.{HasNothingToDo, HeedsPrepared, IsRightlyRefused, IsUntouchedUnder, MayMeet, MeetsAlone, TellsMisuse, first_cause, refuses_clearing}
+use Rattle.qcow2_session.specs.Causes.{HasNothingToDo, MeetsOnSound, IsRightlyRefused, IsUntouchedUnder, MayMeet, MeetsAlone, TellsMisuse, first_cause, refuses_clearing}
 use Rattle.qcow2_session.specs.Commands.{reply_of_clearing}
 use Rattle.qcow2_session.specs.CountedFaults.{refusal_in}
 use Rattle.qcow2_session.specs.Sessions.{IsOfReading}
@@ -77,7 +77,7 @@ mapping_reading A X image e early late = by (is_failed image) (is_external image
 
 module _ {S F : Type 0} (view : S → StorageView) (backing : F → BackingView) (old new : Qcow2 S F) (before : List (Option Prepared)) {found : ℕ → Option Mapping} (command : Command) where
   -- nothing was called
-  pub is_misused : TellsMisuse before found command R.Misuse → new ≡ old → HeedsPrepared view backing old new before found command R.Misuse → IsRightlyRefused view backing old new before found command R.Misuse
+  pub is_misused : TellsMisuse before found command R.Misuse → new ≡ old → MeetsOnSound view backing old new before found command R.Misuse → IsRightlyRefused view backing old new before found command R.Misuse
   is_misused misuse same heeds = record {
     misuse = misuse;
     still = λ _. same;
@@ -90,7 +90,7 @@ module _ {S F : Type 0} (view : S → StorageView) (backing : F → BackingView)
 
   -- it was answered, so nothing refused it at once
   pub is_done : (reply : Reply) → (reply ≡ R.Misuse → ⊥) → TellsMisuse before found command reply → refusal_in reply ≡ None → IfSome (first_cause old command) (λ e. ⊥)
-      → (first_cause old command ≡ None → (abstract_of view backing old before).is_sound → HeedsPrepared view backing old new before found command reply) → IsRightlyRefused view backing old new before found command reply
+      → (first_cause old command ≡ None → (abstract_of view backing old before).is_sound → MeetsOnSound view backing old new before found command reply) → IsRightlyRefused view backing old new before found command reply
   is_done reply never misuse done early heeds = record {
     misuse = misuse;
     still = λ is. absurd (never is);
@@ -102,14 +102,14 @@ module _ {S F : Type 0} (view : S → StorageView) (backing : F → BackingView)
   }
 
   pub is_answered : {A : Type 0} (Same : Type 0) (a : A) (reply : Reply) → (reply ≡ R.Misuse → ⊥) → TellsMisuse before found command reply → refusal_in reply ≡ None → IfSome (first_cause old command) (λ e. (◌≡◌ {A = Result A ImageError} (Ok a) (Err e)) × Same)
-      → (first_cause old command ≡ None → (abstract_of view backing old before).is_sound → HeedsPrepared view backing old new before found command reply) → IsRightlyRefused view backing old new before found command reply
+      → (first_cause old command ≡ None → (abstract_of view backing old before).is_sound → MeetsOnSound view backing old new before found command reply) → IsRightlyRefused view backing old new before found command reply
   is_answered Same a reply never misuse done early heeds = is_done reply never misuse done (if_some_to (first_cause old command) (λ e no. let is = no.0 in cc) early) heeds
 
   -- it was refused
   pub is_refused : (e : ImageError) (reply : Reply) → (reply ≡ R.Misuse → ⊥) → TellsMisuse before found command reply → refusal_in reply ≡ Some e → IfSome (first_cause old command) (λ x. (e ≡ x) × (new ≡ old))
       → (first_cause old command ≡ None → MayMeet command e) → (first_cause old command ≡ None → (abstract_of view backing old before).is_sound → (HasPrepared before → ⊥) → MeetsAlone view old command e)
       → (first_cause old command ≡ None → HasNothingToDo view backing old new before command → ⊥)
-      → (first_cause old command ≡ None → (abstract_of view backing old before).is_sound → HeedsPrepared view backing old new before found command reply) → IsRightlyRefused view backing old new before found command reply
+      → (first_cause old command ≡ None → (abstract_of view backing old before).is_sound → MeetsOnSound view backing old new before found command reply) → IsRightlyRefused view backing old new before found command reply
   is_refused e reply never misuse is early late met idle heeds = record {
     misuse = misuse;
     still = λ is. absurd (never is);
@@ -274,7 +274,7 @@ grow_meets e old size takes none larger (inr mode) = absurd (elim (cases_lt old 
 
 module _ {S F : Type 0} (view : S → StorageView) (backing : F → BackingView) (old new : Qcow2 S F) (before : List (Option Prepared)) {found : ℕ → Option Mapping} (offset n : ℕ) (how : Clearing) (command : Command)
     (cause : first_cause old command ≡ refuses_clearing old how offset n) (nothing : HasNothingToDo view backing old new before command → to_in old offset n ≤ from_in old offset n)
-    (may : (e : ImageError) → IsMetPreparing e → MayMeet command e) (alone : (e : ImageError) → IsMetAlone ⊥ (NeedsFarEntry old (from_in old offset n)) e → MeetsAlone view old command e) (heed : (reply : Reply) → IsUntouchedUnder view backing old new before offset n reply → HeedsPrepared view backing old new before found command reply)
+    (may : (e : ImageError) → IsMetPreparing e → MayMeet command e) (alone : (e : ImageError) → IsMetAlone ⊥ (NeedsFarEntry old (from_in old offset n)) e → MeetsAlone view old command e) (heed : (reply : Reply) → IsUntouchedUnder view backing old new before offset n reply → MeetsOnSound view backing old new before found command reply)
     (misuse : (reply : Reply) → (reply ≡ R.Misuse → ⊥) → TellsMisuse before found command reply) where
   clears_as : (r : Result (ℕ × ℕ) ImageError) → IfSome (refuses_clearing old how offset n) (λ e. (r ≡ Err e) × (new ≡ old)) → (refuses_clearing old how offset n ≡ None → IfErr r IsMetPreparing) → (refuses_clearing old how offset n ≡ None → (abstract_of view backing old before).is_sound → (HasPrepared before → ⊥) → IfErr r (IsMetAlone ⊥ (NeedsFarEntry old (from_in old offset n))))
       → (refuses_clearing old how offset n ≡ None → to_in old offset n ≤ from_in old offset n → (r ≡ Ok (from_in old offset n, 0)) × (new ≡ old))

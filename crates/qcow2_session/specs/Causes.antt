@@ -162,24 +162,24 @@ module _ {S F : Type 0} (view : S → StorageView) (backing : F → BackingView)
 
   -- What a prepared mapping refuses, and nothing else: a range of its L2 table (9), a smaller disk (17). What is put, or read as it was looked up, is refused as outdated (10) only where it is. A commit and a flush are refused for a fault alone.
   -- What is read or looked up is refused for no limit (13).
-  abbrev pub HeedsPrepared : (found : ℕ → Option Mapping) → Command → Reply → Type 0
-  HeedsPrepared found (C.Read offset n) reply = IfSome (refusal_in reply) IsUnlimited
-  HeedsPrepared found (C.Write offset bytes) reply = refusal_in reply ≡ Some I.TablePrepared → IsUnderMappingIn old.file.header.fields offset (offset + length bytes.items) before
-  HeedsPrepared found (C.PrepareDataMapping slot offset n overwrite) reply = IsUntakenIn offset n reply
-  HeedsPrepared found (C.GetMapping slot offset max) reply = IfSome (refusal_in reply) IsUnlimited
-  HeedsPrepared found (C.ReadMapped slot at n) reply = ReadsLookedUp found slot at n reply × IfSome (refusal_in reply) IsUnlimited
-  HeedsPrepared found (C.WriteMapped slot at bytes) reply = refusal_in reply ≡ Some I.OutdatedMapping → IsOutdatedAt slot at (length bytes.items)
-  HeedsPrepared found (C.CommitDataMapping slot) reply = IfSome (refusal_in reply) IsFault
-  HeedsPrepared found C.Flush reply = IfSome (refusal_in reply) IsFault
-  HeedsPrepared found (C.EnsureZeroMapping offset n) reply = IsUntouchedUnder offset n reply
-  HeedsPrepared found (C.DiscardToZero offset n) reply = IsUntouchedUnder offset n reply
-  HeedsPrepared found (C.DiscardToAny offset n) reply = IsUntouchedUnder offset n reply
-  HeedsPrepared found (C.DiscardToBacking offset n) reply = IsUntouchedUnder offset n reply
-  HeedsPrepared found (C.ReadvSpecial offset n) reply = IfSome (refusal_in reply) IsUnlimited
-  HeedsPrepared found (C.TryReadvSpecial offset n) reply = IfSome (refusal_in reply) IsUnlimited
-  HeedsPrepared found (C.ResizeGrow size mode) reply = size_of old < size → refusal_in reply ≡ Some I.TablePrepared → (shows_old mode ≡ false) × IsUnderMappingIn old.file.header.fields (size_of old) (boundary_in old size) before
-  HeedsPrepared found (C.ResizeShrink size) reply = size < size_of old → (refusal_in reply ≡ Some I.MappingPrepared) ↔ HasPrepared before
-  HeedsPrepared found command reply = Unit {0}
+  abbrev pub MeetsOnSound : (found : ℕ → Option Mapping) → Command → Reply → Type 0
+  MeetsOnSound found (C.Read offset n) reply = IfSome (refusal_in reply) IsUnlimited
+  MeetsOnSound found (C.Write offset bytes) reply = refusal_in reply ≡ Some I.TablePrepared → IsUnderMappingIn old.file.header.fields offset (offset + length bytes.items) before
+  MeetsOnSound found (C.PrepareDataMapping slot offset n overwrite) reply = IsUntakenIn offset n reply
+  MeetsOnSound found (C.GetMapping slot offset max) reply = IfSome (refusal_in reply) IsUnlimited
+  MeetsOnSound found (C.ReadMapped slot at n) reply = ReadsLookedUp found slot at n reply × IfSome (refusal_in reply) IsUnlimited
+  MeetsOnSound found (C.WriteMapped slot at bytes) reply = refusal_in reply ≡ Some I.OutdatedMapping → IsOutdatedAt slot at (length bytes.items)
+  MeetsOnSound found (C.CommitDataMapping slot) reply = IfSome (refusal_in reply) IsFault
+  MeetsOnSound found C.Flush reply = IfSome (refusal_in reply) IsFault
+  MeetsOnSound found (C.EnsureZeroMapping offset n) reply = IsUntouchedUnder offset n reply
+  MeetsOnSound found (C.DiscardToZero offset n) reply = IsUntouchedUnder offset n reply
+  MeetsOnSound found (C.DiscardToAny offset n) reply = IsUntouchedUnder offset n reply
+  MeetsOnSound found (C.DiscardToBacking offset n) reply = IsUntouchedUnder offset n reply
+  MeetsOnSound found (C.ReadvSpecial offset n) reply = IfSome (refusal_in reply) IsUnlimited
+  MeetsOnSound found (C.TryReadvSpecial offset n) reply = IfSome (refusal_in reply) IsUnlimited
+  MeetsOnSound found (C.ResizeGrow size mode) reply = size_of old < size → refusal_in reply ≡ Some I.TablePrepared → (shows_old mode ≡ false) × IsUnderMappingIn old.file.header.fields (size_of old) (boundary_in old size) before
+  MeetsOnSound found (C.ResizeShrink size) reply = size < size_of old → (refusal_in reply ≡ Some I.MappingPrepared) ↔ HasPrepared before
+  MeetsOnSound found command reply = Unit {0}
 
   -- ---- a command
 
@@ -192,4 +192,4 @@ module _ {S F : Type 0} (view : S → StorageView) (backing : F → BackingView)
     pub late : first_cause old command ≡ None → IfSome (refusal_in reply) (MayMeet command)
     pub met : first_cause old command ≡ None → (abstract_of view backing old before).is_sound → (HasPrepared before → ⊥) → IfSome (refusal_in reply) (MeetsAlone view old command)
     pub idle : first_cause old command ≡ None → HasNothingToDo command → refusal_in reply ≡ None
-    pub heeds : first_cause old command ≡ None → (abstract_of view backing old before).is_sound → HeedsPrepared found command reply
+    pub heeds : first_cause old command ≡ None → (abstract_of view backing old before).is_sound → MeetsOnSound found command reply
