@@ -23,6 +23,7 @@ pub mod KeptShares
 pub mod Listing
 pub mod Lacked
 pub mod LackedBehind
+pub mod NearPlaces
 pub mod MetRanges
 pub mod MetTables
 pub mod FarEntries

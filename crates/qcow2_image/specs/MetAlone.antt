@@ -1,5 +1,5 @@
 -- What stands in the way of a call that takes clusters, on a sound image of which no mapping is prepared: a fault or a limit, and what has a cause in the image.
-use Rattle.std.specs.Prelude.{ℕ, ◌+◌, ◌-◌, ◌*◌, ◌/◌, ◌^◌, ◌<◌, ◌≤◌, ◌≡◌, ◌⊎◌, ◌&&◌, Bool, false}
+use Rattle.std.specs.Prelude.{ℕ, ◌+◌, ◌-◌, ◌*◌, ◌/◌, ◌^◌, ◌<◌, ◌≤◌, ◌≡◌, ◌⊎◌, ◌&&◌, Bool, false, List, Option, None}
 use Rattle.image_access.specs.declared.storage.PreallocateMode.{PreallocateMode}
 use Rattle.image_access.specs.declared.storage.PreallocateMode.TheVariants as Mode
 use Rattle.qcow2_metadata.specs.Bytes.{Bytes, is_within}
@@ -12,9 +12,12 @@ use Rattle.qcow2_disk.specs.GrownCovers.{Touches}
 use Rattle.qcow2_alloc.specs.ImageError.{IsFault}
 use Rattle.qcow2_alloc.specs.declared.error.ImageError.{ImageError}
 use Rattle.qcow2_alloc.specs.declared.error.ImageError.TheVariants as I
+use Rattle.qcow2_image.specs.Backings.{HasPrepared}
 use Rattle.qcow2_image.specs.declared.mapping.MappingKind.{MappingKind}
 use Rattle.qcow2_image.specs.declared.mapping.MappingKind.TheVariants as Kind
+use Rattle.qcow2_image.specs.declared.prepared.Prepared.{Prepared}
 use Rattle.qcow2_image.specs.Found.{l1_index_of}
+use Rattle.qcow2_image.specs.Prepared.{offset_of, table_of}
 use Rattle.qcow2_image.specs.Refusals.{IsFaultOrLimit}
 use Rattle.qcow2_image.specs.UnseenSteps.{is_announced}
 
@@ -78,3 +81,29 @@ IsSpecial kind = ⊥
 -- why bytes that are mapped so aren't read: a fault, or that they are compressed, or that nothing is mapped
 abbrev pub IsMetReading : MappingKind → ImageError → Type 0
 IsMetReading kind e = IsFault e ⊎ (((e ≡ I.Compressed) × IsSpecial kind) ⊎ ((e ≡ I.OutdatedMapping) × (kind ≡ Kind.Eof)))
+
+-- ---- looking up, reading and putting, on a sound image, whatever is prepared
+
+-- A fault. Or 8, where a mapping is prepared, whose L2 table can't leave the cache.
+abbrev pub IsMetLooking : List (Option Prepared) → ImageError → Type 0
+IsMetLooking out e = IsFault e ⊎ ((e ≡ I.InUse) × HasPrepared out)
+
+-- A range that was looked up before meets that, and 10 where it is no longer mapped so.
+abbrev pub IsMetLookingAgain : List (Option Prepared) → ImageError → Type 0
+IsMetLookingAgain out e = IsMetLooking out e ⊎ (e ≡ I.OutdatedMapping)
+
+-- Reading it meets 7 beside that, where its bytes are compressed.
+abbrev pub IsMetMapped : List (Option Prepared) → MappingKind → ImageError → Type 0
+IsMetMapped out kind e = IsMetLookingAgain out e ⊎ ((e ≡ I.Compressed) × IsSpecial kind)
+
+-- Reading compressed bytes from an offset on meets what a lookup does, and 7 or 18 by what stands there.
+abbrev pub IsMetSpecial : List (Option Prepared) → (offset : ℕ) → ImageError → Type 0
+IsMetSpecial out offset e = IsMetLooking out e ⊎ ((e ≡ I.Compressed) ⊎ (e ≡ I.NotCompressed offset))
+
+-- Reading a range of the disk meets what a lookup does, and 7 where some guest cluster that has a byte of it is compressed.
+abbrev pub IsMetReadingRange : List (Option Prepared) → (from to : ℕ) → HeaderFields → Bytes → ImageError → Type 0
+IsMetReadingRange out from to h known e = IsMetLooking out e ⊎ ((e ≡ I.Compressed) × HasCompressedIn from to h known)
+
+-- Putting bytes into a prepared mapping, from so far within it on, meets a fault. Where the mapping is existing it meets what a range does that was looked up, and 20 where its place passes 64 bits.
+abbrev pub IsMetPutting : List (Option Prepared) → Prepared → (at : ℕ) → ImageError → Type 0
+IsMetPutting out p at e = IsFault e ⊎ ((table_of p ≡ None) × (IsMetLookingAgain out e ⊎ ((e ≡ I.Overflow) × (2 ^ 64 ≤ offset_of p + at))))

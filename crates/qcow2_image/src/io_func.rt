@@ -3,7 +3,7 @@ ghost use Rattle.qcow2_image.specs.BehindHeader.{StaysBehindHeader};
 ghost use Rattle.std.specs.Prelude.{◌≡◌, ◌≢◌, ◌+◌, ◌^◌, ◌<◌, ◌≤◌, ℕ, List, [], Option, length, slice_get, ◌⊎◌, IfOk, IfErr, IfSome, OnOk, IsErr, IsSome, IsTrue, MatchOption, Ok, Err, Some, None, is_some, true, false};
 ghost use Rattle.qcow2_metadata.specs.Header.{cluster_size};
 ghost use Rattle.qcow2_alloc.specs.ImageError.{IsFault};
-ghost use Rattle.qcow2_image.specs.MetAlone.{IsMetReading};
+ghost use Rattle.qcow2_image.specs.MetAlone.{IsMetLookingAgain, IsMetLooking, IsMetMapped, IsMetPutting, IsMetReading, IsMetSpecial};
 ghost use Rattle.qcow2_disk.specs.Calls.{Shows};
 ghost use Rattle.qcow2_laws.specs.CrashInvariant.{Pending};
 ghost use Rattle.qcow2_image.specs.Calls.{AnswersCall, Puts};
@@ -21,7 +21,7 @@ ghost use Rattle.qcow2_image.specs.Prepared.{image_of, table_of};
 ghost use Rattle.qcow2_image.specs.Refusals.{unusable, refuses_mapping, refuses_to_read, IsMet, IsUnlimited, MarksFailed};
 ghost use Rattle.qcow2_image.specs.SpecialReads.{TellsCompressed, TellsWhether};
 ghost use Rattle.qcow2_image.specs.Unwritten.{OnlyReadsImage, ReadsQuietly};
-ghost use Rattle.qcow2_alloc.specs.declared.error.ImageError.TheVariants.{NotCompressed, OutdatedMapping, ReadOnly};
+ghost use Rattle.qcow2_alloc.specs.declared.error.ImageError.TheVariants.{Compressed, NotCompressed, OutdatedMapping, ReadOnly};
 ghost use Rattle.qcow2_alloc.specs.KeptMarks.{KeepsFileNotes};
 ghost use Rattle.qcow2_image.specs.Noted.{FailsOnceWritten};
 ghost use Rattle.qcow2_alloc.specs.ImageFile.{known_in};
@@ -61,12 +61,12 @@ impl<S: Storage, F: WrappedFormat<S>> Qcow2<S, F> {
         requires { at + length bytes.old ≤ mapping.now.length }
         ensures early { IfSome (refuses_mapping self.old mapping.now.image) (λ e. (result ≡ Err e) × (self.new ≡ self.old)) }
         ensures late { refuses_mapping self.old mapping.now.image ≡ None → IfErr result IsMet }
-        ensures limited { (out : List (Option Prepared)) → (abstract_of S.view F.backing self.old out).is_sound → IfErr result IsUnlimited }
+        ensures met { refuses_mapping self.old mapping.now.image ≡ None → (out : List (Option Prepared)) → (abstract_of S.view F.backing self.old out).is_sound → IfErr result (IsMetMapped out (further_by at mapping.now.kind)) }
         ensures nothing { refuses_mapping self.old mapping.now.image ≡ None → length bytes.old ≡ 0 → (result ≡ Ok tt) × (self.new ≡ self.old) }
         ensures marks { MarksFailed self.old self.new result }
         ensures image { IsSameImage self.old self.new }
         ensures outdated { (out : List (Option Prepared)) → (abstract_of S.view F.backing self.old out).is_sound → result ≡ Err OutdatedMapping
-            → ¬ IsFoundWhole S.view self.new (mapping.now.offset + at) (further_by at mapping.now.kind) (length bytes.old) }
+            → ¬ IsFoundWhole S.view self.old (mapping.now.offset + at) (further_by at mapping.now.kind) (length bytes.old) }
         ensures mapped { 0 < length bytes.old → (out : List (Option Prepared)) → (abstract_of S.view F.backing self.old out).is_sound
             → OnOk result (IsFoundWhole S.view self.old (mapping.now.offset + at) (further_by at mapping.now.kind) (length bytes.old)) }
         ensures sees { AnswersCall S.view F.backing self.old self.new [] (λ done old new. (new ≡ old) × Shows old.disk (mapping.now.offset + at) bytes.new) result }
@@ -97,11 +97,11 @@ impl<S: Storage, F: WrappedFormat<S>> Qcow2<S, F> {
     ) -> Result<(), ImageError>
         ensures stays { ImageStays self.old self.new }
         ensures cause { IfErr result IsMet }
-        ensures limited { (p : Pending) (out : List (Option Prepared)) → ImageInvariant S.view F.backing p self.old out → IfErr result IsUnlimited }
+        ensures met { (p : Pending) (out : List (Option Prepared)) → ImageInvariant S.view F.backing p self.old out → IfErr result (IsMetMapped out (further_by at mapping.now.kind)) }
         ensures list { self.new.file.free_list ≡ self.old.file.free_list }
         ensures keeps { (p : Pending) (out : List (Option Prepared)) → ImageInvariant S.view F.backing p self.old out → UnseenStep S.view F.backing p p self.old self.new out }
         ensures outdated { 0 < length bytes.old → (p : Pending) (out : List (Option Prepared)) → ImageInvariant S.view F.backing p self.old out → result ≡ Err OutdatedMapping
-            → ¬ IsFoundWhole S.view self.new (mapping.now.offset + at) (further_by at mapping.now.kind) (length bytes.old) }
+            → ¬ IsFoundWhole S.view self.old (mapping.now.offset + at) (further_by at mapping.now.kind) (length bytes.old) }
         ensures mapped { (p : Pending) (out : List (Option Prepared)) → ImageInvariant S.view F.backing p self.old out → OnOk result (IsFoundWhole S.view self.old (mapping.now.offset + at) (further_by at mapping.now.kind) (length bytes.old)) }
         ensures shows { 0 < length bytes.old → (p : Pending) (out : List (Option Prepared)) → ImageInvariant S.view F.backing p self.old out → IfOk result (λ done. Shows (disk_of S.view F.backing self.new) (mapping.now.offset + at) bytes.new) }
         ensures faults { CountsImageFaults S.view F.backing self.old self.new result }
@@ -120,8 +120,7 @@ impl<S: Storage, F: WrappedFormat<S>> Qcow2<S, F> {
     // Where a byte of a range lies. Past the disk's end nothing is mapped any more.
     fn place_within(&self, offset: u64, at: u64) -> Result<u64, ImageError>
         ensures place { IfOk result (λ place. place ≡ offset + at) }
-        ensures cause { IfErr result IsMet }
-        ensures limited { IfErr result IsUnlimited }
+        ensures cause { IfErr result (λ e. e ≡ OutdatedMapping) }
         ensures past { IfErr result (λ e. size_of self.now ≤ offset + at) }
         ensures faults { IfErr result IsNotOfStorage }
     {
@@ -141,10 +140,10 @@ impl<S: Storage, F: WrappedFormat<S>> Qcow2<S, F> {
     ) -> Result<(), ImageError>
         ensures stays { ImageStays self.old self.new }
         ensures cause { IfErr result IsMet }
-        ensures limited { (p : Pending) (out : List (Option Prepared)) → ImageInvariant S.view F.backing p self.old out → IfErr result IsUnlimited }
+        ensures met { (p : Pending) (out : List (Option Prepared)) → ImageInvariant S.view F.backing p self.old out → IfErr result (IsMetLookingAgain out) }
         ensures list { self.new.file.free_list ≡ self.old.file.free_list }
         ensures keeps { (p : Pending) (out : List (Option Prepared)) → ImageInvariant S.view F.backing p self.old out → UnseenStep S.view F.backing p p self.old self.new out }
-        ensures outdated { (p : Pending) (out : List (Option Prepared)) → ImageInvariant S.view F.backing p self.old out → result ≡ Err OutdatedMapping → ¬ IsFoundWhole S.view self.new offset wanted.now length }
+        ensures outdated { (p : Pending) (out : List (Option Prepared)) → ImageInvariant S.view F.backing p self.old out → result ≡ Err OutdatedMapping → ¬ IsFoundWhole S.view self.old offset wanted.now length }
         ensures mapped { 0 < length → (p : Pending) (out : List (Option Prepared)) → ImageInvariant S.view F.backing p self.old out → IfOk result (λ done. IsMappedAs S.view self.new offset wanted.now length) }
         ensures found { (p : Pending) (out : List (Option Prepared)) → ImageInvariant S.view F.backing p self.old out → OnOk result (IsFoundWhole S.view self.old offset wanted.now length) }
         ensures faults { CountsImageFaults S.view F.backing self.old self.new result }
@@ -239,7 +238,7 @@ impl<S: Storage, F: WrappedFormat<S>> Qcow2<S, F> {
     pub fn readv_special(&mut self, bytes: &mut [u8], offset: u64) -> Result<(), ImageError>
         ensures early { IfSome (unusable self.old) (λ e. (result ≡ Err e) × (self.new ≡ self.old)) }
         ensures late { unusable self.old ≡ None → IfErr result (λ e. IsMet e ⊎ (e ≡ NotCompressed offset)) }
-        ensures limited { (out : List (Option Prepared)) → (abstract_of S.view F.backing self.old out).is_sound → IfErr result IsUnlimited }
+        ensures met { (out : List (Option Prepared)) → (abstract_of S.view F.backing self.old out).is_sound → IfErr result (IsMetSpecial out offset) }
         ensures nothing { unusable self.old ≡ None → length bytes.old ≡ 0 → (result ≡ Ok tt) × (self.new ≡ self.old) }
         ensures some { 0 < length bytes.old → IsErr result }
         ensures marks { MarksFailed self.old self.new result }
@@ -269,7 +268,7 @@ impl<S: Storage, F: WrappedFormat<S>> Qcow2<S, F> {
     ) -> Result<Option<u64>, ImageError>
         ensures early { IfSome (unusable self.old) (λ e. (result ≡ Err e) × (self.new ≡ self.old)) }
         ensures late { unusable self.old ≡ None → IfErr result IsMet }
-        ensures limited { (out : List (Option Prepared)) → (abstract_of S.view F.backing self.old out).is_sound → IfErr result IsUnlimited }
+        ensures met { (out : List (Option Prepared)) → (abstract_of S.view F.backing self.old out).is_sound → IfErr result (λ e. IsMetLooking out e ⊎ (e ≡ Compressed)) }
         ensures nothing { unusable self.old ≡ None → length bytes.old ≡ 0 → (result ≡ Ok None) × (self.new ≡ self.old) }
         ensures some { 0 < length bytes.old → IfOk result (λ at. at ≡ Some offset) }
         ensures marks { MarksFailed self.old self.new result }
@@ -296,7 +295,7 @@ impl<S: Storage, F: WrappedFormat<S>> Qcow2<S, F> {
     fn plain_at(&mut self, offset: u64, length: u64) -> Result<Option<u64>, ImageError>
         ensures stays { ImageStays self.old self.new }
         ensures cause { IfErr result IsMet }
-        ensures limited { (p : Pending) (out : List (Option Prepared)) → ImageInvariant S.view F.backing p self.old out → IfErr result IsUnlimited }
+        ensures met { (p : Pending) (out : List (Option Prepared)) → ImageInvariant S.view F.backing p self.old out → IfErr result (λ e. IsMetLooking out e ⊎ (e ≡ Compressed)) }
         ensures list { self.new.file.free_list ≡ self.old.file.free_list }
         ensures answer { IfOk result (λ at. at ≡ Some offset) }
         ensures keeps { (p : Pending) (out : List (Option Prepared)) → ImageInvariant S.view F.backing p self.old out → UnseenStep S.view F.backing p p self.old self.new out }
@@ -317,7 +316,8 @@ impl<S: Storage, F: WrappedFormat<S>> Qcow2<S, F> {
     /// Writes bytes into a prepared mapping, from `at` bytes within it on. They have to lie within its length.
     /// Refused in this order: 16 (failed), 12 (dependency), 11 (foreign state) for a mapping of another image. Of no bytes it is Ok then.
     /// Else 1 (read-only), and 10 (outdated mapping) for an existing mapping that is no longer copied data at its place. Where the work
-    /// meets them: 14 (memory), 15 (storage), and of an existing mapping 4 (unaligned table), 8 (everything is in use).
+    /// meets them: 14 (memory), 15 (storage), and of an existing mapping 4 (unaligned table), 8 (everything is in use), and 20 (overflow)
+    /// where its place passes 64 bits.
     pub fn write_mapped(
         &mut self,
         prepared: &Prepared,
@@ -328,11 +328,12 @@ impl<S: Storage, F: WrappedFormat<S>> Qcow2<S, F> {
         ensures early { IfSome (refuses_mapping self.old (image_of prepared.now)) (λ e. (result ≡ Err e) × (self.new ≡ self.old)) }
         ensures read_only { 0 < length bytes.now → refuses_mapping self.old (image_of prepared.now) ≡ None → is_writable self.old ≡ false → (result ≡ Err ReadOnly) × (self.new ≡ self.old) }
         ensures late { refuses_mapping self.old (image_of prepared.now) ≡ None → IsTrue (is_writable self.old) → IfErr result IsMet }
+        ensures met { (out : List (Option Prepared)) (k : ℕ) → slice_get out k ≡ Some (Some prepared.now) → (abstract_of S.view F.backing self.old out).is_sound → IsTrue (is_writable self.old) → IfErr result (IsMetPutting out prepared.now at) }
         ensures nothing { refuses_mapping self.old (image_of prepared.now) ≡ None → length bytes.now ≡ 0 → (result ≡ Ok tt) × (self.new ≡ self.old) }
         ensures marks { MarksFailed self.old self.new result }
         ensures image { IsSameImage self.old self.new }
         ensures outdated { table_of prepared.now ≡ None → (out : List (Option Prepared)) → (abstract_of S.view F.backing self.old out).is_sound → result ≡ Err OutdatedMapping
-            → ¬ IsFoundWhole S.view self.new (prepared.now.guest + at) (Raw Image (prepared.now.offset + at) true) (length bytes.now) }
+            → ¬ IsFoundWhole S.view self.old (prepared.now.guest + at) (Raw Image (prepared.now.offset + at) true) (length bytes.now) }
         ensures mapped { table_of prepared.now ≡ None → 0 < length bytes.now → (out : List (Option Prepared)) → (abstract_of S.view F.backing self.old out).is_sound
             → OnOk result (IsFoundWhole S.view self.old (prepared.now.guest + at) (Raw Image (prepared.now.offset + at) true) (length bytes.now)) }
         ensures private { IsSome (table_of prepared.now) → result ≢ Err OutdatedMapping }
@@ -365,8 +366,9 @@ impl<S: Storage, F: WrappedFormat<S>> Qcow2<S, F> {
     ) -> Result<(), ImageError>
         ensures stays { ImageStays self.old self.new }
         ensures cause { IfErr result IsMet }
+        ensures met { at + length bytes.now ≤ prepared.now.length → 0 < length bytes.now → (out : List (Option Prepared)) (k : ℕ) → slice_get out k ≡ Some (Some prepared.now) → ImageInvariant S.view F.backing (pending_in S.view F.backing self.old out) self.old out → IfErr result (IsMetPutting out prepared.now at) }
         ensures outdated { 0 < length bytes.now → table_of prepared.now ≡ None → (p : Pending) (out : List (Option Prepared)) → ImageInvariant S.view F.backing p self.old out → result ≡ Err OutdatedMapping
-            → ¬ IsFoundWhole S.view self.new (prepared.now.guest + at) (Raw Image (prepared.now.offset + at) true) (length bytes.now) }
+            → ¬ IsFoundWhole S.view self.old (prepared.now.guest + at) (Raw Image (prepared.now.offset + at) true) (length bytes.now) }
         ensures mapped { table_of prepared.now ≡ None → (p : Pending) (out : List (Option Prepared)) → ImageInvariant S.view F.backing p self.old out
             → OnOk result (IsFoundWhole S.view self.old (prepared.now.guest + at) (Raw Image (prepared.now.offset + at) true) (length bytes.now)) }
         ensures private { IsSome (table_of prepared.now) → result ≢ Err OutdatedMapping }
@@ -394,9 +396,10 @@ impl<S: Storage, F: WrappedFormat<S>> Qcow2<S, F> {
     ) -> Result<(), ImageError>
         ensures stays { ImageStays self.old self.new }
         ensures cause { IfErr result IsMet }
+        ensures met { (p : Pending) (out : List (Option Prepared)) → ImageInvariant S.view F.backing p self.old out → IfErr result (λ e. (table_of prepared.now ≡ None) × IsMetLookingAgain out e) }
         ensures list { self.new.file.free_list ≡ self.old.file.free_list }
         ensures keeps { (p : Pending) (out : List (Option Prepared)) → ImageInvariant S.view F.backing p self.old out → UnseenStep S.view F.backing p p self.old self.new out }
-        ensures outdated { 0 < length → (p : Pending) (out : List (Option Prepared)) → ImageInvariant S.view F.backing p self.old out → result ≡ Err OutdatedMapping → ¬ IsFoundWhole S.view self.new (prepared.now.guest + at) (Raw Image host true) length }
+        ensures outdated { 0 < length → (p : Pending) (out : List (Option Prepared)) → ImageInvariant S.view F.backing p self.old out → result ≡ Err OutdatedMapping → ¬ IsFoundWhole S.view self.old (prepared.now.guest + at) (Raw Image host true) length }
         ensures mapped { table_of prepared.now ≡ None → 0 < length → (p : Pending) (out : List (Option Prepared)) → ImageInvariant S.view F.backing p self.old out
             → IfOk result (λ done. IsMappedAs S.view self.new (prepared.now.guest + at) (Raw Image host true) length) }
         ensures found { table_of prepared.now ≡ None → (p : Pending) (out : List (Option Prepared)) → ImageInvariant S.view F.backing p self.old out → OnOk result (IsFoundWhole S.view self.old (prepared.now.guest + at) (Raw Image host true) length) }

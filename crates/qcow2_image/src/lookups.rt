@@ -22,6 +22,7 @@ ghost use Rattle.qcow2_image.specs.UnseenSteps.{UnseenStep};
 ghost use Rattle.qcow2_image.specs.ImageInvariant.{HasL1Table, ImageInvariant, abstract_of};
 ghost use Rattle.qcow2_metadata.specs.Header.{cluster_size};
 ghost use Rattle.qcow2_image.specs.declared.mapping.MappingKind.TheVariants.{Eof};
+ghost use Rattle.qcow2_image.specs.MetAlone.{IsMetLooking};
 ghost use Rattle.qcow2_image.specs.Refusals.{unusable, IsUnlimited, MarksFailed};
 
 use crate::{Mapping, MappingKind, Place, Qcow2};
@@ -67,7 +68,7 @@ impl<S: Storage, F: WrappedFormat<S>> Qcow2<S, F> {
     pub fn get_mapping(&mut self, offset: u64, max: u64) -> Result<(Mapping, u64), ImageError>
         ensures early { IfSome (unusable self.old) (λ e. (result ≡ Err e) × (self.new ≡ self.old)) }
         ensures late { unusable self.old ≡ None → IfErr result IsOfTables }
-        ensures limited { (out : List (Option Prepared)) → (abstract_of S.view F.backing self.old out).is_sound → IfErr result IsUnlimited }
+        ensures met { (out : List (Option Prepared)) → (abstract_of S.view F.backing self.old out).is_sound → IfErr result (IsMetLooking out) }
         ensures marks { MarksFailed self.old self.new result }
         ensures image { IsSameImage self.old self.new }
         ensures own { IfOk result (λ (mapping, n). (mapping.image ≡ number_of self.old) × (mapping.offset ≡ offset) × (mapping.length ≡ n)) }
@@ -104,7 +105,7 @@ impl<S: Storage, F: WrappedFormat<S>> Qcow2<S, F> {
     ) -> Result<(MappingKind, u64), ImageError>
         ensures stays { ImageStays self.old self.new }
         ensures cause { IfErr result IsOfTables }
-        ensures limited { (p : Pending) (out : List (Option Prepared)) → ImageInvariant S.view F.backing p self.old out → IfErr result IsUnlimited }
+        ensures met { (p : Pending) (out : List (Option Prepared)) → ImageInvariant S.view F.backing p self.old out → IfErr result (IsMetLooking out) }
         ensures keeps { (p : Pending) (out : List (Option Prepared)) → ImageInvariant S.view F.backing p self.old out → UnseenStep S.view F.backing p p self.old self.new out }
         ensures known { (p : Pending) (out : List (Option Prepared)) → ImageInvariant S.view F.backing p self.old out → known_in S.view self.new.file ≡ known_in S.view self.old.file }
         ensures list { self.new.file.free_list ≡ self.old.file.free_list }
@@ -148,7 +149,7 @@ impl<S: Storage, F: WrappedFormat<S>> Qcow2<S, F> {
     // Where the L2 table of an offset lies, or None where there is none.
     fn l2_cluster(&self, offset: u64) -> Result<Option<HostCluster>, ImageError>
         ensures cause { IfErr result IsOfTables }
-        ensures limited { IfErr result IsUnlimited }
+        ensures reads { (p : Pending) (out : List (Option Prepared)) → ImageInvariant S.view F.backing p self.now out → IsOk result }
         ensures names { HasL1Table S.view F.backing self.now.file self.now.l1_table → IfOk result (NamesL2Table S.view self.now offset) }
         ensures elsewhere { IfOk result (λ table. IfSome table (λ cluster. 0 < cluster)) }
         ensures faults { IfErr result IsNotOfStorage }

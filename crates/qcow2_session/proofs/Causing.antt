@@ -8,14 +8,15 @@ use Rattle.std.proofs.lemmas.Grind.{common_steps}
 use Rattle.image_access.specs.Backing.{BackingView}
 use Rattle.image_access.specs.Moments.{StorageView}
 use Rattle.qcow2_disk.specs.Calls.{Clearing}
+use Rattle.qcow2_alloc.specs.ImageFile.{known_in}
 use Rattle.qcow2_alloc.specs.declared.error.ImageError.{ImageError}
 use Rattle.qcow2_alloc.specs.declared.error.ImageError.TheVariants as I
 use Rattle.qcow2_image.specs.Backings.{HasPrepared}
 use Rattle.qcow2_image.specs.Clearing.{IsUnderMapping, from_in, to_in}
-use Rattle.qcow2_image.specs.Image.{is_external, is_failed, number_of, size_of}
+use Rattle.qcow2_image.specs.Image.{is_external, is_failed, number_of}
 use Rattle.qcow2_image.specs.ImageInvariant.{abstract_of}
 use Rattle.qcow2_image.specs.L1Entries.{NeedsFarEntry}
-use Rattle.qcow2_image.specs.MetAlone.{IsMetAlone}
+use Rattle.qcow2_image.specs.MetAlone.{CopiesCompressed, IsMetAlone, IsMetReadingRange}
 use Rattle.qcow2_image.specs.declared.image.Qcow2.{Qcow2}
 use Rattle.qcow2_image.specs.declared.mapping.Mapping.{Mapping}
 use Rattle.qcow2_image.specs.declared.prepared.CommitRefused.{CommitRefused}
@@ -23,7 +24,7 @@ use Rattle.qcow2_image.specs.declared.prepared.CommitRefused.TheVariants.{Kept}
 use Rattle.qcow2_image.specs.declared.prepared.Prepared.{Prepared}
 use Rattle.qcow2_image.specs.Preallocation.{IsUnderMappingIn}
 use Rattle.qcow2_image.specs.Prepared.{IsHandedBackBy}
-use Rattle.qcow2_image.specs.Refusals.{IsMet, IsMetPreparing, IsUnlimited, passes, refuse_if, refuses_mapping, refuses_to_prepare, refuses_to_read, unusable}
+use Rattle.qcow2_image.specs.Refusals.{IsMet, IsMetPreparing, passes, refuse_if, refuses_mapping, refuses_to_prepare, refuses_to_read, unusable}
 use Rattle.qcow2_session.specs.Causes.{HasNothingToDo, MeetsOnSound, IsRightlyRefused, IsUntouchedUnder, MayMeet, MeetsAlone, TellsMisuse, first_cause, refuses_clearing}
 use Rattle.qcow2_session.specs.Commands.{reply_of_clearing}
 use Rattle.qcow2_session.specs.CountedFaults.{refusal_in}
@@ -96,7 +97,7 @@ module _ {S F : Type 0} (view : S → StorageView) (backing : F → BackingView)
     still = λ is. absurd (never is);
     early = if_some_to (first_cause old command) (λ e no. absurd no) early;
     late = λ _. subst (λ o. IfSome o (MayMeet command)) (sym done) tt;
-    met = λ _ _ _. subst (λ o. IfSome o (MeetsAlone view old command)) (sym done) tt;
+    met = λ _ _ _. subst (λ o. IfSome o (MeetsAlone view old new command)) (sym done) tt;
     idle = λ _ _. done;
     heeds = heeds;
   }
@@ -107,7 +108,7 @@ module _ {S F : Type 0} (view : S → StorageView) (backing : F → BackingView)
 
   -- it was refused
   pub is_refused : (e : ImageError) (reply : Reply) → (reply ≡ R.Misuse → ⊥) → TellsMisuse before found command reply → refusal_in reply ≡ Some e → IfSome (first_cause old command) (λ x. (e ≡ x) × (new ≡ old))
-      → (first_cause old command ≡ None → MayMeet command e) → (first_cause old command ≡ None → (abstract_of view backing old before).is_sound → (HasPrepared before → ⊥) → MeetsAlone view old command e)
+      → (first_cause old command ≡ None → MayMeet command e) → (first_cause old command ≡ None → (abstract_of view backing old before).is_sound → (HasPrepared before → ⊥) → MeetsAlone view old new command e)
       → (first_cause old command ≡ None → HasNothingToDo view backing old new before command → ⊥)
       → (first_cause old command ≡ None → (abstract_of view backing old before).is_sound → MeetsOnSound view backing old new before found command reply) → IsRightlyRefused view backing old new before found command reply
   is_refused e reply never misuse is early late met idle heeds = record {
@@ -115,28 +116,10 @@ module _ {S F : Type 0} (view : S → StorageView) (backing : F → BackingView)
     still = λ is. absurd (never is);
     early = if_some_to (first_cause old command) (λ x h. (inl (is ∙ ap Some h.0), h.1)) early;
     late = λ none. subst (λ o. IfSome o (MayMeet command)) (sym is) (late none);
-    met = λ none sound free. subst (λ o. IfSome o (MeetsAlone view old command)) (sym is) (met none sound free);
+    met = λ none sound free. subst (λ o. IfSome o (MeetsAlone view old new command)) (sym is) (met none sound free);
     idle = λ none nothing. absurd (idle none nothing);
     heeds = heeds;
   }
-
--- what refuses a read before any work is no limit
-pub reads_unlimited : {S F : Type 0} (image : Qcow2 S F) (offset n : ℕ) (r : Result (Unit {0}) ImageError) → MatchOption (refuses_to_read image offset n) (r ≡ Ok tt) (λ e. r ≡ Err e) → IfErr r IsUnlimited
-reads_unlimited image offset n r why = by (is_failed image) (is_external image) (passes (size_of image) offset n) why
-  where
-    by : (a b c : Bool) → MatchOption (option_or (option_or (refuse_if a I.Failed) (refuse_if b I.Dependency)) (refuse_if c I.BeyondSize)) (r ≡ Ok tt) (λ e. r ≡ Err e) → IfErr r IsUnlimited
-    by true b c is = subst (λ (q : Result (Unit {0}) ImageError). IfErr q IsUnlimited) (sym is) tt
-    by false true c is = subst (λ (q : Result (Unit {0}) ImageError). IfErr q IsUnlimited) (sym is) tt
-    by false false true is = subst (λ (q : Result (Unit {0}) ImageError). IfErr q IsUnlimited) (sym is) tt
-    by false false false is = subst (λ (q : Result (Unit {0}) ImageError). IfErr q IsUnlimited) (sym is) tt
-
--- a refusal for no limit is handed on
-pub hands_unlimited : {A : Type 0} (r : Result A ImageError) (e : ImageError) → r ≡ Err e → IsUnlimited e → IfErr r IsUnlimited
-hands_unlimited {A = A} r e is none = subst (λ (q : Result A ImageError). IfErr q IsUnlimited) (sym is) none
-
--- nor is want of memory one
-pub memory_unlimited : (e : ImageError) → e ≡ I.Memory → IsUnlimited e
-memory_unlimited e is = subst IsUnlimited (sym is) tt
 
 -- the refusal that an image's call began with
 pub begun_with : (A Same : Type 0) (e : ImageError) (o : Option ImageError) → IfSome o (λ x. (◌≡◌ {A = Result A ImageError} (Err e) (Err x)) × Same) → IfSome o (λ x. (e ≡ x) × Same)
@@ -156,10 +139,11 @@ module _ {S F : Type 0} (view : S → StorageView) (backing : F → BackingView)
   read_answered Same offset n bytes early = is_answered view backing old new before (C.Read offset n) Same bytes (R.Bytes bytes) (λ is. absurd cc) (λ is. absurd cc, λ is. absurd is) refl early (λ _ _. tt)
 
   pub read_refused : (offset n : ℕ) (e : ImageError) → IfSome (refuses_to_read old offset n) (λ x. (◌≡◌ {A = Result (Vec ℕ Global) ImageError} (Err e) (Err x)) × (new ≡ old)) → (refuses_to_read old offset n ≡ None → IsMet e × (0 < n))
-      → ((out : List (Option Prepared)) → (abstract_of view backing old out).is_sound → IsUnlimited e) → IsRightlyRefused view backing old new before found (C.Read offset n) (R.Refused e)
-  read_refused offset n e early late limited =
+      → (refuses_to_read old offset n ≡ None → (out : List (Option Prepared)) → (abstract_of view backing old out).is_sound → IsMetReadingRange out offset (offset + n) old.file.header.fields (known_in view old.file) e)
+      → IsRightlyRefused view backing old new before found (C.Read offset n) (R.Refused e)
+  read_refused offset n e early late met =
       is_refused view backing old new before (C.Read offset n) e (R.Refused e) (λ is. absurd cc) (λ is. absurd cc, λ is. absurd is) refl (begun_with (Vec ℕ Global) (new ≡ old) e (refuses_to_read old offset n) early)
-      (λ none. (late none).0) (λ _ _ _. tt) (λ none empty. let some = (late none).1 in omega (arith, some, empty)) (λ _ sound. limited before sound)
+      (λ none. (late none).0) (λ _ _ _. tt) (λ none empty. let some = (late none).1 in omega (arith, some, empty)) (λ none sound. met none before sound)
 
   pub write_answered : (Same : Type 0) (offset : ℕ) (bytes : Vec ℕ Global) → IfSome (refuses_to_prepare old offset (length bytes.items)) (λ x. (◌≡◌ {A = Result (Unit {0}) (ImageError × ℕ)} (Ok tt) (Err (x, 0))) × Same) → IsRightlyRefused view backing old new before found (C.Write offset bytes) R.Done
   write_answered Same offset bytes early = is_done view backing old new before (C.Write offset bytes) R.Done (λ is. absurd cc) (λ is. absurd cc, λ is. absurd is) refl
@@ -167,10 +151,11 @@ module _ {S F : Type 0} (view : S → StorageView) (backing : F → BackingView)
 
   pub write_refused_for : (offset : ℕ) (bytes : Vec ℕ Global) (e : ImageError) (n : ℕ) → IfSome (refuses_to_prepare old offset (length bytes.items)) (λ x. (◌≡◌ {A = Result (Unit {0}) (ImageError × ℕ)} (Err (e, n)) (Err (x, 0))) × (new ≡ old))
       → (refuses_to_prepare old offset (length bytes.items) ≡ None → IsMetPreparing e × (0 < length bytes.items))
+      → (refuses_to_prepare old offset (length bytes.items) ≡ None → (abstract_of view backing old before).is_sound → (HasPrepared before → ⊥) → IsMetAlone (CopiesCompressed offset (length bytes.items) true new.file.header.fields (known_in view new.file)) (Unit {0}) e)
       → (refuses_to_prepare old offset (length bytes.items) ≡ None → (abstract_of view backing old before).is_sound → e ≡ I.TablePrepared → IsUnderMappingIn old.file.header.fields offset (offset + length bytes.items) before)
       → IsRightlyRefused view backing old new before found (C.Write offset bytes) (R.WriteRefused e n)
-  write_refused_for offset bytes e n early late taken = is_refused view backing old new before (C.Write offset bytes) e (R.WriteRefused e n) (λ is. absurd cc) (λ is. absurd cc, λ is. absurd is) refl
-      (if_some_to (refuses_to_prepare old offset (length bytes.items)) (λ x h. (let is = h.0 in let pair : (e, n) ≡ (x, 0) = same_error is in ap (λ (p : ImageError × ℕ). p.0) pair, h.1)) early) (λ none. (late none).0) (λ _ _ _. tt) (λ none empty. let some = (late none).1 in omega (arith, some, empty)) (λ none sound is. taken none sound (some_error is))
+  write_refused_for offset bytes e n early late met taken = is_refused view backing old new before (C.Write offset bytes) e (R.WriteRefused e n) (λ is. absurd cc) (λ is. absurd cc, λ is. absurd is) refl
+      (if_some_to (refuses_to_prepare old offset (length bytes.items)) (λ x h. (let is = h.0 in let pair : (e, n) ≡ (x, 0) = same_error is in ap (λ (p : ImageError × ℕ). p.0) pair, h.1)) early) (λ none. (late none).0) met (λ none empty. let some = (late none).1 in omega (arith, some, empty)) (λ none sound is. taken none sound (some_error is))
 
   pub size_answered : (n : ℕ) → IsRightlyRefused view backing old new before found C.Size (R.Size n)
   size_answered n = is_done view backing old new before C.Size (R.Size n) (λ is. absurd cc) (λ is. absurd cc, λ is. absurd is) refl tt (λ _ _. tt)
@@ -274,7 +259,7 @@ grow_meets e old size takes none larger (inr mode) = absurd (elim (cases_lt old 
 
 module _ {S F : Type 0} (view : S → StorageView) (backing : F → BackingView) (old new : Qcow2 S F) (before : List (Option Prepared)) {found : ℕ → Option Mapping} (offset n : ℕ) (how : Clearing) (command : Command)
     (cause : first_cause old command ≡ refuses_clearing old how offset n) (nothing : HasNothingToDo view backing old new before command → to_in old offset n ≤ from_in old offset n)
-    (may : (e : ImageError) → IsMetPreparing e → MayMeet command e) (alone : (e : ImageError) → IsMetAlone ⊥ (NeedsFarEntry old (from_in old offset n)) e → MeetsAlone view old command e) (heed : (reply : Reply) → IsUntouchedUnder view backing old new before offset n reply → MeetsOnSound view backing old new before found command reply)
+    (may : (e : ImageError) → IsMetPreparing e → MayMeet command e) (alone : (e : ImageError) → IsMetAlone ⊥ (NeedsFarEntry old (from_in old offset n)) e → MeetsAlone view old new command e) (heed : (reply : Reply) → IsUntouchedUnder view backing old new before offset n reply → MeetsOnSound view backing old new before found command reply)
     (misuse : (reply : Reply) → (reply ≡ R.Misuse → ⊥) → TellsMisuse before found command reply) where
   clears_as : (r : Result (ℕ × ℕ) ImageError) → IfSome (refuses_clearing old how offset n) (λ e. (r ≡ Err e) × (new ≡ old)) → (refuses_clearing old how offset n ≡ None → IfErr r IsMetPreparing) → (refuses_clearing old how offset n ≡ None → (abstract_of view backing old before).is_sound → (HasPrepared before → ⊥) → IfErr r (IsMetAlone ⊥ (NeedsFarEntry old (from_in old offset n))))
       → (refuses_clearing old how offset n ≡ None → to_in old offset n ≤ from_in old offset n → (r ≡ Ok (from_in old offset n, 0)) × (new ≡ old))

@@ -20,7 +20,8 @@ use Rattle.qcow2_disk.specs.Calls.{EffectOnSound}
 use Rattle.qcow2_disk.specs.Found.{kind_at, raw, rest_of_table}
 use Rattle.qcow2_disk.specs.Mappings.{given_of, is_copied_data}
 use Rattle.qcow2_disk.specs.Runs.{IsRightlyWritten}
-use Rattle.qcow2_disk.specs.UngivenCovers.{Touches}
+use Rattle.qcow2_disk.specs.Stops.{GivenBytes}
+use Rattle.qcow2_disk.specs.UngivenCovers.{IsUngiven, Touches}
 use Rattle.qcow2_alloc.proofs.KeptTables.Mapping.{shown_if}
 use Rattle.qcow2_alloc.specs.ImageFile.{contents_in, known_in}
 use Rattle.qcow2_alloc.specs.MetadataCaches.{IsEntryAt, ShowsKnown}
@@ -188,6 +189,20 @@ pub existing_or_not : {X : Type 0} (table : Option ℕ) → (table ≡ None → 
 existing_or_not None existing not = existing refl
 existing_or_not (Some t) existing not = not refl
 
+module _ {S F : Type 0} (view : S → StorageView) (backing : F → BackingView) (old new : Qcow2 S F) (out : List (Option Prepared)) where
+  -- clusters stay as large
+  pub same_size : {given : List GivenBytes} {asked : List ℕ} → EffectOnSound (abstract_of view backing old out) (abstract_of view backing new out) given asked → cluster_size new.file.header.fields ≡ cluster_size old.file.header.fields
+  same_size effect = ap (λ (x : Setting). x.cluster_size) effect.setting
+
+  -- by the headers that the images hold, what stands for a guest cluster stays where no byte of it is given
+  pub kept_cover : ImageInvariant view backing (pending_in view backing old out) old out → ImageInvariant view backing (pending_in view backing new out) new out → {given : List GivenBytes} {asked : List ℕ}
+      → EffectOnSound (abstract_of view backing old out) (abstract_of view backing new out) given asked → (g : ℕ) → IsUngiven (cluster_size old.file.header.fields) given g
+      → cover old.file.header.fields (known_in view old.file) g ≡ cover new.file.header.fields (known_in view new.file) g
+  kept_cover sound sound' effect g untouched =
+      ap (λ (h : HeaderFields). cover h (known_in view old.file) g) (sym (header_is view backing old out sound))
+      ∙ effect.beside sound' g untouched
+      ∙ ap (λ (h : HeaderFields). cover h (known_in view new.file) g) (header_is view backing new out sound')
+
 module _ {S F : Type 0} (view : S → StorageView) (backing : F → BackingView) (old new : Qcow2 S F) (out : List (Option Prepared))
     (sound : ImageInvariant view backing (pending_in view backing old out) old out) (sound' : ImageInvariant view backing (pending_in view backing new out) new out) where
   -- what a part of a write leaves is copied data still behind the next part
@@ -195,16 +210,12 @@ module _ {S F : Type 0} (view : S → StorageView) (backing : F → BackingView)
       → AreCopied view offset (offset + done) old → AreCopied view at (at + count) new → AreCopied view offset (offset + (done + count)) new
   copied_on offset at done count bytes there effect before next g first last =
       let size = cluster_size new.file.header.fields in
-      let same : size ≡ cluster_size old.file.header.fields = ap (λ (x : Setting). x.cluster_size) effect.setting in
+      let same : size ≡ cluster_size old.file.header.fields = same_size view backing old new out effect in
       elim (cases_lt at (g * size + size)) [
         | inl touched ↦ next g touched (omega (arith, last, there))
         | inr past ↦
             let times : g * size ≡ g * cluster_size old.file.header.fields = ap (λ n. g * n) same in
-            let stays = effect.beside sound' g ((λ touched. let lies = touched.1 in omega (arith, lies, past, same, times)), tt) in
-            let known : cover old.file.header.fields (known_in view old.file) g ≡ cover new.file.header.fields (known_in view new.file) g =
-            ap (λ (h : HeaderFields). cover h (known_in view old.file) g) (sym (header_is view backing old out sound))
-            ∙ stays
-            ∙ ap (λ (h : HeaderFields). cover h (known_in view new.file) g) (header_is view backing new out sound') in
+            let known = kept_cover view backing old new out sound sound' effect g ((λ touched. let lies = touched.1 in omega (arith, lies, past, same, times)), tt) in
             subst (λ (m : L2Mapping). is_copied_data m ≡ true) known (before g (omega (arith, first, same, times)) (omega (arith, past, there, same, times, cluster_some)))
       ]
     where

@@ -25,3 +25,4 @@ mod Told
 mod Unwritten
 pub mod Counting
 mod Quiet
+mod MetOnSound

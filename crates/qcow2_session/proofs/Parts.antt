@@ -3,6 +3,7 @@ use Rattle.std.proofs.Common.{◌≡◌, ◌+◌, ◌<◌, ◌≤◌, ◌∙◌,
 use Rattle.std.specs.Prelude.{◌&&◌, nat_lt}
 use Rattle.std.specs.Option.{option_or}
 use Rattle.std.proofs.lemmas.Bool.{cases_Bool, cases_lt}
+use Rattle.std.proofs.lemmas.Grind.{common_steps}
 use Rattle.qcow2_metadata.specs.Bytes.{Bytes}
 use Rattle.qcow2_metadata.specs.Header.{cluster_size}
 use Rattle.qcow2_metadata.specs.declared.header.HeaderFields.{HeaderFields}
@@ -89,6 +90,15 @@ prepares_usable image offset n none = (three_none (unusable image) (passes (size
 
 pub prepares_writable : {S F : Type 0} (image : Qcow2 S F) (offset n : ℕ) → refuses_to_prepare image offset n ≡ None → 0 < n → IsTrue (is_writable image)
 prepares_writable image offset n none some = put_writes n (is_writable image) (three_none (unusable image) (passes (size_of image) offset n) (nat_lt 0 n && not (is_writable image)) none).2 some
+
+-- it lies within the size
+pub prepares_within : {S F : Type 0} (image : Qcow2 S F) (offset n : ℕ) → refuses_to_prepare image offset n ≡ None → 0 < n → offset + n ≤ size_of image
+prepares_within image offset n none some =
+    let within = (three_none (unusable image) (passes (size_of image) offset n) (nat_lt 0 n && not (is_writable image)) none).1 in
+    elim (cases_lt (size_of image) (offset + n)) [
+      | inl past ↦ let passed : passes (size_of image) offset n ≡ true = grind (arith, common_steps, past, some) in absurd (let no : true ≡ false = sym passed ∙ within in cc)
+      | inr le ↦ le
+    ]
 
 -- ---- a table that is prepared
 

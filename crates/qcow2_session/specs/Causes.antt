@@ -17,11 +17,11 @@ use Rattle.qcow2_image.specs.Found.{IsFoundWhole, further_by}
 use Rattle.qcow2_image.specs.Image.{is_failed, is_writable, size_of}
 use Rattle.qcow2_image.specs.ImageInvariant.{abstract_of}
 use Rattle.qcow2_image.specs.L1Entries.{NeedsFarEntry}
-use Rattle.qcow2_image.specs.MetAlone.{CopiesCompressed, IsMetAlone, IsMetFilling}
+use Rattle.qcow2_image.specs.MetAlone.{CopiesCompressed, IsMetAlone, IsMetFilling, IsMetLooking, IsMetMapped, IsMetPutting, IsMetReadingRange, IsMetSpecial}
 use Rattle.qcow2_image.specs.Preallocation.{IsUnderMappingIn}
 use Rattle.qcow2_image.specs.Prepared.{length_of, table_of}
 use Rattle.qcow2_image.specs.Preparing.{IsTaken}
-use Rattle.qcow2_image.specs.Refusals.{IsMet, IsMetPreparing, IsUnlimited, passes, refuse_if, refuses_to_prepare, refuses_to_read, unusable}
+use Rattle.qcow2_image.specs.Refusals.{IsMet, IsMetPreparing, passes, refuse_if, refuses_to_prepare, refuses_to_read, unusable}
 use Rattle.qcow2_image.specs.Resizing.{boundary_in, refuses_to_resize, takes_over}
 use Rattle.qcow2_image.specs.declared.image.Qcow2.{Qcow2}
 use Rattle.qcow2_image.specs.declared.mapping.Mapping.{Mapping}
@@ -105,9 +105,10 @@ MayMeet (C.ResizeShrink size) e = IsFault e ⊎ (e ≡ I.MappingPrepared)
 MayMeet C.Size e = ⊥
 MayMeet command e = IsMet e
 
-module _ {S F : Type 0} (view : S → StorageView) (old : Qcow2 S F) where
-  -- what it may be refused for then, on a sound image of which no mapping is prepared
+module _ {S F : Type 0} (view : S → StorageView) (old new : Qcow2 S F) where
+  -- what it may be refused for then, on a sound image of which no mapping is prepared. Of a write the compressed cluster stands there at its refusal.
   abbrev pub MeetsAlone : Command → ImageError → Type 0
+  MeetsAlone (C.Write offset bytes) e = IsMetAlone (CopiesCompressed offset (length bytes.items) true new.file.header.fields (known_in view new.file)) (Unit {0}) e
   MeetsAlone (C.PrepareDataMapping slot offset n overwrite) e = IsMetAlone (CopiesCompressed offset n overwrite old.file.header.fields (known_in view old.file)) (NeedsFarEntry old offset) e
   MeetsAlone (C.EnsureZeroMapping offset n) e = IsMetAlone ⊥ (NeedsFarEntry old (from_in old offset n)) e
   MeetsAlone (C.DiscardToZero offset n) e = IsMetAlone ⊥ (NeedsFarEntry old (from_in old offset n)) e
@@ -153,30 +154,37 @@ module _ {S F : Type 0} (view : S → StorageView) (backing : F → BackingView)
     pub mapping : Prepared
     pub there : slice_get before slot ≡ Some (Some mapping)
     pub existing : table_of mapping ≡ None
-    pub moved : ¬ IsFoundWhole view new (mapping.guest + at) (Raw Image (mapping.offset + at) true) n
+    pub moved : ¬ IsFoundWhole view old (mapping.guest + at) (Raw Image (mapping.offset + at) true) n
 
   -- What was looked up is read only where it is mapped so as a whole, and refused as outdated only where it no longer is.
   abbrev pub ReadsLookedUp : (found : ℕ → Option Mapping) → (slot at n : ℕ) → Reply → Type 0
   ReadsLookedUp found slot at n (R.Bytes bytes) = 0 < n → (m : Mapping) × (found slot ≡ Some m) × IsFoundWhole view old (m.offset + at) (further_by at m.kind) n
-  ReadsLookedUp found slot at n reply = refusal_in reply ≡ Some I.OutdatedMapping → (m : Mapping) × (found slot ≡ Some m) × (¬ IsFoundWhole view new (m.offset + at) (further_by at m.kind) n)
+  ReadsLookedUp found slot at n reply = refusal_in reply ≡ Some I.OutdatedMapping → (m : Mapping) × (found slot ≡ Some m) × (¬ IsFoundWhole view old (m.offset + at) (further_by at m.kind) n)
+
+  -- What was looked up is read but for what its kind meets, and bytes are put but for what their mapping does.
+  abbrev pub IsMetLookedUp : (found : ℕ → Option Mapping) → (slot at : ℕ) → ImageError → Type 0
+  IsMetLookedUp found slot at e = (m : Mapping) × (found slot ≡ Some m) × IsMetMapped before (further_by at m.kind) e
+
+  abbrev pub IsMetPuttingAt : (slot at : ℕ) → ImageError → Type 0
+  IsMetPuttingAt slot at e = (p : Prepared) × (slice_get before slot ≡ Some (Some p)) × IsMetPutting before p at e
 
   -- What a prepared mapping refuses, and nothing else: a range of its L2 table (9), a smaller disk (17). What is put, or read as it was looked up, is refused as outdated (10) only where it is. A commit and a flush are refused for a fault alone.
-  -- What is read or looked up is refused for no limit (13).
+  -- What is read, looked up or put is refused for a fault, and for what has a cause in the image or in what is prepared.
   abbrev pub MeetsOnSound : (found : ℕ → Option Mapping) → Command → Reply → Type 0
-  MeetsOnSound found (C.Read offset n) reply = IfSome (refusal_in reply) IsUnlimited
+  MeetsOnSound found (C.Read offset n) reply = IfSome (refusal_in reply) (IsMetReadingRange before offset (offset + n) old.file.header.fields (known_in view old.file))
   MeetsOnSound found (C.Write offset bytes) reply = refusal_in reply ≡ Some I.TablePrepared → IsUnderMappingIn old.file.header.fields offset (offset + length bytes.items) before
   MeetsOnSound found (C.PrepareDataMapping slot offset n overwrite) reply = IsUntakenIn offset n reply
-  MeetsOnSound found (C.GetMapping slot offset max) reply = IfSome (refusal_in reply) IsUnlimited
-  MeetsOnSound found (C.ReadMapped slot at n) reply = ReadsLookedUp found slot at n reply × IfSome (refusal_in reply) IsUnlimited
-  MeetsOnSound found (C.WriteMapped slot at bytes) reply = refusal_in reply ≡ Some I.OutdatedMapping → IsOutdatedAt slot at (length bytes.items)
+  MeetsOnSound found (C.GetMapping slot offset max) reply = IfSome (refusal_in reply) (IsMetLooking before)
+  MeetsOnSound found (C.ReadMapped slot at n) reply = ReadsLookedUp found slot at n reply × IfSome (refusal_in reply) (IsMetLookedUp found slot at)
+  MeetsOnSound found (C.WriteMapped slot at bytes) reply = (refusal_in reply ≡ Some I.OutdatedMapping → IsOutdatedAt slot at (length bytes.items)) × IfSome (refusal_in reply) (IsMetPuttingAt slot at)
   MeetsOnSound found (C.CommitDataMapping slot) reply = IfSome (refusal_in reply) IsFault
   MeetsOnSound found C.Flush reply = IfSome (refusal_in reply) IsFault
   MeetsOnSound found (C.EnsureZeroMapping offset n) reply = IsUntouchedUnder offset n reply
   MeetsOnSound found (C.DiscardToZero offset n) reply = IsUntouchedUnder offset n reply
   MeetsOnSound found (C.DiscardToAny offset n) reply = IsUntouchedUnder offset n reply
   MeetsOnSound found (C.DiscardToBacking offset n) reply = IsUntouchedUnder offset n reply
-  MeetsOnSound found (C.ReadvSpecial offset n) reply = IfSome (refusal_in reply) IsUnlimited
-  MeetsOnSound found (C.TryReadvSpecial offset n) reply = IfSome (refusal_in reply) IsUnlimited
+  MeetsOnSound found (C.ReadvSpecial offset n) reply = IfSome (refusal_in reply) (IsMetSpecial before offset)
+  MeetsOnSound found (C.TryReadvSpecial offset n) reply = IfSome (refusal_in reply) (λ e. IsMetLooking before e ⊎ (e ≡ I.Compressed))
   MeetsOnSound found (C.ResizeGrow size mode) reply = size_of old < size → refusal_in reply ≡ Some I.TablePrepared → (shows_old mode ≡ false) × IsUnderMappingIn old.file.header.fields (size_of old) (boundary_in old size) before
   MeetsOnSound found (C.ResizeShrink size) reply = size < size_of old → (refusal_in reply ≡ Some I.MappingPrepared) ↔ HasPrepared before
   MeetsOnSound found command reply = Unit {0}
@@ -190,6 +198,6 @@ module _ {S F : Type 0} (view : S → StorageView) (backing : F → BackingView)
     pub still : reply ≡ R.Misuse → new ≡ old
     pub early : IfSome (first_cause old command) (λ e. ((refusal_in reply ≡ Some e) ⊎ (reply ≡ R.Misuse)) × (new ≡ old))
     pub late : first_cause old command ≡ None → IfSome (refusal_in reply) (MayMeet command)
-    pub met : first_cause old command ≡ None → (abstract_of view backing old before).is_sound → (HasPrepared before → ⊥) → IfSome (refusal_in reply) (MeetsAlone view old command)
+    pub met : first_cause old command ≡ None → (abstract_of view backing old before).is_sound → (HasPrepared before → ⊥) → IfSome (refusal_in reply) (MeetsAlone view old new command)
     pub idle : first_cause old command ≡ None → HasNothingToDo command → refusal_in reply ≡ None
     pub heeds : first_cause old command ≡ None → (abstract_of view backing old before).is_sound → MeetsOnSound found command reply

@@ -1,16 +1,19 @@
 //! Commands, one after the other, on one image.
-ghost use Rattle.std.specs.Prelude.{◌≡◌, ◌+◌, ◌^◌, ◌≤◌, ◌⊎◌, ◌<◌, ◌++◌, ◌∷◌, ℕ, List, [], length, vec_len, IfSome, IfErr, IfOk, IsTrue, MatchResult, OnOk, Option, None, Some, Err, false};
+ghost use Rattle.std.specs.Prelude.{◌≡◌, ◌+◌, ◌^◌, ◌≤◌, ◌⊎◌, ◌<◌, ◌++◌, ◌∷◌, ℕ, List, [], length, vec_len, IfSome, IfErr, IfOk, IsTrue, MatchResult, OnOk, Option, None, Some, Err, true, false};
 ghost use Rattle.qcow2_alloc.specs.declared.error.ImageError.TheVariants.{Memory, OutdatedMapping, TablePrepared};
+ghost use Rattle.qcow2_alloc.specs.ImageFile.{known_in};
+ghost use Rattle.qcow2_image.specs.Backings.{HasPrepared};
 ghost use Rattle.qcow2_image.specs.BehindHeader.{StaysBehindHeader};
 ghost use Rattle.qcow2_image.specs.CallParts.{AreCopied};
 ghost use Rattle.qcow2_image.specs.Clearing.{IsUnderMapping};
 ghost use Rattle.qcow2_image.specs.Found.{IsFoundWhole, further_by};
+ghost use Rattle.qcow2_image.specs.MetAlone.{CopiesCompressed, IsMetAlone, IsMetMapped, IsMetReadingRange};
 ghost use Rattle.qcow2_image.specs.Preallocation.{IsUnderMappingIn};
 ghost use Rattle.qcow2_image.specs.Image.{IsSameImage, is_failed, is_writable, number_of, size_of};
 ghost use Rattle.qcow2_image.specs.Prepared.{image_of};
 ghost use Rattle.qcow2_image.specs.ImageInvariant.{abstract_of};
 ghost use Rattle.qcow2_image.specs.Calls.{Discards};
-ghost use Rattle.qcow2_image.specs.Refusals.{IsMet, IsMetPreparing, IsUnlimited, unusable, refuses_mapping, refuses_to_read, refuses_to_prepare};
+ghost use Rattle.qcow2_image.specs.Refusals.{IsMet, IsMetPreparing, unusable, refuses_mapping, refuses_to_read, refuses_to_prepare};
 ghost use Rattle.qcow2_image.specs.Faults.{CountsImageFaults, NoFewerFaults, SameFaults, TellsEachBy, TellsFault};
 ghost use Rattle.qcow2_session.specs.Causes.{IsRightlyRefused};
 ghost use Rattle.qcow2_session.specs.CountedFaults.{CommandCounts, FailsAs, FailsBy, RunCounts, refusal_in};
@@ -172,7 +175,7 @@ pub fn read<S: Storage, F: WrappedFormat<S>>(
     ensures marks { FailsAs result (is_failed image.old) (is_failed image.new) }
     ensures early { IfSome (refuses_to_read image.old offset length) (λ e. (result ≡ Err e) × (image.new ≡ image.old)) }
     ensures late { refuses_to_read image.old offset length ≡ None → IfErr result (λ e. IsMet e × (0 < length)) }
-    ensures limited { (out : List (Option Prepared)) → (abstract_of S.view F.backing image.old out).is_sound → IfErr result IsUnlimited }
+    ensures met { refuses_to_read image.old offset length ≡ None → (out : List (Option Prepared)) → (abstract_of S.view F.backing image.old out).is_sound → IfErr result (IsMetReadingRange out offset (offset + length) image.old.file.header.fields (known_in S.view image.old.file)) }
     ensures beyond { IfErr result (IsRightlyBeyond image.old offset length) }
     ensures cause { IfErr result IsOfReading }
     ensures sees { Reads S.view F.backing image.old image.new offset length result }
@@ -214,7 +217,7 @@ pub fn read_into<S: Storage, F: WrappedFormat<S>>(
     ensures marks { FailsAs result (is_failed image.old) (is_failed image.new) }
     ensures early { IfSome (refuses_to_read image.old offset (length bytes.old)) (λ e. (result ≡ Err e) × (image.new ≡ image.old)) }
     ensures late { refuses_to_read image.old offset (length bytes.old) ≡ None → IfErr result (λ e. IsMet e × (0 < length bytes.old)) }
-    ensures limited { (out : List (Option Prepared)) → (abstract_of S.view F.backing image.old out).is_sound → IfErr result IsUnlimited }
+    ensures met { refuses_to_read image.old offset (length bytes.old) ≡ None → (out : List (Option Prepared)) → (abstract_of S.view F.backing image.old out).is_sound → IfErr result (IsMetReadingRange out offset (offset + length bytes.old) image.old.file.header.fields (known_in S.view image.old.file)) }
     ensures beyond { IfErr result (IsRightlyBeyond image.old offset (length bytes.old)) }
     ensures cause { IfErr result IsOfReading }
     ensures sees { ReadsInto S.view F.backing image.old image.new offset bytes.new result }
@@ -245,7 +248,7 @@ fn read_some<S: Storage, F: WrappedFormat<S>>(
     ensures some { IfOk result (λ n. 0 < n) }
     ensures within { IfOk result (λ n. n ≤ length bytes.old) }
     ensures late { refuses_to_read image.old offset (length bytes.old) ≡ None → 0 < length bytes.old → IfErr result IsMet }
-    ensures limited { (out : List (Option Prepared)) → (abstract_of S.view F.backing image.old out).is_sound → IfErr result IsUnlimited }
+    ensures met { refuses_to_read image.old offset (length bytes.old) ≡ None → 0 < length bytes.old → (out : List (Option Prepared)) → (abstract_of S.view F.backing image.old out).is_sound → IfErr result (IsMetReadingRange out offset (offset + length bytes.old) image.old.file.header.fields (known_in S.view image.old.file)) }
     ensures beyond { 0 < length bytes.old → IfErr result (IsRightlyBeyond image.old offset (length bytes.old)) }
     ensures cause { IfErr result IsOfReading }
     ensures sees { ReadsFirst S.view F.backing image.old image.new offset bytes.new result }
@@ -278,6 +281,8 @@ pub fn write<S: Storage, F: WrappedFormat<S>>(
     ensures marks { MatchResult result (λ done. FailsBy None (is_failed image.old) (is_failed image.new)) (λ (e, n). FailsBy (Some e) (is_failed image.old) (is_failed image.new)) }
     ensures early { IfSome (refuses_to_prepare image.old offset (length bytes.now)) (λ e. (result ≡ Err (e, 0)) × (image.new ≡ image.old)) }
     ensures late { refuses_to_prepare image.old offset (length bytes.now) ≡ None → IfErr result (λ (e, n). IsMetPreparing e × (0 < length bytes.now)) }
+    ensures met { refuses_to_prepare image.old offset (length bytes.now) ≡ None → (out : List (Option Prepared)) → (abstract_of S.view F.backing image.old out).is_sound → (HasPrepared out → ⊥)
+        → IfErr result (λ (e, n). IsMetAlone (CopiesCompressed offset (length bytes.now) true image.new.file.header.fields (known_in S.view image.new.file)) (Unit {0}) e) }
     ensures taken { refuses_to_prepare image.old offset (length bytes.now) ≡ None → (out : List (Option Prepared)) → (abstract_of S.view F.backing image.old out).is_sound
         → IfErr result (λ (e, n). e ≡ TablePrepared → IsUnderMappingIn image.old.file.header.fields offset (offset + length bytes.now) out) }
     ensures within { IfErr result (λ (e, n). n ≤ length bytes.now) }
@@ -317,6 +322,8 @@ fn write_some<S: Storage, F: WrappedFormat<S>>(
     ensures marks { FailsAs result (is_failed image.old) (is_failed image.new) }
     ensures early { IfSome (refuses_to_prepare image.old offset (length bytes.now)) (λ e. (result ≡ Err e) × (image.new ≡ image.old)) }
     ensures late { refuses_to_prepare image.old offset (length bytes.now) ≡ None → IfErr result (λ e. IsMetPreparing e × (0 < length bytes.now)) }
+    ensures met { refuses_to_prepare image.old offset (length bytes.now) ≡ None → (out : List (Option Prepared)) → (abstract_of S.view F.backing image.old out).is_sound → (HasPrepared out → ⊥)
+        → IfErr result (IsMetAlone (CopiesCompressed offset (length bytes.now) true image.new.file.header.fields (known_in S.view image.new.file)) (Unit {0})) }
     ensures taken { refuses_to_prepare image.old offset (length bytes.now) ≡ None → (out : List (Option Prepared)) → (abstract_of S.view F.backing image.old out).is_sound
         → IfErr result (λ e. e ≡ TablePrepared → (0 < length bytes.now) × IsUnderMapping image.old.file.header.fields offset out) }
     ensures some { IfOk result (λ n. 0 < length bytes.now → 0 < n) }
@@ -531,9 +538,9 @@ fn read_range<S: Storage, F: WrappedFormat<S>>(
     ensures marks { FailsAs result (is_failed image.old) (is_failed image.new) }
     ensures early { IfSome (unusable image.old) (λ e. (result ≡ Err e) × (image.new ≡ image.old)) }
     ensures late { refuses_mapping image.old mapping.now.image ≡ None → IfErr result (λ e. IsMet e × (0 < length)) }
-    ensures limited { (out : List (Option Prepared)) → (abstract_of S.view F.backing image.old out).is_sound → IfErr result IsUnlimited }
+    ensures met { refuses_mapping image.old mapping.now.image ≡ None → (out : List (Option Prepared)) → (abstract_of S.view F.backing image.old out).is_sound → IfErr result (IsMetMapped out (further_by at mapping.now.kind)) }
     ensures outdated { (out : List (Option Prepared)) → (abstract_of S.view F.backing image.old out).is_sound → result ≡ Err OutdatedMapping
-        → ¬ IsFoundWhole S.view image.new (mapping.now.offset + at) (further_by at mapping.now.kind) length }
+        → ¬ IsFoundWhole S.view image.old (mapping.now.offset + at) (further_by at mapping.now.kind) length }
     ensures mapped { 0 < length → (out : List (Option Prepared)) → (abstract_of S.view F.backing image.old out).is_sound → OnOk result (IsFoundWhole S.view image.old (mapping.now.offset + at) (further_by at mapping.now.kind) length) }
     ensures sees { Reads S.view F.backing image.old image.new (mapping.now.offset + at) length result }
     ensures quiet { ReadsQuietly S.view image.old image.new }

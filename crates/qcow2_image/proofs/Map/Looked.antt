@@ -4,7 +4,8 @@ use mathlib.Core.Path.{fun_ext}
 use Rattle.std.proofs.lemmas.Nat.{div-add-mod', div-mul-add, mod_below}
 use Rattle.std.specs.Prelude.{◌==◌, if◌then◌else◌}
 use Rattle.std.proofs.Math.Nat.{div-div-eq-div-mul, div-mul-le_self}
-use Rattle.std.proofs.Math.Pow.{pow_mono}
+use Rattle.std.proofs.Math.Pow.{pow_mono, shr_mono}
+use Rattle.std.proofs.lemmas.Grind.{common_steps}
 use Rattle.qcow2_metadata.specs.Bytes.{Bytes}
 use Rattle.qcow2_metadata.specs.declared.header.HeaderFields.{HeaderFields}
 use Rattle.qcow2_metadata.specs.Header.{cluster_size, entries_per_cluster, with_reftable}
@@ -14,7 +15,7 @@ use Rattle.qcow2_metadata.specs.Cover.{cover, cover_of, entry_cover}
 use Rattle.qcow2_metadata.specs.L2Table.{L2TableView}
 use Rattle.qcow2_metadata.specs.declared.l2_mapping.L2Mapping.{L2Mapping}
 use Rattle.qcow2_metadata.specs.declared.l2_mapping.L2Mapping.TheVariants.{Data, Zero, Compressed, Uncovered}
-use Rattle.qcow2_disk.specs.Alike.{IsAlike, IsAlikeAt, IsAlikeRun, IsLongestRun}
+use Rattle.qcow2_disk.specs.Alike.{AreDataAt, IsAlike, IsAlikeAt, IsAlikeRun, IsDataAt, IsLongestRun}
 use Rattle.qcow2_laws.specs.Guests.{table_at}
 use Rattle.qcow2_laws.proofs.Places.{Sizes, cover_none, cover_in}
 use Rattle.qcow2_alloc.specs.TableCaches.{IsTableOf}
@@ -33,11 +34,16 @@ use Rattle.qcow2_image.specs.declared.image.Qcow2.{Qcow2}
 use Rattle.qcow2_image.specs.declared.mapping.MappingKind.{MappingKind}
 use Rattle.qcow2_image.specs.declared.mapping.MappingKind.TheVariants as M
 use Rattle.qcow2_image.specs.Image.{size_of}
-use Rattle.qcow2_disk.specs.Found.{Kind, raw, indirect, zeros, special, eof, kind_at, rest_of_table, IsFound as IsFoundOf}
+use Rattle.qcow2_disk.specs.Found.{Kind, raw, indirect, zeros, special, eof, kind_at, rest_of_table, IsCompressed, IsFound as IsFoundOf}
 use Rattle.qcow2_image.specs.declared.mapping.Place.TheVariants.{Image, DataFile}
 use Rattle.qcow2_image.specs.declared.prepared.Prepared.{Prepared}
+use Rattle.qcow2_image.specs.MetAlone.{IsSpecial}
 use Rattle.qcow2_image.specs.UnseenSteps.{UnseenStep}
 use Rattle.qcow2_image.specs.Found.{found_kind, mapping_of, l1_index_of, AreAlikeBehind, IsAlikeTo, IsRunBehind, IsFoundInImage, IsFoundWhole, IsMappedAs}
+
+-- so many times a difference
+sub_times : (m n k : ℕ) → n ≤ m → (m - n) * k + n * k ≡ m * k
+sub_times m n k le = let e : m ≡ (m - n) + n = omega (arith, le) in sym (ap (λ x. x * k) e ∙ omega arith)
 
 pub product_le : (m n k : ℕ) → m ≤ n → m * k ≤ n * k
 product_le m n k le = let e : n ≡ m + (n - m) = omega (arith, le) in let f : n * k ≡ m * k + (n - m) * k = ap (λ x. x * k) e ∙ omega arith in omega arith
@@ -233,3 +239,76 @@ found_before view backing old new out p p' offset n kind step whole =
     found_still h new.file.header.fields.reftable_offset new.file.header.fields.reftable_clusters (known_in view old.file) known step.unseen.covers (is_some old.backing) offset n (found_kind kind) n
     (subst (λ (b : Bool). IsFoundOf (with_reftable h new.file.header.fields.reftable_offset new.file.header.fields.reftable_clusters) known b offset n (found_kind kind) n) (ap (λ (x : Bool × Bytes). x.0) step.below)
     (subst (λ (x : HeaderFields). IsFoundOf x known (is_some new.backing) offset n (found_kind kind) n) step.unseen.header whole))
+
+-- and what was found whole before is found so behind it
+pub found_after : {S F : Type 0} (view : S → StorageView) (backing : F → BackingView) (old new : Qcow2 S F) (out : List (Option Prepared)) (p p' : Pending) (offset n : ℕ) (kind : MappingKind) → UnseenStep view backing p p' old new out
+    → IsFoundWhole view old offset kind n → IsFoundWhole view new offset kind n
+found_after view backing old new out p p' offset n kind step whole =
+    let h = old.file.header.fields in
+    let place = new.file.header.fields.reftable_offset in
+    let clusters = new.file.header.fields.reftable_clusters in
+    let moved = with_reftable h place clusters in
+    let known = known_in view old.file in
+    let known' = known_in view new.file in
+    subst (λ (x : HeaderFields). IsFoundOf x known' (is_some new.backing) offset n (found_kind kind) n) (sym step.unseen.header)
+    (subst (λ (b : Bool). IsFoundOf moved known' b offset n (found_kind kind) n) (sym (ap (λ (x : Bool × Bytes). x.0) step.below))
+    (found_still moved h.reftable_offset h.reftable_clusters known' known (λ g. cover_with h place clusters known' g ∙ sym (step.unseen.covers g) ∙ sym (cover_with h place clusters known g)) (is_some old.backing) offset n (found_kind kind) n whole))
+
+-- ---- ranges that are found whole
+
+module _ (h : HeaderFields) (known : Bytes) (backed : Bool) (offset : ℕ) where
+  -- so a range is that is as long as what was found
+  pub found_upto : (max : ℕ) (kind : Kind) (n : ℕ) → IsFoundOf h known backed offset max kind n → IsFoundOf h known backed offset n kind n
+  found_upto max kind n is = record {
+    past = is.past;
+    run = λ lt. let run = is.run lt in let within = run.longest.within in record {
+      kind_is = run.kind_is;
+      longest = record { within = grind (arith, common_steps, within); alike = run.longest.alike; longest = λ short. absurd (grind (arith, common_steps, short)) };
+    };
+  }
+
+  -- so is one of data that stands in a row, within one L2 table and below the size
+  pub data_found : (copied : Bool) (place n : ℕ) → 0 < n → offset + n ≤ h.size → n ≤ rest_of_table h offset → AreDataAt h known copied offset place n → IsFoundOf h known backed offset n (raw false place copied) n
+  data_found copied place n some below within each = record {
+    past = λ past. absurd (omega (arith, past, below, some));
+    run = λ lt. record {
+      kind_is = data_kind (each 0 some);
+      longest = record { within = grind (arith, common_steps, below, within); alike = λ i less. data_alike i (each 0 some) (each i less); longest = λ short. absurd (grind (arith, common_steps, short)) };
+    };
+  }
+    where
+      size : ℕ
+      size = cluster_size h
+
+      at_first : offset + 0 ≡ offset
+      at_first = omega arith
+
+      data_kind : IsDataAt h known copied (offset + 0) (place + 0) → raw false place copied ≡ kind_at h backed offset (cover h known (offset / size))
+      data_kind is =
+          let stands : is.0 + offset % size ≡ place = ap (λ o. is.0 + o % size) (sym at_first) ∙ is.2 ∙ omega arith in
+          ap (λ o. raw false o copied) (sym stands) ∙ ap (kind_at h backed offset) (sym (ap (λ o. cover h known (o / size)) (sym at_first) ∙ is.1))
+
+      data_alike : (i : ℕ) → IsDataAt h known copied (offset + 0) (place + 0) → IsDataAt h known copied (offset + i) (place + i) → IsAlikeAt h known offset i
+      data_alike i first is =
+          let begins = div-add-mod' offset size in
+          let ends = div-add-mod' (offset + i) size in
+          let first_is : cover h known (offset / size) ≡ Data first.0 copied = ap (λ o. cover h known (o / size)) (sym at_first) ∙ first.1 in
+          let stands : first.0 + offset % size ≡ place = ap (λ o. first.0 + o % size) (sym at_first) ∙ first.2 ∙ omega arith in
+          let behind : offset / size ≤ (offset + i) / size = shr_mono h.cluster_bits (omega arith) in
+          let split : ((offset + i) / size - offset / size) * size + offset / size * size ≡ (offset + i) / size * size = sub_times ((offset + i) / size) (offset / size) size behind in
+          let there = is.2 in
+          let next : is.0 ≡ first.0 + ((offset + i) / size - offset / size) * size = omega (arith, begins, ends, stands, there, split) in
+          subst (λ (m : L2Mapping). IsAlike (((offset + i) / size - offset / size) * size) m (cover h known ((offset + i) / size))) (sym first_is)
+          (subst (λ (m : L2Mapping). IsAlike (((offset + i) / size - offset / size) * size) (Data first.0 copied) m) (sym is.1) (next, refl))
+
+-- what is mapped as compressed is compressed
+pub compressed_there : (h : HeaderFields) (backed : Bool) (offset : ℕ) (kind : MappingKind) (m : L2Mapping) → found_kind kind ≡ kind_at h backed offset m → IsSpecial kind → IsCompressed m
+compressed_there h backed offset kind (Compressed host sectors) is so = tt
+compressed_there h backed offset (M.Special at) (Data host copied) is so = absurd cc
+compressed_there h backed offset (M.Special at) (Zero kept) is so = absurd cc
+compressed_there h true offset (M.Special at) Uncovered is so = absurd cc
+compressed_there h false offset (M.Special at) Uncovered is so = absurd cc
+compressed_there h backed offset (M.Raw file at writable) m is so = absurd so
+compressed_there h backed offset (M.Indirect at) m is so = absurd so
+compressed_there h backed offset (M.Zero explicit) m is so = absurd so
+compressed_there h backed offset M.Eof m is so = absurd so

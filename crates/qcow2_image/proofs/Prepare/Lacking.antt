@@ -70,15 +70,16 @@ named_place h b i cluster at =
 
 module _ {S F : Type 0} (view : S → StorageView) (backing : F → BackingView) (out : List (Option Prepared)) where
   -- ---- refusals of a cache
-  module _ (p : Pending) (image : Qcow2 S F) (sound : ImageInvariant view backing p image out) (none : HasPrepared out → ⊥) where
-    -- without a prepared mapping the cache of L2 tables has a place
-    not_all_pinned : AreAllPinned image.file.caches → ⊥
-    not_all_pinned all =
+  module _ (p : Pending) (image : Qcow2 S F) (sound : ImageInvariant view backing p image out) where
+    -- where no table may leave the cache of L2 tables, a mapping is prepared
+    pub pinned_prepared : AreAllPinned image.file.caches → HasPrepared out
+    pinned_prepared all =
         let one = some_pinned image.file.caches.l2.size image.file.caches.l2.entries sound.file.room.tables all.0 all.1 in
-        none (pinned_by out one.0 (subst (λ n. 0 < n) (sound.pinned one.0) one.1))
+        pinned_by out one.0 (subst (λ n. 0 < n) (sound.pinned one.0) one.1)
 
-    pub fault_alone : (e : ImageError) → IsInUseOrFault image.file.caches e → IsFault e
-    fault_alone e cause = elim cause [ inl used ↦ absurd (not_all_pinned used.1) | inr fault ↦ fault ]
+    -- without a prepared mapping it has a place
+    pub fault_alone : (HasPrepared out → ⊥) → (e : ImageError) → IsInUseOrFault image.file.caches e → IsFault e
+    fault_alone none e cause = elim cause [ inl used ↦ absurd (none (pinned_prepared used.1)) | inr fault ↦ fault ]
 
   -- a refusal that is a fault
   pub fault_or_lacking : {A : Type 0} (image : Qcow2 S F) (offset : ℕ) (r : Result A ImageError) → IfErr r IsFault → IfErr r (IsFaultOrLacksTable view image offset)

@@ -31,7 +31,7 @@ use Rattle.qcow2_alloc.proofs.KeptTables.Standing.{own_cluster}
 use Rattle.qcow2_image.specs.Backings.{HasPrepared}
 use Rattle.qcow2_image.specs.Found.{found_kind}
 use Rattle.qcow2_image.specs.ImageInvariant.{ImageInvariant}
-use Rattle.qcow2_image.specs.MetAlone.{IsMetAlone, IsMetReading, IsSpecial}
+use Rattle.qcow2_image.specs.MetAlone.{IsMetAlone, IsMetMapped, IsMetReading, IsSpecial}
 use Rattle.qcow2_image.specs.Refusals.{IsFaultOrLimit}
 use Rattle.qcow2_image.specs.declared.image.Qcow2.{Qcow2}
 use Rattle.qcow2_image.specs.declared.mapping.MappingKind.{MappingKind}
@@ -88,6 +88,13 @@ reading_met h backed offset mapping kind is e why = elim why [
     | inl compressed ↦ inr (compressed.0, special_at h backed offset mapping (subst IsSpecialKind is (found_special kind compressed.1)))
     | inr past ↦ absurd (kind_within h backed offset mapping (sym (ap found_kind past.1) ∙ is))
   ]
+]
+
+-- bytes that were looked up before are read so too
+pub mapped_met : (out : List (Option Prepared)) (kind : MappingKind) (e : ImageError) → IsMetReading kind e → IsMetMapped out kind e
+mapped_met out kind e why = elim why [
+  | inl fault ↦ inl (inl (inl fault))
+  | inr other ↦ elim other [ inl compressed ↦ inr compressed | inr past ↦ inl (inr past.0) ]
 ]
 
 -- ---- places

@@ -1,20 +1,14 @@
 -- What a range of a sound image is refused for. A mapping that goes on stays within 64 bits, at a place where a cluster begins. Its table is held, and reads.
-use Rattle.std.proofs.Common.{◌≡◌, inl, inr, ℕ, ◌+◌, ◌-◌, ◌*◌, ◌/◌, ◌%◌, ◌^◌, ◌<◌, ◌≤◌, Bool, true, false, List, length, [], ◌∷◌, Option, Some, refl, sym, ap, ◌∙◌, subst, arith, pow_mono}
-use Rattle.std.specs.Prelude.{IsSome, slice_get, if◌then◌else◌}
+use Rattle.std.proofs.Common.{◌≡◌, inl, inr, ℕ, ◌+◌, ◌-◌, ◌*◌, ◌/◌, ◌%◌, ◌^◌, ◌<◌, ◌≤◌, Bool, true, false, List, length, [], ◌∷◌, Option, Some, refl, sym, ap, ◌∙◌, subst, arith}
+use Rattle.std.specs.Prelude.{IsSome, slice_get}
 use Rattle.std.proofs.lemmas.Bool.{cases_lt}
-use Rattle.std.proofs.lemmas.Nat.{div-add-mod', mod-mul-add, mod_below, pow_pos}
+use Rattle.std.proofs.lemmas.Nat.{div-add-mod', mod-mul-add, mod_below}
 use Rattle.std.proofs.Math.Nat.{mul-le-mul_right}
 use Rattle.image_access.specs.Backing.{BackingView}
 use Rattle.image_access.specs.Moments.{StorageView}
-use Rattle.qcow2_metadata.specs.Bytes.{Bytes}
-use Rattle.qcow2_metadata.specs.Consistent.{CoverIsAligned}
-use Rattle.qcow2_metadata.specs.Cover.{cover, cover_of, cover_under}
 use Rattle.qcow2_metadata.specs.Entries.{host_offset}
 use Rattle.qcow2_metadata.specs.Header.{cluster_size, entries_per_cluster, HeaderView}
-use Rattle.qcow2_metadata.specs.L2Mapping.{greatest_offset}
 use Rattle.qcow2_metadata.specs.declared.header.HeaderFields.{HeaderFields}
-use Rattle.qcow2_metadata.specs.declared.l2_mapping.L2Mapping.{L2Mapping}
-use Rattle.qcow2_metadata.specs.declared.l2_mapping.L2Mapping.TheVariants as M
 use Rattle.qcow2_laws.proofs.Places.{Sizes, Sizes-from, l1_entry-past}
 use Rattle.qcow2_alloc.specs.ImageFile.{contents_in, known_in, KeepsHeader}
 use Rattle.qcow2_alloc.specs.MetadataCaches.{IsEntryAt, l2_at}
@@ -22,13 +16,13 @@ use Rattle.qcow2_alloc.specs.declared.error.ImageError.{ImageError}
 use Rattle.qcow2_image.specs.declared.image.Qcow2.{Qcow2}
 use Rattle.qcow2_image.specs.declared.prepared.Prepared.{Prepared}
 use Rattle.qcow2_image.specs.declared.prepared.Share.{Share}
-use Rattle.qcow2_image.specs.declared.prepared.Share.TheVariants.{InPlace, Kept, New}
-use Rattle.qcow2_image.specs.ImageInvariant.{cluster_of, host_begin_of, pending_in, pins_by, IsPending, IsReadyWith, IsShareAt, ImageInvariant}
+use Rattle.qcow2_image.specs.ImageInvariant.{cluster_of, pending_in, pins_by, IsPending, IsReadyWith, ImageInvariant}
 use Rattle.qcow2_image.specs.MetAlone.{IsMetAlone, KeepsL1Place}
 use Rattle.qcow2_image.specs.Ranges.{MayGoOn}
 use Rattle.qcow2_image.proofs.Apart.{pins_own}
 use Rattle.qcow2_image.proofs.Commit.Entered.{HasFirst, pinned_new_data}
 use Rattle.qcow2_image.proofs.Prepare.Behind.{host_is, next_cluster, next_is, table_is}
+use Rattle.qcow2_image.proofs.Prepare.NearPlaces.{small, stands_first}
 use Rattle.qcow2_image.proofs.Shares.{over_all_at}
 
 -- ---- refusals
@@ -39,35 +33,6 @@ alone_as compressed far e met = elim met [
   | inl why ↦ inl why
   | inr cause ↦ elim cause [ inl one ↦ inr (inl (one.0, compressed one.1)) | inr one ↦ inr (inr (one.0, far one.1)) ]
 ]
-
--- ---- places that entries name
-
--- Where data stand, by what an entry says: at an offset that an entry can hold.
-record IsNearData (mapping : L2Mapping) : Type 0 where
-  near : (host : ℕ) (copied : Bool) → mapping ≡ M.Data host copied → host ≤ greatest_offset
-
-host_near : (entry : ℕ) → host_offset entry ≤ greatest_offset
-host_near entry = let lt = mod_below (entry / 2 ^ 9) (2 ^ 47) (pow_pos 47) in omega (arith, lt)
-
-near_if : (b : Bool) (x y : L2Mapping) → IsNearData x → IsNearData y → IsNearData (if b then x else y)
-near_if true x y here there = here
-near_if false x y here there = there
-
-near_uncovered : IsNearData M.Uncovered
-near_uncovered = record { near = λ host copied is. absurd (let no : M.Uncovered ≡ M.Data host copied = is in cc) }
-
-near_compressed : (place sectors : ℕ) → IsNearData (M.Compressed place sectors)
-near_compressed place sectors = record { near = λ host copied is. absurd (let no : M.Compressed place sectors ≡ M.Data host copied = is in cc) }
-
-near_zero : (kept : Option (ℕ × Bool)) → IsNearData (M.Zero kept)
-near_zero kept = record { near = λ host copied is. absurd (let no : M.Zero kept ≡ M.Data host copied = is in cc) }
-
-near_data : (entry : ℕ) (mark : Bool) → IsNearData (M.Data (host_offset entry) mark)
-near_data entry mark = record { near = λ host copied is. let same : host_offset entry ≡ host = cc in subst (λ n. n ≤ greatest_offset) same (host_near entry) }
-
-cover_near : (h : HeaderFields) (b : Bytes) (g : ℕ) → IsNearData (cover h b g)
-unfolding cover cover_under cover_of
-cover_near h b g = near_if _ _ _ near_uncovered (near_if _ _ _ (near_compressed _ _) (near_if _ _ _ (near_zero _) (near_if _ _ _ (near_data _ _) near_uncovered)))
 
 -- ---- a mapping that goes on
 
@@ -111,11 +76,8 @@ module _ {S F : Type 0} (view : S → StorageView) (backing : F → BackingView)
   sizes : Sizes h
   sizes = Sizes-from h (contents_in view old.file) sound.file.caches.kept.kept.crash_invariant.top.header_reads
 
-  small : size ≤ 2 ^ 21
-  small = pow_mono sound.file.caches.kept.kept.crash_invariant.top.header_reads.well_formed.in_range.cluster_bits.1
-
   few_entries : entries ≤ 2 ^ 18
-  few_entries = let eights = sizes.eights in let s = small in omega (arith, eights, s)
+  few_entries = let eights = sizes.eights in let s = small view backing old out (pending_in view backing old out) sound p in omega (arith, eights, s)
 
   -- its L1 entry is one of the table
   row_within : row < h.l1_entries
@@ -134,19 +96,9 @@ module _ {S F : Type 0} (view : S → StorageView) (backing : F → BackingView)
       let f = few_entries in
       let below : cluster_of h p + count ≤ 2 ^ 40 = omega (arith, within, split, rows, f) in
       let le : (cluster_of h p + count) * size ≤ 2 ^ 40 * size = mul-le-mul_right size below in
-      let s = small in
+      let s = small view backing old out (pending_in view backing old out) sound p in
       let is = next_is view backing old out k p at n table overwrite may sound in
       omega (arith, le, s, is)
-
-  -- where a share stands
-  stands_first : (share : Share) (i : ℕ) → IsShareAt h (known_in view old.file) (contents_in view old.file) p i share → HasFirst h p i
-  stands_first InPlace i is =
-      let aligned : host_begin_of h p i % size ≡ 0 = subst (CoverIsAligned h) is (sound.file.caches.kept.kept.crash_invariant.known_aligned (cluster_of h p + i)) in
-      let whole : host_begin_of h p i / size * size + host_begin_of h p i % size ≡ host_begin_of h p i = div-add-mod' (host_begin_of h p i) size in
-      let near = (cover_near h (known_in view old.file) (cluster_of h p + i)).near (host_begin_of h p i) true is in
-      record { first = host_begin_of h p i / size; place = omega (arith, aligned, whole); nameable = omega (arith, aligned, whole, near) }
-  stands_first Kept i is = record { first = is.first; place = is.place; nameable = is.nameable }
-  stands_first (New taken old_data) i is = record { first = is.first; place = is.place; nameable = is.nameable }
 
   first_in : (shares : List Share) → p.shares.items ≡ shares → HasFirst h p 0
   first_in [] none = absurd (
@@ -154,7 +106,7 @@ module _ {S F : Type 0} (view : S → StorageView) (backing : F → BackingView)
       let some = pending.some in
       let all : count * size ≡ 0 * size = ap (λ (l : List Share). length l * size) none in
       omega (arith, enough, some, all))
-  first_in (share ∷ shares) is = stands_first share 0 (pending.each 0 share (ap (λ (l : List Share). slice_get l 0) is))
+  first_in (share ∷ shares) is = stands_first view backing old out (pending_in view backing old out) sound p share 0 (pending.each 0 share (ap (λ (l : List Share). slice_get l 0) is))
 
   begin : HasFirst h p 0
   begin = first_in p.shares.items refl
@@ -170,7 +122,7 @@ module _ {S F : Type 0} (view : S → StorageView) (backing : F → BackingView)
   place_fits =
       let within = may.within in
       let f = few_entries in
-      let s = small in
+      let s = small view backing old out (pending_in view backing old out) sound p in
       let near = begin.nameable in
       let le : count * size ≤ 2 ^ 18 * size = mul-le-mul_right size (omega (arith, within, f)) in
       let both : (begin.first + count) * size ≡ begin.first * size + count * size = omega arith in

@@ -5,11 +5,16 @@ use Rattle.qcow2_disk.specs.AbstractImages.{guest_of}
 use Rattle.qcow2_image.specs.ImageInvariant.{abstract_of}
 use Rattle.qcow2_session.specs.Sessions.{Reads}
 use Rattle.qcow2_session.proofs.Turns.{refused_is, does_if}
-use Rattle.std.specs.Prelude.{Err, IfErr}
+use Rattle.std.specs.Prelude.{IfErr}
 use Rattle.qcow2_image.specs.Refusals.{IsMet}
-use Rattle.qcow2_session.proofs.Causing.{hands_unlimited, memory_unlimited, reads_unlimited}
 use Rattle.qcow2_session.proofs.Marking.{hands_on, memory_marks, unmarked}
 use Rattle.qcow2_image.proofs.Call.BehindHeader.{behind_none}
+use Rattle.qcow2_image.specs.MetAlone.{IsMetReadingRange}
+use Rattle.qcow2_alloc.specs.ImageFile.{known_in}
+use Rattle.qcow2_session.proofs.MetOnSound.{memory_looking, refused_none}
+use Rattle.std.proofs.Common.{inl}
+use Rattle.std.proofs.Common.{◌+◌}
+use Rattle.qcow2_image.specs.Refusals.{refuses_to_read}
 use Rattle.qcow2_session.proofs.session.read.Goals as goal
 
 pub returns-in_err-read_into-clause-sees : goal.returns-in_err-read_into-clause-sees
@@ -45,13 +50,14 @@ returns-in_err-bytes-clause-header_cluster g c = behind_none
 pub returns-in_err-check_read-clause-header_cluster : goal.returns-in_err-check_read-clause-header_cluster
 returns-in_err-check_read-clause-header_cluster g c = behind_none
 
-pub returns-in_err-check_read-clause-limited : goal.returns-in_err-check_read-clause-limited
-returns-in_err-check_read-clause-limited g c = λ out sound.
-    hands_unlimited _ c.in_err-check_read.field-0.0 (refused_is _ c.in_err-check_read.field-0.0 c.from_residual.ensures)
-    (reads_unlimited c.args.image.now c.args.offset c.args.length (Err c.in_err-check_read.field-0.0) c.in_err-check_read.ensures.refusal)
+pub returns-in_err-check_read-clause-met : goal.returns-in_err-check_read-clause-met
+returns-in_err-check_read-clause-met g c = λ none out sound. absurd (refused_none (refuses_to_read c.args.image.now c.args.offset c.args.length) c.in_err-check_read.field-0.0 c.in_err-check_read.ensures.refusal none)
 
-pub returns-in_err-bytes-clause-limited : goal.returns-in_err-bytes-clause-limited
-returns-in_err-bytes-clause-limited g c = λ out sound. hands_unlimited _ c.in_err-bytes.field-0.0 (refused_is _ c.in_err-bytes.field-0.0 c.from_residual-in_err-bytes.ensures) (memory_unlimited c.in_err-bytes.field-0.0 c.in_err-bytes.ensures.cause.0)
+pub returns-in_err-bytes-clause-met : goal.returns-in_err-bytes-clause-met
+returns-in_err-bytes-clause-met g c = λ none out sound. subst (λ r. IfErr r (IsMetReadingRange out c.args.offset (c.args.offset + c.args.length) c.args.image.now.file.header.fields (known_in g.S.Storage.view c.args.image.now.file))) (sym (refused_is _ c.in_err-bytes.field-0.0 c.from_residual-in_err-bytes.ensures)) (inl (memory_looking out c.in_err-bytes.field-0.0 c.in_err-bytes.ensures.cause.0))
 
-pub returns-in_err-read_into-clause-limited : goal.returns-in_err-read_into-clause-limited
-returns-in_err-read_into-clause-limited g c = λ out sound. hands_unlimited _ c.in_err-read_into.field-0.0 (refused_is _ c.in_err-read_into.field-0.0 c.from_residual-in_err-read_into.ensures) (c.in_err-read_into.ensures.limited out sound)
+pub returns-in_err-read_into-clause-met : goal.returns-in_err-read_into-clause-met
+returns-in_err-read_into-clause-met g c = λ none out sound.
+    let long : length c.deref_mut.result.now ≡ c.args.length = grind (arith, common_steps) in
+    subst (λ r. IfErr r (IsMetReadingRange out c.args.offset (c.args.offset + c.args.length) c.args.image.now.file.header.fields (known_in g.S.Storage.view c.args.image.now.file))) (sym (refused_is _ c.in_err-read_into.field-0.0 c.from_residual-in_err-read_into.ensures))
+    ((rw long at c.in_err-read_into.ensures.met) none out sound)

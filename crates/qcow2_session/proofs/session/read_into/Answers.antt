@@ -1,4 +1,4 @@
-use Rattle.std.proofs.Common.{◌≡◌, ◌<◌, ◌∙◌, ◌+◌, ◌-◌, refl, length, Err, IfErr, sym, subst, ap, [], take, drop, arith}
+use Rattle.std.proofs.Common.{◌≡◌, ◌<◌, ◌∙◌, ◌+◌, ◌-◌, refl, length, IfErr, sym, subst, ap, [], take, drop, arith}
 use Rattle.std.proofs.lemmas.Grind.{common_steps}
 use Rattle.qcow2_disk.specs.Calls.{another, Shows}
 use Rattle.qcow2_disk.specs.AbstractImages.{Guest, guest_of}
@@ -15,11 +15,15 @@ use Rattle.qcow2_image.proofs.Call.FaultCounts.{counted_on, faults_then}
 use Rattle.qcow2_image.specs.Refusals.{IsMet}
 use Rattle.qcow2_session.proofs.Parts.{part_reads}
 use Rattle.std.proofs.Common.{Some}
-use Rattle.qcow2_session.proofs.Causing.{hands_unlimited, reads_unlimited}
 use Rattle.qcow2_session.proofs.Marking.{fails_behind, hands_on, unmarked}
 use Rattle.qcow2_session.proofs.Counting.{none_counted}
 use Rattle.qcow2_session.proofs.Converting.{does_nothing}
 use Rattle.qcow2_alloc.proofs.KeptTables.AllWritten.{written_none, written_then}
+use Rattle.qcow2_image.specs.MetAlone.{IsMetReadingRange}
+use Rattle.qcow2_alloc.specs.ImageFile.{known_in}
+use Rattle.qcow2_session.proofs.MetOnSound.{reads_part, refused_none}
+use Rattle.qcow2_image.specs.Refusals.{refuses_to_read}
+use Rattle.std.proofs.Common.{◌≤◌}
 use Rattle.qcow2_session.proofs.session.read_into.Goals as goal
 
 pub returns-in_default-clause-sees : goal.returns-in_default-clause-sees
@@ -133,11 +137,25 @@ loop-done-init g c = record {
 pub returns-in_err-done-clause-quiet : goal.returns-in_err-done-clause-quiet
 returns-in_err-done-clause-quiet g c = written_then g.S.Storage.view c.loop-done.invariant.quiet c.read_some.ensures.quiet
 
-pub returns-in_err-check_read-clause-limited : goal.returns-in_err-check_read-clause-limited
-returns-in_err-check_read-clause-limited g c = λ out sound.
-    hands_unlimited _ c.in_err-check_read.field-0.0 (refused_is _ c.in_err-check_read.field-0.0 c.from_residual.ensures)
-    (reads_unlimited c.args.image.now c.args.offset (length c.args.bytes.now) (Err c.in_err-check_read.field-0.0) c.in_err-check_read.ensures.refusal)
+pub returns-in_err-check_read-clause-met : goal.returns-in_err-check_read-clause-met
+returns-in_err-check_read-clause-met g c = λ none out sound. absurd (refused_none (refuses_to_read c.args.image.now c.args.offset (length c.args.bytes.now)) c.in_err-check_read.field-0.0 c.in_err-check_read.ensures.refusal none)
 
-pub returns-in_err-done-clause-limited : goal.returns-in_err-done-clause-limited
-returns-in_err-done-clause-limited g c = λ out sound.
-    hands_unlimited _ c.in_err-done.field-0.0 (refused_is _ c.in_err-done.field-0.0 c.from_residual-in_err-done.ensures) (c.in_err-done.ensures.limited out ((c.loop-done.invariant.shown out).answer sound).0)
+pub returns-in_default-clause-met : goal.returns-in_default-clause-met
+returns-in_default-clause-met g c = λ none out sound. absurd (c.in_default.ensures (omega (arith, c.loop-done.invariant.end, c.loop-done-test.true)))
+
+pub returns-in_err-done-clause-met : goal.returns-in_err-done-clause-met
+returns-in_err-done-clause-met g c = λ none out sound.
+    let view = g.S.Storage.view in
+    let below = g.F.BackingDisk.backing in
+    let old = c.args.image.now in
+    let mid = c.loop-done.image in
+    let n = length c.args.bytes.now in
+    let part = take (length c.loop-done.bytes - c.loop-done.done) (drop c.loop-done.done c.loop-done.bytes) in
+    let rest : length part ≡ length c.loop-done.bytes - c.loop-done.done = grind (arith, common_steps) in
+    let from : c.args.offset ≤ c.in-Some.at = omega (arith, c.in-Some.ensures.1) in
+    let upto : c.in-Some.at + length part ≤ c.args.offset + n = omega (arith, rest, c.in-Some.ensures.1, c.loop-done.invariant.within, c.loop-done.auto.bytes) in
+    let so_far = c.loop-done.invariant.shown out in
+    let still = (so_far.answer sound).0 in
+    subst (λ r. IfErr r (IsMetReadingRange out c.args.offset (c.args.offset + length c.args.bytes.now) c.args.image.now.file.header.fields (known_in g.S.Storage.view c.args.image.now.file))) (sym (refused_is _ c.in_err-done.field-0.0 c.from_residual-in_err-done.ensures))
+    (reads_part view below out old mid sound still (so_far.acts.works sound) c.args.offset n c.in-Some.at (length part) c.in_err-done.field-0.0 from upto
+    (c.in_err-done.ensures.met (part_reads old mid c.loop-done.invariant.image c.args.offset n c.in-Some.at (length part) from upto c.loop-done.invariant.works none) (omega (arith, rest, c.loop-done-test.true)) out still))

@@ -12,8 +12,11 @@ use Rattle.qcow2_session.proofs.Marking.{hands_on, memory_marks, none_answered, 
 use Rattle.qcow2_alloc.specs.declared.error.ImageError.TheVariants.{Memory, OutdatedMapping}
 use Rattle.qcow2_image.proofs.Sizes.{sound_is_usable}
 use Rattle.qcow2_image.specs.Refusals.{unusable}
-use Rattle.qcow2_session.proofs.Causing.{same_error, hands_unlimited, memory_unlimited, reads_unlimited}
+use Rattle.qcow2_session.proofs.Causing.{same_error}
 use Rattle.qcow2_image.proofs.Call.BehindHeader.{behind_none}
+use Rattle.qcow2_session.proofs.MetOnSound.{memory_looking}
+use Rattle.qcow2_image.specs.MetAlone.{IsMetMapped}
+use Rattle.std.proofs.Common.{inl}
 use Rattle.qcow2_session.proofs.session.read_range.Goals as goal
 
 pub returns-in_err-read_mapped-clause-sees : goal.returns-in_err-read_mapped-clause-sees
@@ -47,7 +50,7 @@ returns-clause-marks g c = c.in_ok-read_mapped.ensures.marks
 pub returns-in_err-read_mapped-clause-outdated : goal.returns-in_err-read_mapped-clause-outdated
 returns-in_err-read_mapped-clause-outdated g c = λ out sound is.
     let long : length c.deref_mut.result.now ≡ c.args.length = grind (arith, common_steps) in
-    subst (λ n. ¬ IsFoundWhole g.S.Storage.view c.read_mapped.new.self (c.args.mapping.now.offset + c.args.at) (further_by c.args.at c.args.mapping.now.kind) n) long
+    subst (λ n. ¬ IsFoundWhole g.S.Storage.view c.args.image.now (c.args.mapping.now.offset + c.args.at) (further_by c.args.at c.args.mapping.now.kind) n) long
     (c.in_err-read_mapped.ensures.outdated out sound (ap Err (same_error (sym (refused_is _ c.in_err-read_mapped.field-0.0 c.from_residual-in_err-read_mapped.ensures) ∙ is))))
 
 pub returns-clause-mapped : goal.returns-clause-mapped
@@ -92,12 +95,11 @@ returns-in_err-read_mapped-clause-quiet g c = c.read_mapped.ensures.quiet
 pub returns-clause-quiet : goal.returns-clause-quiet
 returns-clause-quiet g c = c.read_mapped.ensures.quiet
 
-pub returns-in_err-check_read-clause-limited : goal.returns-in_err-check_read-clause-limited
-returns-in_err-check_read-clause-limited g c = λ out sound.
-    hands_unlimited _ c.in_err-check_read.field-0.0 (refused_is _ c.in_err-check_read.field-0.0 c.from_residual.ensures) (reads_unlimited c.args.image.now 0 0 (Err c.in_err-check_read.field-0.0) c.in_err-check_read.ensures.refusal)
+pub returns-in_err-check_read-clause-met : goal.returns-in_err-check_read-clause-met
+returns-in_err-check_read-clause-met g c = λ none out sound. absurd (unchecked (unusable c.args.image.now) c.in_err-check_read.field-0.0 c.in_err-check_read.ensures.refusal (sound_is_usable g.S.Storage.view g.F.BackingDisk.backing c.args.image.now out sound))
 
-pub returns-in_err-bytes-clause-limited : goal.returns-in_err-bytes-clause-limited
-returns-in_err-bytes-clause-limited g c = λ out sound. hands_unlimited _ c.in_err-bytes.field-0.0 (refused_is _ c.in_err-bytes.field-0.0 c.from_residual-in_err-bytes.ensures) (memory_unlimited c.in_err-bytes.field-0.0 c.in_err-bytes.ensures.cause.0)
+pub returns-in_err-bytes-clause-met : goal.returns-in_err-bytes-clause-met
+returns-in_err-bytes-clause-met g c = λ none out sound. subst (λ r. IfErr r (IsMetMapped out (further_by c.args.at c.args.mapping.now.kind))) (sym (refused_is _ c.in_err-bytes.field-0.0 c.from_residual-in_err-bytes.ensures)) (inl (inl (memory_looking out c.in_err-bytes.field-0.0 c.in_err-bytes.ensures.cause.0)))
 
-pub returns-in_err-read_mapped-clause-limited : goal.returns-in_err-read_mapped-clause-limited
-returns-in_err-read_mapped-clause-limited g c = λ out sound. hands_unlimited _ c.in_err-read_mapped.field-0.0 (refused_is _ c.in_err-read_mapped.field-0.0 c.from_residual-in_err-read_mapped.ensures) (c.in_err-read_mapped.ensures.limited out sound)
+pub returns-in_err-read_mapped-clause-met : goal.returns-in_err-read_mapped-clause-met
+returns-in_err-read_mapped-clause-met g c = λ none out sound. subst (λ r. IfErr r (IsMetMapped out (further_by c.args.at c.args.mapping.now.kind))) (sym (refused_is _ c.in_err-read_mapped.field-0.0 c.from_residual-in_err-read_mapped.ensures)) (c.in_err-read_mapped.ensures.met none out sound)

@@ -11,13 +11,18 @@ use Rattle.std.specs.Prelude.{IfErr, length}
 use Rattle.qcow2_image.specs.Image.{size_of}
 use Rattle.qcow2_image.specs.Refusals.{IsMet, unusable, passes}
 use Rattle.qcow2_alloc.specs.declared.error.ImageError.TheVariants.{BeyondSize}
-use Rattle.qcow2_session.proofs.Causing.{mapping_reading, fits_below, then_none, hands_unlimited}
+use Rattle.qcow2_session.proofs.Causing.{mapping_reading, fits_below, then_none}
 use Rattle.qcow2_session.proofs.Parts.{mapping_usable}
 use Rattle.qcow2_image.proofs.Call.MetErrors.{tables_met}
 use Rattle.qcow2_session.proofs.Marking.{fails_behind, hands_on, refused_marks}
 use Rattle.qcow2_image.proofs.Call.BehindHeader.{behind_then}
 use Rattle.qcow2_alloc.proofs.KeptTables.AllWritten.{written_then}
 use Rattle.qcow2_image.proofs.Call.FaultCounts.{counted_on}
+use Rattle.qcow2_image.specs.Found.{IsFoundWhole, further_by}
+use Rattle.qcow2_image.specs.MetAlone.{IsMetReadingRange}
+use Rattle.qcow2_alloc.specs.ImageFile.{known_in}
+use Rattle.qcow2_session.proofs.MetOnSound.{found_there, reads_found}
+use Rattle.std.proofs.Common.{inl, ◌<◌, Err}
 use Rattle.qcow2_session.proofs.session.read_some.Goals as goal
 
 pub returns-in_err-mapping-clause-sees : goal.returns-in_err-mapping-clause-sees
@@ -118,9 +123,34 @@ returns-in_err-read_mapped-clause-faults g c =
     counted_on g.S.Storage.view g.F.BackingDisk.backing c.args.image.now c.get_mapping.new.self c.read_mapped.new.self c.read_mapped.result c.in_err-read_mapped.field-0.0 c.from_residual-in_err-read_mapped.result c.in_ok-mapping.ensures.faults.told
     c.read_mapped.ensures.faults c.in_err-read_mapped.was c.from_residual-in_err-read_mapped.ensures
 
-pub returns-in_err-mapping-clause-limited : goal.returns-in_err-mapping-clause-limited
-returns-in_err-mapping-clause-limited g c = λ out sound. hands_unlimited _ c.in_err-mapping.field-0.0 (refused_is _ c.in_err-mapping.field-0.0 c.from_residual.ensures) (c.in_err-mapping.ensures.limited out sound)
+pub returns-in_err-mapping-clause-met : goal.returns-in_err-mapping-clause-met
+returns-in_err-mapping-clause-met g c = λ none some out sound. subst (λ r. IfErr r (IsMetReadingRange out c.args.offset (c.args.offset + length c.args.bytes.now) c.args.image.now.file.header.fields (known_in g.S.Storage.view c.args.image.now.file))) (sym (refused_is _ c.in_err-mapping.field-0.0 c.from_residual.ensures)) (inl (c.in_err-mapping.ensures.met out sound))
 
-pub returns-in_err-read_mapped-clause-limited : goal.returns-in_err-read_mapped-clause-limited
-returns-in_err-read_mapped-clause-limited g c = λ out sound.
-    hands_unlimited _ c.in_err-read_mapped.field-0.0 (refused_is _ c.in_err-read_mapped.field-0.0 c.from_residual-in_err-read_mapped.ensures) (c.in_err-read_mapped.ensures.limited out ((c.in_ok-mapping.ensures.sees out).answer sound).0)
+pub returns-then-count-eq0-clause-met : goal.returns-then-count-eq0-clause-met
+returns-then-count-eq0-clause-met g c = λ none some out sound.
+    let first = then_none (unusable c.args.image.now) (passes (size_of c.args.image.now) c.args.offset (length c.args.bytes.now)) BeyondSize none in
+    let found = c.in_ok-mapping.ensures.some (fits_below (size_of c.args.image.now) c.args.offset (length c.args.bytes.now) first.1 some) (omega (arith, some)) in
+    absurd (omega (arith, found))
+
+pub returns-in_err-read_mapped-clause-met : goal.returns-in_err-read_mapped-clause-met
+returns-in_err-read_mapped-clause-met g c = λ none some out sound.
+    let view = g.S.Storage.view in
+    let below = g.F.BackingDisk.backing in
+    let old = c.args.image.now in
+    let mid = c.get_mapping.new.self in
+    let n = length c.args.bytes.now in
+    let m = c.in_ok-mapping.mapping in
+    let e = c.in_err-read_mapped.field-0.0 in
+    let first = then_none (unusable old) (passes (size_of old) c.args.offset n) BeyondSize none in
+    let usable = mapping_usable old mid c.get_mapping.ensures.image m.image c.in_ok-mapping.ensures.own.0 c.in_ok-mapping.ensures.marks first.0 in
+    let still = ((c.in_ok-mapping.ensures.sees out).answer sound).0 in
+    let found = c.in_ok-mapping.ensures.run out sound in
+    let lies : c.args.offset < size_of mid = let s = c.get_mapping.ensures.image.size in let b = fits_below (size_of old) c.args.offset n first.1 some in omega (arith, s, b) in
+    let begin : m.offset + 0 ≡ c.args.offset = let own = c.in_ok-mapping.ensures.own.1 in omega (arith, own) in
+    let long : length (take c.in_ok-mapping.found c.args.bytes.now) ≡ c.in_ok-mapping.found = grind (arith, common_steps) in
+    let whole = subst (λ k. IsFoundWhole view mid k (further_by 0 m.kind) (length (take c.in_ok-mapping.found c.args.bytes.now))) (sym begin)
+    (subst (λ k. IsFoundWhole view mid c.args.offset (further_by 0 m.kind) k) (sym long) (found_there view below out mid still c.args.offset n c.in_ok-mapping.found m.kind (omega (arith, c.ranges.offset.fits)) lies found)) in
+    subst (λ r. IfErr r (IsMetReadingRange out c.args.offset (c.args.offset + length c.args.bytes.now) c.args.image.now.file.header.fields (known_in g.S.Storage.view c.args.image.now.file))) (sym (refused_is _ e c.from_residual-in_err-read_mapped.ensures))
+    (reads_found view below out old mid sound still c.args.offset n n c.in_ok-mapping.found m.kind e some lies (c.get_mapping.ensures.known out sound) found
+    (λ outdated. c.in_err-read_mapped.ensures.outdated out still (ap Err outdated) whole)
+    (c.in_err-read_mapped.ensures.met usable out still))

@@ -21,6 +21,10 @@ use Rattle.qcow2_image.proofs.Call.BehindHeader.{behind_then}
 use Rattle.qcow2_alloc.proofs.KeptTables.AllWritten.{written_then}
 use Rattle.qcow2_image.specs.CallParts.{AreCopied}
 use Rattle.qcow2_session.proofs.Copied.{copied_on}
+use Rattle.qcow2_alloc.specs.ImageFile.{known_in}
+use Rattle.qcow2_session.proofs.MetOnSound.{met_in_part}
+use Rattle.std.proofs.Common.{◌%◌}
+use Rattle.qcow2_session.specs.Sessions.{cluster_size_of}
 use Rattle.qcow2_session.proofs.session.write.Goals as goal
 
 pub returns-in_default-clause-sees : goal.returns-in_default-clause-sees
@@ -157,3 +161,28 @@ pub returns-clause-copied : goal.returns-clause-copied
 returns-clause-copied g c = λ some out sound.
     let all : c.args.offset + c.loop-done.done ≡ c.args.offset + length c.args.bytes.now = grind (arith, common_steps) in
     subst (λ k. AreCopied g.S.Storage.view c.args.offset k c.loop-done.image) all (c.loop-done.invariant.copied some out sound)
+
+pub returns-in-Err-clause-met : goal.returns-in-Err-clause-met
+returns-in-Err-clause-met g c = λ none out sound free. c.in-Err.ensures.met none out sound free
+
+pub returns-in_default-clause-met : goal.returns-in_default-clause-met
+returns-in_default-clause-met g c = λ none out sound free. absurd (c.in_default.ensures (omega (arith, c.loop-done.invariant.end, c.loop-done-test.true)))
+
+pub returns-in-Err-write_some-clause-met : goal.returns-in-Err-write_some-clause-met
+returns-in-Err-write_some-clause-met g c = λ none out sound free.
+    let view = g.S.Storage.view in
+    let below = g.F.BackingDisk.backing in
+    let old = c.args.image.now in
+    let mid = c.loop-done.image in
+    let n = length c.args.bytes.now in
+    let done = c.loop-done.done in
+    let rest = length (drop done c.args.bytes.now) in
+    let so_far = c.loop-done.invariant.written out in
+    let still = (so_far.answer sound).0 in
+    let new = c.write_some-in-loop-done.new.image in
+    let part = rw (take_rest c.args.bytes.now done) at (c.in-Err-write_some.ensures.sees out) in
+    let same : cluster_size_of new ≡ cluster_size_of old = ap (λ (x : Setting). x.cluster_size) ((part.acts.works still).setting ∙ (so_far.acts.works sound).setting) in
+    let begins : c.in-Some.at % cluster_size_of new ≡ 0 = ap (λ size. c.in-Some.at % size) same ∙ ap (λ o. o % cluster_size_of old) c.in-Some.ensures.1 ∙ c.loop-done.invariant.ends out sound c.loop-done-test.true in
+    met_in_part new.file.header.fields (known_in view new.file) c.args.offset n done c.in-Some.at rest c.in-Err-write_some.refusal c.in-Some.ensures.1 (grind (arith, common_steps)) begins
+    ((rw (take_rest c.args.bytes.now done) at c.in-Err-write_some.ensures.met)
+    (part_prepares old mid c.loop-done.invariant.image c.args.offset n c.in-Some.at rest (grind (arith, common_steps)) (grind (arith, common_steps)) still.works (omega (arith, c.loop-done-test.true)) none) out still free)

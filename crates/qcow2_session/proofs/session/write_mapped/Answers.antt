@@ -70,7 +70,7 @@ in_mapping out slot at n there within (inl free) = not_free out slot there free
 in_mapping out slot at n there within (inr past) = let same = ap length_of (same_mapping out slot there past.1) in omega (arith, past.2, same, within)
 
 pub returns-in_default-clause-causes : goal.returns-in_default-clause-causes
-returns-in_default-clause-causes g c = is_misused g.S.Storage.view g.F.BackingDisk.backing c.args.image.now c.args.image.now c.args.slots.now.prepared.items (C.WriteMapped c.args.slot c.args.at c.args.bytes.now) (λ _. inl c.in_default.ensures, λ _. refl) refl (λ is. absurd cc)
+returns-in_default-clause-causes g c = is_misused g.S.Storage.view g.F.BackingDisk.backing c.args.image.now c.args.image.now c.args.slots.now.prepared.items (C.WriteMapped c.args.slot c.args.at c.args.bytes.now) (λ _. inl c.in_default.ensures, λ _. refl) refl (λ is. absurd cc, tt)
 
 pub returns-then-at-length-clause-causes : goal.returns-then-at-length-clause-causes
 returns-then-at-length-clause-causes g c =
@@ -78,7 +78,7 @@ returns-then-at-length-clause-causes g c =
       | then-at-length-via-then-at-length w ↦ omega (arith, w.if-at-length.true, c.length-length.ensures)
       | then-at-length-via-else-at-length+then-len-length w ↦ omega (arith, w.if-at-length.false, w.if-len-length.true, w.len.ensures, c.length-length.ensures)
     ] in
-    is_misused g.S.Storage.view g.F.BackingDisk.backing c.args.image.now c.args.image.now c.args.slots.now.prepared.items (C.WriteMapped c.args.slot c.args.at c.args.bytes.now) (λ _. inr (c.in-Some.prepared.now, c.in-Some.ensures, past), λ _. refl) refl (λ is. absurd cc)
+    is_misused g.S.Storage.view g.F.BackingDisk.backing c.args.image.now c.args.image.now c.args.slots.now.prepared.items (C.WriteMapped c.args.slot c.args.at c.args.bytes.now) (λ _. inr (c.in-Some.prepared.now, c.in-Some.ensures, past), λ _. refl) refl (λ is. absurd cc, tt)
 
 pub returns-in-Ok-clause-causes : goal.returns-in-Ok-clause-causes
 returns-in-Ok-clause-causes g c =
@@ -87,7 +87,7 @@ returns-in-Ok-clause-causes g c =
     let n = length c.args.bytes.now.items in
     is_answered g.S.Storage.view g.F.BackingDisk.backing c.args.image.now c.write_mapped.new.self c.args.slots.now.prepared.items (C.WriteMapped c.args.slot c.args.at c.args.bytes.now) {A = Unit {0}} (c.write_mapped.new.self ≡ c.args.image.now) tt R.Done (λ is. absurd cc) (λ is. absurd cc, λ is. absurd (in_mapping c.args.slots.now.prepared.items c.args.slot c.args.at n c.in-Some.ensures (omega (arith, c.if-at-length.false, c.if-len-length.false, c.len.ensures, c.length-length.ensures)) is)) refl
     (then_early (unusable c.args.image.now) (nat_lt 0 n && not (is_writable c.args.image.now)) ReadOnly (λ (e : ImageError). (◌≡◌ {A = Result (Unit {0}) ImageError} (Ok tt) (Err e)) × (c.write_mapped.new.self ≡ c.args.image.now)) (subst (λ o. IfSome o (λ (e : ImageError). (◌≡◌ {A = Result (Unit {0}) ImageError} (Ok tt) (Err e)) × (c.write_mapped.new.self ≡ c.args.image.now))) usable c.in-Ok.ensures.early)
-    (λ none reads. let r = put_reads n (is_writable c.args.image.now) reads in (rw c.deref.ensures.value at c.in-Ok.ensures.read_only) r.0 (usable ∙ none) r.1)) (λ _ _ is. absurd cc)
+    (λ none reads. let r = put_reads n (is_writable c.args.image.now) reads in (rw c.deref.ensures.value at c.in-Ok.ensures.read_only) r.0 (usable ∙ none) r.1)) (λ _ _. (λ is. absurd cc, tt))
 
 pub returns-in-Err-clause-causes : goal.returns-in-Err-clause-causes
 returns-in-Err-clause-causes g c =
@@ -106,9 +106,16 @@ returns-in-Err-clause-causes g c =
     ])
     (λ _ _ _. tt)
     (λ none empty. let first = then_none (unusable c.args.image.now) (nat_lt 0 n && not (is_writable c.args.image.now)) ReadOnly none in let no = ((rw c.deref.ensures.value at c.in-Err.ensures.nothing) (usable ∙ first.0) empty).0 in absurd cc)
-    (λ none sound is.
-    let existing = none_of (table_of p) (λ some. c.in-Err.ensures.private some (ap Err (some_error is))) in
-    record { mapping = p; there = c.in-Some.ensures; existing = existing; moved = (rw c.deref.ensures.value at c.in-Err.ensures.outdated) existing c.args.slots.now.prepared.items sound (ap Err (some_error is)) })
+    (λ none sound. (
+      λ is.
+          let existing = none_of (table_of p) (λ some. c.in-Err.ensures.private some (ap Err (some_error is))) in
+          record { mapping = p; there = c.in-Some.ensures; existing = existing; moved = (rw c.deref.ensures.value at c.in-Err.ensures.outdated) existing c.args.slots.now.prepared.items sound (ap Err (some_error is)) },
+      let first = then_none (unusable c.args.image.now) (nat_lt 0 n && not (is_writable c.args.image.now)) ReadOnly none in
+          elim (cases_lt 0 n) [
+            | inl some ↦ (p, c.in-Some.ensures, c.in-Err.ensures.met c.args.slots.now.prepared.items c.args.slot c.in-Some.ensures sound (put_writes n (is_writable c.args.image.now) first.1 some))
+            | inr least ↦ absurd (let no = ((rw c.deref.ensures.value at c.in-Err.ensures.nothing) (usable ∙ first.0) (omega (arith, least))).0 in cc)
+          ],
+    ))
 
 pub returns-in-Err-clause-marks : goal.returns-in-Err-clause-marks
 returns-in-Err-clause-marks g c = refused_marks c.in-Err.refusal _ _ _ c.in-Err.ensures.marks

@@ -3,7 +3,7 @@ use Rattle.std.specs.Prelude.{IfSome, IfOk, IsOk, Ok, Option, Result}
 use Rattle.qcow2_disk.specs.Mappings.{given_of}
 use Rattle.qcow2_disk.specs.AbstractImages.{Setting, guest_of}
 use Rattle.qcow2_image.specs.Calls.{refusal_of, Commits}
-use Rattle.qcow2_image.specs.Image.{is_failed, is_writable, number_of}
+use Rattle.qcow2_image.specs.Image.{is_failed, is_writable, number_of, size_of}
 use Rattle.qcow2_image.specs.Prepared.{IsHandedBackBy, image_of, length_of}
 use Rattle.qcow2_image.specs.Refusals.{refuses_mapping, refuses_to_prepare}
 use Rattle.qcow2_image.specs.declared.prepared.CommitRefused.TheVariants.{Kept}
@@ -17,7 +17,7 @@ use Rattle.qcow2_session.proofs.Turns.{refused_is, none_within, refuses_if, refu
 use Rattle.qcow2_image.proofs.Map.Unmodified.{read_same, read_then}
 use Rattle.qcow2_session.proofs.Unwritten.{nothing_prepared, prepare_same, put_same, read_release_prepared}
 use Rattle.qcow2_image.specs.declared.image.Qcow2.{Qcow2}
-use Rattle.std.proofs.Common.{ℕ, ◌+◌, ◌<◌, List, inl, inr, take}
+use Rattle.std.proofs.Common.{ℕ, ◌+◌, ◌<◌, ◌≤◌, ⊎_elim, List, inl, inr, take, true}
 use Rattle.std.specs.Prelude.{IfErr}
 use Rattle.std.proofs.lemmas.Bool.{cases_lt}
 use Rattle.std.proofs.lemmas.Nat.{pow_pos}
@@ -29,7 +29,7 @@ use Rattle.qcow2_alloc.specs.declared.error.ImageError.TheVariants.{TablePrepare
 use Rattle.qcow2_image.specs.Calls.{reason_of}
 use Rattle.qcow2_image.specs.Clearing.{IsUnderMapping}
 use Rattle.qcow2_image.specs.Refusals.{IsMet, IsMetPreparing}
-use Rattle.qcow2_session.proofs.Parts.{mapping_usable, not_failed_yet, prepares_usable, put_met, under_taken}
+use Rattle.qcow2_session.proofs.Parts.{mapping_usable, not_failed_yet, prepares_usable, prepares_within, prepares_writable, put_met, under_taken}
 use Rattle.qcow2_alloc.specs.ImageError.{IsOfTables}
 use Rattle.qcow2_image.proofs.Call.MetErrors.{tables_met}
 use Rattle.qcow2_image.specs.Refusals.{MarksRefused}
@@ -41,6 +41,10 @@ use Rattle.std.specs.Prelude.{is_some}
 use Rattle.qcow2_image.specs.CallParts.{AreCopied}
 use Rattle.qcow2_image.specs.Prepared.{guest_offset_of, offset_of, table_of}
 use Rattle.qcow2_session.proofs.Copied.{entered_copied, existing_or_not, kept_copied}
+use Rattle.qcow2_alloc.specs.ImageFile.{known_in}
+use Rattle.qcow2_image.proofs.Sizing.Shrinking.{fault_of}
+use Rattle.qcow2_image.specs.MetAlone.{CopiesCompressed, IsMetAlone}
+use Rattle.qcow2_session.proofs.MetOnSound.{existing_found, existing_long, existing_near, met_behind, put_alone}
 use Rattle.qcow2_session.proofs.session.write_some.Goals as goal
 
 -- what refused a call that begins another one before any work refused that one
@@ -424,3 +428,63 @@ returns-in-Ok-clause-copied g c = λ some out sound.
     (c.in_default.ensures.held usable existing (omega (arith, any, long))))
     (λ table. entered_copied view new (guest_offset_of p) (offset_of p) (length_of p) count any (omega (arith, count_is)) (c.in-Ok.ensures.copied (Some p ∷ out) 0 refl ready.0 table)) in
     subst (λ k. AreCopied view k (k + count) new) from_is left
+
+pub returns-in_err-prepared-clause-met : goal.returns-in_err-prepared-clause-met
+returns-in_err-prepared-clause-met g c = λ none out sound free.
+    let view = g.S.Storage.view in
+    let below = g.F.BackingDisk.backing in
+    let old = c.args.image.now in
+    let new = c.prepare_data_mapping.new.self in
+    let n = length c.args.bytes.now in
+    let e = c.in_err-prepared.field-0.0 in
+    let some = some_bytes n (λ empty. let no = (c.in_err-prepared.ensures.nothing (ap (λ k. refuses_to_prepare old c.args.offset k) (sym empty) ∙ none) empty).0 in absurd cc) in
+    let call = c.in_err-prepared.ensures.sees out in
+    subst (λ r. IfErr r (IsMetAlone (CopiesCompressed c.args.offset n true new.file.header.fields (known_in view new.file)) (Unit {0}))) (sym (refused_is _ e c.from_residual.ensures))
+    (⊎_elim (λ still. met_behind view below out old new sound still.0 (call.acts.works sound) c.args.offset n _ e (c.in_err-prepared.ensures.met none some out sound free)) (λ failed. inl (inl (fault_of e failed.0))) (call.answer sound))
+
+pub returns-in-Err-clause-met : goal.returns-in-Err-clause-met
+returns-in-Err-clause-met g c = λ none out sound free.
+    let view = g.S.Storage.view in
+    let below = g.F.BackingDisk.backing in
+    let old = c.args.image.now in
+    let mid = c.prepare_data_mapping.new.self in
+    let p = c.in_ok-prepared.prepared in
+    let n = length c.args.bytes.now in
+    let offset = c.args.offset in
+    let count = c.min-count.result in
+    let usable = mapping_usable old mid c.prepare_data_mapping.ensures.image (image_of p) c.in_ok-prepared.ensures.own c.in_ok-prepared.ensures.marks (prepares_usable old offset n none) in
+    let some : 0 < n = some_bytes n (λ empty. let no = (c.in-Err.ensures.nothing usable (grind (arith, common_steps))).0 in absurd cc) in
+    let call = c.in_ok-prepared.ensures.sees (None ∷ out) 0 refl in
+    let free_place = (free_places view below).free old [] out sound in
+    let prepared = call.answer free_place in
+    let same : cluster_size_of mid ≡ cluster_size_of old = ap (λ (x : Setting). x.cluster_size) (call.acts.works free_place).setting in
+    let maps = c.in_ok-prepared.ensures.maps some out sound in
+    let fits : offset + n ≤ size_of mid = let s = c.prepare_data_mapping.ensures.image.size in let b = prepares_within old offset n none some in omega (arith, s, b) in
+    let long : table_of p ≡ None → length (take count c.args.bytes.now) ≡ n = λ existing.
+    let whole = existing_long view below out old mid p offset n prepared.0 same maps some existing in
+    let count_is : count ≡ min n (length_of p) = c.min-count.ensures ∙ ap (λ k. min n k) c.length.ensures in
+    chunk_long count (length_of p) c.args.bytes.now count_is ∙ (grind (arith, common_steps, count_is, whole)) in
+    inl (inl (put_alone out p c.in-Err.refusal free (λ existing. existing_near view below out old mid p offset n prepared.0 same maps some existing)
+    (λ existing outdated. c.in-Err.ensures.outdated existing (Some p ∷ out) prepared.0 (ap Err outdated) (existing_found view below out old mid p offset n prepared.0 same maps some existing fits prepared.1.0.from (length (take count c.args.bytes.now)) (long existing)))
+    (c.in-Err.ensures.met (Some p ∷ out) 0 refl prepared.0 (c.prepare_data_mapping.ensures.image.writable ∙ prepares_writable old offset n none some))))
+
+pub returns-in-Err-Spent-clause-met : goal.returns-in-Err-Spent-clause-met
+returns-in-Err-Spent-clause-met g c = λ none out sound free.
+    let view = g.S.Storage.view in
+    let below = g.F.BackingDisk.backing in
+    let p = c.in_ok-prepared.prepared in
+    let prepared = (c.in_ok-prepared.ensures.sees (None ∷ out) 0 refl).answer ((free_places view below).free c.args.image.now [] out sound) in
+    let ready = (c.in_default.ensures.sees (Some p ∷ out) 0 refl).answer prepared.0 in
+    let refused = subst (λ r. Commits view below c.write_mapped.new.self c.commit_data_mapping.new.self p (Err r)) c.in-Err-Spent.field-0-is c.in-Err-Spent.ensures.sees (Some p ∷ out) 0 refl in
+    inl (inl (fault_of c.in-Err-Spent.refusal (refused.0 ready.0)))
+
+pub returns-in-Err-Kept-clause-met : goal.returns-in-Err-Kept-clause-met
+returns-in-Err-Kept-clause-met g c = λ none out sound free.
+    let view = g.S.Storage.view in
+    let below = g.F.BackingDisk.backing in
+    let p = c.in_ok-prepared.prepared in
+    let same : c.in-Err-Kept.prepared ≡ p = subst (λ r. IsHandedBackBy p r) c.in-Err-Kept.field-0-is c.in-Err-Kept.ensures.kept in
+    let prepared = (c.in_ok-prepared.ensures.sees (None ∷ out) 0 refl).answer ((free_places view below).free c.args.image.now [] out sound) in
+    let ready = (c.in_default.ensures.sees (Some p ∷ out) 0 refl).answer prepared.0 in
+    let refused = subst (λ r. Commits view below c.write_mapped.new.self c.commit_data_mapping.new.self p (Err r)) (c.in-Err-Kept.field-0-is ∙ ap (λ q. Kept c.in-Err-Kept.refusal q) same) c.in-Err-Kept.ensures.sees (Some p ∷ out) 0 refl in
+    inl (inl (fault_of c.in-Err-Kept.refusal (refused.0 ready.0)))

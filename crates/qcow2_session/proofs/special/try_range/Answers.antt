@@ -1,13 +1,19 @@
-use Rattle.std.proofs.Common.{refl, ◌≡◌, ◌<◌, length, Err, sym, ◌∙◌, subst, arith, None}
+use Rattle.std.proofs.Common.{refl, ◌≡◌, ◌<◌, length, sym, ◌∙◌, subst, arith, None}
 use Rattle.std.proofs.lemmas.Grind.{common_steps}
 use Rattle.qcow2_alloc.specs.ImageFile.{known_in}
 use Rattle.qcow2_image.proofs.Sizes.{sound_is_usable}
 use Rattle.qcow2_image.specs.Refusals.{IsMet}
 use Rattle.qcow2_session.proofs.Turns.{refused_is, refused_some}
 use Rattle.qcow2_session.proofs.SpecialReads.{told_plainly}
-use Rattle.qcow2_session.proofs.Causing.{hands_unlimited, memory_unlimited, reads_unlimited}
-use Rattle.qcow2_session.proofs.Marking.{call_marks, hands_on, memory_marks, unmarked}
+use Rattle.qcow2_session.proofs.Marking.{call_marks, hands_on, memory_marks, unchecked, unmarked}
 use Rattle.qcow2_image.proofs.Call.BehindHeader.{behind_none}
+use Rattle.qcow2_session.proofs.MetOnSound.{memory_looking}
+use Rattle.qcow2_image.specs.Refusals.{unusable}
+use Rattle.std.specs.Prelude.{IfErr}
+use Rattle.std.proofs.Common.{inl}
+use Rattle.qcow2_image.specs.MetAlone.{IsMetLooking}
+use Rattle.qcow2_alloc.specs.declared.error.ImageError.TheVariants.{Compressed}
+use Rattle.std.proofs.Common.{◌⊎◌}
 use Rattle.qcow2_session.proofs.special.try_range.Goals as goal
 
 pub returns-clause-tells : goal.returns-clause-tells
@@ -44,12 +50,11 @@ returns-in_err-check_read-clause-header_cluster g c = behind_none
 pub returns-clause-quiet : goal.returns-clause-quiet
 returns-clause-quiet g c = c.try_readv_special.ensures.quiet
 
-pub returns-in_err-check_read-clause-limited : goal.returns-in_err-check_read-clause-limited
-returns-in_err-check_read-clause-limited g c = λ out sound.
-    hands_unlimited _ c.in_err-check_read.field-0.0 (refused_is _ c.in_err-check_read.field-0.0 c.from_residual.ensures) (reads_unlimited c.args.image.now 0 0 (Err c.in_err-check_read.field-0.0) c.in_err-check_read.ensures.refusal)
+pub returns-in_err-check_read-clause-met : goal.returns-in_err-check_read-clause-met
+returns-in_err-check_read-clause-met g c = λ out sound. absurd (unchecked (unusable c.args.image.now) c.in_err-check_read.field-0.0 c.in_err-check_read.ensures.refusal (sound_is_usable g.S.Storage.view g.F.BackingDisk.backing c.args.image.now out sound))
 
-pub returns-in_err-bytes-clause-limited : goal.returns-in_err-bytes-clause-limited
-returns-in_err-bytes-clause-limited g c = λ out sound. hands_unlimited _ c.in_err-bytes.field-0.0 (refused_is _ c.in_err-bytes.field-0.0 c.from_residual-in_err-bytes.ensures) (memory_unlimited c.in_err-bytes.field-0.0 c.in_err-bytes.ensures.cause.0)
+pub returns-in_err-bytes-clause-met : goal.returns-in_err-bytes-clause-met
+returns-in_err-bytes-clause-met g c = λ out sound. subst (λ r. IfErr r (λ e. IsMetLooking out e ⊎ (e ≡ Compressed))) (sym (refused_is _ c.in_err-bytes.field-0.0 c.from_residual-in_err-bytes.ensures)) (inl (memory_looking out c.in_err-bytes.field-0.0 c.in_err-bytes.ensures.cause.0))
 
-pub returns-clause-limited : goal.returns-clause-limited
-returns-clause-limited g c = c.try_readv_special.ensures.limited
+pub returns-clause-met : goal.returns-clause-met
+returns-clause-met g c = c.try_readv_special.ensures.met

@@ -1,4 +1,4 @@
-use Rattle.std.proofs.Common.{true, sym, subst, arith}
+use Rattle.std.proofs.Common.{◌≡◌, ◌∙◌, inr, None, true, sym, subst, arith}
 use Rattle.qcow2_image.specs.declared.mapping.MappingKind.TheVariants.{Raw}
 use Rattle.qcow2_image.specs.declared.mapping.Place.TheVariants.{Image}
 use Rattle.qcow2_image.specs.Found.{IsFoundWhole, IsMappedAs}
@@ -6,7 +6,11 @@ use Rattle.qcow2_image.proofs.Grow.Lengths.{on_ok}
 use Rattle.qcow2_image.proofs.Map.Loading.{if_ok}
 use Rattle.std.specs.Prelude.{Result}
 use Rattle.qcow2_alloc.proofs.AllocationSteps.{handed_on}
+use Rattle.qcow2_alloc.proofs.CachedEntries.Lists.{none_of}
 use Rattle.qcow2_image.specs.HeldMappings.{HeedsHeld}
+use Rattle.qcow2_image.specs.MetAlone.{IsMetLookingAgain}
+use Rattle.qcow2_image.specs.Prepared.{table_of}
+use Rattle.qcow2_image.proofs.Prepare.Met.{hands_met, met_as}
 use Rattle.std.proofs.Common.{◌+◌}
 use Rattle.qcow2_image.proofs.image.Qcow2.check_in_place.Goals as goal
 
@@ -15,7 +19,7 @@ returns-in_err-guest-clause-outdated g c = λ some p out sound is whole. absurd 
 
 pub returns-clause-outdated : goal.returns-clause-outdated
 returns-clause-outdated g c = λ some p out sound is whole.
-    c.check_mapped.ensures.outdated p out sound is (subst (λ o. IsFoundWhole g.S.Storage.view c.check_mapped.new.self o (Raw Image c.args.host true) c.args.length) (sym c.in_ok-guest.ensures.place) whole)
+    c.check_mapped.ensures.outdated p out sound is (subst (λ o. IsFoundWhole g.S.Storage.view c.args.self.now o (Raw Image c.args.host true) c.args.length) (sym c.in_ok-guest.ensures.place) whole)
 
 pub returns-clause-mapped : goal.returns-clause-mapped
 returns-clause-mapped g c = λ none some p out sound.
@@ -33,3 +37,13 @@ returns-in_err-guest-clause-held g c = λ none some.
 
 pub returns-clause-held : goal.returns-clause-held
 returns-clause-held g c = λ none some. subst (λ o. HeedsHeld c.check_mapped.new.self o (Raw Image c.args.host true) c.args.length c.check_mapped.result) c.in_ok-guest.ensures.place (c.check_mapped.ensures.held some)
+
+pub returns-in_err-guest-clause-met : goal.returns-in_err-guest-clause-met
+returns-in_err-guest-clause-met g c = λ p out sound.
+    let none : table_of c.args.prepared.now ≡ None = none_of (sym c.if-is_some.false ∙ c.is_some.ensures) in
+    hands_met (λ e. (table_of c.args.prepared.now ≡ None) × IsMetLookingAgain out e) c.from_residual.result c.in_err-guest.field-0.0 c.from_residual.ensures (none, inr c.in_err-guest.ensures.cause)
+
+pub returns-clause-met : goal.returns-clause-met
+returns-clause-met g c = λ p out sound.
+    let none : table_of c.args.prepared.now ≡ None = none_of (sym c.if-is_some.false ∙ c.is_some.ensures) in
+    met_as (IsMetLookingAgain out) (λ e. (table_of c.args.prepared.now ≡ None) × IsMetLookingAgain out e) c.check_mapped.result (λ e why. (none, why)) (c.check_mapped.ensures.met p out sound)

@@ -1,12 +1,13 @@
 use Rattle.std.proofs.Common.{◌≡◌, ◌≤◌, IsTrue, true, false, sym, subst, arith}
 use Rattle.qcow2_image.specs.Found.{IsFoundInImage, IsFoundWhole, IsMappedAs}
-use Rattle.qcow2_image.proofs.Map.Looked.{found_before, found_whole, mapped_as}
+use Rattle.qcow2_image.proofs.Map.Looked.{found_after, found_before, found_whole, mapped_as}
 use Rattle.qcow2_image.proofs.image.Qcow2.check_mapped.Goals.{else-found-length-via-then-found-length+else-is, else-found-length-via-else-found-length}
 use Rattle.qcow2_alloc.proofs.AllocationSteps.{handed_on}
-use Rattle.qcow2_image.specs.Refusals.{IsUnlimited}
-use Rattle.std.specs.Prelude.{IfErr, Result}
+use Rattle.qcow2_image.specs.MetAlone.{IsMetLookingAgain}
+use Rattle.qcow2_image.proofs.Prepare.Met.{hands_met}
+use Rattle.std.specs.Prelude.{Result}
 use Rattle.qcow2_image.proofs.Map.Held.{held_whole, heeds_else, same_found}
-use Rattle.std.proofs.Common.{◌<◌, ⊎_elim}
+use Rattle.std.proofs.Common.{◌<◌, ⊎_elim, inl, inr, refl}
 use Rattle.std.proofs.lemmas.Bool.{cases_lt}
 use Rattle.std.specs.Prelude.{is_some}
 use Rattle.qcow2_alloc.specs.ImageError.{IsOfTables}
@@ -22,7 +23,9 @@ returns-then-is-clause-mapped g c = λ some p out sound.
 
 pub returns-clause-outdated : goal.returns-clause-outdated
 returns-clause-outdated g c = λ p out sound is whole.
-    let both = found_whole g.S.Storage.view c.look_up.new.self c.args.offset c.args.length c.in_ok-kind.kind c.args.wanted.now c.in_ok-kind.found (c.in_ok-kind.ensures.found p out sound) whole in
+    let view = g.S.Storage.view in
+    let still = found_after view g.F.BackingDisk.backing c.args.self.now c.look_up.new.self out p p c.args.offset c.args.length c.args.wanted.now (c.in_ok-kind.ensures.keeps p out sound) whole in
+    let both = found_whole view c.look_up.new.self c.args.offset c.args.length c.in_ok-kind.kind c.args.wanted.now c.in_ok-kind.found (c.in_ok-kind.ensures.found p out sound) still in
     elim c.else-found-length.branch [
       | else-found-length-via-then-found-length+else-is w ↦ absurd (let no : false ≡ true = subst IsTrue w.if-is.false (w.is.ensures.1 both.0) in cc)
       | else-found-length-via-else-found-length w ↦ absurd (let short = w.if-found-length.false in omega (arith, both.1))
@@ -39,9 +42,11 @@ returns-then-is-clause-found g c = λ p out sound.
     found_before view g.F.BackingDisk.backing c.args.self.now new out p p offset n c.args.wanted.now (c.in_ok-kind.ensures.keeps p out sound)
     (subst (λ k. IsFoundWhole view new offset k n) (sym same) (subst (λ m. IsFoundInImage view new offset n c.in_ok-kind.kind m) whole (c.in_ok-kind.ensures.found p out sound)))
 
-pub returns-in_err-kind-clause-limited : goal.returns-in_err-kind-clause-limited
-returns-in_err-kind-clause-limited g c = λ p out sound.
-    handed_on (λ (r : Result _ _). IfErr r IsUnlimited) c.from_residual.result c.in_err-kind.field-0.0 c.from_residual.ensures (c.in_err-kind.ensures.limited p out sound)
+pub returns-in_err-kind-clause-met : goal.returns-in_err-kind-clause-met
+returns-in_err-kind-clause-met g c = λ p out sound. hands_met (IsMetLookingAgain out) c.from_residual.result c.in_err-kind.field-0.0 c.from_residual.ensures (inl (c.in_err-kind.ensures.met p out sound))
+
+pub returns-clause-met : goal.returns-clause-met
+returns-clause-met g c = λ p out sound. inr refl
 
 pub returns-then-is-clause-held : goal.returns-then-is-clause-held
 returns-then-is-clause-held g c = λ some.

@@ -20,7 +20,8 @@ use Rattle.qcow2_alloc.proofs.Outcomes.{err_as}
 use Rattle.qcow2_alloc.specs.declared.error.ImageError.TheVariants.{Memory}
 use Rattle.qcow2_image.proofs.Call.BehindHeader.{behind_call}
 use Rattle.std.specs.Prelude.{IfErr}
-use Rattle.qcow2_image.specs.Refusals.{IsUnlimited}
+use Rattle.qcow2_image.specs.MetAlone.{IsMetLooking}
+use Rattle.qcow2_image.proofs.Prepare.Met.{hands_met}
 use Rattle.qcow2_image.proofs.Sizes.{sound_is_usable}
 use Rattle.qcow2_image.proofs.Clear.ClearCalls.{refused_for}
 use Rattle.qcow2_image.specs.Refusals.{unusable}
@@ -105,14 +106,14 @@ returns-in_err-kind-clause-header_cluster g c = behind_call g.S.Storage.view c.b
 pub returns-clause-header_cluster : goal.returns-clause-header_cluster
 returns-clause-header_cluster g c = behind_call g.S.Storage.view c.begin.ensures.begun c.look_up-found.ensures.header_cluster c.mark_failure.ensures.rest
 
-pub returns-in_err-kind-clause-limited : goal.returns-in_err-kind-clause-limited
-returns-in_err-kind-clause-limited g c = λ out sound.
+pub returns-in_err-kind-clause-met : goal.returns-in_err-kind-clause-met
+returns-in_err-kind-clause-met g c = λ out sound.
     let p = pending_in g.S.Storage.view g.F.BackingDisk.backing c.args.self.now out in
-    handed_on (λ r. IfErr r IsUnlimited) c.from_residual-in_err-kind.result c.in_err-kind.field-0.0 c.from_residual-in_err-kind.ensures
-    (subst (λ r. IfErr r IsUnlimited) (sym c.mark_failure.ensures.answer ∙ c.in_err-kind.was) (c.look_up-found.ensures.limited p out (c.begin.ensures.keeps p out sound).sound))
+    hands_met (IsMetLooking out) c.from_residual-in_err-kind.result c.in_err-kind.field-0.0 c.from_residual-in_err-kind.ensures
+    (subst (λ r. IfErr r (IsMetLooking out)) (sym c.mark_failure.ensures.answer ∙ c.in_err-kind.was) (c.look_up-found.ensures.met p out (c.begin.ensures.keeps p out sound).sound))
 
-pub returns-in_err-check_usable-clause-limited : goal.returns-in_err-check_usable-clause-limited
-returns-in_err-check_usable-clause-limited g c = λ out sound.
+pub returns-in_err-check_usable-clause-met : goal.returns-in_err-check_usable-clause-met
+returns-in_err-check_usable-clause-met g c = λ out sound.
     let old = c.args.self.now in
     let e = c.in_err-check_usable.field-0.0 in
     let refused = refused_for c.check_usable.result tt (unusable old) e c.check_usable.ensures c.in_err-check_usable.was in

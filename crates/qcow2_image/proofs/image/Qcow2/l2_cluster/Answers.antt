@@ -1,7 +1,8 @@
-use Rattle.std.proofs.Common.{◌≡◌, ◌*◌, ◌/◌, ◌^◌, sym, ap, ◌∙◌, arith}
+use Rattle.std.proofs.Common.{◌≡◌, ◌*◌, ◌/◌, ◌%◌, ◌^◌, sym, ap, ◌∙◌, arith}
 use Rattle.qcow2_metadata.specs.Entries.{host_offset}
 use Rattle.qcow2_metadata.specs.TableBytes.{entry_at}
 use Rattle.qcow2_image.specs.Found.{l1_index_of}
+use Rattle.qcow2_image.proofs.Map.MetLooking.{named_aligned}
 use Rattle.qcow2_image.proofs.Prepare.Pinned.{whole_quotient}
 use Rattle.qcow2_image.proofs.image.Qcow2.l2_cluster.Goals as goal
 
@@ -21,3 +22,10 @@ returns-in-Some-checked_cluster-clause-own g c =
       whole_quotient old.file.header.fields.cluster_bits c.in-Some-checked_cluster.cluster _ (sym (ap (λ b. c.in-Some-checked_cluster.cluster * 2 ^ b) c.cluster_bits-bits.ensures.value) ∙ c.in-Some-checked_cluster.ensures.cluster ∙ place),
       λ none. let some = c.in-Some.ensures.some in let zero = place ∙ none in omega (arith, some, zero),
     )
+
+pub returns-in-None-clause-reads : goal.returns-in-None-clause-reads
+returns-in-None-clause-reads g c = λ p out sound.
+    let old = c.args.self.now in
+    let place = c.in-Some.ensures.offset in
+    absurd (c.in-None.ensures.none (ap (λ b. c.in-Some.entry.offset % 2 ^ b) c.cluster_bits-bits.ensures.value ∙ ap (λ n. n % 2 ^ old.file.header.fields.cluster_bits) place
+    ∙ named_aligned g.S.Storage.view g.F.BackingDisk.backing out p old sound c.l1_index.result (λ none. let some = c.in-Some.ensures.some in let zero = place ∙ none in omega (arith, some, zero))))

@@ -1,6 +1,5 @@
-use Rattle.std.proofs.Common.{◌≡◌, ◌-◌, ◌/◌, sym, ap, ◌∙◌, subst, arith, min, is_some, Some, None, ◌<◌}
-use Rattle.std.proofs.lemmas.Nat.{mod_below}
-use Rattle.qcow2_metadata.specs.Header.{cluster_size, entries_per_cluster}
+use Rattle.std.proofs.Common.{◌≡◌, ◌-◌, ◌/◌, sym, ap, ◌∙◌, subst, arith, min, is_some, Some, None, false, true, ◌<◌, ◌≤◌}
+use Rattle.qcow2_metadata.specs.Header.{cluster_size}
 use Rattle.qcow2_metadata.specs.Entries.{host_offset}
 use Rattle.qcow2_disk.specs.Alike.{IsLongestRun}
 use Rattle.qcow2_laws.specs.Guests.{table_at}
@@ -8,16 +7,16 @@ use Rattle.qcow2_laws.proofs.Places.{Sizes-from, cover_none}
 use Rattle.qcow2_laws.proofs.Tops.{IsTop-top}
 use Rattle.qcow2_alloc.specs.ImageFile.{contents_in, known_in}
 use Rattle.qcow2_disk.specs.Found.{kind_at, rest_of_table}
-use Rattle.qcow2_image.specs.Found.{l1_index_of, NamesL2Table, IsRunFrom}
+use Rattle.qcow2_image.specs.Found.{l1_index_of, l2_index_of, NamesL2Table, IsRunFrom}
 use Rattle.qcow2_image.proofs.Map.Loading.{caches_moved, with_caches, if_ok}
 use Rattle.qcow2_image.proofs.Map.Looked.{none_found}
 use Rattle.qcow2_image.proofs.Map.Unmodified.{read_caches, read_none}
 use Rattle.qcow2_image.proofs.Call.BehindHeader.{behind_caches}
 use Rattle.std.specs.Prelude.{IfSome}
-use Rattle.std.specs.Prelude.{IfErr}
-use Rattle.qcow2_alloc.proofs.AllocationSteps.{handed_on}
-use Rattle.qcow2_image.specs.Refusals.{IsUnlimited}
-use Rattle.qcow2_image.proofs.Call.Unlimited.{in_use_unlimited}
+use Rattle.qcow2_alloc.specs.MetadataCaches.{IsEntryAt}
+use Rattle.qcow2_image.specs.MetAlone.{IsMetLooking}
+use Rattle.qcow2_image.proofs.Map.MetLooking.{answers_met, cache_looking, named_entry}
+use Rattle.qcow2_image.proofs.Prepare.Met.{hands_met}
 use Rattle.qcow2_image.proofs.Prepare.Lacking.{named_place}
 use Rattle.qcow2_image.proofs.Map.Quiet.{reads_none}
 use Rattle.qcow2_image.proofs.Map.Held.{uncovered_held}
@@ -72,13 +71,10 @@ returns-in_ok-l2_get_or_insert-in-Some-clause-found g c = λ p out sound.
     let kept = caches_moved g.S.Storage.view g.F.BackingDisk.backing c.args.self.now out p sound c.l2_get_or_insert.new.storage c.l2_get_or_insert.new.self stay c.l2_get_or_insert.ensures.marks.room
     c.l2_get_or_insert.ensures.marks.pins in
     let image = with_caches g.S.Storage.view g.F.BackingDisk.backing c.args.self.now out p sound c.l2_get_or_insert.new.storage c.l2_get_or_insert.new.self in
-    let crash_invariant = sound.file.caches.kept.kept.crash_invariant in
-    let known = known_in g.S.Storage.view image.file in
-    let sizes = Sizes-from h (known_in g.S.Storage.view c.args.self.now.file) (IsTop-top h (contents_in g.S.Storage.view c.args.self.now.file) (known_in g.S.Storage.view c.args.self.now.file) crash_invariant.same_top crash_invariant.top).header_reads in
     let names : NamesL2Table g.S.Storage.view c.args.self.now c.args.offset (Some c.in-Some.table) =
     subst (NamesL2Table g.S.Storage.view c.args.self.now c.args.offset) c.in-Some.is (c.in_ok-l2_cluster.ensures.names sound.l1_table) in
-    let there : table_at h known (l1_index_of h c.args.offset) ≡ table_at h (contents_in g.S.Storage.view c.args.self.now.file) (l1_index_of h c.args.offset) =
-    ap (λ b. table_at h b (l1_index_of h c.args.offset)) stay.known ∙ ap host_offset (sym (crash_invariant.same_top.l1 (l1_index_of h c.args.offset))) in
+    let entry = subst (λ b. IsEntryAt h b (l1_index_of h c.args.offset) c.in-Some.table (l2_index_of h c.args.offset)) (sym stay.known)
+    (named_entry g.S.Storage.view g.F.BackingDisk.backing out p c.args.self.now sound c.args.offset c.in-Some.table names) in
     let limit : c.min-max.result ≡ min (min c.args.max (h.size - c.args.offset)) (rest_of_table h c.args.offset) =
     let a = c.min-max.ensures in let b = c.min.ensures in let s = c.size-size.ensures in let r = c.rest_of_table.ensures.value in omega arith in
     if_ok c.run_in_table.result
@@ -86,8 +82,7 @@ returns-in_ok-l2_get_or_insert-in-Some-clause-found g c = λ p out sound.
       past = λ le. absurd (let e = c.if-offset-size.false in let s = c.size-size.ensures in omega arith);
       run = λ lt. subst (λ m. IsRunFrom g.S.Storage.view image c.args.offset m x.0 x.1) limit run;
     })
-    (c.run_in_table.ensures.run p kept.sound.file
-    (record { real = λ none. names.1 (sym there ∙ none); place = there ∙ names.0; within = mod_below (c.args.offset / cluster_size h) (entries_per_cluster h) sizes.entries }) (omega (arith, limit)))
+    (c.run_in_table.ensures.run p kept.sound.file entry (omega (arith, limit)))
 
 pub returns-in_err-l2_get_or_insert-in-Some-clause-unwritten :
     goal.returns-in_err-l2_get_or_insert-in-Some-clause-unwritten
@@ -110,16 +105,33 @@ returns-in_err-l2_get_or_insert-in-Some-clause-header_cluster g c = behind_cache
 pub returns-in_ok-l2_get_or_insert-in-Some-clause-header_cluster : goal.returns-in_ok-l2_get_or_insert-in-Some-clause-header_cluster
 returns-in_ok-l2_get_or_insert-in-Some-clause-header_cluster g c = behind_caches (c.l2_get_or_insert.ensures.header_cluster (subst (λ t. IfSome t (λ n. 0 < n)) c.in-Some.is c.in_ok-l2_cluster.ensures.elsewhere))
 
-pub returns-in_err-l2_get_or_insert-in-Some-clause-limited : goal.returns-in_err-l2_get_or_insert-in-Some-clause-limited
-returns-in_err-l2_get_or_insert-in-Some-clause-limited g c = λ p out sound.
+pub returns-in_err-l2_cluster-clause-met : goal.returns-in_err-l2_cluster-clause-met
+returns-in_err-l2_cluster-clause-met g c = λ p out sound. absurd (let no : false ≡ true = c.in_err-l2_cluster.ensures.reads p out sound in cc)
+
+pub returns-in_err-l2_get_or_insert-in-Some-clause-met : goal.returns-in_err-l2_get_or_insert-in-Some-clause-met
+returns-in_err-l2_get_or_insert-in-Some-clause-met g c = λ p out sound.
     let view = g.S.Storage.view in
     let h = c.args.self.now.file.header.fields in
     let names : NamesL2Table view c.args.self.now c.args.offset (Some c.in-Some.table) =
     subst (NamesL2Table view c.args.self.now c.args.offset) c.in-Some.is (c.in_ok-l2_cluster.ensures.names sound.l1_table) in
     let e = c.in_err-l2_get_or_insert-in-Some.field-0.0 in
-    handed_on (λ r. IfErr r IsUnlimited) c.from_residual-in_err-l2_get_or_insert-in-Some.result e c.from_residual-in_err-l2_get_or_insert-in-Some.ensures
-    (in_use_unlimited c.args.self.now.file.caches e
+    hands_met (IsMetLooking out) c.from_residual-in_err-l2_get_or_insert-in-Some.result e c.from_residual-in_err-l2_get_or_insert-in-Some.ensures
+    (cache_looking view g.F.BackingDisk.backing out p c.args.self.now sound e
     (c.in_err-l2_get_or_insert-in-Some.ensures.refusals h (named_place h (contents_in view c.args.self.now.file) (l1_index_of h c.args.offset) c.in-Some.table names.0) p sound.file.honest sound.file.caches sound.file.named_blocks))
+
+pub returns-in_ok-l2_get_or_insert-in-Some-clause-met : goal.returns-in_ok-l2_get_or_insert-in-Some-clause-met
+returns-in_ok-l2_get_or_insert-in-Some-clause-met g c = λ p out sound.
+    let view = g.S.Storage.view in
+    let below = g.F.BackingDisk.backing in
+    let h = c.args.self.now.file.header.fields in
+    let stay = c.l2_get_or_insert.ensures.keeps h p sound.file.honest sound.file.caches in
+    let kept = caches_moved view below c.args.self.now out p sound c.l2_get_or_insert.new.storage c.l2_get_or_insert.new.self stay c.l2_get_or_insert.ensures.marks.room c.l2_get_or_insert.ensures.marks.pins in
+    let names : NamesL2Table view c.args.self.now c.args.offset (Some c.in-Some.table) =
+    subst (NamesL2Table view c.args.self.now c.args.offset) c.in-Some.is (c.in_ok-l2_cluster.ensures.names sound.l1_table) in
+    let entry = subst (λ b. IsEntryAt h b (l1_index_of h c.args.offset) c.in-Some.table (l2_index_of h c.args.offset)) (sym stay.known)
+    (named_entry view below out p c.args.self.now sound c.args.offset c.in-Some.table names) in
+    let limit : c.min-max.result ≤ rest_of_table h c.args.offset = let b = c.min-max.ensures in let r = c.rest_of_table.ensures.value in omega arith in
+    answers_met (IsMetLooking out) c.run_in_table.result (c.run_in_table.ensures.reads p kept.sound.file entry limit)
 
 pub returns-in_err-l2_get_or_insert-in-Some-clause-quiet : goal.returns-in_err-l2_get_or_insert-in-Some-clause-quiet
 returns-in_err-l2_get_or_insert-in-Some-clause-quiet g c = c.l2_get_or_insert.ensures.all_written

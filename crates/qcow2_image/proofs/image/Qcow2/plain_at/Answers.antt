@@ -1,12 +1,12 @@
-use Rattle.std.proofs.Common.{sym, ◌∙◌, subst, is_some}
+use Rattle.std.proofs.Common.{◌≡◌, ◌⊎◌, inl, sym, ◌∙◌, subst, is_some}
 use Rattle.qcow2_disk.specs.Found.{IsCompressedAt, IsFoundIn, IsFound as IsFoundOf}
 use Rattle.qcow2_laws.proofs.Unseen.{known_header}
 use Rattle.qcow2_alloc.specs.ImageFile.{known_in, state_in}
 use Rattle.qcow2_image.specs.Found.{found_kind}
 use Rattle.qcow2_image.proofs.Map.Special.{found_special, found_plain}
-use Rattle.qcow2_alloc.proofs.AllocationSteps.{handed_on}
-use Rattle.qcow2_image.specs.Refusals.{IsUnlimited}
-use Rattle.std.specs.Prelude.{IfErr, Result}
+use Rattle.qcow2_alloc.specs.declared.error.ImageError.TheVariants.{Compressed}
+use Rattle.qcow2_image.specs.MetAlone.{IsMetLooking}
+use Rattle.qcow2_image.proofs.Prepare.Met.{hands_met}
 use Rattle.qcow2_image.proofs.image.Qcow2.plain_at.Goals as goal
 
 pub returns-then-is_special-clause-tells : goal.returns-then-is_special-clause-tells
@@ -31,6 +31,6 @@ returns-clause-tells g c = λ p out sound is.
     found_plain known (is_some new.backing) c.args.offset c.args.length c.in_ok-kind._length (found_kind c.in_ok-kind.kind) found (sym c.is_special.ensures ∙ c.if-is_special.false)
     (subst (λ k. IsCompressedAt k c.args.offset) (sym (c.in_ok-kind.ensures.known p out sound)) is)
 
-pub returns-in_err-kind-clause-limited : goal.returns-in_err-kind-clause-limited
-returns-in_err-kind-clause-limited g c = λ p out sound.
-    handed_on (λ (r : Result _ _). IfErr r IsUnlimited) c.from_residual.result c.in_err-kind.field-0.0 c.from_residual.ensures (c.in_err-kind.ensures.limited p out sound)
+pub returns-in_err-kind-clause-met : goal.returns-in_err-kind-clause-met
+returns-in_err-kind-clause-met g c = λ p out sound.
+    hands_met (λ e. IsMetLooking out e ⊎ (e ≡ Compressed)) c.from_residual.result c.in_err-kind.field-0.0 c.from_residual.ensures (inl (c.in_err-kind.ensures.met p out sound))

@@ -1,4 +1,4 @@
-use Rattle.std.proofs.Common.{◌≡◌, ◌+◌, ◌∙◌, length, Err, subst, sym, arith, IfOk}
+use Rattle.std.proofs.Common.{◌≡◌, ◌+◌, ◌∙◌, inl, inr, length, Err, subst, sym, arith, IfOk}
 use Rattle.qcow2_disk.specs.Calls.{Shows}
 use Rattle.qcow2_alloc.specs.declared.error.ImageError.TheVariants.{OutdatedMapping}
 use Rattle.qcow2_alloc.proofs.AllocationSteps.{handed_on}
@@ -10,7 +10,8 @@ use Rattle.qcow2_image.proofs.Map.Looked.{none_past}
 use Rattle.qcow2_image.proofs.Map.Unmodified.{reads_on}
 use Rattle.qcow2_alloc.proofs.KeptMarks.{notes_then}
 use Rattle.qcow2_image.proofs.Call.BehindHeader.{behind_then}
-use Rattle.qcow2_image.specs.Refusals.{IsUnlimited}
+use Rattle.qcow2_image.specs.MetAlone.{IsMetMapped, IsMetReading}
+use Rattle.qcow2_image.proofs.Prepare.Met.{hands_met, mapped_met, met_as}
 use Rattle.std.specs.Prelude.{IfErr, Result}
 use Rattle.qcow2_alloc.proofs.KeptTables.AllWritten.{written_then}
 use Rattle.qcow2_image.proofs.Map.Held.{heeds_then, held_as, none_eof}
@@ -36,15 +37,15 @@ pub returns-in_err-check_mapped-clause-outdated : goal.returns-in_err-check_mapp
 returns-in_err-check_mapped-clause-outdated g c = λ some p out sound is whole.
     let view = g.S.Storage.view in
     let n = length c.args.bytes.now in
-    let here = subst (λ k. IsFoundWhole view c.check_mapped.new.self c.in_ok-offset.offset k n) (sym c.further-kind.ensures)
-    (subst (λ o. IsFoundWhole view c.check_mapped.new.self o (further_by c.args.at c.args.mapping.now.kind) n) (sym c.in_ok-offset.ensures.place) whole) in
+    let here = subst (λ k. IsFoundWhole view c.args.self.now c.in_ok-offset.offset k n) (sym c.further-kind.ensures)
+    (subst (λ o. IsFoundWhole view c.args.self.now o (further_by c.args.at c.args.mapping.now.kind) n) (sym c.in_ok-offset.ensures.place) whole) in
     let e = c.in_err-check_mapped.field-0.0 in
     handed_on (λ r. r ≡ Err OutdatedMapping → ⊥) c.from_residual-in_err-check_mapped.result e c.from_residual-in_err-check_mapped.ensures (λ was. c.in_err-check_mapped.ensures.outdated p out sound was here) is
 
 pub returns-clause-outdated : goal.returns-clause-outdated
 returns-clause-outdated g c = λ some p out sound is whole.
-    none_past g.S.Storage.view c.read_as.new.self (c.args.mapping.now.offset + c.args.at) (length c.args.bytes.now) some
-    (subst (λ k. IsFoundWhole g.S.Storage.view c.read_as.new.self (c.args.mapping.now.offset + c.args.at) k (length c.args.bytes.now)) (sym c.further-kind.ensures ∙ (c.read_as.ensures.outdated is).0) whole)
+    none_past g.S.Storage.view c.args.self.now (c.args.mapping.now.offset + c.args.at) (length c.args.bytes.now) some
+    (subst (λ k. IsFoundWhole g.S.Storage.view c.args.self.now (c.args.mapping.now.offset + c.args.at) k (length c.args.bytes.now)) (sym c.further-kind.ensures ∙ (c.read_as.ensures.outdated is).0) whole)
 
 pub returns-clause-unwritten : goal.returns-clause-unwritten
 returns-clause-unwritten g c = reads_on g.S.Storage.view g.F.BackingDisk.backing c.args.self.now c.check_mapped.new.self c.read_as.new.self c.in_ok-check_mapped.ensures.keeps c.in_ok-check_mapped.ensures.unwritten c.read_as.ensures.unwritten
@@ -64,12 +65,18 @@ returns-clause-mapped g c = λ p out sound.
 pub returns-clause-header_cluster : goal.returns-clause-header_cluster
 returns-clause-header_cluster g c = behind_then c.check_mapped.ensures.header_cluster c.read_as.ensures.header_cluster
 
-pub returns-in_err-check_mapped-clause-limited : goal.returns-in_err-check_mapped-clause-limited
-returns-in_err-check_mapped-clause-limited g c = λ p out sound.
-    handed_on (λ (r : Result _ _). IfErr r IsUnlimited) c.from_residual-in_err-check_mapped.result c.in_err-check_mapped.field-0.0 c.from_residual-in_err-check_mapped.ensures (c.in_err-check_mapped.ensures.limited p out sound)
+pub returns-in_err-offset-clause-met : goal.returns-in_err-offset-clause-met
+returns-in_err-offset-clause-met g c = λ p out sound.
+    hands_met (IsMetMapped out (further_by c.args.at c.args.mapping.now.kind)) c.from_residual.result c.in_err-offset.field-0.0 c.from_residual.ensures (inl (inr c.in_err-offset.ensures.cause))
 
-pub returns-clause-limited : goal.returns-clause-limited
-returns-clause-limited g c = λ p out sound. c.read_as.ensures.limited
+pub returns-in_err-check_mapped-clause-met : goal.returns-in_err-check_mapped-clause-met
+returns-in_err-check_mapped-clause-met g c = λ p out sound.
+    hands_met (IsMetMapped out (further_by c.args.at c.args.mapping.now.kind)) c.from_residual-in_err-check_mapped.result c.in_err-check_mapped.field-0.0 c.from_residual-in_err-check_mapped.ensures
+    (inl (c.in_err-check_mapped.ensures.met p out sound))
+
+pub returns-clause-met : goal.returns-clause-met
+returns-clause-met g c = λ p out sound.
+    subst (λ k. IfErr c.read_as.result (IsMetMapped out k)) c.further-kind.ensures (met_as (IsMetReading c.further-kind.result) (IsMetMapped out c.further-kind.result) c.read_as.result (mapped_met out c.further-kind.result) c.read_as.ensures.met)
 
 pub returns-clause-quiet : goal.returns-clause-quiet
 returns-clause-quiet g c = written_then g.S.Storage.view c.in_ok-check_mapped.ensures.quiet c.read_as.ensures.quiet

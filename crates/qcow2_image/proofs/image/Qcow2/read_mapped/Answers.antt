@@ -13,17 +13,13 @@ use Rattle.qcow2_image.proofs.Call.Answers.{usable_works}
 use Rattle.qcow2_image.proofs.Call.Called.{told_answers, tells_quietly, quietly_then}
 use Rattle.qcow2_image.proofs.Grow.Lengths.{on_ok}
 use Rattle.qcow2_image.proofs.Map.Loading.{if_ok}
-use Rattle.qcow2_image.proofs.Map.Looked.{found_before}
+use Rattle.qcow2_image.proofs.Map.Looked.{found_after, found_before}
 use Rattle.qcow2_image.proofs.Call.FaultCounts.{counted_marked}
 use Rattle.qcow2_image.proofs.Map.Unmodified.{read_call}
 use Rattle.qcow2_image.proofs.Call.OnceWritten.{once_written}
 use Rattle.qcow2_image.proofs.Call.BehindHeader.{behind_call}
 use Rattle.std.specs.Prelude.{IfErr}
-use Rattle.qcow2_image.specs.Refusals.{IsUnlimited}
-use Rattle.qcow2_image.proofs.Sizes.{sound_is_usable}
-use Rattle.qcow2_image.proofs.Clear.ClearCalls.{refused_for}
-use Rattle.qcow2_image.specs.Refusals.{unusable}
-use Rattle.std.specs.Prelude.{None, Some}
+use Rattle.qcow2_image.specs.MetAlone.{IsMetMapped}
 use Rattle.qcow2_image.proofs.Map.Quiet.{reads_call}
 use Rattle.qcow2_image.proofs.Map.Held.{heeds_on, keeps_marked}
 use Rattle.std.proofs.Common.{◌+◌, sym, subst}
@@ -53,14 +49,12 @@ returns-clause-sees g c =
 pub returns-clause-outdated : goal.returns-clause-outdated
 returns-clause-outdated g c = λ out sound is whole.
     let view = g.S.Storage.view in
-    let p = pending_in view g.F.BackingDisk.backing c.args.self.now out in
-    let new = c.read_current-done.new.self in
+    let below = g.F.BackingDisk.backing in
+    let p = pending_in view below c.args.self.now out in
+    let begun = c.begin.ensures.keeps p out sound in
     let some : 0 < length c.args.bytes.now = search rules in
-    let answer : c.read_current-done.result ≡ Err OutdatedMapping = sym c.mark_failure.ensures.answer ∙ is in
-    let marks : is_failed c.mark_failure.new.self ≡ is_failed new = subst (λ r. MayMarkBy r (is_failed new) (is_failed c.mark_failure.new.self)) answer (may_mark c.read_current-done.new.self c.mark_failure.new.self c.read_current-done.result c.mark_failure.ensures.marks) in
-    let same : c.mark_failure.new.self ≡ new = c.mark_failure.ensures.rest ∙ ap (λ f. record new { is_failed = f }) marks in
-    c.read_current-done.ensures.outdated some p out (c.begin.ensures.keeps p out sound).sound answer
-    (subst (λ (image : Qcow2 _ _). IsFoundWhole view image (c.args.mapping.now.offset + c.args.at) (further_by c.args.at c.args.mapping.now.kind) (length c.args.bytes.now)) same whole)
+    c.read_current-done.ensures.outdated some p out begun.sound (sym c.mark_failure.ensures.answer ∙ is)
+    (found_after view below c.args.self.now c.begin.new.self out p p (c.args.mapping.now.offset + c.args.at) (length c.args.bytes.now) (further_by c.args.at c.args.mapping.now.kind) begun whole)
 
 pub returns-clause-faults : goal.returns-clause-faults
 returns-clause-faults g c = counted_marked g.S.Storage.view g.F.BackingDisk.backing c.args.self.now c.begin.new.self c.read_current-done.new.self c.mark_failure.new.self c.read_current-done.result c.mark_failure.result c.begin.ensures.faults c.read_current-done.ensures.faults c.mark_failure.ensures.answer c.mark_failure.ensures.rest
@@ -90,17 +84,10 @@ returns-clause-mapped g c = λ some out sound.
 pub returns-clause-header_cluster : goal.returns-clause-header_cluster
 returns-clause-header_cluster g c = behind_call g.S.Storage.view c.begin.ensures.begun c.read_current-done.ensures.header_cluster c.mark_failure.ensures.rest
 
-pub returns-clause-limited : goal.returns-clause-limited
-returns-clause-limited g c = λ out sound.
+pub returns-clause-met : goal.returns-clause-met
+returns-clause-met g c = λ usable out sound.
     let p = pending_in g.S.Storage.view g.F.BackingDisk.backing c.args.self.now out in
-    subst (λ (r : Result _ _). IfErr r IsUnlimited) (sym c.mark_failure.ensures.answer) (c.read_current-done.ensures.limited p out (c.begin.ensures.keeps p out sound).sound)
-
-pub returns-in_err-check_usable-clause-limited : goal.returns-in_err-check_usable-clause-limited
-returns-in_err-check_usable-clause-limited g c = λ out sound.
-    let old = c.args.self.now in
-    let e = c.in_err-check_usable.field-0.0 in
-    let refused = refused_for c.check_usable.result tt (unusable old) e c.check_usable.ensures c.in_err-check_usable.was in
-    absurd (let no : None ≡ Some c.in_err-check_usable.field-0.0 = sym (sound_is_usable g.S.Storage.view g.F.BackingDisk.backing old out sound) ∙ refused in cc)
+    subst (λ (r : Result _ _). IfErr r (IsMetMapped out (further_by c.args.at c.args.mapping.now.kind))) (sym c.mark_failure.ensures.answer) (c.read_current-done.ensures.met p out (c.begin.ensures.keeps p out sound).sound)
 
 pub returns-clause-quiet : goal.returns-clause-quiet
 returns-clause-quiet g c = reads_call g.S.Storage.view c.args.self.now c.begin.new.self c.read_current-done.new.self c.mark_failure.new.self _ c.begin.ensures.begun c.read_current-done.ensures.quiet c.mark_failure.ensures.rest

@@ -1,4 +1,5 @@
-use Rattle.std.proofs.Common.{◌≡◌, ◌∙◌, [], IfErr, subst}
+use Rattle.std.proofs.Common.{◌≡◌, ◌∙◌, ◌⊎◌, inl, inr, [], IfErr, length, subst, arith}
+use Rattle.std.proofs.lemmas.Bool.{cases_lt}
 use Rattle.qcow2_disk.specs.Calls.{not_compressed, storage}
 use Rattle.qcow2_alloc.specs.ImageFile.{known_in}
 use Rattle.qcow2_alloc.proofs.AllocationSteps.{handed_on}
@@ -11,7 +12,8 @@ use Rattle.qcow2_image.proofs.Sizes.{sound_is_usable}
 use Rattle.qcow2_image.specs.Noted.{FailsOnceWritten}
 use Rattle.qcow2_alloc.proofs.Outcomes.{err_as}
 use Rattle.qcow2_alloc.specs.declared.error.ImageError.TheVariants.{Memory}
-use Rattle.qcow2_image.specs.Refusals.{IsUnlimited}
+use Rattle.qcow2_image.specs.MetAlone.{IsMetLooking}
+use Rattle.qcow2_image.proofs.Prepare.Met.{hands_met}
 use Rattle.qcow2_image.proofs.image.Qcow2.readv_special.Goals as goal
 
 pub returns-in_err-try_readv_special-clause-tells :
@@ -45,6 +47,15 @@ returns-in_err-try_readv_special-clause-once_written g c =
 pub returns-in-Some-clause-once_written : goal.returns-in-Some-clause-once_written
 returns-in-Some-clause-once_written g c = λ bad. absurd (cc)
 
-pub returns-in_err-try_readv_special-clause-limited : goal.returns-in_err-try_readv_special-clause-limited
-returns-in_err-try_readv_special-clause-limited g c = λ out sound.
-    handed_on (λ r. IfErr r IsUnlimited) c.from_residual.result c.in_err-try_readv_special.field-0.0 c.from_residual.ensures (c.in_err-try_readv_special.ensures.limited out sound)
+pub returns-in_err-try_readv_special-clause-met : goal.returns-in_err-try_readv_special-clause-met
+returns-in_err-try_readv_special-clause-met g c = λ out sound.
+    hands_met (λ e. IsMetLooking out e ⊎ ((e ≡ Compressed) ⊎ (e ≡ NotCompressed c.args.offset))) c.from_residual.result c.in_err-try_readv_special.field-0.0 c.from_residual.ensures
+    (elim (c.in_err-try_readv_special.ensures.met out sound) [ inl met ↦ inl met | inr compressed ↦ inr (inl compressed) ])
+
+pub returns-in-Some-clause-met : goal.returns-in-Some-clause-met
+returns-in-Some-clause-met g c = λ out sound.
+    let usable = sound_is_usable g.S.Storage.view g.F.BackingDisk.backing c.args.self.now out sound in
+    elim (cases_lt 0 (length c.args.bytes.now)) [
+      | inl some ↦ inr (inr (let is = c.in_ok-try_readv_special.ensures.some some in cc))
+      | inr none ↦ absurd (let no = (c.in_ok-try_readv_special.ensures.nothing usable (omega (arith, none))).0 in cc)
+    ]

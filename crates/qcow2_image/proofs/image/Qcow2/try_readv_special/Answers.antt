@@ -1,4 +1,4 @@
-use Rattle.std.proofs.Common.{◌≡◌, [], sym, ◌∙◌, subst}
+use Rattle.std.proofs.Common.{◌≡◌, ◌⊎◌, [], sym, ◌∙◌, subst}
 use Rattle.std.specs.Prelude.{Result}
 use Rattle.qcow2_disk.specs.Calls.{IsSame}
 use Rattle.qcow2_image.specs.Calls.{AnswersCall}
@@ -16,7 +16,8 @@ use Rattle.qcow2_image.proofs.Call.Marked.{may_mark}
 use Rattle.qcow2_image.proofs.Call.OnceWritten.{once_written}
 use Rattle.qcow2_image.proofs.Call.BehindHeader.{behind_call}
 use Rattle.std.specs.Prelude.{IfErr}
-use Rattle.qcow2_image.specs.Refusals.{IsUnlimited}
+use Rattle.qcow2_alloc.specs.declared.error.ImageError.TheVariants.{Compressed}
+use Rattle.qcow2_image.specs.MetAlone.{IsMetLooking}
 use Rattle.qcow2_image.proofs.Sizes.{sound_is_usable}
 use Rattle.qcow2_image.proofs.Clear.ClearCalls.{refused_for}
 use Rattle.qcow2_image.specs.Refusals.{unusable}
@@ -57,13 +58,13 @@ returns-clause-once_written g c = λ memory. once_written g.S.Storage.view c.arg
 pub returns-clause-header_cluster : goal.returns-clause-header_cluster
 returns-clause-header_cluster g c = behind_call g.S.Storage.view c.begin.ensures.begun c.plain_at-plain.ensures.header_cluster c.mark_failure.ensures.rest
 
-pub returns-clause-limited : goal.returns-clause-limited
-returns-clause-limited g c = λ out sound.
+pub returns-clause-met : goal.returns-clause-met
+returns-clause-met g c = λ out sound.
     let p = pending_in g.S.Storage.view g.F.BackingDisk.backing c.args.self.now out in
-    subst (λ (r : Result _ _). IfErr r IsUnlimited) (sym c.mark_failure.ensures.answer) (c.plain_at-plain.ensures.limited p out (c.begin.ensures.keeps p out sound).sound)
+    subst (λ (r : Result _ _). IfErr r (λ e. IsMetLooking out e ⊎ (e ≡ Compressed))) (sym c.mark_failure.ensures.answer) (c.plain_at-plain.ensures.met p out (c.begin.ensures.keeps p out sound).sound)
 
-pub returns-in_err-check_usable-clause-limited : goal.returns-in_err-check_usable-clause-limited
-returns-in_err-check_usable-clause-limited g c = λ out sound.
+pub returns-in_err-check_usable-clause-met : goal.returns-in_err-check_usable-clause-met
+returns-in_err-check_usable-clause-met g c = λ out sound.
     let old = c.args.self.now in
     let e = c.in_err-check_usable.field-0.0 in
     let refused = refused_for c.check_usable.result tt (unusable old) e c.check_usable.ensures c.in_err-check_usable.was in

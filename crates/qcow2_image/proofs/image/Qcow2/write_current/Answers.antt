@@ -1,4 +1,4 @@
-use Rattle.std.proofs.Common.{◌≡◌, ◌+◌, None, Err, length, sym, subst, true}
+use Rattle.std.proofs.Common.{◌≡◌, ◌+◌, ◌^◌, ◌≤◌, inl, inr, None, Err, length, refl, sym, subst, true, arith}
 use Rattle.image_access.specs.Contents.{overwritten}
 use Rattle.qcow2_alloc.specs.ImageFile.{view_in}
 use Rattle.qcow2_alloc.specs.declared.error.ImageError.TheVariants.{OutdatedMapping, Overflow}
@@ -17,6 +17,12 @@ use Rattle.qcow2_image.proofs.Call.BehindHeader.{behind_then}
 use Rattle.qcow2_image.proofs.Map.Held.{heeds_then, held_as, keeps_storage}
 use Rattle.qcow2_image.specs.HeldMappings.{HeedsHeld, IsHeldAs}
 use Rattle.std.specs.Prelude.{Result}
+use Rattle.std.proofs.lemmas.Bool.{cases_lt}
+use Rattle.qcow2_alloc.specs.ImageError.{IsFault}
+use Rattle.qcow2_image.specs.MetAlone.{IsMetPutting}
+use Rattle.qcow2_image.proofs.Prepare.Met.{hands_met, met_as, told_sum}
+use Rattle.qcow2_image.proofs.Prepare.NearPlaces.{past_existing}
+use Rattle.qcow2_image.proofs.Write.Hosted.{hosts_behind_header}
 use Rattle.qcow2_image.proofs.image.Qcow2.write_current.Goals as goal
 
 pub returns-in_err-check_in_place-clause-puts : goal.returns-in_err-check_in_place-clause-puts
@@ -56,8 +62,8 @@ pub returns-in_err-check_in_place-clause-outdated : goal.returns-in_err-check_in
 returns-in_err-check_in_place-clause-outdated g c = λ some none p out sound is whole.
     let view = g.S.Storage.view in
     let n = length c.args.bytes.now in
-    let new = c.check_in_place.new.self in
-    let here = subst (λ o. IsFoundWhole view new (c.args.prepared.now.guest + c.args.at) (Raw Image o true) n) (sym c.in-Some.ensures.1) whole in
+    let old = c.args.self.now in
+    let here = subst (λ o. IsFoundWhole view old (c.args.prepared.now.guest + c.args.at) (Raw Image o true) n) (sym c.in-Some.ensures.1) whole in
     let e = c.in_err-check_in_place.field-0.0 in
     handed_on (λ r. r ≡ Err OutdatedMapping → ⊥) c.from_residual.result e c.from_residual.ensures (λ was. c.in_err-check_in_place.ensures.outdated some p out sound was here) is
 
@@ -94,3 +100,33 @@ returns-clause-held g c = λ none some.
     let kind = Raw Image (c.args.prepared.now.offset + c.args.at) true in
     let held = subst (λ o. IsHeldAs mid at (Raw Image o true) n) c.in-Some.ensures.1 (c.in_ok-check_in_place.ensures.held none some) in
     heeds_then at kind n new c.write_data.result c.write_data.ensures.current (held_as mid new at kind n (keeps_storage mid new new.file.storage c.write_data.ensures.written.rest) held)
+
+pub returns-in_default-clause-met : goal.returns-in_default-clause-met
+returns-in_default-clause-met g c = λ fits some out k placed sound.
+    let view = g.S.Storage.view in
+    let below = g.F.BackingDisk.backing in
+    let old = c.args.self.now in
+    let p = c.args.prepared.now in
+    let past : 2 ^ 64 ≤ p.offset + c.args.at = elim (cases_lt (p.offset + c.args.at) (2 ^ 64)) [ inl lt ↦ absurd (told_sum c.checked_add.result (p.offset + c.args.at) c.checked_add.ensures lt c.in_default.is) | inr past ↦ past ] in
+    let none = past_existing view below old out (pending_in view below old out) sound p (sound.ready k p placed).mapped c.args.at (length c.args.bytes.now) fits some past in
+    inr (none, inr (refl, past))
+
+pub returns-in_err-check_in_place-clause-met : goal.returns-in_err-check_in_place-clause-met
+returns-in_err-check_in_place-clause-met g c = λ fits some out k placed sound.
+    let met = c.in_err-check_in_place.ensures.met (pending_in g.S.Storage.view g.F.BackingDisk.backing c.args.self.now out) out sound in
+    hands_met (IsMetPutting out c.args.prepared.now c.args.at) c.from_residual.result c.in_err-check_in_place.field-0.0 c.from_residual.ensures (inr (met.0, inl met.1))
+
+pub returns-clause-met : goal.returns-clause-met
+returns-clause-met g c = λ fits some out k placed sound.
+    let view = g.S.Storage.view in
+    let below = g.F.BackingDisk.backing in
+    let old = c.args.self.now in
+    let mid = c.check_in_place.new.self in
+    let p = c.args.prepared.now in
+    let n = length c.args.bytes.now in
+    let quiet : Quietly view below out old mid = record { keeps = c.in_ok-check_in_place.ensures.keeps (pending_in view below old out) out sound; list = c.in_ok-check_in_place.ensures.list } in
+    let mapped : p.table ≡ None → IsMappedAs view mid (p.guest + c.args.at) (Raw Image (p.offset + c.args.at) true) n = λ none.
+    subst (λ o. IsMappedAs view mid (p.guest + c.args.at) (Raw Image o true) n) c.in-Some.ensures.1 (c.in_ok-check_in_place.ensures.mapped none some (pending_in view below old out) out sound) in
+    let behind = hosts_behind_header view below mid out (quiet_sound view below out old mid (λ _. quiet) sound) n k p c.args.at placed fits (mapped_in_place view below out k p c.args.at c.args.bytes.now placed mid mapped) 0 some in
+    let host_is = c.in-Some.ensures.1 in
+    met_as IsFault (IsMetPutting out p c.args.at) c.write_data.result (λ e fault. inl fault) (c.write_data.ensures.fault (omega (arith, behind, host_is)))

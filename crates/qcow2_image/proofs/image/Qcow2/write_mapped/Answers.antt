@@ -13,7 +13,7 @@ use Rattle.qcow2_image.specs.ImageInvariant.{pending_in}
 use Rattle.qcow2_image.proofs.Call.Answers.{usable_works}
 use Rattle.qcow2_image.proofs.Call.Called.{Quietly, quiet_sound}
 use Rattle.qcow2_image.proofs.Grow.Lengths.{on_ok}
-use Rattle.qcow2_image.proofs.Map.Looked.{found_before}
+use Rattle.qcow2_image.proofs.Map.Looked.{found_after, found_before}
 use Rattle.qcow2_image.proofs.Write.PutParts.{puts_early, puts_none, puts_then, puts_with_outcome}
 use Rattle.qcow2_image.proofs.Call.FaultCounts.{counted_marked}
 use Rattle.qcow2_image.proofs.Call.OnceWritten.{once_written}
@@ -21,6 +21,8 @@ use Rattle.qcow2_image.proofs.Call.BehindHeader.{behind_call}
 use Rattle.qcow2_image.proofs.Map.Held.{heeds_on, keeps_marked}
 use Rattle.std.specs.Prelude.{Result}
 use Rattle.qcow2_image.specs.HeldMappings.{HeedsHeld}
+use Rattle.std.specs.Prelude.{IfErr}
+use Rattle.qcow2_image.specs.MetAlone.{IsMetPutting}
 use Rattle.qcow2_image.proofs.image.Qcow2.write_mapped.Goals as goal
 
 pub returns-then-is_empty-clause-sees : goal.returns-then-is_empty-clause-sees
@@ -49,14 +51,12 @@ returns-clause-sees g c =
 pub returns-clause-outdated : goal.returns-clause-outdated
 returns-clause-outdated g c = λ none out sound is whole.
     let view = g.S.Storage.view in
-    let p = pending_in view g.F.BackingDisk.backing c.args.self.now out in
-    let new = c.write_current-done.new.self in
+    let below = g.F.BackingDisk.backing in
+    let p = pending_in view below c.args.self.now out in
+    let begun = c.begin.ensures.keeps p out sound in
     let some : 0 < length c.args.bytes.now = search rules in
-    let answer : c.write_current-done.result ≡ Err OutdatedMapping = sym c.mark_failure.ensures.answer ∙ is in
-    let marks : is_failed c.mark_failure.new.self ≡ is_failed new = subst (λ r. MayMarkBy r (is_failed new) (is_failed c.mark_failure.new.self)) answer (may_mark c.write_current-done.new.self c.mark_failure.new.self c.write_current-done.result c.mark_failure.ensures.marks) in
-    let same : c.mark_failure.new.self ≡ new = c.mark_failure.ensures.rest ∙ ap (λ f. record new { is_failed = f }) marks in
-    c.write_current-done.ensures.outdated some none p out (c.begin.ensures.keeps p out sound).sound answer
-    (subst (λ (image : Qcow2 _ _). IsFoundWhole view image (c.args.prepared.now.guest + c.args.at) (Raw Image (c.args.prepared.now.offset + c.args.at) true) (length c.args.bytes.now)) same whole)
+    c.write_current-done.ensures.outdated some none p out begun.sound (sym c.mark_failure.ensures.answer ∙ is)
+    (found_after view below c.args.self.now c.begin.new.self out p p (c.args.prepared.now.guest + c.args.at) (length c.args.bytes.now) (Raw Image (c.args.prepared.now.offset + c.args.at) true) begun whole)
 
 pub returns-then-prepared-self-clause-sees : goal.returns-then-prepared-self-clause-sees
 returns-then-prepared-self-clause-sees g c =
@@ -101,3 +101,13 @@ returns-clause-held g c = λ usable none some.
 
 pub returns-then-is_empty-clause-held : goal.returns-then-is_empty-clause-held
 returns-then-is_empty-clause-held g c = λ usable none some. absurd (let no : length c.args.bytes.now ≡ 0 = search rules in omega (arith, no, some))
+
+pub returns-clause-met : goal.returns-clause-met
+returns-clause-met g c = λ out k placed sound writable.
+    let view = g.S.Storage.view in
+    let below = g.F.BackingDisk.backing in
+    let old = c.args.self.now in
+    let some : 0 < length c.args.bytes.now = search rules in
+    let quiet : Quietly view below out old c.begin.new.self = record { keeps = c.begin.ensures.keeps (pending_in view below old out) out sound; list = c.begin.ensures.list } in
+    subst (λ (r : Result _ _). IfErr r (IsMetPutting out c.args.prepared.now c.args.at)) (sym c.mark_failure.ensures.answer)
+    (c.write_current-done.ensures.met c.requires some out k placed (quiet_sound view below out old c.begin.new.self (λ _. quiet) sound))

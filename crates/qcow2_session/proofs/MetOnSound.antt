@@ -1,0 +1,256 @@
+-- What reads, lookups and writes of a sound image are refused for.
+use Rattle.std.proofs.Common.{◌≡◌, ⊎_elim, inl, inr, ℕ, zero, suc, ◌+◌, ◌-◌, ◌*◌, ◌/◌, ◌%◌, ◌^◌, ◌<◌, ◌≤◌, ◌∷◌, Bool, true, false, List, [], Option, Some, None, refl, sym, ap, ◌∙◌, subst, arith, pow_mono}
+use Rattle.std.specs.Prelude.{IsNone, IsSome, MatchOption, Result, Ok, Err, is_some, slice_get, ◌&&◌}
+use Rattle.std.proofs.lemmas.Bool.{cases_lt}
+use Rattle.std.proofs.lemmas.Grind.{common_steps}
+use Rattle.std.proofs.lemmas.Nat.{div-add-mod', mod_below, pow_pos}
+use Rattle.image_access.specs.Backing.{BackingView}
+use Rattle.image_access.specs.Moments.{StorageView}
+use Rattle.qcow2_metadata.specs.Bytes.{Bytes, is_within}
+use Rattle.qcow2_metadata.specs.Cover.{cover}
+use Rattle.qcow2_metadata.specs.Header.{cluster_size, header}
+use Rattle.qcow2_metadata.specs.declared.header.HeaderFields.{HeaderFields}
+use Rattle.qcow2_metadata.specs.declared.l2_mapping.L2Mapping.{L2Mapping}
+use Rattle.qcow2_metadata.specs.declared.l2_mapping.L2Mapping.TheVariants.{Compressed, Data, Uncovered, Zero}
+use Rattle.qcow2_disk.specs.Alike.{AreDataAt}
+use Rattle.qcow2_disk.specs.Calls.{EffectOnSound}
+use Rattle.qcow2_disk.specs.Found.{Kind, IsCompressed, IsFoundIn, eof, indirect, kind_at, raw, rest_of_table, special, zeros, IsFound as IsFoundOf}
+use Rattle.qcow2_disk.specs.UngivenCovers.{Touches}
+use Rattle.qcow2_alloc.specs.ImageError.{IsFault}
+use Rattle.qcow2_alloc.specs.ImageFile.{contents_in, known_in}
+use Rattle.qcow2_alloc.specs.declared.error.ImageError.{ImageError}
+use Rattle.qcow2_alloc.specs.declared.error.ImageError.TheVariants as I
+use Rattle.qcow2_image.proofs.HiddenBytes.{header_is}
+use Rattle.qcow2_image.proofs.Map.Looked.{compressed_there, data_found, found_upto}
+use Rattle.qcow2_image.proofs.Prepare.NearPlaces.{IsNearData, cover_near}
+use Rattle.qcow2_image.proofs.Shares.{never_private}
+use Rattle.qcow2_image.specs.Backings.{HasPrepared}
+use Rattle.qcow2_image.specs.Found.{IsFoundWhole, found_kind, further_by}
+use Rattle.qcow2_image.specs.Image.{size_of}
+use Rattle.qcow2_image.specs.ImageInvariant.{ImageInvariant, IsReadyWith, abstract_of, meaning, pending_in}
+use Rattle.qcow2_image.specs.MetAlone.{CopiesCompressed, IsMetAlone, IsMetLooking, IsMetLookingAgain, IsMetMapped, IsMetPutting, IsMetReadingRange, IsSpecial}
+use Rattle.qcow2_image.specs.Prepared.{guest_offset_of, length_of, offset_of, table_of}
+use Rattle.qcow2_image.specs.Preparing.{IsAnswered}
+use Rattle.qcow2_image.specs.declared.image.Qcow2.{Qcow2}
+use Rattle.qcow2_image.specs.declared.mapping.MappingKind.{MappingKind}
+use Rattle.qcow2_image.specs.declared.mapping.MappingKind.TheVariants as M
+use Rattle.qcow2_image.specs.declared.mapping.Place.TheVariants.{Image}
+use Rattle.qcow2_image.specs.declared.prepared.Prepared.{Prepared}
+use Rattle.qcow2_session.proofs.Copied.{kept_cover, same_size}
+
+-- what nothing refuses before any work isn't refused so
+pub refused_none : (o : Option ImageError) (e : ImageError) → MatchOption o (◌≡◌ {A = Result (Unit {0}) ImageError} (Err e) (Ok tt)) (λ x. ◌≡◌ {A = Result (Unit {0}) ImageError} (Err e) (Err x)) → o ≡ None → ⊥
+refused_none None e is none = cc
+refused_none (Some x) e is none = let no : Some x ≡ None = none in cc
+
+-- want of memory is a fault
+pub memory_looking : (out : List (Option Prepared)) (e : ImageError) → e ≡ I.Memory → IsMetLooking out e
+memory_looking out e is = inl (inr is)
+
+-- so far on it is as special as where it begins
+special_first : (n : ℕ) (kind : MappingKind) → IsSpecial (further_by n kind) → IsSpecial kind
+special_first n (M.Special offset) is = tt
+special_first n (M.Raw file offset writable) is = absurd is
+special_first n (M.Indirect offset) is = absurd is
+special_first n (M.Zero explicit) is = absurd is
+special_first n M.Eof is = absurd is
+
+-- ---- kinds, no byte further on
+
+-- where it stands
+abbrev place_of : Kind → ℕ
+place_of (raw external place writable) = place
+place_of (indirect place) = place
+place_of (zeros explicit) = 0
+place_of (special place) = place
+place_of eof = 0
+
+place_near : (h : HeaderFields) (backed : Bool) (offset : ℕ) (m : L2Mapping) → IsNearData m → cluster_size h ≤ 2 ^ 21 → offset < 2 ^ 64 → place_of (kind_at h backed offset m) < 2 ^ 64
+place_near h backed offset (Data host copied) is small near = let lies = is.near host copied refl in let rest = mod_below offset (cluster_size h) (pow_pos h.cluster_bits) in let within : host + offset % cluster_size h < 2 ^ 64 = omega (arith, lies, rest, small) in within
+place_near h backed offset (Zero kept) is small near = omega arith
+place_near h backed offset (Compressed host sectors) is small near = near
+place_near h true offset Uncovered is small near = near
+place_near h false offset Uncovered is small near = omega arith
+
+none_further : (kind : MappingKind) → place_of (found_kind kind) < 2 ^ 64 → further_by 0 kind ≡ kind
+none_further (M.Raw file offset writable) near = let below : offset < 2 ^ 64 = near in let same : (offset + 0) % 2 ^ 64 ≡ offset = omega (arith, below) in ap (λ n. M.Raw file n writable) same
+none_further (M.Indirect offset) near = let below : offset < 2 ^ 64 = near in let same : (offset + 0) % 2 ^ 64 ≡ offset = omega (arith, below) in ap M.Indirect same
+none_further (M.Special offset) near = let below : offset < 2 ^ 64 = near in let same : (offset + 0) % 2 ^ 64 ≡ offset = omega (arith, below) in ap M.Special same
+none_further (M.Zero explicit) near = refl
+none_further M.Eof near = refl
+
+-- the guest cluster of the first byte of a range has a byte of it
+first_touched : (h : HeaderFields) (offset n : ℕ) → 0 < n → Touches (cluster_size h) offset (offset + n) (offset / cluster_size h)
+first_touched h offset n some =
+    let size = cluster_size h in
+    let split : offset / size * size + offset % size ≡ offset = div-add-mod' offset size in
+    let within = mod_below offset size (pow_pos h.cluster_bits) in
+    (omega (arith, some), omega (arith, split, within), omega (arith, split, some))
+
+module _ {S F : Type 0} (view : S → StorageView) (backing : F → BackingView) (out : List (Option Prepared)) where
+  -- what was just found is found as a whole, and nothing further on
+  pub found_there : (image : Qcow2 S F) (sound : ImageInvariant view backing (pending_in view backing image out) image out) (offset max n : ℕ) (kind : MappingKind) → offset < 2 ^ 64 → offset < size_of image
+      → IsFoundIn (known_in view image.file) (is_some image.backing) offset max (found_kind kind) n → IsFoundWhole view image offset (further_by 0 kind) n
+  found_there image sound offset max n kind near below is =
+      let h = image.file.header.fields in
+      let known = known_in view image.file in
+      let whole : IsFoundOf h known (is_some image.backing) offset n (found_kind kind) n = subst (λ (h : HeaderFields). IsFoundOf h known (is_some image.backing) offset n (found_kind kind) n) (header_is view backing image out sound)
+      (found_upto (header known) known (is_some image.backing) offset max (found_kind kind) n is) in
+      let place : place_of (found_kind kind) < 2 ^ 64 = subst (λ k. place_of k < 2 ^ 64) (sym (whole.run below).kind_is)
+      (place_near h (is_some image.backing) offset (cover h known (offset / cluster_size h)) (cover_near h known (offset / cluster_size h)) (pow_mono sound.file.caches.kept.kept.crash_invariant.top.header_reads.well_formed.in_range.cluster_bits.1) near) in
+      subst (λ k. IsFoundWhole view image offset k n) (sym (none_further kind place)) whole
+
+  module _ (old mid : Qcow2 S F) (sound : ImageInvariant view backing (pending_in view backing old out) old out) (sound' : ImageInvariant view backing (pending_in view backing mid out) mid out) where
+    -- reading what was just looked up meets what a lookup does, or that the first cluster is compressed
+    pub reads_found : (offset n max m : ℕ) (kind : MappingKind) (e : ImageError) → 0 < n → offset < size_of mid → known_in view mid.file ≡ known_in view old.file
+        → IsFoundIn (known_in view mid.file) (is_some mid.backing) offset max (found_kind kind) m → (e ≡ I.OutdatedMapping → ⊥) → IsMetMapped out (further_by 0 kind) e
+        → IsMetReadingRange out offset (offset + n) old.file.header.fields (known_in view old.file) e
+    reads_found offset n max m kind e some below same is never (inl (inl looking)) = inl looking
+    reads_found offset n max m kind e some below same is never (inl (inr outdated)) = absurd (never outdated)
+    reads_found offset n max m kind e some below same is never (inr compressed) =
+        let known = known_in view mid.file in
+        let lies : offset < (header known).size = subst (λ (h : HeaderFields). offset < h.size) (sym (header_is view backing mid out sound')) below in
+        let there : IsCompressed (cover (header known) known (offset / cluster_size (header known))) =
+        compressed_there (header known) (is_some mid.backing) offset kind (cover (header known) known (offset / cluster_size (header known))) (is.run lies).kind_is (special_first 0 kind compressed.1) in
+        inr (
+          compressed.0,
+          record {
+            guest = offset / cluster_size old.file.header.fields;
+            touched = first_touched old.file.header.fields offset n some;
+            is = subst (λ (h : HeaderFields). IsCompressed (cover h (known_in view old.file) (offset / cluster_size h))) (header_is view backing old out sound)
+                (subst (λ (b : Bytes). IsCompressed (cover (header b) b (offset / cluster_size (header b)))) same there);
+          },
+        )
+
+    -- what refuses a part of a range that is read would refuse the whole
+    pub reads_part : EffectOnSound (abstract_of view backing old out) (abstract_of view backing mid out) [] [] → (offset n at m : ℕ) (e : ImageError) → offset ≤ at → at + m ≤ offset + n
+        → IsMetReadingRange out at (at + m) mid.file.header.fields (known_in view mid.file) e → IsMetReadingRange out offset (offset + n) old.file.header.fields (known_in view old.file) e
+    reads_part effect offset n at m e from upto (inl looking) = inl looking
+    reads_part effect offset n at m e from upto (inr compressed) =
+        let found = compressed.1 in
+        let g = found.guest in
+        let t = found.touched in
+        let times : g * cluster_size mid.file.header.fields ≡ g * cluster_size old.file.header.fields = ap (λ k. g * k) (same_size view backing old mid out effect) in
+        let size : cluster_size mid.file.header.fields ≡ cluster_size old.file.header.fields = same_size view backing old mid out effect in
+        inr (
+          compressed.0,
+          record {
+            guest = g;
+            touched = (omega (arith, t.0, from, upto), omega (arith, t.1, from, times, size), omega (arith, t.2, upto, times));
+            is = subst (λ (m : L2Mapping). IsCompressed m) (sym (kept_cover view backing old mid out sound sound' effect g tt)) found.is;
+          },
+        )
+
+    -- what a refused preparation met is there behind it
+    pub met_behind : EffectOnSound (abstract_of view backing old out) (abstract_of view backing mid out) [] [] → (offset n : ℕ) (far : Type 0) (e : ImageError)
+        → IsMetAlone (CopiesCompressed offset n true old.file.header.fields (known_in view old.file)) far e → IsMetAlone (CopiesCompressed offset n true mid.file.header.fields (known_in view mid.file)) (Unit {0}) e
+    met_behind effect offset n far e (inl limit) = inl limit
+    met_behind effect offset n far e (inr (inr is)) = inr (inr (is.0, tt))
+    met_behind effect offset n far e (inr (inl compressed)) =
+        let c = compressed.1 in
+        let t = c.touched in
+        let same : cluster_size mid.file.header.fields ≡ cluster_size old.file.header.fields = same_size view backing old mid out effect in
+        let times : c.guest * cluster_size mid.file.header.fields ≡ c.guest * cluster_size old.file.header.fields = ap (λ k. c.guest * k) same in
+        inr (inl (
+          compressed.0,
+          record {
+            guest = c.guest;
+            touched = (t.0, omega (arith, t.1, times, same), omega (arith, t.2, times));
+            is = subst (λ (m : L2Mapping). IsCompressed m) (kept_cover view backing old mid out sound sound' effect c.guest tt) c.is;
+            at = c.at;
+            within = ap (λ k. c.at / k) same ∙ c.within;
+            left = c.left;
+          },
+        ))
+
+-- what is met in a part of a range that is written, and that begins where a cluster does, is met in the range
+pub met_in_part : (h : HeaderFields) (known : Bytes) (offset n done at m : ℕ) (e : ImageError) → at ≡ offset + done → at + m ≡ offset + n → at % cluster_size h ≡ 0
+    → IsMetAlone (CopiesCompressed at m true h known) (Unit {0}) e → IsMetAlone (CopiesCompressed offset n true h known) (Unit {0}) e
+met_in_part h known offset n done at m e there upto begins (inl limit) = inl limit
+met_in_part h known offset n done at m e there upto begins (inr (inr far)) = inr (inr far)
+met_in_part h known offset n done at m e there upto begins (inr (inl compressed)) =
+    let c = compressed.1 in
+    let g = c.guest in
+    let t = c.touched in
+    let size = cluster_size h in
+    let split : at / size * size + at % size ≡ at = div-add-mod' at size in
+    let behind : at ≤ g * size = whole_behind (at / size) g (omega (arith, split, begins)) t.1 in
+    let place : c.at / size * size + c.at % size ≡ c.at = div-add-mod' c.at size in
+    let lies : g * size ≤ c.at = let k = ap (λ x. x * size) c.within in omega (arith, place, k) in
+    inr (inl (
+      compressed.0,
+      record {
+        guest = g;
+        touched = (omega (arith, t.0, there, upto), omega (arith, t.1, there), omega (arith, t.2, upto));
+        is = c.is;
+        at = c.at;
+        within = c.within;
+        left = left_behind c.at (omega (arith, behind, lies)) c.left;
+      },
+    ))
+  where
+    times_le : (a b : ℕ) → a ≤ b → a * cluster_size h ≤ b * cluster_size h
+    times_le a b le = let d : b ≡ a + (b - a) = omega (arith, le) in let f : b * cluster_size h ≡ a * cluster_size h + (b - a) * cluster_size h = ap (λ x. x * cluster_size h) d ∙ omega arith in omega (arith, f)
+
+    whole_behind : (k g : ℕ) → at ≡ k * cluster_size h → at < g * cluster_size h + cluster_size h → at ≤ g * cluster_size h
+    whole_behind k g is lt = elim (cases_lt g k) [
+      | inl less ↦ let more : (g + 1) * cluster_size h ≤ k * cluster_size h = times_le (g + 1) k (omega (arith, less)) in absurd (omega (arith, more, is, lt))
+      | inr le ↦ let more : k * cluster_size h ≤ g * cluster_size h = times_le k g (omega (arith, le)) in omega (arith, more, is)
+    ]
+
+    left_behind : (o : ℕ) → at ≤ o → (true && is_within at m o) ≡ false → (true && is_within offset n o) ≡ false
+    left_behind o from left = grind (arith, common_steps, there, upto, from, left)
+
+-- ---- a put into a mapping that was just prepared
+
+-- none is prepared beside an existing one
+none_beside : (out : List (Option Prepared)) (p : Prepared) → table_of p ≡ None → (HasPrepared out → ⊥) → HasPrepared (Some p ∷ out) → ⊥
+none_beside out p existing none has = at has.place has.mapping has.there has.pins
+  where
+    at : (k : ℕ) (q : Prepared) → slice_get (Some p ∷ out) k ≡ Some (Some q) → IsSome (table_of q) → ⊥
+    at zero q there pins = let same : p ≡ q = cc in let no : false ≡ true = subst (λ t. IsSome t) (ap table_of (sym same) ∙ existing) pins in cc
+    at (suc k) q there pins = none (record { place = k; mapping = q; there = there; pins = pins })
+
+-- so bytes are put but for a fault, where an existing one is found as it was prepared
+pub put_alone : (out : List (Option Prepared)) (p : Prepared) (e : ImageError) → (HasPrepared out → ⊥) → (table_of p ≡ None → offset_of p < 2 ^ 64) → (table_of p ≡ None → e ≡ I.OutdatedMapping → ⊥) → IsMetPutting (Some p ∷ out) p 0 e → IsFault e
+put_alone out p e none near found (inl fault) = fault
+put_alone out p e none near found (inr again) = ⊎_elim
+    (λ (again' : IsMetLookingAgain (Some p ∷ out) e). ⊎_elim (λ (looking : IsMetLooking (Some p ∷ out) e). ⊎_elim (λ fault. fault) (λ used. absurd (none_beside out p again.0 none used.1)) looking) (λ outdated. absurd (found again.0 outdated)) again')
+    (λ far. absurd (let past = far.1 in let below = near again.0 in omega (arith, past, below))) again.1
+
+module _ {S F : Type 0} (view : S → StorageView) (backing : F → BackingView) (out : List (Option Prepared)) (old mid : Qcow2 S F) (p : Prepared) (offset n : ℕ)
+    (sound : ImageInvariant view backing (pending_in view backing mid (Some p ∷ out)) mid (Some p ∷ out)) (same : cluster_size mid.file.header.fields ≡ cluster_size old.file.header.fields)
+    (answered : IsAnswered old.file.header.fields (known_in view old.file) offset n mid.file.header.fields (known_in view mid.file) p (meaning view backing mid p)) (some : 0 < n) (existing : table_of p ≡ None) where
+  abbrev h : HeaderFields
+  h = mid.file.header.fields
+
+  -- an existing mapping is as long as its range
+  pub existing_long : length_of p ≡ n
+  existing_long = answered.whole (subst (λ t. IsNone t) (sym existing) refl)
+
+  -- it is copied data in a row
+  existing_data : AreDataAt h (known_in view mid.file) true offset (offset_of p) n
+  existing_data i lt =
+      let ready = subst (IsReadyWith h (known_in view mid.file) (contents_in view mid.file) p) existing (sound.ready 0 p refl).mapped in
+      answered.stays i (let long = existing_long in omega (arith, lt, long)) (never_private view backing mid p ready (offset + i))
+
+  -- so it begins within 64 bits
+  pub existing_near : offset_of p < 2 ^ 64
+  existing_near =
+      let first = existing_data 0 some in
+      let small : cluster_size h ≤ 2 ^ 21 = pow_mono sound.file.caches.kept.kept.crash_invariant.top.header_reads.well_formed.in_range.cluster_bits.1 in
+      let near = (cover_near h (known_in view mid.file) ((offset + 0) / cluster_size h)).near first.0 true first.1 in
+      let rest = mod_below (offset + 0) (cluster_size h) (pow_pos h.cluster_bits) in
+      let place = first.2 in
+      omega (arith, near, rest, place, small)
+
+  -- and it is found where it was prepared
+  pub existing_found : offset + n ≤ size_of mid → guest_offset_of p ≡ offset → (m : ℕ) → m ≡ n → IsFoundWhole view mid (guest_offset_of p + 0) (M.Raw Image (offset_of p + 0) true) m
+  existing_found below from m long =
+      let reaches : n ≤ rest_of_table h offset = let within = answered.within in let all = existing_long in let rest : rest_of_table h offset ≡ rest_of_table old.file.header.fields offset = ap (λ size. size * (size / 8) - offset % (size * (size / 8))) same in omega (arith, within, all, rest) in
+      let begin : offset ≡ guest_offset_of p + 0 = omega (arith, from) in
+      let place : offset_of p ≡ offset_of p + 0 = omega arith in
+      subst (λ k. IsFoundWhole view mid k (M.Raw Image (offset_of p + 0) true) m) begin
+      (subst (λ k. IsFoundWhole view mid offset (M.Raw Image k true) m) place
+      (subst (λ k. IsFoundWhole view mid offset (M.Raw Image (offset_of p) true) k) (sym long)
+      (data_found h (known_in view mid.file) (is_some mid.backing) offset true (offset_of p) n some below reaches existing_data)))
