@@ -92,9 +92,9 @@ IsMetLooking out e = IsFault e ⊎ ((e ≡ I.InUse) × HasPrepared out)
 abbrev pub IsMetLookingAgain : List (Option Prepared) → ImageError → Type 0
 IsMetLookingAgain out e = IsMetLooking out e ⊎ (e ≡ I.OutdatedMapping)
 
--- Reading it meets 7 beside that, where its bytes are compressed.
-abbrev pub IsMetMapped : List (Option Prepared) → MappingKind → ImageError → Type 0
-IsMetMapped out kind e = IsMetLookingAgain out e ⊎ ((e ≡ I.Compressed) × IsSpecial kind)
+-- Reading it meets 7 beside that, where its bytes are compressed, and the whole of it is still mapped so.
+abbrev pub IsMetMapped : List (Option Prepared) → MappingKind → (whole : Type 0) → ImageError → Type 0
+IsMetMapped out kind whole e = IsMetLookingAgain out e ⊎ ((e ≡ I.Compressed) × IsSpecial kind × whole)
 
 -- Reading compressed bytes from an offset on meets what a lookup does, and 7 or 18 by what stands there.
 abbrev pub IsMetSpecial : List (Option Prepared) → (offset : ℕ) → ImageError → Type 0

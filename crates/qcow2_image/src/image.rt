@@ -117,7 +117,7 @@ impl<S: Storage, F: WrappedFormat<S>> Qcow2<S, F> {
         ensures honest { (S.view storage.old).is_honest → (S.view storage.new).is_honest }
         ensures faults { FaultsTold (S.view storage.old).faults (S.view storage.new).faults result }
         ensures time { EachMomentSince (S.view storage.old) (S.view storage.new) (λ c. c ≡ (S.view storage.new).contents) }
-        ensures cause { IfErr result IsMet }
+        ensures cause { IfErr result IsFault }
     {
         let mut first = [0u8; 8];
         storage.read(0, &mut first)?;

@@ -61,7 +61,7 @@ impl<S: Storage, F: WrappedFormat<S>> Qcow2<S, F> {
         requires { at + length bytes.old ≤ mapping.now.length }
         ensures early { IfSome (refuses_mapping self.old mapping.now.image) (λ e. (result ≡ Err e) × (self.new ≡ self.old)) }
         ensures late { refuses_mapping self.old mapping.now.image ≡ None → IfErr result IsMet }
-        ensures met { refuses_mapping self.old mapping.now.image ≡ None → (out : List (Option Prepared)) → (abstract_of S.view F.backing self.old out).is_sound → IfErr result (IsMetMapped out (further_by at mapping.now.kind)) }
+        ensures met { refuses_mapping self.old mapping.now.image ≡ None → (out : List (Option Prepared)) → (abstract_of S.view F.backing self.old out).is_sound → IfErr result (IsMetMapped out (further_by at mapping.now.kind) (IsFoundWhole S.view self.old (mapping.now.offset + at) (further_by at mapping.now.kind) (length bytes.old))) }
         ensures nothing { refuses_mapping self.old mapping.now.image ≡ None → length bytes.old ≡ 0 → (result ≡ Ok tt) × (self.new ≡ self.old) }
         ensures marks { MarksFailed self.old self.new result }
         ensures image { IsSameImage self.old self.new }
@@ -97,7 +97,7 @@ impl<S: Storage, F: WrappedFormat<S>> Qcow2<S, F> {
     ) -> Result<(), ImageError>
         ensures stays { ImageStays self.old self.new }
         ensures cause { IfErr result IsMet }
-        ensures met { (p : Pending) (out : List (Option Prepared)) → ImageInvariant S.view F.backing p self.old out → IfErr result (IsMetMapped out (further_by at mapping.now.kind)) }
+        ensures met { (p : Pending) (out : List (Option Prepared)) → ImageInvariant S.view F.backing p self.old out → IfErr result (IsMetMapped out (further_by at mapping.now.kind) (IsFoundWhole S.view self.old (mapping.now.offset + at) (further_by at mapping.now.kind) (length bytes.old))) }
         ensures list { self.new.file.free_list ≡ self.old.file.free_list }
         ensures keeps { (p : Pending) (out : List (Option Prepared)) → ImageInvariant S.view F.backing p self.old out → UnseenStep S.view F.backing p p self.old self.new out }
         ensures outdated { 0 < length bytes.old → (p : Pending) (out : List (Option Prepared)) → ImageInvariant S.view F.backing p self.old out → result ≡ Err OutdatedMapping

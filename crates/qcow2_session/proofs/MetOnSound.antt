@@ -102,8 +102,8 @@ module _ {S F : Type 0} (view : S → StorageView) (backing : F → BackingView)
 
   module _ (old mid : Qcow2 S F) (sound : ImageInvariant view backing (pending_in view backing old out) old out) (sound' : ImageInvariant view backing (pending_in view backing mid out) mid out) where
     -- reading what was just looked up meets what a lookup does, or that the first cluster is compressed
-    pub reads_found : (offset n max m : ℕ) (kind : MappingKind) (e : ImageError) → 0 < n → offset < size_of mid → known_in view mid.file ≡ known_in view old.file
-        → IsFoundIn (known_in view mid.file) (is_some mid.backing) offset max (found_kind kind) m → (e ≡ I.OutdatedMapping → ⊥) → IsMetMapped out (further_by 0 kind) e
+    pub reads_found : {whole : Type 0} (offset n max m : ℕ) (kind : MappingKind) (e : ImageError) → 0 < n → offset < size_of mid → known_in view mid.file ≡ known_in view old.file
+        → IsFoundIn (known_in view mid.file) (is_some mid.backing) offset max (found_kind kind) m → (e ≡ I.OutdatedMapping → ⊥) → IsMetMapped out (further_by 0 kind) whole e
         → IsMetReadingRange out offset (offset + n) old.file.header.fields (known_in view old.file) e
     reads_found offset n max m kind e some below same is never (inl (inl looking)) = inl looking
     reads_found offset n max m kind e some below same is never (inl (inr outdated)) = absurd (never outdated)

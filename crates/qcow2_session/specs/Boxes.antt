@@ -8,6 +8,7 @@ use Rattle.qcow2_metadata.specs.Consistent.{IsConsistent}
 use Rattle.qcow2_disk.specs.AbstractImages.{IsOpened}
 use Rattle.qcow2_alloc.specs.declared.error.ImageError.{ImageError}
 use Rattle.qcow2_image.specs.Backings.{IsOver}
+use Rattle.qcow2_image.specs.BehindHeader.{LiesBehindHeader, NamesTablesBehind, StaysBehindHeader}
 use Rattle.qcow2_image.specs.CountedOpening.{OpeningCounts}
 use Rattle.qcow2_image.specs.declared.image.Missing.TheVariants as M
 use Rattle.qcow2_image.specs.declared.image.Qcow2.{Qcow2}
@@ -23,7 +24,7 @@ use Rattle.qcow2_session.specs.declared.session.Reply.{Reply}
 module _ {S F : Type 0} (view : S → StorageView) (backing : F → BackingView) (before : StorageView) (below : Option F) where
   -- The image was opened as opening for writing says: it has its number, is to be written and works, and its storage changed in the autoclear field alone.
   -- From consistent contents it is sound, with each surplus as they had it. It was put over the disk below, which it shows where it has nothing of its own.
-  -- From there the run is one of the abstract disk, and its replies tell of the image. What is left is the storage that the image stood in.
+  -- From there the run is one of the abstract disk, and its replies tell of the image. Whatever the contents were, it leaves the bytes of cluster 0 alone as `run` does. What is left is the storage that the image stood in.
   pub record RunsOver (number : ℕ) (commands : List Command) (left : S) (replies : List Reply) : Type 0 where
     pub opened : Qcow2 S F
     pub number_is : number_of opened ≡ number
@@ -37,6 +38,8 @@ module _ {S F : Type 0} (view : S → StorageView) (backing : F → BackingView)
     pub last : Qcow2 S F
     pub run : RunRefinesDisk view backing (record opened { backing = below }) last commands replies
     pub tells : TellsThrough view backing (record opened { backing = below }) last commands replies
+    pub behind : NamesTablesBehind opened.file.header.fields → LiesBehindHeader opened
+    pub header_cluster : StaysBehindHeader view opened last
     pub is_left : left ≡ storage_of_image last
 
   -- Where it isn't opened, it is refused as opening for writing is where a data file is missing, which leaves the storage so, and as a fault only where one was counted.

@@ -162,8 +162,8 @@ module _ {S F : Type 0} (view : S → StorageView) (backing : F → BackingView)
   ReadsLookedUp found slot at n reply = refusal_in reply ≡ Some I.OutdatedMapping → (m : Mapping) × (found slot ≡ Some m) × (¬ IsFoundWhole view old (m.offset + at) (further_by at m.kind) n)
 
   -- What was looked up is read but for what its kind meets, and bytes are put but for what their mapping does.
-  abbrev pub IsMetLookedUp : (found : ℕ → Option Mapping) → (slot at : ℕ) → ImageError → Type 0
-  IsMetLookedUp found slot at e = (m : Mapping) × (found slot ≡ Some m) × IsMetMapped before (further_by at m.kind) e
+  abbrev pub IsMetLookedUp : (found : ℕ → Option Mapping) → (slot at n : ℕ) → ImageError → Type 0
+  IsMetLookedUp found slot at n e = (m : Mapping) × (found slot ≡ Some m) × IsMetMapped before (further_by at m.kind) (IsFoundWhole view old (m.offset + at) (further_by at m.kind) n) e
 
   abbrev pub IsMetPuttingAt : (slot at : ℕ) → ImageError → Type 0
   IsMetPuttingAt slot at e = (p : Prepared) × (slice_get before slot ≡ Some (Some p)) × IsMetPutting before p at e
@@ -175,7 +175,7 @@ module _ {S F : Type 0} (view : S → StorageView) (backing : F → BackingView)
   MeetsOnSound found (C.Write offset bytes) reply = refusal_in reply ≡ Some I.TablePrepared → IsUnderMappingIn old.file.header.fields offset (offset + length bytes.items) before
   MeetsOnSound found (C.PrepareDataMapping slot offset n overwrite) reply = IsUntakenIn offset n reply
   MeetsOnSound found (C.GetMapping slot offset max) reply = IfSome (refusal_in reply) (IsMetLooking before)
-  MeetsOnSound found (C.ReadMapped slot at n) reply = ReadsLookedUp found slot at n reply × IfSome (refusal_in reply) (IsMetLookedUp found slot at)
+  MeetsOnSound found (C.ReadMapped slot at n) reply = ReadsLookedUp found slot at n reply × IfSome (refusal_in reply) (IsMetLookedUp found slot at n)
   MeetsOnSound found (C.WriteMapped slot at bytes) reply = (refusal_in reply ≡ Some I.OutdatedMapping → IsOutdatedAt slot at (length bytes.items)) × IfSome (refusal_in reply) (IsMetPuttingAt slot at)
   MeetsOnSound found (C.CommitDataMapping slot) reply = IfSome (refusal_in reply) IsFault
   MeetsOnSound found C.Flush reply = IfSome (refusal_in reply) IsFault

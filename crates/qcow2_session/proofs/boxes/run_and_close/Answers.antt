@@ -1,6 +1,7 @@
 use Rattle.std.proofs.Common.{◌∙◌, refl, sym, subst, []}
 use Rattle.std.specs.Prelude.{IsErr, Result}
 use Rattle.qcow2_image.specs.Backings.{IsOver}
+use Rattle.qcow2_image.specs.BehindHeader.{StaysBehindHeader}
 use Rattle.qcow2_image.specs.declared.image.Qcow2.{Qcow2}
 use Rattle.qcow2_session.specs.Sessions.{RunRefinesDisk}
 use Rattle.qcow2_session.specs.Told.{TellsThrough}
@@ -36,6 +37,8 @@ returns g c =
         last = c.run-replies.new.image;
         run = subst (λ (i : Qcow2 _ _). RunRefinesDisk view below i c.run-replies.new.image c.args.commands.now c.run-replies.result.items) done c.run-replies.ensures.means;
         tells = subst (λ (i : Qcow2 _ _). TellsThrough view below i c.run-replies.new.image c.args.commands.now c.run-replies.result.items) done c.run-replies.ensures.tells;
+        behind = c.in-Ok.ensures.header_cluster;
+        header_cluster = subst (λ (i : Qcow2 _ _). StaysBehindHeader view i c.run-replies.new.image) done c.run-replies.ensures.header_cluster;
         is_left = c.into_storage-2.ensures;
       };
       another = λ honest needs. absurd ((c.in-Ok.ensures.another honest needs).0);
