@@ -28,7 +28,7 @@ use Rattle.qcow2_image.specs.Backings.{HasPrepared}
 use Rattle.qcow2_image.specs.Found.{IsFoundWhole, found_kind, further_by}
 use Rattle.qcow2_image.specs.Image.{size_of}
 use Rattle.qcow2_image.specs.ImageInvariant.{ImageInvariant, IsReadyWith, abstract_of, meaning, pending_in}
-use Rattle.qcow2_image.specs.MetAlone.{CopiesCompressed, IsMetAlone, IsMetLooking, IsMetLookingAgain, IsMetMapped, IsMetPutting, IsMetReadingRange, IsSpecial}
+use Rattle.qcow2_image.specs.MetAlone.{CopiesCompressed, HasCompressedIn, IsMetAlone, IsMetLooking, IsMetLookingAgain, IsMetMapped, IsMetPutting, IsMetReadingRange, IsSpecial}
 use Rattle.qcow2_image.specs.Prepared.{guest_offset_of, length_of, offset_of, table_of}
 use Rattle.qcow2_image.specs.Preparing.{IsAnswered}
 use Rattle.qcow2_image.specs.declared.image.Qcow2.{Qcow2}
@@ -87,6 +87,19 @@ first_touched h offset n some =
     let within = mod_below offset size (pow_pos h.cluster_bits) in
     (omega (arith, some), omega (arith, split, within), omega (arith, split, some))
 
+-- what is compressed in a part of a range is so in the range, where the same stands for each guest cluster
+pub compressed_within : (h h' : HeaderFields) (known known' : Bytes) → cluster_size h' ≡ cluster_size h → ((g : ℕ) → cover h known g ≡ cover h' known' g) → (from to first last : ℕ) → from ≤ first → last ≤ to
+    → HasCompressedIn first last h known → HasCompressedIn from to h' known'
+compressed_within h h' known known' size same from to first last low high found =
+    let g = found.guest in
+    let t = found.touched in
+    let times : g * cluster_size h' ≡ g * cluster_size h = ap (λ k. g * k) size in
+    record {
+      guest = g;
+      touched = (omega (arith, t.0, low, high), omega (arith, t.1, low, times, size), omega (arith, t.2, high, times));
+      is = subst (λ (m : L2Mapping). IsCompressed m) (same g) found.is;
+    }
+
 module _ {S F : Type 0} (view : S → StorageView) (backing : F → BackingView) (out : List (Option Prepared)) where
   -- what was just found is found as a whole, and nothing further on
   pub found_there : (image : Qcow2 S F) (sound : ImageInvariant view backing (pending_in view backing image out) image out) (offset max n : ℕ) (kind : MappingKind) → offset < 2 ^ 64 → offset < size_of image
@@ -123,23 +136,14 @@ module _ {S F : Type 0} (view : S → StorageView) (backing : F → BackingView)
         )
 
     -- what refuses a part of a range that is read would refuse the whole
-    pub reads_part : EffectOnSound (abstract_of view backing old out) (abstract_of view backing mid out) [] [] → (offset n at m : ℕ) (e : ImageError) → offset ≤ at → at + m ≤ offset + n
-        → IsMetReadingRange out at (at + m) mid.file.header.fields (known_in view mid.file) e → IsMetReadingRange out offset (offset + n) old.file.header.fields (known_in view old.file) e
-    reads_part effect offset n at m e from upto (inl looking) = inl looking
-    reads_part effect offset n at m e from upto (inr compressed) =
-        let found = compressed.1 in
-        let g = found.guest in
-        let t = found.touched in
-        let times : g * cluster_size mid.file.header.fields ≡ g * cluster_size old.file.header.fields = ap (λ k. g * k) (same_size view backing old mid out effect) in
-        let size : cluster_size mid.file.header.fields ≡ cluster_size old.file.header.fields = same_size view backing old mid out effect in
-        inr (
-          compressed.0,
-          record {
-            guest = g;
-            touched = (omega (arith, t.0, from, upto), omega (arith, t.1, from, times, size), omega (arith, t.2, upto, times));
-            is = subst (λ (m : L2Mapping). IsCompressed m) (sym (kept_cover view backing old mid out sound sound' effect g tt)) found.is;
-          },
-        )
+    pub reads_part : EffectOnSound (abstract_of view backing old out) (abstract_of view backing mid out) [] [] → (from to first last : ℕ) (e : ImageError) → from ≤ first → last ≤ to
+        → IsMetReadingRange out first last mid.file.header.fields (known_in view mid.file) e → IsMetReadingRange out from to old.file.header.fields (known_in view old.file) e
+    reads_part effect from to first last e low high (inl looking) = inl looking
+    reads_part effect from to first last e low high (inr compressed) = inr (
+      compressed.0,
+      compressed_within mid.file.header.fields old.file.header.fields (known_in view mid.file) (known_in view old.file) (sym (same_size view backing old mid out effect))
+          (λ g. sym (kept_cover view backing old mid out sound sound' effect g tt)) from to first last low high compressed.1,
+    )
 
     -- what a refused preparation met is there behind it
     pub met_behind : EffectOnSound (abstract_of view backing old out) (abstract_of view backing mid out) [] [] → (offset n : ℕ) (far : Type 0) (e : ImageError)

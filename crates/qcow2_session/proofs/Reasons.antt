@@ -1,18 +1,29 @@
 -- Why a range isn't written, of an image that may be read.
-use Rattle.std.proofs.Common.{◌≡◌, ◌⊎◌, ⊎_elim, inl, inr, ℕ, ◌+◌, ◌<◌, ◌≤◌, Bool, true, false, not, List, Option, Some, None, refl, sym, ap, ◌∙◌, subst, arith}
-use Rattle.std.specs.Prelude.{◌&&◌, nat_lt, IfSome, Result, Err}
+use Rattle.std.proofs.Common.{◌≡◌, ◌⊎◌, ⊎_elim, inl, inr, ℕ, ◌+◌, ◌<◌, ◌≤◌, Bool, true, false, not, List, [], Option, Some, None, refl, sym, ap, ◌∙◌, subst, arith}
+use Rattle.std.specs.Prelude.{◌&&◌, nat_lt, IfSome, IsTrue, Result, Err}
 use Rattle.std.specs.Option.{option_or}
 use Rattle.std.proofs.lemmas.Bool.{cases_Bool}
+use Rattle.image_access.specs.Backing.{BackingView}
+use Rattle.image_access.specs.Moments.{StorageView}
+use Rattle.qcow2_disk.specs.Calls.{IsRefusalByFault, RefusedEffect}
+use Rattle.qcow2_alloc.specs.ImageError.{IsFault}
+use Rattle.qcow2_alloc.specs.ImageFile.{known_in}
 use Rattle.qcow2_alloc.specs.declared.error.ImageError.{ImageError}
 use Rattle.qcow2_alloc.specs.declared.error.ImageError.TheVariants as I
+use Rattle.qcow2_image.specs.Backings.{HasPrepared}
+use Rattle.qcow2_image.specs.Calls.{refusal_of}
 use Rattle.qcow2_image.specs.Image.{IsSameImage, is_failed, is_writable, size_of}
+use Rattle.qcow2_image.specs.ImageInvariant.{abstract_of}
+use Rattle.qcow2_image.specs.MetAlone.{CopiesCompressed, IsMetAlone, IsMetReadingRange}
 use Rattle.qcow2_image.specs.Preallocation.{IsUnderMappingIn}
 use Rattle.qcow2_image.specs.Refusals.{IsMet, IsMetPreparing, passes, refuse_if, refuses_to_prepare, refuses_to_read, unusable}
 use Rattle.qcow2_image.specs.declared.image.Qcow2.{Qcow2}
 use Rattle.qcow2_image.specs.declared.prepared.Prepared.{Prepared}
-use Rattle.qcow2_session.specs.Conversions.{IsReasonNotToWrite}
+use Rattle.qcow2_session.specs.Conversions.{IsMetImporting, IsReasonNotToWrite}
 use Rattle.qcow2_session.specs.Sessions.{cluster_size_of}
 use Rattle.qcow2_session.proofs.Causing.{same_error, then_none}
+use Rattle.qcow2_session.proofs.Copied.{kept_cover, same_size}
+use Rattle.qcow2_session.proofs.MetOnSound.{compressed_within}
 use Rattle.qcow2_session.proofs.Parts.{not_failed_yet, part_reads, part_under}
 
 writing_left : (u : Option ImageError) (c t : Bool) → u ≡ None → c ≡ false → option_or u (option_or (refuse_if c I.BeyondSize) (refuse_if t I.ReadOnly)) ≡ refuse_if t I.ReadOnly
@@ -25,6 +36,23 @@ not_writable a false is = refl
 
 pair_error : {A : Type 0} {e x : ImageError} {k : ℕ} → (◌≡◌ {A = Result A (ImageError × ℕ)} (Err (e, k)) (Err (x, 0))) → e ≡ x
 pair_error is = ap (λ (p : ImageError × ℕ). p.0) (same_error is)
+
+-- a write that was refused, of a range that may be read: the image isn't to be written, or nothing refused it before any work
+early_or_late : {S F : Type 0} (old mid : Qcow2 S F) → IsSameImage old mid → (at n : ℕ) → is_failed mid ≡ false → refuses_to_read old at n ≡ None → (e : ImageError) (k : ℕ) (X : Type 0)
+    → IfSome (refuses_to_prepare mid at n) (λ x. (◌≡◌ {A = Result (Unit {0}) (ImageError × ℕ)} (Err (e, k)) (Err (x, 0))) × X)
+    → ((e ≡ I.ReadOnly) × (is_writable mid ≡ false)) ⊎ (refuses_to_prepare mid at n ≡ None)
+early_or_late old mid same at n works none e k X early =
+    let usable = (then_none (unusable old) (passes (size_of old) at n) I.BeyondSize none).0 in
+    let read = then_none (unusable mid) (passes (size_of mid) at n) I.BeyondSize (part_reads old mid same at n at n (omega arith) (omega arith) (works ∙ sym (not_failed_yet old mid same usable)) none) in
+    let test : Bool = nat_lt 0 n && not (is_writable mid) in
+    let is : refuses_to_prepare mid at n ≡ refuse_if test I.ReadOnly = writing_left (unusable mid) (passes (size_of mid) at n) test read.0 read.1 in
+    elim (cases_Bool test) [
+      | inl refused ↦
+          let some : refuses_to_prepare mid at n ≡ Some I.ReadOnly = is ∙ ap (λ b. refuse_if b I.ReadOnly) refused in
+          let told = subst (λ o. IfSome o (λ x. (◌≡◌ {A = Result (Unit {0}) (ImageError × ℕ)} (Err (e, k)) (Err (x, 0))) × X)) some early in
+          inl (pair_error told.0, not_writable (nat_lt 0 n) (is_writable mid) refused)
+      | inr passed ↦ inr (is ∙ ap (λ b. refuse_if b I.ReadOnly) passed)
+    ]
 
 module _ {S F : Type 0} (old mid : Qcow2 S F) (same : IsSameImage old mid) (clusters : cluster_size_of mid ≡ cluster_size_of old) where
   carried : (from to first last : ℕ) → from ≤ first → last ≤ to → (out : List (Option Prepared)) → IsUnderMappingIn mid.file.header.fields first last out → IsUnderMappingIn old.file.header.fields from to out
@@ -46,17 +74,49 @@ module _ {S F : Type 0} (old mid : Qcow2 S F) (same : IsSameImage old mid) (clus
       → IfSome (refuses_to_prepare mid at n) (λ x. (◌≡◌ {A = Result (Unit {0}) (ImageError × ℕ)} (Err (e, k)) (Err (x, 0))) × X)
       → (refuses_to_prepare mid at n ≡ None → IsMetPreparing e × (0 < n)) → (refuses_to_prepare mid at n ≡ None → e ≡ I.TablePrepared → IsUnderMappingIn mid.file.header.fields at (at + n) out)
       → IsReasonNotToWrite old at (at + n) out e
-  write_reason at n works none out e k X early late taken =
-      let usable = (then_none (unusable old) (passes (size_of old) at n) I.BeyondSize none).0 in
-      let read = then_none (unusable mid) (passes (size_of mid) at n) I.BeyondSize (part_reads old mid same at n at n (omega arith) (omega arith) (works ∙ sym (not_failed_yet old mid same usable)) none) in
-      let test : Bool = nat_lt 0 n && not (is_writable mid) in
-      let is : refuses_to_prepare mid at n ≡ refuse_if test I.ReadOnly = writing_left (unusable mid) (passes (size_of mid) at n) test read.0 read.1 in
-      elim (cases_Bool test) [
-        | inl refused ↦
-            let some : refuses_to_prepare mid at n ≡ Some I.ReadOnly = is ∙ ap (λ b. refuse_if b I.ReadOnly) refused in
-            let told = subst (λ o. IfSome o (λ x. (◌≡◌ {A = Result (Unit {0}) (ImageError × ℕ)} (Err (e, k)) (Err (x, 0))) × X)) some early in
-            inr (inl (pair_error told.0, sym same.writable ∙ not_writable (nat_lt 0 n) (is_writable mid) refused))
-        | inr passed ↦
-            let free : refuses_to_prepare mid at n ≡ None = is ∙ ap (λ b. refuse_if b I.ReadOnly) passed in
-            ⊎_elim (λ (met : IsMet e). inl met) (λ (t : e ≡ I.TablePrepared). inr (inr (t, carried at (at + n) at (at + n) (omega arith) (omega arith) out (taken free t)))) (late free).0
-      ]
+  write_reason at n works none out e k X early late taken = ⊎_elim
+      (λ (closed : (e ≡ I.ReadOnly) × (is_writable mid ≡ false)). inr (inl (closed.0, sym same.writable ∙ closed.1)))
+      (λ (free : refuses_to_prepare mid at n ≡ None).
+      ⊎_elim (λ (met : IsMet e). inl met) (λ (t : e ≡ I.TablePrepared). inr (inr (t, carried at (at + n) at (at + n) (omega arith) (omega arith) out (taken free t)))) (late free).0)
+      (early_or_late old mid same at n works none e k X early)
+
+-- ---- what an import of a sound image meets, of which no mapping is prepared
+
+module _ {S F : Type 0} (view : S → StorageView) (new : Qcow2 S F) where
+  -- a part of a range meets what the range does
+  pub importing_within : (from to first last : ℕ) (e : ImageError) → from ≤ first → last ≤ to → IsMetImporting view first last new e → IsMetImporting view from to new e
+  importing_within from to first last e low high (inl limit) = inl limit
+  importing_within from to first last e low high (inr (inl closed)) = inr (inl closed)
+  importing_within from to first last e low high (inr (inr (inl far))) = inr (inr (inl far))
+  importing_within from to first last e low high (inr (inr (inr compressed))) =
+      let h = new.file.header.fields in
+      let known = known_in view new.file in
+      inr (inr (inr (compressed.0, compressed_within h h known known refl (λ g. refl) from to first last low high compressed.1)))
+
+  -- a read that was refused: what is compressed is so still
+  pub read_importing : {A : Type 0} (backing : F → BackingView) (old : Qcow2 S F) (out : List (Option Prepared)) (from to : ℕ) (e : ImageError) → (abstract_of view backing old out).is_sound → (HasPrepared out → ⊥)
+      → RefusedEffect (abstract_of view backing old out) (abstract_of view backing new out) [] [] (refusal_of e) A → IsMetReadingRange out from to old.file.header.fields (known_in view old.file) e → IsMetImporting view from to new e
+  read_importing backing old out from to e sound free refused (inl looking) = ⊎_elim (λ (fault : IsFault e). inl (inl fault)) (λ used. absurd (free used.1)) looking
+  read_importing {A = A} backing old out from to e sound free refused (inr compressed) =
+      let effect = refused.acts.works sound in
+      ⊎_elim
+      (λ (still : (abstract_of view backing new out).is_sound × A). inr (inr (inr (
+        compressed.0,
+        compressed_within old.file.header.fields new.file.header.fields (known_in view old.file) (known_in view new.file) (same_size view backing old new out effect) (λ g. kept_cover view backing old new out sound still.0 effect g tt)
+            from to from to (omega arith) (omega arith) compressed.1,
+      ))))
+      (λ (broke : IsRefusalByFault (refusal_of e) × IsTrue (abstract_of view backing new out).is_failed). absurd (subst (λ x. IsRefusalByFault (refusal_of x)) compressed.0 broke.0)) (refused.answer sound)
+
+  -- a write that was refused
+  pub write_importing : (old mid : Qcow2 S F) → IsSameImage old mid → is_writable new ≡ is_writable mid → (at n : ℕ) → is_failed mid ≡ false → refuses_to_read old at n ≡ None → (e : ImageError) (k : ℕ) (X : Type 0)
+      → IfSome (refuses_to_prepare mid at n) (λ x. (◌≡◌ {A = Result (Unit {0}) (ImageError × ℕ)} (Err (e, k)) (Err (x, 0))) × X)
+      → (refuses_to_prepare mid at n ≡ None → IsMetAlone (CopiesCompressed at n true new.file.header.fields (known_in view new.file)) (Unit {0}) e) → IsMetImporting view at (at + n) new e
+  write_importing old mid same writable at n works none e k X early met = ⊎_elim
+      (λ (closed : (e ≡ I.ReadOnly) × (is_writable mid ≡ false)). inr (inl (closed.0, writable ∙ closed.1)))
+      (λ (free : refuses_to_prepare mid at n ≡ None). met_writing (met free))
+      (early_or_late old mid same at n works none e k X early)
+    where
+      met_writing : IsMetAlone (CopiesCompressed at n true new.file.header.fields (known_in view new.file)) (Unit {0}) e → IsMetImporting view at (at + n) new e
+      met_writing (inl limit) = inl limit
+      met_writing (inr (inl compressed)) = let c = compressed.1 in inr (inr (inr (compressed.0, record { guest = c.guest; touched = c.touched; is = c.is })))
+      met_writing (inr (inr far)) = inr (inr (inl far.0))

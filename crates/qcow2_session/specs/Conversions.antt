@@ -9,14 +9,16 @@ use Rattle.qcow2_disk.specs.Stops.{GivenBytes}
 use Rattle.qcow2_disk.specs.Mappings.{given_of}
 use Rattle.qcow2_disk.specs.AbstractImages.{Guest, AbstractImage, guest_of, stored_bytes}
 use Rattle.qcow2_disk.specs.Calls.{Refusal, IsRefusalByFault, CallEffect, AnsweredEffect, IsSame, Shows, MayWrite}
+use Rattle.qcow2_alloc.specs.ImageFile.{known_in}
 use Rattle.qcow2_alloc.specs.declared.error.ImageError.{ImageError}
-use Rattle.qcow2_alloc.specs.declared.error.ImageError.TheVariants.{InvalidOption, Memory, ReadOnly, Storage, TablePrepared}
+use Rattle.qcow2_alloc.specs.declared.error.ImageError.TheVariants.{Compressed, InvalidOption, Memory, Overflow, ReadOnly, Storage, TablePrepared}
 use Rattle.qcow2_image.specs.declared.image.Qcow2.{Qcow2}
 use Rattle.qcow2_image.specs.declared.prepared.Prepared.{Prepared}
 use Rattle.qcow2_image.specs.Calls.{refusal_of}
 use Rattle.qcow2_image.specs.Image.{is_writable, size_of}
+use Rattle.qcow2_image.specs.MetAlone.{HasCompressedIn}
 use Rattle.qcow2_image.specs.Preallocation.{IsUnderMappingIn}
-use Rattle.qcow2_image.specs.Refusals.{IsMet}
+use Rattle.qcow2_image.specs.Refusals.{IsFaultOrLimit, IsMet}
 use Rattle.qcow2_image.specs.ImageInvariant.{abstract_of}
 use Rattle.qcow2_session.specs.Sessions.{HasWritten, IsOfWriting, cluster_size_of}
 
@@ -40,6 +42,11 @@ IsOfImporting e = IsOfWriting e ⊎ (e ≡ InvalidOption)
 -- why a range isn't written that may be read: what the work meets, that the image isn't to be written, or that an L2 table of the range is kept for a mapping
 abbrev pub IsReasonNotToWrite : {S F : Type 0} → Qcow2 S F → (from to : ℕ) → List (Option Prepared) → ImageError → Type 0
 IsReasonNotToWrite image from to out e = IsMet e ⊎ (((e ≡ ReadOnly) × (is_writable image ≡ false)) ⊎ ((e ≡ TablePrepared) × IsUnderMappingIn image.file.header.fields from to out))
+
+-- What making a range as a raw disk is meets, on a sound image of which no mapping is prepared: a fault or a limit. Or 1, where the image isn't to be written. Or 20. Or 7, where some guest cluster that has a byte of the range is compressed, as it stands at the refusal.
+abbrev pub IsMetImporting : {S F : Type 0} → (S → StorageView) → (from to : ℕ) → Qcow2 S F → ImageError → Type 0
+IsMetImporting view from to new e =
+    IsFaultOrLimit e ⊎ (((e ≡ ReadOnly) × (is_writable new ≡ false)) ⊎ ((e ≡ Overflow) ⊎ ((e ≡ Compressed) × HasCompressedIn from to new.file.header.fields (known_in view new.file))))
 
 -- refused as not to be written, or as in an L2 table that is kept for a mapping
 abbrev pub IsKeptFromWriting : ImageError → Type 0

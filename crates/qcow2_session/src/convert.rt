@@ -1,15 +1,18 @@
 //! Images of raw disks, and raw disks of images.
 ghost use Rattle.std.specs.Prelude.{◌≡◌, ◌≢◌, ◌⊎◌, ◌↔◌, ◌+◌, ◌<◌, List, Option, None, Err, length, replicate, IfSome, IfErr, IfOk, OnOk, IsTrue};
 ghost use Rattle.image_access.specs.Contents.{bytes_at};
+ghost use Rattle.qcow2_alloc.specs.ImageFile.{known_in};
+ghost use Rattle.qcow2_image.specs.Backings.{HasPrepared};
 ghost use Rattle.qcow2_image.specs.BehindHeader.{StaysBehindHeader};
 ghost use Rattle.qcow2_image.specs.Image.{HasNothingToFree, IsSameImage, is_writable, size_of};
 ghost use Rattle.qcow2_image.specs.ImageInvariant.{abstract_of};
 ghost use Rattle.qcow2_image.specs.declared.prepared.Prepared.{Prepared};
-ghost use Rattle.qcow2_image.specs.Refusals.{IsMet, refuses_to_read};
+ghost use Rattle.qcow2_image.specs.MetAlone.{IsMetReadingRange};
+ghost use Rattle.qcow2_image.specs.Refusals.{refuses_to_read};
 ghost use Rattle.qcow2_alloc.specs.declared.error.ImageError.TheVariants.{InvalidOption};
 ghost use Rattle.qcow2_session.specs.Sessions.{IsOfReading, IsOfWriting, cluster_size_of};
 ghost use Rattle.qcow2_session.specs.CountedFaults.{ConversionCounts};
-ghost use Rattle.qcow2_session.specs.Conversions.{DiffersWhereKept, IsOfImporting, IsReasonNotToWrite, IsRefusedUnequal, IsLeft, IsUnchanged, Imports, ImportsAll, ImportsAt, ImportsAny, ImportsAnyAt, ImportsAnyOf, Fills, Exports};
+ghost use Rattle.qcow2_session.specs.Conversions.{DiffersWhereKept, IsMetImporting, IsOfImporting, IsReasonNotToWrite, IsRefusedUnequal, IsLeft, IsUnchanged, Imports, ImportsAll, ImportsAt, ImportsAny, ImportsAnyAt, ImportsAnyOf, Fills, Exports};
 ghost use Rattle.qcow2_image.specs.Unwritten.{ReadsQuietly};
 ghost use Rattle.qcow2_session.specs.Told.{StaysUnwritten};
 
@@ -39,6 +42,8 @@ pub fn to_qcow2<R: Storage, S: Storage, F: WrappedFormat<S>>(
     ensures cause { IfErr result IsOfImporting }
     ensures late { refuses_to_read image.old 0 0 ≡ None → (out : List (Option Prepared)) → (abstract_of S.view F.backing image.old out).is_sound
         → IfErr result (λ e. (e ≡ InvalidOption) ⊎ IsReasonNotToWrite image.old 0 (size_of image.old) out e) }
+    ensures met { refuses_to_read image.old 0 0 ≡ None → (out : List (Option Prepared)) → (abstract_of S.view F.backing image.old out).is_sound → (HasPrepared out → ⊥)
+        → IfErr result (λ e. (e ≡ InvalidOption) ⊎ IsMetImporting S.view 0 (size_of image.old) image.new e) }
     ensures emptied { IsTrue (is_writable image.old) → IfOk result (λ n. HasNothingToFree image.new) }
     ensures faults { ConversionCounts S.view F.backing image.old image.new (R.view raw.old).faults (R.view raw.new).faults result }
     ensures header_cluster { StaysBehindHeader S.view image.old image.new }
@@ -74,6 +79,7 @@ fn import_all<R: Storage, S: Storage, F: WrappedFormat<S>>(
     ensures sees { (R.view raw.old).is_honest → size ≡ length (R.view raw.old).contents → ImportsAll S.view F.backing image.old image.new (R.view raw.old).contents result }
     ensures any { ImportsAnyOf S.view F.backing image.old image.new size result }
     ensures late { refuses_to_read image.old 0 0 ≡ None → size ≡ size_of image.old → (out : List (Option Prepared)) → (abstract_of S.view F.backing image.old out).is_sound → IfErr result (IsReasonNotToWrite image.old 0 size out) }
+    ensures met { refuses_to_read image.old 0 0 ≡ None → size ≡ size_of image.old → (out : List (Option Prepared)) → (abstract_of S.view F.backing image.old out).is_sound → (HasPrepared out → ⊥) → IfErr result (IsMetImporting S.view 0 size image.new) }
     ensures faults { ConversionCounts S.view F.backing image.old image.new (R.view raw.old).faults (R.view raw.new).faults result }
     ensures header_cluster { StaysBehindHeader S.view image.old image.new }
     ensures differs { (R.view raw.old).is_honest → size ≡ length (R.view raw.old).contents → IfErr result (DiffersWhereKept S.view F.backing image.old 0 (R.view raw.old).contents) }
@@ -102,6 +108,7 @@ fn import_at<R: Storage, S: Storage, F: WrappedFormat<S>>(
     ensures sees { (R.view raw.old).is_honest → ImportsAt S.view F.backing image.old image.new at (bytes_at (R.view raw.old).contents at (length wanted.old)) result }
     ensures any { ImportsAnyAt S.view F.backing image.old image.new at (length wanted.old) result }
     ensures late { refuses_to_read image.old at (length wanted.old) ≡ None → (out : List (Option Prepared)) → (abstract_of S.view F.backing image.old out).is_sound → IfErr result (IsReasonNotToWrite image.old at (at + length wanted.old) out) }
+    ensures met { refuses_to_read image.old at (length wanted.old) ≡ None → (out : List (Option Prepared)) → (abstract_of S.view F.backing image.old out).is_sound → (HasPrepared out → ⊥) → IfErr result (IsMetImporting S.view at (at + length wanted.old) image.new) }
     ensures faults { ConversionCounts S.view F.backing image.old image.new (R.view raw.old).faults (R.view raw.new).faults result }
     ensures header_cluster { StaysBehindHeader S.view image.old image.new }
     ensures differs { (R.view raw.old).is_honest → IfErr result (DiffersWhereKept S.view F.backing image.old at (bytes_at (R.view raw.old).contents at (length wanted.old))) }
@@ -134,7 +141,7 @@ pub fn to_raw<S: Storage, F: WrappedFormat<S>, R: Storage>(
     ensures honest { (R.view raw.old).is_honest → (R.view raw.new).is_honest }
     ensures sees { (R.view raw.old).is_honest → IfOk result (λ n. Exports S.view F.backing image.old (R.view raw.new).contents n) }
     ensures cause { IfErr result IsOfReading }
-    ensures late { refuses_to_read image.old 0 0 ≡ None → (out : List (Option Prepared)) → (abstract_of S.view F.backing image.old out).is_sound → IfErr result IsMet }
+    ensures met { refuses_to_read image.old 0 0 ≡ None → (out : List (Option Prepared)) → (abstract_of S.view F.backing image.old out).is_sound → IfErr result (IsMetReadingRange out 0 (size_of image.old) image.old.file.header.fields (known_in S.view image.old.file)) }
     ensures faults { ConversionCounts S.view F.backing image.old image.new (R.view raw.old).faults (R.view raw.new).faults result }
     ensures header_cluster { StaysBehindHeader S.view image.old image.new }
     ensures quiet { ReadsQuietly S.view image.old image.new }
@@ -166,7 +173,7 @@ fn export_all<S: Storage, F: WrappedFormat<S>, R: Storage>(
     ensures honest { (R.view raw.old).is_honest → (R.view raw.new).is_honest }
     ensures sees { (R.view raw.old).is_honest → OnOk result (Fills S.view F.backing image.old 0 size (R.view raw.old).contents (R.view raw.new).contents) }
     ensures cause { IfErr result IsOfReading }
-    ensures late { refuses_to_read image.old 0 0 ≡ None → size ≡ size_of image.old → (out : List (Option Prepared)) → (abstract_of S.view F.backing image.old out).is_sound → IfErr result IsMet }
+    ensures met { refuses_to_read image.old 0 0 ≡ None → size ≡ size_of image.old → (out : List (Option Prepared)) → (abstract_of S.view F.backing image.old out).is_sound → IfErr result (IsMetReadingRange out 0 size image.old.file.header.fields (known_in S.view image.old.file)) }
     ensures faults { ConversionCounts S.view F.backing image.old image.new (R.view raw.old).faults (R.view raw.new).faults result }
     ensures header_cluster { StaysBehindHeader S.view image.old image.new }
     ensures quiet { ReadsQuietly S.view image.old image.new }
@@ -195,7 +202,7 @@ fn export_at<S: Storage, F: WrappedFormat<S>, R: Storage>(
     ensures honest { (R.view raw.old).is_honest → (R.view raw.new).is_honest }
     ensures sees { (R.view raw.old).is_honest → OnOk result (Fills S.view F.backing image.old at (at + length bytes.old) (R.view raw.old).contents (R.view raw.new).contents) }
     ensures cause { IfErr result IsOfReading }
-    ensures late { refuses_to_read image.old at (length bytes.old) ≡ None → IfErr result IsMet }
+    ensures met { refuses_to_read image.old at (length bytes.old) ≡ None → (out : List (Option Prepared)) → (abstract_of S.view F.backing image.old out).is_sound → IfErr result (IsMetReadingRange out at (at + length bytes.old) image.old.file.header.fields (known_in S.view image.old.file)) }
     ensures faults { ConversionCounts S.view F.backing image.old image.new (R.view raw.old).faults (R.view raw.new).faults result }
     ensures header_cluster { StaysBehindHeader S.view image.old image.new }
     ensures quiet { ReadsQuietly S.view image.old image.new }

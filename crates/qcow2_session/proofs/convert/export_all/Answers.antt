@@ -5,8 +5,9 @@ use Rattle.qcow2_session.specs.Conversions.{Fills}
 use Rattle.qcow2_session.proofs.Counting.{converted, converting_part, none_counted}
 use Rattle.qcow2_session.proofs.Converting.{does_nothing, interrupted_if, interrupted_then}
 use Rattle.std.specs.Prelude.{IfErr}
-use Rattle.qcow2_image.specs.Image.{size_of}
-use Rattle.qcow2_image.specs.Refusals.{IsMet}
+use Rattle.qcow2_alloc.specs.ImageFile.{known_in}
+use Rattle.qcow2_image.specs.MetAlone.{IsMetReadingRange}
+use Rattle.qcow2_session.proofs.MetOnSound.{reads_part}
 use Rattle.qcow2_session.proofs.Exporting.{part_of_disk, unchanged_refused, fills_more}
 use Rattle.qcow2_image.proofs.Call.FaultCounts.{faults_then}
 use Rattle.qcow2_image.proofs.Map.Unmodified.{read_none, read_then}
@@ -70,12 +71,22 @@ returns-clause-sees g c = λ h.
     let done : c.loop-at.at ≡ c.args.size = omega (arith, c.loop-at.invariant.within, c.loop-at-test.false) in
     subst (λ k. Fills g.S.Storage.view g.F.BackingDisk.backing c.args.image.now 0 k (g.R.Storage.view c.args.raw.now).contents (g.R.Storage.view c.loop-at.raw).contents) done (c.loop-at.invariant.filled h)
 
-pub returns-in_err-export_at-clause-late : goal.returns-in_err-export_at-clause-late
-returns-in_err-export_at-clause-late g c = λ none size out sound.
-    let long : length (take c.min-count.result c.loop-at.bytes) ≡ c.min-count.result = grind (arith, common_steps) in
-    let fits : c.loop-at.at + length (take c.min-count.result c.loop-at.bytes) ≤ size_of c.args.image.now = omega (arith, c.min-count.ensures, c.loop-at-test.true, size, long) in
-    subst (λ r. IfErr r IsMet) (sym (refused_is _ c.in_err-export_at.field-0.0 c.from_residual.ensures))
-    (c.in_err-export_at.ensures.late (part_of_disk c.args.image.now c.loop-at.image c.loop-at.invariant.image c.loop-at.at (length (take c.min-count.result c.loop-at.bytes)) fits ((c.loop-at.invariant.same out).answer sound).0.works none))
+pub returns-in_err-export_at-clause-met : goal.returns-in_err-export_at-clause-met
+returns-in_err-export_at-clause-met g c = λ none size out sound.
+    let view = g.S.Storage.view in
+    let below = g.F.BackingDisk.backing in
+    let old = c.args.image.now in
+    let mid = c.loop-at.image in
+    let e = c.in_err-export_at.field-0.0 in
+    let at = c.loop-at.at in
+    let count = length (take c.min-count.result c.loop-at.bytes) in
+    let long : count ≡ c.min-count.result = grind (arith, common_steps) in
+    let upto : at + count ≤ c.args.size = omega (arith, c.min-count.ensures, c.loop-at-test.true, long) in
+    let so_far = c.loop-at.invariant.same out in
+    let still = (so_far.answer sound).0 in
+    subst (λ r. IfErr r (IsMetReadingRange out 0 c.args.size c.args.image.now.file.header.fields (known_in g.S.Storage.view c.args.image.now.file))) (sym (refused_is _ e c.from_residual.ensures))
+    (reads_part view below out old mid sound still (so_far.acts.works sound) 0 c.args.size at (at + count) e (omega arith) upto
+    (c.in_err-export_at.ensures.met (part_of_disk old mid c.loop-at.invariant.image at count (omega (arith, upto, size)) still.works none) out still))
 
 pub returns-in_err-export_at-clause-faults : goal.returns-in_err-export_at-clause-faults
 returns-in_err-export_at-clause-faults g c =

@@ -1,4 +1,4 @@
-use Rattle.std.proofs.Common.{◌≡◌, ◌+◌, ◌∙◌, length, sym, subst, arith, refl}
+use Rattle.std.proofs.Common.{◌≡◌, ◌+◌, ◌∙◌, inl, length, sym, subst, arith, refl}
 use Rattle.std.proofs.lemmas.Grind.{common_steps}
 use Rattle.image_access.specs.Contents.{overwritten}
 use Rattle.qcow2_alloc.specs.ImageError.{of_storage}
@@ -6,8 +6,9 @@ use Rattle.qcow2_disk.specs.AbstractImages.{guest_of}
 use Rattle.qcow2_image.specs.Calls.{refusal_of}
 use Rattle.qcow2_image.specs.ImageInvariant.{abstract_of}
 use Rattle.std.specs.Prelude.{IfErr}
-use Rattle.qcow2_image.specs.Refusals.{IsMet}
-use Rattle.qcow2_image.proofs.Call.MetErrors.{storage_met}
+use Rattle.qcow2_alloc.proofs.AllocationSteps.{fault_of_storage}
+use Rattle.qcow2_alloc.specs.ImageFile.{known_in}
+use Rattle.qcow2_image.specs.MetAlone.{IsMetReadingRange}
 use Rattle.qcow2_session.specs.Conversions.{IsFilledUpTo}
 use Rattle.qcow2_session.proofs.Converting.{interrupted, interrupted_here}
 use Rattle.qcow2_session.proofs.Counting.{converted, converting_image, converting_raw, none_counted}
@@ -45,11 +46,13 @@ returns-clause-sees g c = λ honest out sound size le filled.
     (subst (λ n. IsFilledUpTo d size (c.args.at + n) (overwritten (g.R.Storage.view c.args.raw.now).contents c.args.at c.read_into.new.bytes)) long
     (filled_more d size c.args.at (g.R.Storage.view c.args.raw.now).contents c.read_into.new.bytes filled shows.1.0 (omega (arith, le, long))))
 
-pub returns-in_err-read_into-clause-late : goal.returns-in_err-read_into-clause-late
-returns-in_err-read_into-clause-late g c = λ none. subst (λ r. IfErr r IsMet) (sym (refused_is _ c.in_err-read_into.field-0.0 c.from_residual.ensures)) (c.in_err-read_into.ensures.late none).0
+pub returns-in_err-read_into-clause-met : goal.returns-in_err-read_into-clause-met
+returns-in_err-read_into-clause-met g c = λ none out sound.
+    subst (λ r. IfErr r (IsMetReadingRange out c.args.at (c.args.at + length c.args.bytes.now) c.args.image.now.file.header.fields (known_in g.S.Storage.view c.args.image.now.file))) (sym (refused_is _ c.in_err-read_into.field-0.0 c.from_residual.ensures)) (c.in_err-read_into.ensures.met none out sound)
 
-pub returns-in_err-write-clause-late : goal.returns-in_err-write-clause-late
-returns-in_err-write-clause-late g c = λ none. subst (λ r. IfErr r IsMet) (sym (refused_is _ (of_storage c.in_err-write.field-0.0) c.from_residual-in_err-write.ensures)) (storage_met c.in_err-write.field-0.0)
+pub returns-in_err-write-clause-met : goal.returns-in_err-write-clause-met
+returns-in_err-write-clause-met g c = λ none out sound.
+    subst (λ r. IfErr r (IsMetReadingRange out c.args.at (c.args.at + length c.args.bytes.now) c.args.image.now.file.header.fields (known_in g.S.Storage.view c.args.image.now.file))) (sym (refused_is _ (of_storage c.in_err-write.field-0.0) c.from_residual-in_err-write.ensures)) (inl (inl (fault_of_storage c.in_err-write.field-0.0)))
 
 pub returns-in_err-read_into-clause-faults : goal.returns-in_err-read_into-clause-faults
 returns-in_err-read_into-clause-faults g c =

@@ -1,4 +1,4 @@
-use Rattle.std.proofs.Common.{sym, ◌≡◌, ◌+◌, ◌-◌, ◌%◌, ◌<◌, ◌++◌, drop, length, take, refl, ap, ◌∙◌, subst, arith, min, ℕ}
+use Rattle.std.proofs.Common.{sym, ◌≡◌, ◌+◌, ◌-◌, ◌%◌, ◌<◌, ◌≤◌, ◌++◌, drop, length, take, refl, ap, ◌∙◌, subst, arith, min, ℕ}
 use Rattle.std.proofs.Math.Nat.{zero-mod, add-mod_right}
 use Rattle.std.proofs.lemmas.Grind.{common_steps}
 use Rattle.image_access.specs.Contents.{bytes_at}
@@ -8,12 +8,12 @@ use Rattle.qcow2_disk.specs.AbstractImages.{guest_of}
 use Rattle.qcow2_image.specs.ImageInvariant.{abstract_of}
 use Rattle.std.specs.Prelude.{IfErr, Ok}
 use Rattle.qcow2_disk.specs.AbstractImages.{Setting}
-use Rattle.qcow2_session.specs.Conversions.{ImportsAnyOf, IsReasonNotToWrite}
+use Rattle.qcow2_session.specs.Conversions.{ImportsAnyOf, IsMetImporting, IsReasonNotToWrite}
 use Rattle.qcow2_image.proofs.Call.FaultCounts.{faults_then}
 use Rattle.qcow2_session.proofs.Counting.{converted, converting_part, none_counted}
 use Rattle.qcow2_session.proofs.Differing.{part_kept}
 use Rattle.qcow2_session.proofs.Exporting.{part_of_disk}
-use Rattle.qcow2_session.proofs.Reasons.{reason_within}
+use Rattle.qcow2_session.proofs.Reasons.{importing_within, reason_within}
 use Rattle.qcow2_session.proofs.Converting.{any_more, any_none, any_refused, imports_none, all_more, all_refused, same_range}
 use Rattle.qcow2_session.proofs.Told.{same_then}
 use Rattle.qcow2_session.proofs.Turns.{refused_is, does_if}
@@ -106,6 +106,19 @@ returns-in_err-import_at-clause-late g c = λ none size out sound.
     (reason_within c.args.image.now c.loop-at.image c.loop-at.invariant.image (ap (λ (x : Setting). x.cluster_size) (first.acts.works sound).setting) 0 c.args.size c.loop-at.at (c.loop-at.at + count)
     (omega arith) (omega (arith, c.min-count.ensures, c.loop-at-test.true, long)) out c.in_err-import_at.field-0.0
     (c.in_err-import_at.ensures.late (part_of_disk c.args.image.now c.loop-at.image c.loop-at.invariant.image c.loop-at.at count (omega (arith, c.min-count.ensures, c.loop-at-test.true, long, size)) now.works none) out now))
+
+pub returns-in_err-import_at-clause-met : goal.returns-in_err-import_at-clause-met
+returns-in_err-import_at-clause-met g c = λ none size out sound free.
+    let e = c.in_err-import_at.field-0.0 in
+    let new = c.import_at.new.image in
+    let at = c.loop-at.at in
+    let count = length (take c.min-count.result c.loop-at.wanted) in
+    let long : count ≡ c.min-count.result = grind (arith, common_steps) in
+    let upto : at + count ≤ c.args.size = omega (arith, c.min-count.ensures, c.loop-at-test.true, long) in
+    let now = ((c.loop-at.invariant.any.2 out).answer sound).0 in
+    subst (λ r. IfErr r (IsMetImporting g.S.Storage.view 0 c.args.size c.import_at.new.image)) (sym (refused_is _ e c.from_residual.ensures))
+    (importing_within g.S.Storage.view new 0 c.args.size at (at + count) e (omega arith) upto
+    (c.in_err-import_at.ensures.met (part_of_disk c.args.image.now c.loop-at.image c.loop-at.invariant.image at count (omega (arith, upto, size)) now.works none) out now free))
 
 pub returns-in_err-import_at-clause-faults : goal.returns-in_err-import_at-clause-faults
 returns-in_err-import_at-clause-faults g c =

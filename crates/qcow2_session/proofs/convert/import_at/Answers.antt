@@ -5,8 +5,11 @@ use Rattle.qcow2_disk.specs.AbstractImages.{Setting}
 use Rattle.qcow2_image.specs.Refusals.{refuses_to_read}
 use Rattle.qcow2_image.proofs.Call.FaultCounts.{faults_then}
 use Rattle.qcow2_image.proofs.Call.MetErrors.{storage_met}
-use Rattle.qcow2_session.specs.Conversions.{IsReasonNotToWrite}
-use Rattle.qcow2_session.proofs.Reasons.{write_reason}
+use Rattle.qcow2_alloc.proofs.AllocationSteps.{fault_of_storage}
+use Rattle.qcow2_alloc.specs.ImageFile.{known_in}
+use Rattle.qcow2_image.specs.MetAlone.{IsMetReadingRange}
+use Rattle.qcow2_session.specs.Conversions.{IsMetImporting, IsReasonNotToWrite}
+use Rattle.qcow2_session.proofs.Reasons.{read_importing, write_importing, write_reason}
 use Rattle.std.proofs.lemmas.Grind.{common_steps}
 use Rattle.qcow2_alloc.specs.ImageError.{of_storage}
 use Rattle.qcow2_image.specs.ImageInvariant.{abstract_of}
@@ -95,6 +98,31 @@ returns-in-Err-clause-late g c = λ none out sound.
     subst (λ n. IsReasonNotToWrite c.args.image.now c.args.at (c.args.at + n) out c.in-Err.refusal) long
     (write_reason c.args.image.now c.read_into.new.image c.in_ok-read_into.ensures.image (ap (λ (x : Setting). x.cluster_size) (first.acts.works sound).setting) c.args.at (length c.read.new.buf) now.works
     (subst (λ n. refuses_to_read c.args.image.now c.args.at n ≡ None) (sym long) none) out c.in-Err.refusal _ _ c.in-Err.ensures.early c.in-Err.ensures.late (λ free t. c.in-Err.ensures.taken free out now t))
+
+pub returns-in_err-read-clause-met : goal.returns-in_err-read-clause-met
+returns-in_err-read-clause-met g c = λ none out sound free.
+    subst (λ r. IfErr r (IsMetImporting g.S.Storage.view c.args.at (c.args.at + length c.args.wanted.now) c.args.image.now)) (sym (refused_is _ (of_storage c.in_err-read.field-0.0) c.from_residual.ensures)) (inl (inl (fault_of_storage c.in_err-read.field-0.0)))
+
+pub returns-in_err-read_into-clause-met : goal.returns-in_err-read_into-clause-met
+returns-in_err-read_into-clause-met g c = λ none out sound free.
+    let view = g.S.Storage.view in
+    let old = c.args.image.now in
+    let at = c.args.at in
+    let e = c.in_err-read_into.field-0.0 in
+    subst (λ r. IfErr r (IsMetImporting g.S.Storage.view c.args.at (c.args.at + length c.args.wanted.now) c.read_into.new.image)) (sym (refused_is _ e c.from_residual-in_err-read_into.ensures))
+    (read_importing view c.read_into.new.image g.F.BackingDisk.backing old out at (at + length c.args.wanted.now) e sound free (c.in_err-read_into.ensures.sees out)
+    (subst (λ n. IsMetReadingRange out at (at + n) old.file.header.fields (known_in view old.file) e) c.requires (c.in_err-read_into.ensures.met (subst (λ n. refuses_to_read old at n ≡ None) (sym c.requires) none) out sound)))
+
+pub returns-in-Err-clause-met : goal.returns-in-Err-clause-met
+returns-in-Err-clause-met g c = λ none out sound free.
+    let old = c.args.image.now in
+    let at = c.args.at in
+    let e = c.in-Err.refusal in
+    let now = ((c.in_ok-read_into.ensures.sees out).answer sound).0 in
+    let long : length c.read.new.buf ≡ length c.args.wanted.now = grind (arith, common_steps) in
+    subst (λ n. IsMetImporting g.S.Storage.view at (at + n) c.write.new.image e) long
+    (write_importing g.S.Storage.view c.write.new.image old c.read_into.new.image c.in_ok-read_into.ensures.image c.write.ensures.image.writable at (length c.read.new.buf) now.works
+    (subst (λ n. refuses_to_read old at n ≡ None) (sym long) none) e _ _ c.in-Err.ensures.early (λ unrefused. c.in-Err.ensures.met unrefused out now free))
 
 pub returns-in_err-read-clause-faults : goal.returns-in_err-read-clause-faults
 returns-in_err-read-clause-faults g c =

@@ -5,13 +5,15 @@ use Rattle.qcow2_image.specs.Refusals.{refuses_to_read}
 use Rattle.qcow2_image.proofs.Call.FaultCounts.{faults_then}
 use Rattle.qcow2_image.proofs.Call.MetErrors.{storage_met, tables_met}
 use Rattle.std.proofs.Common.{◌≡◌, ◌⊎◌, inl, inr, refl, sym, ap, ◌∙◌, subst, length, Ok, Err}
+use Rattle.qcow2_alloc.proofs.AllocationSteps.{fault_of_storage}
 use Rattle.qcow2_alloc.specs.ImageError.{of_storage}
 use Rattle.qcow2_alloc.specs.declared.error.ImageError.TheVariants.{InvalidOption, Memory}
-use Rattle.qcow2_session.specs.Conversions.{DiffersWhereKept, Imports, ImportsAll, IsReasonNotToWrite, IsRefusedUnequal}
+use Rattle.qcow2_session.specs.Conversions.{DiffersWhereKept, Imports, ImportsAll, IsMetImporting, IsReasonNotToWrite, IsRefusedUnequal}
 use Rattle.qcow2_session.specs.Sessions.{IsOfReading}
 use Rattle.qcow2_session.proofs.Counting.{converted, converting_else, converting_image, converting_part, converting_raw, none_counted}
 use Rattle.qcow2_session.proofs.Differing.{early_reading, option_other, reading_differs, reading_other, size_untold}
 use Rattle.qcow2_session.proofs.Converting.{any_nothing, imports_nothing, imports_unflushed, imports_flushed}
+use Rattle.qcow2_session.proofs.MetOnSound.{refused_none}
 use Rattle.qcow2_session.proofs.Turns.{refused_is}
 use Rattle.qcow2_image.proofs.Call.BehindHeader.{behind_none, behind_then}
 use Rattle.qcow2_session.proofs.convert.to_qcow2.Goals as goal
@@ -125,6 +127,34 @@ pub returns-in_err-flush-clause-late : goal.returns-in_err-flush-clause-late
 returns-in_err-flush-clause-late g c = λ none out sound.
     let now = ((c.in_ok-import_all.ensures.any.2 out).answer sound).0 in
     subst (λ r. IfErr r (λ e. (e ≡ InvalidOption) ⊎ IsReasonNotToWrite c.args.image.now 0 (size_of c.args.image.now) out e)) (sym (refused_is _ c.in_err-flush.field-0.0 c.from_residual-in_err-flush.ensures)) (inr (inl (tables_met c.in_err-flush.field-0.0 (c.in_err-flush.ensures.late now.works))))
+
+pub returns-in_err-check_read-clause-met : goal.returns-in_err-check_read-clause-met
+returns-in_err-check_read-clause-met g c = λ none out sound free. absurd (refused_none (refuses_to_read c.args.image.now 0 0) c.in_err-check_read.field-0.0 c.in_err-check_read.ensures.refusal none)
+
+pub returns-in_err-size-clause-met : goal.returns-in_err-size-clause-met
+returns-in_err-size-clause-met g c = λ none out sound free.
+    subst (λ r. IfErr r (λ e. (e ≡ InvalidOption) ⊎ IsMetImporting g.S.Storage.view 0 (size_of c.args.image.now) c.args.image.now e)) (sym (refused_is _ (of_storage c.in_err-size.field-0.0) c.from_residual-in_err-size.ensures)) (inr (inl (inl (fault_of_storage c.in_err-size.field-0.0))))
+
+pub returns-then-size-clause-met : goal.returns-then-size-clause-met
+returns-then-size-clause-met g c = λ none out sound free. inl refl
+
+pub returns-in_err-wanted-clause-met : goal.returns-in_err-wanted-clause-met
+returns-in_err-wanted-clause-met g c = λ none out sound free. subst (λ r. IfErr r (λ e. (e ≡ InvalidOption) ⊎ IsMetImporting g.S.Storage.view 0 (size_of c.args.image.now) c.args.image.now e)) (sym (refused_is _ Memory c.from_residual-in_err-wanted.ensures)) (inr (inl (inl (inr refl))))
+
+pub returns-in_err-present-clause-met : goal.returns-in_err-present-clause-met
+returns-in_err-present-clause-met g c = λ none out sound free. subst (λ r. IfErr r (λ e. (e ≡ InvalidOption) ⊎ IsMetImporting g.S.Storage.view 0 (size_of c.args.image.now) c.args.image.now e)) (sym (refused_is _ Memory c.from_residual-in_err-present.ensures)) (inr (inl (inl (inr refl))))
+
+pub returns-in_err-import_all-clause-met : goal.returns-in_err-import_all-clause-met
+returns-in_err-import_all-clause-met g c = λ none out sound free.
+    let e = c.in_err-import_all.field-0.0 in
+    let is = c.if-size.false ∙ c.size-2.ensures.value in
+    subst (λ r. IfErr r (λ e. (e ≡ InvalidOption) ⊎ IsMetImporting g.S.Storage.view 0 (size_of c.args.image.now) c.import_all.new.image e)) (sym (refused_is _ e c.from_residual-in_err-import_all.ensures))
+    (inr (subst (λ n. IsMetImporting g.S.Storage.view 0 n c.import_all.new.image e) is (c.in_err-import_all.ensures.met none is out sound free)))
+
+pub returns-in_err-flush-clause-met : goal.returns-in_err-flush-clause-met
+returns-in_err-flush-clause-met g c = λ none out sound free.
+    let now = ((c.in_ok-import_all.ensures.any.2 out).answer sound).0 in
+    subst (λ r. IfErr r (λ e. (e ≡ InvalidOption) ⊎ IsMetImporting g.S.Storage.view 0 (size_of c.args.image.now) c.flush.new.self e)) (sym (refused_is _ c.in_err-flush.field-0.0 c.from_residual-in_err-flush.ensures)) (inr (inl (inl (c.in_err-flush.ensures.fault out now))))
 
 pub returns-in_err-size-clause-unequal : goal.returns-in_err-size-clause-unequal
 returns-in_err-size-clause-unequal g c = λ honest differ.

@@ -1,11 +1,16 @@
-use Rattle.std.proofs.Common.{arith, sym, subst, refl, ◌∙◌}
+use Rattle.std.proofs.Common.{◌≡◌, inl, arith, sym, subst, refl, ◌∙◌}
 use Rattle.qcow2_alloc.specs.ImageError.{of_storage}
 use Rattle.qcow2_alloc.specs.declared.error.ImageError.TheVariants.{Memory}
 use Rattle.qcow2_disk.specs.AbstractImages.{guest_of}
 use Rattle.qcow2_image.specs.ImageInvariant.{abstract_of}
 use Rattle.qcow2_image.proofs.Map.Unmodified.{read_none}
 use Rattle.std.specs.Prelude.{IfErr}
-use Rattle.qcow2_image.specs.Refusals.{IsMet}
+use Rattle.qcow2_alloc.proofs.AllocationSteps.{fault_of_storage}
+use Rattle.qcow2_alloc.specs.ImageFile.{known_in}
+use Rattle.qcow2_image.specs.Image.{size_of}
+use Rattle.qcow2_image.specs.MetAlone.{IsMetReadingRange}
+use Rattle.qcow2_image.specs.Refusals.{refuses_to_read}
+use Rattle.qcow2_session.proofs.MetOnSound.{memory_looking, refused_none}
 use Rattle.qcow2_session.proofs.Counting.{converted, converting_else, converting_part, converting_raw, none_counted}
 use Rattle.qcow2_session.proofs.Exporting.{unchanged_refused, filled_first, filled_all}
 use Rattle.qcow2_session.proofs.Turns.{refused_is}
@@ -32,8 +37,31 @@ returns-in_err-resize-clause-unwritten g c = λ reading out sound clean. read_no
 pub returns-in_err-resize-2-clause-unwritten : goal.returns-in_err-resize-2-clause-unwritten
 returns-in_err-resize-2-clause-unwritten g c = λ reading out sound clean. read_none g.S.Storage.view c.args.image.now clean
 
-pub returns-in_err-export_all-clause-late : goal.returns-in_err-export_all-clause-late
-returns-in_err-export_all-clause-late g c = λ none out sound. subst (λ r. IfErr r IsMet) (sym (refused_is _ c.in_err-export_all.field-0.0 c.from_residual-in_err-export_all.ensures)) (c.in_err-export_all.ensures.late none c.size-size.ensures.value out sound)
+pub returns-in_err-check_read-clause-met : goal.returns-in_err-check_read-clause-met
+returns-in_err-check_read-clause-met g c = λ none out sound. absurd (refused_none (refuses_to_read c.args.image.now 0 0) c.in_err-check_read.field-0.0 c.in_err-check_read.ensures.refusal none)
+
+pub returns-in_err-zeros-clause-met : goal.returns-in_err-zeros-clause-met
+returns-in_err-zeros-clause-met g c = λ none out sound.
+    subst (λ r. IfErr r (IsMetReadingRange out 0 (size_of c.args.image.now) c.args.image.now.file.header.fields (known_in g.S.Storage.view c.args.image.now.file))) (sym (refused_is _ Memory c.from_residual-in_err-zeros.ensures)) (inl (memory_looking out Memory refl))
+
+pub returns-in_err-bytes-clause-met : goal.returns-in_err-bytes-clause-met
+returns-in_err-bytes-clause-met g c = λ none out sound.
+    subst (λ r. IfErr r (IsMetReadingRange out 0 (size_of c.args.image.now) c.args.image.now.file.header.fields (known_in g.S.Storage.view c.args.image.now.file))) (sym (refused_is _ Memory c.from_residual-in_err-bytes.ensures)) (inl (memory_looking out Memory refl))
+
+pub returns-in_err-resize-clause-met : goal.returns-in_err-resize-clause-met
+returns-in_err-resize-clause-met g c = λ none out sound.
+    subst (λ r. IfErr r (IsMetReadingRange out 0 (size_of c.args.image.now) c.args.image.now.file.header.fields (known_in g.S.Storage.view c.args.image.now.file))) (sym (refused_is _ (of_storage c.in_err-resize.field-0.0) c.from_residual-in_err-resize.ensures)) (inl (inl (fault_of_storage c.in_err-resize.field-0.0)))
+
+pub returns-in_err-resize-2-clause-met : goal.returns-in_err-resize-2-clause-met
+returns-in_err-resize-2-clause-met g c = λ none out sound.
+    subst (λ r. IfErr r (IsMetReadingRange out 0 (size_of c.args.image.now) c.args.image.now.file.header.fields (known_in g.S.Storage.view c.args.image.now.file))) (sym (refused_is _ (of_storage c.in_err-resize-2.field-0.0) c.from_residual-in_err-resize-2.ensures)) (inl (inl (fault_of_storage c.in_err-resize-2.field-0.0)))
+
+pub returns-in_err-export_all-clause-met : goal.returns-in_err-export_all-clause-met
+returns-in_err-export_all-clause-met g c = λ none out sound.
+    let e = c.in_err-export_all.field-0.0 in
+    let is = c.size-size.ensures.value in
+    subst (λ r. IfErr r (IsMetReadingRange out 0 (size_of c.args.image.now) c.args.image.now.file.header.fields (known_in g.S.Storage.view c.args.image.now.file))) (sym (refused_is _ e c.from_residual-in_err-export_all.ensures))
+    (subst (λ n. IsMetReadingRange out 0 n c.args.image.now.file.header.fields (known_in g.S.Storage.view c.args.image.now.file) e) is (c.in_err-export_all.ensures.met none is out sound))
 
 pub returns-in_err-check_read-clause-faults : goal.returns-in_err-check_read-clause-faults
 returns-in_err-check_read-clause-faults g c =

@@ -157,5 +157,5 @@ returns-in_err-done-clause-met g c = λ none out sound.
     let so_far = c.loop-done.invariant.shown out in
     let still = (so_far.answer sound).0 in
     subst (λ r. IfErr r (IsMetReadingRange out c.args.offset (c.args.offset + length c.args.bytes.now) c.args.image.now.file.header.fields (known_in g.S.Storage.view c.args.image.now.file))) (sym (refused_is _ c.in_err-done.field-0.0 c.from_residual-in_err-done.ensures))
-    (reads_part view below out old mid sound still (so_far.acts.works sound) c.args.offset n c.in-Some.at (length part) c.in_err-done.field-0.0 from upto
+    (reads_part view below out old mid sound still (so_far.acts.works sound) c.args.offset (c.args.offset + n) c.in-Some.at (c.in-Some.at + length part) c.in_err-done.field-0.0 from upto
     (c.in_err-done.ensures.met (part_reads old mid c.loop-done.invariant.image c.args.offset n c.in-Some.at (length part) from upto c.loop-done.invariant.works none) (omega (arith, rest, c.loop-done-test.true)) out still))
