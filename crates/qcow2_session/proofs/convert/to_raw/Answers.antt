@@ -1,4 +1,4 @@
-use Rattle.std.proofs.Common.{◌≡◌, inl, arith, sym, subst, refl, ◌∙◌}
+use Rattle.std.proofs.Common.{inl, arith, sym, subst, refl, ◌∙◌}
 use Rattle.qcow2_alloc.specs.ImageError.{of_storage}
 use Rattle.qcow2_alloc.specs.declared.error.ImageError.TheVariants.{Memory}
 use Rattle.qcow2_disk.specs.AbstractImages.{guest_of}
