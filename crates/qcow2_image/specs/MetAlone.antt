@@ -9,10 +9,12 @@ use Rattle.qcow2_metadata.specs.declared.header.HeaderFields.{HeaderFields}
 use Rattle.qcow2_metadata.specs.declared.l2_mapping.L2Mapping.{L2Mapping}
 use Rattle.qcow2_disk.specs.Found.{IsCompressed}
 use Rattle.qcow2_disk.specs.GrownCovers.{Touches}
+use Rattle.qcow2_alloc.specs.CachePins.{AreAllPinned}
 use Rattle.qcow2_alloc.specs.ImageError.{IsFault}
 use Rattle.qcow2_alloc.specs.declared.error.ImageError.{ImageError}
 use Rattle.qcow2_alloc.specs.declared.error.ImageError.TheVariants as I
 use Rattle.qcow2_image.specs.Backings.{HasPrepared}
+use Rattle.qcow2_image.specs.declared.image.Qcow2.{Qcow2}
 use Rattle.qcow2_image.specs.declared.mapping.MappingKind.{MappingKind}
 use Rattle.qcow2_image.specs.declared.mapping.MappingKind.TheVariants as Kind
 use Rattle.qcow2_image.specs.declared.prepared.Prepared.{Prepared}
@@ -84,26 +86,30 @@ IsMetReading kind e = IsFault e ⊎ (((e ≡ I.Compressed) × IsSpecial kind) �
 
 -- ---- looking up, reading and putting, on a sound image, whatever is prepared
 
--- A fault. Or 8, where a mapping is prepared, whose L2 table can't leave the cache.
-abbrev pub IsMetLooking : List (Option Prepared) → ImageError → Type 0
-IsMetLooking out e = IsFault e ⊎ ((e ≡ I.InUse) × HasPrepared out)
+-- The cache is full of L2 tables that can't leave it, since mappings are prepared in them that aren't existing.
+abbrev pub IsCacheHeld : {S F : Type 0} → Qcow2 S F → List (Option Prepared) → Type 0
+IsCacheHeld image out = AreAllPinned image.file.caches × HasPrepared out
+
+-- A fault. Or 8, where tables are held so.
+abbrev pub IsMetLooking : (held : Type 0) → ImageError → Type 0
+IsMetLooking held e = IsFault e ⊎ ((e ≡ I.InUse) × held)
 
 -- A range that was looked up before meets that, and 10 where it is no longer mapped so.
-abbrev pub IsMetLookingAgain : List (Option Prepared) → ImageError → Type 0
-IsMetLookingAgain out e = IsMetLooking out e ⊎ (e ≡ I.OutdatedMapping)
+abbrev pub IsMetLookingAgain : (held : Type 0) → ImageError → Type 0
+IsMetLookingAgain held e = IsMetLooking held e ⊎ (e ≡ I.OutdatedMapping)
 
 -- Reading it meets 7 beside that, where its bytes are compressed, and the whole of it is still mapped so.
-abbrev pub IsMetMapped : List (Option Prepared) → MappingKind → (whole : Type 0) → ImageError → Type 0
-IsMetMapped out kind whole e = IsMetLookingAgain out e ⊎ ((e ≡ I.Compressed) × IsSpecial kind × whole)
+abbrev pub IsMetMapped : (held : Type 0) → MappingKind → (whole : Type 0) → ImageError → Type 0
+IsMetMapped held kind whole e = IsMetLookingAgain held e ⊎ ((e ≡ I.Compressed) × IsSpecial kind × whole)
 
 -- Reading compressed bytes from an offset on meets what a lookup does, and 7 or 18 by what stands there.
-abbrev pub IsMetSpecial : List (Option Prepared) → (offset : ℕ) → ImageError → Type 0
-IsMetSpecial out offset e = IsMetLooking out e ⊎ ((e ≡ I.Compressed) ⊎ (e ≡ I.NotCompressed offset))
+abbrev pub IsMetSpecial : (held : Type 0) → (offset : ℕ) → ImageError → Type 0
+IsMetSpecial held offset e = IsMetLooking held e ⊎ ((e ≡ I.Compressed) ⊎ (e ≡ I.NotCompressed offset))
 
--- Reading a range of the disk meets what a lookup does, and 7 where some guest cluster that has a byte of it is compressed.
+-- Reading a range of the disk meets what a lookup does, and 7 where some guest cluster that has a byte of it is compressed. It is refused 8 only where a mapping is prepared that isn't existing.
 abbrev pub IsMetReadingRange : List (Option Prepared) → (from to : ℕ) → HeaderFields → Bytes → ImageError → Type 0
-IsMetReadingRange out from to h known e = IsMetLooking out e ⊎ ((e ≡ I.Compressed) × HasCompressedIn from to h known)
+IsMetReadingRange out from to h known e = IsMetLooking (HasPrepared out) e ⊎ ((e ≡ I.Compressed) × HasCompressedIn from to h known)
 
 -- Putting bytes into a prepared mapping, from so far within it on, meets a fault. Where the mapping is existing it meets what a range does that was looked up, and 20 where its place passes 64 bits.
-abbrev pub IsMetPutting : List (Option Prepared) → Prepared → (at : ℕ) → ImageError → Type 0
-IsMetPutting out p at e = IsFault e ⊎ ((table_of p ≡ None) × (IsMetLookingAgain out e ⊎ ((e ≡ I.Overflow) × (2 ^ 64 ≤ offset_of p + at))))
+abbrev pub IsMetPutting : (held : Type 0) → Prepared → (at : ℕ) → ImageError → Type 0
+IsMetPutting held p at e = IsFault e ⊎ ((table_of p ≡ None) × (IsMetLookingAgain held e ⊎ ((e ≡ I.Overflow) × (2 ^ 64 ≤ offset_of p + at))))

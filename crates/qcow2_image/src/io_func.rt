@@ -3,7 +3,7 @@ ghost use Rattle.qcow2_image.specs.BehindHeader.{StaysBehindHeader};
 ghost use Rattle.std.specs.Prelude.{◌≡◌, ◌≢◌, ◌+◌, ◌^◌, ◌<◌, ◌≤◌, ℕ, List, [], Option, length, slice_get, ◌⊎◌, IfOk, IfErr, IfSome, OnOk, IsErr, IsSome, IsTrue, MatchOption, Ok, Err, Some, None, is_some, true, false};
 ghost use Rattle.qcow2_metadata.specs.Header.{cluster_size};
 ghost use Rattle.qcow2_alloc.specs.ImageError.{IsFault};
-ghost use Rattle.qcow2_image.specs.MetAlone.{IsMetLookingAgain, IsMetLooking, IsMetMapped, IsMetPutting, IsMetReading, IsMetSpecial};
+ghost use Rattle.qcow2_image.specs.MetAlone.{IsCacheHeld, IsMetLookingAgain, IsMetLooking, IsMetMapped, IsMetPutting, IsMetReading, IsMetSpecial};
 ghost use Rattle.qcow2_disk.specs.Calls.{Shows};
 ghost use Rattle.qcow2_laws.specs.CrashInvariant.{Pending};
 ghost use Rattle.qcow2_image.specs.Calls.{AnswersCall, Puts};
@@ -61,7 +61,7 @@ impl<S: Storage, F: WrappedFormat<S>> Qcow2<S, F> {
         requires { at + length bytes.old ≤ mapping.now.length }
         ensures early { IfSome (refuses_mapping self.old mapping.now.image) (λ e. (result ≡ Err e) × (self.new ≡ self.old)) }
         ensures late { refuses_mapping self.old mapping.now.image ≡ None → IfErr result IsMet }
-        ensures met { refuses_mapping self.old mapping.now.image ≡ None → (out : List (Option Prepared)) → (abstract_of S.view F.backing self.old out).is_sound → IfErr result (IsMetMapped out (further_by at mapping.now.kind) (IsFoundWhole S.view self.old (mapping.now.offset + at) (further_by at mapping.now.kind) (length bytes.old))) }
+        ensures met { refuses_mapping self.old mapping.now.image ≡ None → (out : List (Option Prepared)) → (abstract_of S.view F.backing self.old out).is_sound → IfErr result (IsMetMapped (IsCacheHeld self.old out) (further_by at mapping.now.kind) (IsFoundWhole S.view self.old (mapping.now.offset + at) (further_by at mapping.now.kind) (length bytes.old))) }
         ensures nothing { refuses_mapping self.old mapping.now.image ≡ None → length bytes.old ≡ 0 → (result ≡ Ok tt) × (self.new ≡ self.old) }
         ensures marks { MarksFailed self.old self.new result }
         ensures image { IsSameImage self.old self.new }
@@ -97,7 +97,7 @@ impl<S: Storage, F: WrappedFormat<S>> Qcow2<S, F> {
     ) -> Result<(), ImageError>
         ensures stays { ImageStays self.old self.new }
         ensures cause { IfErr result IsMet }
-        ensures met { (p : Pending) (out : List (Option Prepared)) → ImageInvariant S.view F.backing p self.old out → IfErr result (IsMetMapped out (further_by at mapping.now.kind) (IsFoundWhole S.view self.old (mapping.now.offset + at) (further_by at mapping.now.kind) (length bytes.old))) }
+        ensures met { (p : Pending) (out : List (Option Prepared)) → ImageInvariant S.view F.backing p self.old out → IfErr result (IsMetMapped (IsCacheHeld self.old out) (further_by at mapping.now.kind) (IsFoundWhole S.view self.old (mapping.now.offset + at) (further_by at mapping.now.kind) (length bytes.old))) }
         ensures list { self.new.file.free_list ≡ self.old.file.free_list }
         ensures keeps { (p : Pending) (out : List (Option Prepared)) → ImageInvariant S.view F.backing p self.old out → UnseenStep S.view F.backing p p self.old self.new out }
         ensures outdated { 0 < length bytes.old → (p : Pending) (out : List (Option Prepared)) → ImageInvariant S.view F.backing p self.old out → result ≡ Err OutdatedMapping
@@ -140,7 +140,7 @@ impl<S: Storage, F: WrappedFormat<S>> Qcow2<S, F> {
     ) -> Result<(), ImageError>
         ensures stays { ImageStays self.old self.new }
         ensures cause { IfErr result IsMet }
-        ensures met { (p : Pending) (out : List (Option Prepared)) → ImageInvariant S.view F.backing p self.old out → IfErr result (IsMetLookingAgain out) }
+        ensures met { (p : Pending) (out : List (Option Prepared)) → ImageInvariant S.view F.backing p self.old out → IfErr result (IsMetLookingAgain (IsCacheHeld self.old out)) }
         ensures list { self.new.file.free_list ≡ self.old.file.free_list }
         ensures keeps { (p : Pending) (out : List (Option Prepared)) → ImageInvariant S.view F.backing p self.old out → UnseenStep S.view F.backing p p self.old self.new out }
         ensures outdated { (p : Pending) (out : List (Option Prepared)) → ImageInvariant S.view F.backing p self.old out → result ≡ Err OutdatedMapping → ¬ IsFoundWhole S.view self.old offset wanted.now length }
@@ -238,7 +238,7 @@ impl<S: Storage, F: WrappedFormat<S>> Qcow2<S, F> {
     pub fn readv_special(&mut self, bytes: &mut [u8], offset: u64) -> Result<(), ImageError>
         ensures early { IfSome (unusable self.old) (λ e. (result ≡ Err e) × (self.new ≡ self.old)) }
         ensures late { unusable self.old ≡ None → IfErr result (λ e. IsMet e ⊎ (e ≡ NotCompressed offset)) }
-        ensures met { (out : List (Option Prepared)) → (abstract_of S.view F.backing self.old out).is_sound → IfErr result (IsMetSpecial out offset) }
+        ensures met { (out : List (Option Prepared)) → (abstract_of S.view F.backing self.old out).is_sound → IfErr result (IsMetSpecial (IsCacheHeld self.old out) offset) }
         ensures nothing { unusable self.old ≡ None → length bytes.old ≡ 0 → (result ≡ Ok tt) × (self.new ≡ self.old) }
         ensures some { 0 < length bytes.old → IsErr result }
         ensures marks { MarksFailed self.old self.new result }
@@ -268,7 +268,7 @@ impl<S: Storage, F: WrappedFormat<S>> Qcow2<S, F> {
     ) -> Result<Option<u64>, ImageError>
         ensures early { IfSome (unusable self.old) (λ e. (result ≡ Err e) × (self.new ≡ self.old)) }
         ensures late { unusable self.old ≡ None → IfErr result IsMet }
-        ensures met { (out : List (Option Prepared)) → (abstract_of S.view F.backing self.old out).is_sound → IfErr result (λ e. IsMetLooking out e ⊎ (e ≡ Compressed)) }
+        ensures met { (out : List (Option Prepared)) → (abstract_of S.view F.backing self.old out).is_sound → IfErr result (λ e. IsMetLooking (IsCacheHeld self.old out) e ⊎ (e ≡ Compressed)) }
         ensures nothing { unusable self.old ≡ None → length bytes.old ≡ 0 → (result ≡ Ok None) × (self.new ≡ self.old) }
         ensures some { 0 < length bytes.old → IfOk result (λ at. at ≡ Some offset) }
         ensures marks { MarksFailed self.old self.new result }
@@ -295,7 +295,7 @@ impl<S: Storage, F: WrappedFormat<S>> Qcow2<S, F> {
     fn plain_at(&mut self, offset: u64, length: u64) -> Result<Option<u64>, ImageError>
         ensures stays { ImageStays self.old self.new }
         ensures cause { IfErr result IsMet }
-        ensures met { (p : Pending) (out : List (Option Prepared)) → ImageInvariant S.view F.backing p self.old out → IfErr result (λ e. IsMetLooking out e ⊎ (e ≡ Compressed)) }
+        ensures met { (p : Pending) (out : List (Option Prepared)) → ImageInvariant S.view F.backing p self.old out → IfErr result (λ e. IsMetLooking (IsCacheHeld self.old out) e ⊎ (e ≡ Compressed)) }
         ensures list { self.new.file.free_list ≡ self.old.file.free_list }
         ensures answer { IfOk result (λ at. at ≡ Some offset) }
         ensures keeps { (p : Pending) (out : List (Option Prepared)) → ImageInvariant S.view F.backing p self.old out → UnseenStep S.view F.backing p p self.old self.new out }
@@ -328,7 +328,7 @@ impl<S: Storage, F: WrappedFormat<S>> Qcow2<S, F> {
         ensures early { IfSome (refuses_mapping self.old (image_of prepared.now)) (λ e. (result ≡ Err e) × (self.new ≡ self.old)) }
         ensures read_only { 0 < length bytes.now → refuses_mapping self.old (image_of prepared.now) ≡ None → is_writable self.old ≡ false → (result ≡ Err ReadOnly) × (self.new ≡ self.old) }
         ensures late { refuses_mapping self.old (image_of prepared.now) ≡ None → IsTrue (is_writable self.old) → IfErr result IsMet }
-        ensures met { (out : List (Option Prepared)) (k : ℕ) → slice_get out k ≡ Some (Some prepared.now) → (abstract_of S.view F.backing self.old out).is_sound → IsTrue (is_writable self.old) → IfErr result (IsMetPutting out prepared.now at) }
+        ensures met { (out : List (Option Prepared)) (k : ℕ) → slice_get out k ≡ Some (Some prepared.now) → (abstract_of S.view F.backing self.old out).is_sound → IsTrue (is_writable self.old) → IfErr result (IsMetPutting (IsCacheHeld self.old out) prepared.now at) }
         ensures nothing { refuses_mapping self.old (image_of prepared.now) ≡ None → length bytes.now ≡ 0 → (result ≡ Ok tt) × (self.new ≡ self.old) }
         ensures marks { MarksFailed self.old self.new result }
         ensures image { IsSameImage self.old self.new }
@@ -366,7 +366,7 @@ impl<S: Storage, F: WrappedFormat<S>> Qcow2<S, F> {
     ) -> Result<(), ImageError>
         ensures stays { ImageStays self.old self.new }
         ensures cause { IfErr result IsMet }
-        ensures met { at + length bytes.now ≤ prepared.now.length → 0 < length bytes.now → (out : List (Option Prepared)) (k : ℕ) → slice_get out k ≡ Some (Some prepared.now) → ImageInvariant S.view F.backing (pending_in S.view F.backing self.old out) self.old out → IfErr result (IsMetPutting out prepared.now at) }
+        ensures met { at + length bytes.now ≤ prepared.now.length → 0 < length bytes.now → (out : List (Option Prepared)) (k : ℕ) → slice_get out k ≡ Some (Some prepared.now) → ImageInvariant S.view F.backing (pending_in S.view F.backing self.old out) self.old out → IfErr result (IsMetPutting (IsCacheHeld self.old out) prepared.now at) }
         ensures outdated { 0 < length bytes.now → table_of prepared.now ≡ None → (p : Pending) (out : List (Option Prepared)) → ImageInvariant S.view F.backing p self.old out → result ≡ Err OutdatedMapping
             → ¬ IsFoundWhole S.view self.old (prepared.now.guest + at) (Raw Image (prepared.now.offset + at) true) (length bytes.now) }
         ensures mapped { table_of prepared.now ≡ None → (p : Pending) (out : List (Option Prepared)) → ImageInvariant S.view F.backing p self.old out
@@ -396,7 +396,7 @@ impl<S: Storage, F: WrappedFormat<S>> Qcow2<S, F> {
     ) -> Result<(), ImageError>
         ensures stays { ImageStays self.old self.new }
         ensures cause { IfErr result IsMet }
-        ensures met { (p : Pending) (out : List (Option Prepared)) → ImageInvariant S.view F.backing p self.old out → IfErr result (λ e. (table_of prepared.now ≡ None) × IsMetLookingAgain out e) }
+        ensures met { (p : Pending) (out : List (Option Prepared)) → ImageInvariant S.view F.backing p self.old out → IfErr result (λ e. (table_of prepared.now ≡ None) × IsMetLookingAgain (IsCacheHeld self.old out) e) }
         ensures list { self.new.file.free_list ≡ self.old.file.free_list }
         ensures keeps { (p : Pending) (out : List (Option Prepared)) → ImageInvariant S.view F.backing p self.old out → UnseenStep S.view F.backing p p self.old self.new out }
         ensures outdated { 0 < length → (p : Pending) (out : List (Option Prepared)) → ImageInvariant S.view F.backing p self.old out → result ≡ Err OutdatedMapping → ¬ IsFoundWhole S.view self.old (prepared.now.guest + at) (Raw Image host true) length }

@@ -11,17 +11,17 @@ use Rattle.qcow2_metadata.specs.TableBytes.{entry_at}
 use Rattle.qcow2_laws.specs.CrashInvariant.{Pending}
 use Rattle.qcow2_laws.specs.Guests.{table_at}
 use Rattle.qcow2_laws.proofs.Places.{Sizes-from, has_table}
-use Rattle.qcow2_alloc.specs.CachePins.{IsInUseOrFault}
+use Rattle.qcow2_alloc.specs.CachePins.{AreAllPinned, IsInUseOrFault}
 use Rattle.qcow2_alloc.specs.ImageFile.{contents_in, known_in}
 use Rattle.qcow2_alloc.specs.MetadataCaches.{IsEntryAt}
 use Rattle.qcow2_alloc.specs.declared.error.ImageError.{ImageError}
+use Rattle.qcow2_image.specs.Backings.{HasPrepared}
 use Rattle.qcow2_image.specs.Found.{NamesL2Table, l1_index_of, l2_index_of}
 use Rattle.qcow2_image.specs.ImageInvariant.{ImageInvariant}
-use Rattle.qcow2_image.specs.MetAlone.{IsMetLooking}
-use Rattle.qcow2_image.specs.Refusals.{IsUnlimited}
+use Rattle.qcow2_image.specs.Image.{IsBegun}
+use Rattle.qcow2_image.specs.MetAlone.{IsCacheHeld, IsMetLooking}
 use Rattle.qcow2_image.specs.declared.image.Qcow2.{Qcow2}
 use Rattle.qcow2_image.specs.declared.prepared.Prepared.{Prepared}
-use Rattle.qcow2_image.proofs.Call.Unlimited.{fault_unlimited}
 use Rattle.qcow2_image.proofs.Prepare.Lacking.{pinned_prepared}
 
 -- what answers is refused for nothing
@@ -29,18 +29,17 @@ pub answers_met : {A : Type 0} (C : ImageError → Type 0) (r : Result A ImageEr
 answers_met C (Ok x) is = tt
 answers_met C (Err e) is = absurd (let no : false ≡ true = is in cc)
 
--- no limit is met
-pub looking_unlimited : (out : List (Option Prepared)) (e : ImageError) → IsMetLooking out e → IsUnlimited e
-looking_unlimited out e (inl fault) = fault_unlimited e fault
-looking_unlimited out e (inr used) = subst IsUnlimited (sym used.0) tt
+-- what is held as a call has begun was held before
+pub held_since : {S F : Type 0} (old new : Qcow2 S F) (out : List (Option Prepared)) → IsBegun old new → (C : Type 0 → Type 0) → C (IsCacheHeld new out) → C (IsCacheHeld old out)
+held_since old new out begun C is = subst (λ caches. C (AreAllPinned caches × HasPrepared out)) begun.caches is
 
 module _ {S F : Type 0} (view : S → StorageView) (backing : F → BackingView) (out : List (Option Prepared)) (p : Pending) (image : Qcow2 S F) (sound : ImageInvariant view backing p image out) where
   abbrev h : HeaderFields
   h = image.file.header.fields
 
   -- a table is loaded but for a fault, or where a mapping is prepared
-  pub cache_looking : (e : ImageError) → IsInUseOrFault image.file.caches e → IsMetLooking out e
-  cache_looking e (inl used) = inr (used.0, pinned_prepared view backing out p image sound used.1)
+  pub cache_looking : (e : ImageError) → IsInUseOrFault image.file.caches e → IsMetLooking (IsCacheHeld image out) e
+  cache_looking e (inl used) = inr (used.0, (used.1, pinned_prepared view backing out p image sound used.1))
   cache_looking e (inr fault) = inl fault
 
   -- what the L1 table names is aligned

@@ -91,15 +91,15 @@ reading_met h backed offset mapping kind is e why = elim why [
 ]
 
 -- bytes that were looked up before are read so too
-pub mapped_met : (out : List (Option Prepared)) (kind : MappingKind) {whole : Type 0} → whole → (e : ImageError) → IsMetReading kind e → IsMetMapped out kind whole e
-mapped_met out kind is e why = elim why [
+pub mapped_met : (held : Type 0) (kind : MappingKind) {whole : Type 0} → whole → (e : ImageError) → IsMetReading kind e → IsMetMapped held kind whole e
+mapped_met held kind is e why = elim why [
   | inl fault ↦ inl (inl (inl fault))
   | inr other ↦ elim other [ inl compressed ↦ inr (compressed.0, compressed.1, is) | inr past ↦ inl (inr past.0) ]
 ]
 
 -- what is found of the image at another moment
-pub mapped_met_at : (out : List (Option Prepared)) (kind : MappingKind) {whole whole' : Type 0} → (whole → whole') → (e : ImageError) → IsMetMapped out kind whole e → IsMetMapped out kind whole' e
-mapped_met_at out kind to e why = elim why [
+pub mapped_met_at : (held : Type 0) (kind : MappingKind) {whole whole' : Type 0} → (whole → whole') → (e : ImageError) → IsMetMapped held kind whole e → IsMetMapped held kind whole' e
+mapped_met_at held kind to e why = elim why [
   | inl again ↦ inl again
   | inr compressed ↦ inr (compressed.0, compressed.1, to compressed.2)
 ]

@@ -8,7 +8,7 @@ use Rattle.std.specs.Prelude.{Result}
 use Rattle.qcow2_alloc.proofs.AllocationSteps.{handed_on}
 use Rattle.qcow2_alloc.proofs.CachedEntries.Lists.{none_of}
 use Rattle.qcow2_image.specs.HeldMappings.{HeedsHeld}
-use Rattle.qcow2_image.specs.MetAlone.{IsMetLookingAgain}
+use Rattle.qcow2_image.specs.MetAlone.{IsCacheHeld, IsMetLookingAgain}
 use Rattle.qcow2_image.specs.Prepared.{table_of}
 use Rattle.qcow2_image.proofs.Prepare.Met.{hands_met, met_as}
 use Rattle.std.proofs.Common.{◌+◌}
@@ -41,9 +41,9 @@ returns-clause-held g c = λ none some. subst (λ o. HeedsHeld c.check_mapped.ne
 pub returns-in_err-guest-clause-met : goal.returns-in_err-guest-clause-met
 returns-in_err-guest-clause-met g c = λ p out sound.
     let none : table_of c.args.prepared.now ≡ None = none_of (sym c.if-is_some.false ∙ c.is_some.ensures) in
-    hands_met (λ e. (table_of c.args.prepared.now ≡ None) × IsMetLookingAgain out e) c.from_residual.result c.in_err-guest.field-0.0 c.from_residual.ensures (none, inr c.in_err-guest.ensures.cause)
+    hands_met (λ e. (table_of c.args.prepared.now ≡ None) × IsMetLookingAgain (IsCacheHeld c.args.self.now out) e) c.from_residual.result c.in_err-guest.field-0.0 c.from_residual.ensures (none, inr c.in_err-guest.ensures.cause)
 
 pub returns-clause-met : goal.returns-clause-met
 returns-clause-met g c = λ p out sound.
     let none : table_of c.args.prepared.now ≡ None = none_of (sym c.if-is_some.false ∙ c.is_some.ensures) in
-    met_as (IsMetLookingAgain out) (λ e. (table_of c.args.prepared.now ≡ None) × IsMetLookingAgain out e) c.check_mapped.result (λ e why. (none, why)) (c.check_mapped.ensures.met p out sound)
+    met_as (IsMetLookingAgain (IsCacheHeld c.args.self.now out)) (λ e. (table_of c.args.prepared.now ≡ None) × IsMetLookingAgain (IsCacheHeld c.args.self.now out) e) c.check_mapped.result (λ e why. (none, why)) (c.check_mapped.ensures.met p out sound)

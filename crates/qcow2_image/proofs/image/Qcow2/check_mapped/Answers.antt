@@ -3,7 +3,7 @@ use Rattle.qcow2_image.specs.Found.{IsFoundInImage, IsFoundWhole, IsMappedAs}
 use Rattle.qcow2_image.proofs.Map.Looked.{found_after, found_before, found_whole, mapped_as}
 use Rattle.qcow2_image.proofs.image.Qcow2.check_mapped.Goals.{else-found-length-via-then-found-length+else-is, else-found-length-via-else-found-length}
 use Rattle.qcow2_alloc.proofs.AllocationSteps.{handed_on}
-use Rattle.qcow2_image.specs.MetAlone.{IsMetLookingAgain}
+use Rattle.qcow2_image.specs.MetAlone.{IsCacheHeld, IsMetLookingAgain}
 use Rattle.qcow2_image.proofs.Prepare.Met.{hands_met}
 use Rattle.std.specs.Prelude.{Result}
 use Rattle.qcow2_image.proofs.Map.Held.{held_whole, heeds_else, same_found}
@@ -43,7 +43,7 @@ returns-then-is-clause-found g c = λ p out sound.
     (subst (λ k. IsFoundWhole view new offset k n) (sym same) (subst (λ m. IsFoundInImage view new offset n c.in_ok-kind.kind m) whole (c.in_ok-kind.ensures.found p out sound)))
 
 pub returns-in_err-kind-clause-met : goal.returns-in_err-kind-clause-met
-returns-in_err-kind-clause-met g c = λ p out sound. hands_met (IsMetLookingAgain out) c.from_residual.result c.in_err-kind.field-0.0 c.from_residual.ensures (inl (c.in_err-kind.ensures.met p out sound))
+returns-in_err-kind-clause-met g c = λ p out sound. hands_met (IsMetLookingAgain (IsCacheHeld c.args.self.now out)) c.from_residual.result c.in_err-kind.field-0.0 c.from_residual.ensures (inl (c.in_err-kind.ensures.met p out sound))
 
 pub returns-clause-met : goal.returns-clause-met
 returns-clause-met g c = λ p out sound. inr refl

@@ -20,7 +20,8 @@ use Rattle.qcow2_alloc.proofs.Outcomes.{err_as}
 use Rattle.qcow2_alloc.specs.declared.error.ImageError.TheVariants.{Memory}
 use Rattle.qcow2_image.proofs.Call.BehindHeader.{behind_call}
 use Rattle.std.specs.Prelude.{IfErr}
-use Rattle.qcow2_image.specs.MetAlone.{IsMetLooking}
+use Rattle.qcow2_image.proofs.Map.MetLooking.{held_since}
+use Rattle.qcow2_image.specs.MetAlone.{IsCacheHeld, IsMetLooking}
 use Rattle.qcow2_image.proofs.Prepare.Met.{hands_met}
 use Rattle.qcow2_image.proofs.Sizes.{sound_is_usable}
 use Rattle.qcow2_image.proofs.Clear.ClearCalls.{refused_for}
@@ -109,8 +110,8 @@ returns-clause-header_cluster g c = behind_call g.S.Storage.view c.begin.ensures
 pub returns-in_err-kind-clause-met : goal.returns-in_err-kind-clause-met
 returns-in_err-kind-clause-met g c = λ out sound.
     let p = pending_in g.S.Storage.view g.F.BackingDisk.backing c.args.self.now out in
-    hands_met (IsMetLooking out) c.from_residual-in_err-kind.result c.in_err-kind.field-0.0 c.from_residual-in_err-kind.ensures
-    (subst (λ r. IfErr r (IsMetLooking out)) (sym c.mark_failure.ensures.answer ∙ c.in_err-kind.was) (c.look_up-found.ensures.met p out (c.begin.ensures.keeps p out sound).sound))
+    hands_met (IsMetLooking (IsCacheHeld c.args.self.now out)) c.from_residual-in_err-kind.result c.in_err-kind.field-0.0 c.from_residual-in_err-kind.ensures
+    (subst (λ r. IfErr r (IsMetLooking (IsCacheHeld c.args.self.now out))) (sym c.mark_failure.ensures.answer ∙ c.in_err-kind.was) (held_since c.args.self.now c.begin.new.self out c.begin.ensures.begun (λ held. IfErr c.look_up-found.result (IsMetLooking held)) (c.look_up-found.ensures.met p out (c.begin.ensures.keeps p out sound).sound)))
 
 pub returns-in_err-check_usable-clause-met : goal.returns-in_err-check_usable-clause-met
 returns-in_err-check_usable-clause-met g c = λ out sound.

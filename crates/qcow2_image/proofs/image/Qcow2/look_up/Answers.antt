@@ -14,7 +14,7 @@ use Rattle.qcow2_image.proofs.Map.Unmodified.{read_caches, read_none}
 use Rattle.qcow2_image.proofs.Call.BehindHeader.{behind_caches}
 use Rattle.std.specs.Prelude.{IfSome}
 use Rattle.qcow2_alloc.specs.MetadataCaches.{IsEntryAt}
-use Rattle.qcow2_image.specs.MetAlone.{IsMetLooking}
+use Rattle.qcow2_image.specs.MetAlone.{IsCacheHeld, IsMetLooking}
 use Rattle.qcow2_image.proofs.Map.MetLooking.{answers_met, cache_looking, named_entry}
 use Rattle.qcow2_image.proofs.Prepare.Met.{hands_met}
 use Rattle.qcow2_image.proofs.Prepare.Lacking.{named_place}
@@ -115,7 +115,7 @@ returns-in_err-l2_get_or_insert-in-Some-clause-met g c = λ p out sound.
     let names : NamesL2Table view c.args.self.now c.args.offset (Some c.in-Some.table) =
     subst (NamesL2Table view c.args.self.now c.args.offset) c.in-Some.is (c.in_ok-l2_cluster.ensures.names sound.l1_table) in
     let e = c.in_err-l2_get_or_insert-in-Some.field-0.0 in
-    hands_met (IsMetLooking out) c.from_residual-in_err-l2_get_or_insert-in-Some.result e c.from_residual-in_err-l2_get_or_insert-in-Some.ensures
+    hands_met (IsMetLooking (IsCacheHeld c.args.self.now out)) c.from_residual-in_err-l2_get_or_insert-in-Some.result e c.from_residual-in_err-l2_get_or_insert-in-Some.ensures
     (cache_looking view g.F.BackingDisk.backing out p c.args.self.now sound e
     (c.in_err-l2_get_or_insert-in-Some.ensures.refusals h (named_place h (contents_in view c.args.self.now.file) (l1_index_of h c.args.offset) c.in-Some.table names.0) p sound.file.honest sound.file.caches sound.file.named_blocks))
 
@@ -131,7 +131,7 @@ returns-in_ok-l2_get_or_insert-in-Some-clause-met g c = λ p out sound.
     let entry = subst (λ b. IsEntryAt h b (l1_index_of h c.args.offset) c.in-Some.table (l2_index_of h c.args.offset)) (sym stay.known)
     (named_entry view below out p c.args.self.now sound c.args.offset c.in-Some.table names) in
     let limit : c.min-max.result ≤ rest_of_table h c.args.offset = let b = c.min-max.ensures in let r = c.rest_of_table.ensures.value in omega arith in
-    answers_met (IsMetLooking out) c.run_in_table.result (c.run_in_table.ensures.reads p kept.sound.file entry limit)
+    answers_met (IsMetLooking (IsCacheHeld c.args.self.now out)) c.run_in_table.result (c.run_in_table.ensures.reads p kept.sound.file entry limit)
 
 pub returns-in_err-l2_get_or_insert-in-Some-clause-quiet : goal.returns-in_err-l2_get_or_insert-in-Some-clause-quiet
 returns-in_err-l2_get_or_insert-in-Some-clause-quiet g c = c.l2_get_or_insert.ensures.all_written

@@ -5,7 +5,7 @@ use Rattle.qcow2_alloc.specs.ImageFile.{known_in, state_in}
 use Rattle.qcow2_image.specs.Found.{found_kind}
 use Rattle.qcow2_image.proofs.Map.Special.{found_special, found_plain}
 use Rattle.qcow2_alloc.specs.declared.error.ImageError.TheVariants.{Compressed}
-use Rattle.qcow2_image.specs.MetAlone.{IsMetLooking}
+use Rattle.qcow2_image.specs.MetAlone.{IsCacheHeld, IsMetLooking}
 use Rattle.qcow2_image.proofs.Prepare.Met.{hands_met}
 use Rattle.qcow2_image.proofs.image.Qcow2.plain_at.Goals as goal
 
@@ -33,4 +33,4 @@ returns-clause-tells g c = λ p out sound is.
 
 pub returns-in_err-kind-clause-met : goal.returns-in_err-kind-clause-met
 returns-in_err-kind-clause-met g c = λ p out sound.
-    hands_met (λ e. IsMetLooking out e ⊎ (e ≡ Compressed)) c.from_residual.result c.in_err-kind.field-0.0 c.from_residual.ensures (inl (c.in_err-kind.ensures.met p out sound))
+    hands_met (λ e. IsMetLooking (IsCacheHeld c.args.self.now out) e ⊎ (e ≡ Compressed)) c.from_residual.result c.in_err-kind.field-0.0 c.from_residual.ensures (inl (c.in_err-kind.ensures.met p out sound))

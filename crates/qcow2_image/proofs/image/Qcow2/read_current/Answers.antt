@@ -10,7 +10,7 @@ use Rattle.qcow2_image.proofs.Map.Looked.{none_past}
 use Rattle.qcow2_image.proofs.Map.Unmodified.{reads_on}
 use Rattle.qcow2_alloc.proofs.KeptMarks.{notes_then}
 use Rattle.qcow2_image.proofs.Call.BehindHeader.{behind_then}
-use Rattle.qcow2_image.specs.MetAlone.{IsMetMapped, IsMetReading}
+use Rattle.qcow2_image.specs.MetAlone.{IsCacheHeld, IsMetMapped, IsMetReading}
 use Rattle.qcow2_image.proofs.Prepare.Met.{hands_met, mapped_met, met_as}
 use Rattle.std.specs.Prelude.{IfErr, Result}
 use Rattle.qcow2_alloc.proofs.KeptTables.AllWritten.{written_then}
@@ -67,11 +67,11 @@ returns-clause-header_cluster g c = behind_then c.check_mapped.ensures.header_cl
 
 pub returns-in_err-offset-clause-met : goal.returns-in_err-offset-clause-met
 returns-in_err-offset-clause-met g c = λ p out sound.
-    hands_met (IsMetMapped out (further_by c.args.at c.args.mapping.now.kind) (IsFoundWhole g.S.Storage.view c.args.self.now (c.args.mapping.now.offset + c.args.at) (further_by c.args.at c.args.mapping.now.kind) (length c.args.bytes.now))) c.from_residual.result c.in_err-offset.field-0.0 c.from_residual.ensures (inl (inr c.in_err-offset.ensures.cause))
+    hands_met (IsMetMapped (IsCacheHeld c.args.self.now out) (further_by c.args.at c.args.mapping.now.kind) (IsFoundWhole g.S.Storage.view c.args.self.now (c.args.mapping.now.offset + c.args.at) (further_by c.args.at c.args.mapping.now.kind) (length c.args.bytes.now))) c.from_residual.result c.in_err-offset.field-0.0 c.from_residual.ensures (inl (inr c.in_err-offset.ensures.cause))
 
 pub returns-in_err-check_mapped-clause-met : goal.returns-in_err-check_mapped-clause-met
 returns-in_err-check_mapped-clause-met g c = λ p out sound.
-    hands_met (IsMetMapped out (further_by c.args.at c.args.mapping.now.kind) (IsFoundWhole g.S.Storage.view c.args.self.now (c.args.mapping.now.offset + c.args.at) (further_by c.args.at c.args.mapping.now.kind) (length c.args.bytes.now))) c.from_residual-in_err-check_mapped.result c.in_err-check_mapped.field-0.0 c.from_residual-in_err-check_mapped.ensures
+    hands_met (IsMetMapped (IsCacheHeld c.args.self.now out) (further_by c.args.at c.args.mapping.now.kind) (IsFoundWhole g.S.Storage.view c.args.self.now (c.args.mapping.now.offset + c.args.at) (further_by c.args.at c.args.mapping.now.kind) (length c.args.bytes.now))) c.from_residual-in_err-check_mapped.result c.in_err-check_mapped.field-0.0 c.from_residual-in_err-check_mapped.ensures
     (inl (c.in_err-check_mapped.ensures.met p out sound))
 
 pub returns-clause-met : goal.returns-clause-met
@@ -81,7 +81,7 @@ returns-clause-met g c = λ p out sound.
     let n = length c.args.bytes.now in
     let kind = further_by c.args.at c.args.mapping.now.kind in
     let whole = subst (λ o. IsFoundWhole view old o kind n) c.in_ok-offset.ensures.place (subst (λ k. IsFoundWhole view old c.in_ok-offset.offset k n) c.further-kind.ensures (c.in_ok-check_mapped.ensures.found p out sound)) in
-    met_as (IsMetReading kind) (IsMetMapped out kind (IsFoundWhole view old (c.args.mapping.now.offset + c.args.at) kind n)) c.read_as.result (mapped_met out kind whole) (subst (λ k. IfErr c.read_as.result (IsMetReading k)) c.further-kind.ensures c.read_as.ensures.met)
+    met_as (IsMetReading kind) (IsMetMapped (IsCacheHeld c.args.self.now out) kind (IsFoundWhole view old (c.args.mapping.now.offset + c.args.at) kind n)) c.read_as.result (mapped_met (IsCacheHeld c.args.self.now out) kind whole) (subst (λ k. IfErr c.read_as.result (IsMetReading k)) c.further-kind.ensures c.read_as.ensures.met)
 
 pub returns-clause-quiet : goal.returns-clause-quiet
 returns-clause-quiet g c = written_then g.S.Storage.view c.in_ok-check_mapped.ensures.quiet c.read_as.ensures.quiet

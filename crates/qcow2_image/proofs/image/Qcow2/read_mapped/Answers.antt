@@ -19,8 +19,9 @@ use Rattle.qcow2_image.proofs.Map.Unmodified.{read_call}
 use Rattle.qcow2_image.proofs.Call.OnceWritten.{once_written}
 use Rattle.qcow2_image.proofs.Call.BehindHeader.{behind_call}
 use Rattle.std.specs.Prelude.{IfErr}
+use Rattle.qcow2_image.proofs.Map.MetLooking.{held_since}
 use Rattle.qcow2_image.proofs.Prepare.Met.{mapped_met_at, met_as}
-use Rattle.qcow2_image.specs.MetAlone.{IsMetMapped}
+use Rattle.qcow2_image.specs.MetAlone.{IsCacheHeld, IsMetMapped}
 use Rattle.qcow2_image.proofs.Map.Quiet.{reads_call}
 use Rattle.qcow2_image.proofs.Map.Held.{heeds_on, keeps_marked}
 use Rattle.std.proofs.Common.{◌+◌, sym, subst}
@@ -95,9 +96,10 @@ returns-clause-met g c = λ usable out sound.
     let kind = further_by c.args.at c.args.mapping.now.kind in
     let n = length c.args.bytes.now in
     let begun = c.begin.ensures.keeps p out sound in
-    subst (λ (r : Result _ _). IfErr r (IsMetMapped out kind (IsFoundWhole view old place kind n))) (sym c.mark_failure.ensures.answer)
-    (met_as (IsMetMapped out kind (IsFoundWhole view c.begin.new.self place kind n)) (IsMetMapped out kind (IsFoundWhole view old place kind n)) c.read_current-done.result
-    (mapped_met_at out kind (found_before view below old c.begin.new.self out p p place n kind begun)) (c.read_current-done.ensures.met p out begun.sound))
+    subst (λ (r : Result _ _). IfErr r (IsMetMapped (IsCacheHeld c.args.self.now out) kind (IsFoundWhole view old place kind n))) (sym c.mark_failure.ensures.answer)
+    (held_since old c.begin.new.self out c.begin.ensures.begun (λ held. IfErr c.read_current-done.result (IsMetMapped held kind (IsFoundWhole view old place kind n)))
+    (met_as (IsMetMapped (IsCacheHeld c.begin.new.self out) kind (IsFoundWhole view c.begin.new.self place kind n)) (IsMetMapped (IsCacheHeld c.begin.new.self out) kind (IsFoundWhole view old place kind n)) c.read_current-done.result
+    (mapped_met_at (IsCacheHeld c.begin.new.self out) kind (found_before view below old c.begin.new.self out p p place n kind begun)) (c.read_current-done.ensures.met p out begun.sound)))
 
 pub returns-clause-quiet : goal.returns-clause-quiet
 returns-clause-quiet g c = reads_call g.S.Storage.view c.args.self.now c.begin.new.self c.read_current-done.new.self c.mark_failure.new.self _ c.begin.ensures.begun c.read_current-done.ensures.quiet c.mark_failure.ensures.rest

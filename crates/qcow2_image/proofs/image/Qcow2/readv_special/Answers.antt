@@ -12,7 +12,7 @@ use Rattle.qcow2_image.proofs.Sizes.{sound_is_usable}
 use Rattle.qcow2_image.specs.Noted.{FailsOnceWritten}
 use Rattle.qcow2_alloc.proofs.Outcomes.{err_as}
 use Rattle.qcow2_alloc.specs.declared.error.ImageError.TheVariants.{Memory}
-use Rattle.qcow2_image.specs.MetAlone.{IsMetLooking}
+use Rattle.qcow2_image.specs.MetAlone.{IsCacheHeld, IsMetLooking}
 use Rattle.qcow2_image.proofs.Prepare.Met.{hands_met}
 use Rattle.qcow2_image.proofs.image.Qcow2.readv_special.Goals as goal
 
@@ -49,7 +49,7 @@ returns-in-Some-clause-once_written g c = λ bad. absurd (cc)
 
 pub returns-in_err-try_readv_special-clause-met : goal.returns-in_err-try_readv_special-clause-met
 returns-in_err-try_readv_special-clause-met g c = λ out sound.
-    hands_met (λ e. IsMetLooking out e ⊎ ((e ≡ Compressed) ⊎ (e ≡ NotCompressed c.args.offset))) c.from_residual.result c.in_err-try_readv_special.field-0.0 c.from_residual.ensures
+    hands_met (λ e. IsMetLooking (IsCacheHeld c.args.self.now out) e ⊎ ((e ≡ Compressed) ⊎ (e ≡ NotCompressed c.args.offset))) c.from_residual.result c.in_err-try_readv_special.field-0.0 c.from_residual.ensures
     (elim (c.in_err-try_readv_special.ensures.met out sound) [ inl met ↦ inl met | inr compressed ↦ inr (inl compressed) ])
 
 pub returns-in-Some-clause-met : goal.returns-in-Some-clause-met

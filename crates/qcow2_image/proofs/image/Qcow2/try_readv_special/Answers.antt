@@ -17,7 +17,8 @@ use Rattle.qcow2_image.proofs.Call.OnceWritten.{once_written}
 use Rattle.qcow2_image.proofs.Call.BehindHeader.{behind_call}
 use Rattle.std.specs.Prelude.{IfErr}
 use Rattle.qcow2_alloc.specs.declared.error.ImageError.TheVariants.{Compressed}
-use Rattle.qcow2_image.specs.MetAlone.{IsMetLooking}
+use Rattle.qcow2_image.proofs.Map.MetLooking.{held_since}
+use Rattle.qcow2_image.specs.MetAlone.{IsCacheHeld, IsMetLooking}
 use Rattle.qcow2_image.proofs.Sizes.{sound_is_usable}
 use Rattle.qcow2_image.proofs.Clear.ClearCalls.{refused_for}
 use Rattle.qcow2_image.specs.Refusals.{unusable}
@@ -61,7 +62,7 @@ returns-clause-header_cluster g c = behind_call g.S.Storage.view c.begin.ensures
 pub returns-clause-met : goal.returns-clause-met
 returns-clause-met g c = λ out sound.
     let p = pending_in g.S.Storage.view g.F.BackingDisk.backing c.args.self.now out in
-    subst (λ (r : Result _ _). IfErr r (λ e. IsMetLooking out e ⊎ (e ≡ Compressed))) (sym c.mark_failure.ensures.answer) (c.plain_at-plain.ensures.met p out (c.begin.ensures.keeps p out sound).sound)
+    subst (λ (r : Result _ _). IfErr r (λ e. IsMetLooking (IsCacheHeld c.args.self.now out) e ⊎ (e ≡ Compressed))) (sym c.mark_failure.ensures.answer) (held_since c.args.self.now c.begin.new.self out c.begin.ensures.begun (λ held. IfErr c.plain_at-plain.result (λ e. IsMetLooking held e ⊎ (e ≡ Compressed))) (c.plain_at-plain.ensures.met p out (c.begin.ensures.keeps p out sound).sound))
 
 pub returns-in_err-check_usable-clause-met : goal.returns-in_err-check_usable-clause-met
 returns-in_err-check_usable-clause-met g c = λ out sound.

@@ -19,7 +19,7 @@ use Rattle.qcow2_image.specs.HeldMappings.{HeedsHeld, IsHeldAs}
 use Rattle.std.specs.Prelude.{Result}
 use Rattle.std.proofs.lemmas.Bool.{cases_lt}
 use Rattle.qcow2_alloc.specs.ImageError.{IsFault}
-use Rattle.qcow2_image.specs.MetAlone.{IsMetPutting}
+use Rattle.qcow2_image.specs.MetAlone.{IsCacheHeld, IsMetPutting}
 use Rattle.qcow2_image.proofs.Prepare.Met.{hands_met, met_as, told_sum}
 use Rattle.qcow2_image.proofs.Prepare.NearPlaces.{past_existing}
 use Rattle.qcow2_image.proofs.Write.Hosted.{hosts_behind_header}
@@ -114,7 +114,7 @@ returns-in_default-clause-met g c = λ fits some out k placed sound.
 pub returns-in_err-check_in_place-clause-met : goal.returns-in_err-check_in_place-clause-met
 returns-in_err-check_in_place-clause-met g c = λ fits some out k placed sound.
     let met = c.in_err-check_in_place.ensures.met (pending_in g.S.Storage.view g.F.BackingDisk.backing c.args.self.now out) out sound in
-    hands_met (IsMetPutting out c.args.prepared.now c.args.at) c.from_residual.result c.in_err-check_in_place.field-0.0 c.from_residual.ensures (inr (met.0, inl met.1))
+    hands_met (IsMetPutting (IsCacheHeld c.args.self.now out) c.args.prepared.now c.args.at) c.from_residual.result c.in_err-check_in_place.field-0.0 c.from_residual.ensures (inr (met.0, inl met.1))
 
 pub returns-clause-met : goal.returns-clause-met
 returns-clause-met g c = λ fits some out k placed sound.
@@ -129,4 +129,4 @@ returns-clause-met g c = λ fits some out k placed sound.
     subst (λ o. IsMappedAs view mid (p.guest + c.args.at) (Raw Image o true) n) c.in-Some.ensures.1 (c.in_ok-check_in_place.ensures.mapped none some (pending_in view below old out) out sound) in
     let behind = hosts_behind_header view below mid out (quiet_sound view below out old mid (λ _. quiet) sound) n k p c.args.at placed fits (mapped_in_place view below out k p c.args.at c.args.bytes.now placed mid mapped) 0 some in
     let host_is = c.in-Some.ensures.1 in
-    met_as IsFault (IsMetPutting out p c.args.at) c.write_data.result (λ e fault. inl fault) (c.write_data.ensures.fault (omega (arith, behind, host_is)))
+    met_as IsFault (IsMetPutting (IsCacheHeld c.args.self.now out) p c.args.at) c.write_data.result (λ e fault. inl fault) (c.write_data.ensures.fault (omega (arith, behind, host_is)))

@@ -22,7 +22,8 @@ use Rattle.qcow2_image.proofs.Map.Held.{heeds_on, keeps_marked}
 use Rattle.std.specs.Prelude.{Result}
 use Rattle.qcow2_image.specs.HeldMappings.{HeedsHeld}
 use Rattle.std.specs.Prelude.{IfErr}
-use Rattle.qcow2_image.specs.MetAlone.{IsMetPutting}
+use Rattle.qcow2_image.proofs.Map.MetLooking.{held_since}
+use Rattle.qcow2_image.specs.MetAlone.{IsCacheHeld, IsMetPutting}
 use Rattle.qcow2_image.proofs.image.Qcow2.write_mapped.Goals as goal
 
 pub returns-then-is_empty-clause-sees : goal.returns-then-is_empty-clause-sees
@@ -109,5 +110,5 @@ returns-clause-met g c = λ out k placed sound writable.
     let old = c.args.self.now in
     let some : 0 < length c.args.bytes.now = search rules in
     let quiet : Quietly view below out old c.begin.new.self = record { keeps = c.begin.ensures.keeps (pending_in view below old out) out sound; list = c.begin.ensures.list } in
-    subst (λ (r : Result _ _). IfErr r (IsMetPutting out c.args.prepared.now c.args.at)) (sym c.mark_failure.ensures.answer)
-    (c.write_current-done.ensures.met c.requires some out k placed (quiet_sound view below out old c.begin.new.self (λ _. quiet) sound))
+    subst (λ (r : Result _ _). IfErr r (IsMetPutting (IsCacheHeld c.args.self.now out) c.args.prepared.now c.args.at)) (sym c.mark_failure.ensures.answer)
+    (held_since old c.begin.new.self out c.begin.ensures.begun (λ held. IfErr c.write_current-done.result (IsMetPutting held c.args.prepared.now c.args.at)) (c.write_current-done.ensures.met c.requires some out k placed (quiet_sound view below out old c.begin.new.self (λ _. quiet) sound)))
