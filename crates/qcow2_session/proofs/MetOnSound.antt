@@ -28,7 +28,7 @@ use Rattle.qcow2_image.specs.Backings.{HasPrepared}
 use Rattle.qcow2_image.specs.Found.{IsFoundWhole, found_kind, further_by}
 use Rattle.qcow2_image.specs.Image.{size_of}
 use Rattle.qcow2_image.specs.ImageInvariant.{ImageInvariant, IsReadyWith, abstract_of, meaning, pending_in}
-use Rattle.qcow2_image.specs.MetAlone.{CopiesCompressed, HasCompressedIn, IsMetAlone, IsMetLooking, IsMetLookingAgain, IsMetMapped, IsMetPutting, IsMetReadingRange, IsSpecial}
+use Rattle.qcow2_image.specs.MetAlone.{CopiesCompressed, HasCompressedIn, IsCacheHeld, IsMetAlone, IsMetLooking, IsMetLookingAgain, IsMetMapped, IsMetPutting, IsMetReadingRange, IsSpecial}
 use Rattle.qcow2_image.specs.Prepared.{guest_offset_of, length_of, offset_of, table_of}
 use Rattle.qcow2_image.specs.Preparing.{IsAnswered}
 use Rattle.qcow2_image.specs.declared.image.Qcow2.{Qcow2}
@@ -43,9 +43,17 @@ pub refused_none : (o : Option ImageError) (e : ImageError) → MatchOption o (�
 refused_none None e is none = cc
 refused_none (Some x) e is none = let no : Some x ≡ None = none in cc
 
+-- where the cache is full of tables that are held, a mapping is prepared
+pub looking_prepared : {S F : Type 0} (image : Qcow2 S F) (out : List (Option Prepared)) (e : ImageError) → IsMetLooking (IsCacheHeld image out) e → IsMetLooking (HasPrepared out) e
+looking_prepared image out e (inl fault) = inl fault
+looking_prepared image out e (inr used) = inr (used.0, prepared used.1)
+  where
+    prepared : IsCacheHeld image out → HasPrepared out
+    prepared held = held.1
+
 -- want of memory is a fault
-pub memory_looking : (out : List (Option Prepared)) (e : ImageError) → e ≡ I.Memory → IsMetLooking out e
-memory_looking out e is = inl (inr is)
+pub memory_looking : {held : Type 0} (e : ImageError) → e ≡ I.Memory → IsMetLooking held e
+memory_looking e is = inl (inr is)
 
 -- so far on it is as special as where it begins
 special_first : (n : ℕ) (kind : MappingKind) → IsSpecial (further_by n kind) → IsSpecial kind
@@ -116,9 +124,9 @@ module _ {S F : Type 0} (view : S → StorageView) (backing : F → BackingView)
   module _ (old mid : Qcow2 S F) (sound : ImageInvariant view backing (pending_in view backing old out) old out) (sound' : ImageInvariant view backing (pending_in view backing mid out) mid out) where
     -- reading what was just looked up meets what a lookup does, or that the first cluster is compressed
     pub reads_found : {whole : Type 0} (offset n max m : ℕ) (kind : MappingKind) (e : ImageError) → 0 < n → offset < size_of mid → known_in view mid.file ≡ known_in view old.file
-        → IsFoundIn (known_in view mid.file) (is_some mid.backing) offset max (found_kind kind) m → (e ≡ I.OutdatedMapping → ⊥) → IsMetMapped out (further_by 0 kind) whole e
+        → IsFoundIn (known_in view mid.file) (is_some mid.backing) offset max (found_kind kind) m → (e ≡ I.OutdatedMapping → ⊥) → IsMetMapped (IsCacheHeld mid out) (further_by 0 kind) whole e
         → IsMetReadingRange out offset (offset + n) old.file.header.fields (known_in view old.file) e
-    reads_found offset n max m kind e some below same is never (inl (inl looking)) = inl looking
+    reads_found offset n max m kind e some below same is never (inl (inl looking)) = inl (looking_prepared mid out e looking)
     reads_found offset n max m kind e some below same is never (inl (inr outdated)) = absurd (never outdated)
     reads_found offset n max m kind e some below same is never (inr compressed) =
         let known = known_in view mid.file in
@@ -216,10 +224,11 @@ none_beside out p existing none has = at has.place has.mapping has.there has.pin
     at (suc k) q there pins = none (record { place = k; mapping = q; there = there; pins = pins })
 
 -- so bytes are put but for a fault, where an existing one is found as it was prepared
-pub put_alone : (out : List (Option Prepared)) (p : Prepared) (e : ImageError) → (HasPrepared out → ⊥) → (table_of p ≡ None → offset_of p < 2 ^ 64) → (table_of p ≡ None → e ≡ I.OutdatedMapping → ⊥) → IsMetPutting (Some p ∷ out) p 0 e → IsFault e
-put_alone out p e none near found (inl fault) = fault
-put_alone out p e none near found (inr again) = ⊎_elim
-    (λ (again' : IsMetLookingAgain (Some p ∷ out) e). ⊎_elim (λ (looking : IsMetLooking (Some p ∷ out) e). ⊎_elim (λ fault. fault) (λ used. absurd (none_beside out p again.0 none used.1)) looking) (λ outdated. absurd (found again.0 outdated)) again')
+pub put_alone : (held : Type 0) (out : List (Option Prepared)) (p : Prepared) (e : ImageError) → (held → HasPrepared (Some p ∷ out)) → (HasPrepared out → ⊥) → (table_of p ≡ None → offset_of p < 2 ^ 64) → (table_of p ≡ None → e ≡ I.OutdatedMapping → ⊥)
+    → IsMetPutting held p 0 e → IsFault e
+put_alone held out p e prepared none near found (inl fault) = fault
+put_alone held out p e prepared none near found (inr again) = ⊎_elim
+    (λ (again' : IsMetLookingAgain held e). ⊎_elim (λ (looking : IsMetLooking held e). ⊎_elim (λ fault. fault) (λ used. absurd (none_beside out p again.0 none (prepared used.1))) looking) (λ outdated. absurd (found again.0 outdated)) again')
     (λ far. absurd (let past = far.1 in let below = near again.0 in omega (arith, past, below))) again.1
 
 module _ {S F : Type 0} (view : S → StorageView) (backing : F → BackingView) (out : List (Option Prepared)) (old mid : Qcow2 S F) (p : Prepared) (offset n : ℕ)

@@ -17,7 +17,7 @@ use Rattle.qcow2_image.specs.Found.{IsFoundWhole, further_by}
 use Rattle.qcow2_image.specs.Image.{is_failed, is_writable, size_of}
 use Rattle.qcow2_image.specs.ImageInvariant.{abstract_of}
 use Rattle.qcow2_image.specs.L1Entries.{NeedsFarEntry}
-use Rattle.qcow2_image.specs.MetAlone.{CopiesCompressed, IsMetAlone, IsMetFilling, IsMetLooking, IsMetMapped, IsMetPutting, IsMetReadingRange, IsMetSpecial}
+use Rattle.qcow2_image.specs.MetAlone.{CopiesCompressed, IsCacheHeld, IsMetAlone, IsMetFilling, IsMetLooking, IsMetMapped, IsMetPutting, IsMetReadingRange, IsMetSpecial}
 use Rattle.qcow2_image.specs.Preallocation.{IsUnderMappingIn}
 use Rattle.qcow2_image.specs.Prepared.{length_of, table_of}
 use Rattle.qcow2_image.specs.Preparing.{IsTaken}
@@ -163,10 +163,10 @@ module _ {S F : Type 0} (view : S → StorageView) (backing : F → BackingView)
 
   -- What was looked up is read but for what its kind meets, and bytes are put but for what their mapping does.
   abbrev pub IsMetLookedUp : (found : ℕ → Option Mapping) → (slot at n : ℕ) → ImageError → Type 0
-  IsMetLookedUp found slot at n e = (m : Mapping) × (found slot ≡ Some m) × IsMetMapped before (further_by at m.kind) (IsFoundWhole view old (m.offset + at) (further_by at m.kind) n) e
+  IsMetLookedUp found slot at n e = (m : Mapping) × (found slot ≡ Some m) × IsMetMapped (IsCacheHeld old before) (further_by at m.kind) (IsFoundWhole view old (m.offset + at) (further_by at m.kind) n) e
 
   abbrev pub IsMetPuttingAt : (slot at : ℕ) → ImageError → Type 0
-  IsMetPuttingAt slot at e = (p : Prepared) × (slice_get before slot ≡ Some (Some p)) × IsMetPutting before p at e
+  IsMetPuttingAt slot at e = (p : Prepared) × (slice_get before slot ≡ Some (Some p)) × IsMetPutting (IsCacheHeld old before) p at e
 
   -- What a prepared mapping refuses, and nothing else: a range of its L2 table (9), a smaller disk (17). What is put, or read as it was looked up, is refused as outdated (10) only where it is. A commit and a flush are refused for a fault alone.
   -- What is read, looked up or put is refused for a fault, and for what has a cause in the image or in what is prepared.
@@ -174,7 +174,7 @@ module _ {S F : Type 0} (view : S → StorageView) (backing : F → BackingView)
   MeetsOnSound found (C.Read offset n) reply = IfSome (refusal_in reply) (IsMetReadingRange before offset (offset + n) old.file.header.fields (known_in view old.file))
   MeetsOnSound found (C.Write offset bytes) reply = refusal_in reply ≡ Some I.TablePrepared → IsUnderMappingIn old.file.header.fields offset (offset + length bytes.items) before
   MeetsOnSound found (C.PrepareDataMapping slot offset n overwrite) reply = IsUntakenIn offset n reply
-  MeetsOnSound found (C.GetMapping slot offset max) reply = IfSome (refusal_in reply) (IsMetLooking before)
+  MeetsOnSound found (C.GetMapping slot offset max) reply = IfSome (refusal_in reply) (IsMetLooking (IsCacheHeld old before))
   MeetsOnSound found (C.ReadMapped slot at n) reply = ReadsLookedUp found slot at n reply × IfSome (refusal_in reply) (IsMetLookedUp found slot at n)
   MeetsOnSound found (C.WriteMapped slot at bytes) reply = (refusal_in reply ≡ Some I.OutdatedMapping → IsOutdatedAt slot at (length bytes.items)) × IfSome (refusal_in reply) (IsMetPuttingAt slot at)
   MeetsOnSound found (C.CommitDataMapping slot) reply = IfSome (refusal_in reply) IsFault
@@ -183,8 +183,8 @@ module _ {S F : Type 0} (view : S → StorageView) (backing : F → BackingView)
   MeetsOnSound found (C.DiscardToZero offset n) reply = IsUntouchedUnder offset n reply
   MeetsOnSound found (C.DiscardToAny offset n) reply = IsUntouchedUnder offset n reply
   MeetsOnSound found (C.DiscardToBacking offset n) reply = IsUntouchedUnder offset n reply
-  MeetsOnSound found (C.ReadvSpecial offset n) reply = IfSome (refusal_in reply) (IsMetSpecial before offset)
-  MeetsOnSound found (C.TryReadvSpecial offset n) reply = IfSome (refusal_in reply) (λ e. IsMetLooking before e ⊎ (e ≡ I.Compressed))
+  MeetsOnSound found (C.ReadvSpecial offset n) reply = IfSome (refusal_in reply) (IsMetSpecial (IsCacheHeld old before) offset)
+  MeetsOnSound found (C.TryReadvSpecial offset n) reply = IfSome (refusal_in reply) (λ e. IsMetLooking (IsCacheHeld old before) e ⊎ (e ≡ I.Compressed))
   MeetsOnSound found (C.ResizeGrow size mode) reply = size_of old < size → refusal_in reply ≡ Some I.TablePrepared → (shows_old mode ≡ false) × IsUnderMappingIn old.file.header.fields (size_of old) (boundary_in old size) before
   MeetsOnSound found (C.ResizeShrink size) reply = size < size_of old → (refusal_in reply ≡ Some I.MappingPrepared) ↔ HasPrepared before
   MeetsOnSound found command reply = Unit {0}

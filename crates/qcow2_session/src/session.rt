@@ -7,7 +7,7 @@ ghost use Rattle.qcow2_image.specs.BehindHeader.{StaysBehindHeader};
 ghost use Rattle.qcow2_image.specs.CallParts.{AreCopied};
 ghost use Rattle.qcow2_image.specs.Clearing.{IsUnderMapping};
 ghost use Rattle.qcow2_image.specs.Found.{IsFoundWhole, further_by};
-ghost use Rattle.qcow2_image.specs.MetAlone.{CopiesCompressed, IsMetAlone, IsMetMapped, IsMetReadingRange};
+ghost use Rattle.qcow2_image.specs.MetAlone.{CopiesCompressed, IsCacheHeld, IsMetAlone, IsMetMapped, IsMetReadingRange};
 ghost use Rattle.qcow2_image.specs.Preallocation.{IsUnderMappingIn};
 ghost use Rattle.qcow2_image.specs.Image.{IsSameImage, is_failed, is_writable, number_of, size_of};
 ghost use Rattle.qcow2_image.specs.Prepared.{image_of};
@@ -538,7 +538,7 @@ fn read_range<S: Storage, F: WrappedFormat<S>>(
     ensures marks { FailsAs result (is_failed image.old) (is_failed image.new) }
     ensures early { IfSome (unusable image.old) (λ e. (result ≡ Err e) × (image.new ≡ image.old)) }
     ensures late { refuses_mapping image.old mapping.now.image ≡ None → IfErr result (λ e. IsMet e × (0 < length)) }
-    ensures met { refuses_mapping image.old mapping.now.image ≡ None → (out : List (Option Prepared)) → (abstract_of S.view F.backing image.old out).is_sound → IfErr result (IsMetMapped out (further_by at mapping.now.kind) (IsFoundWhole S.view image.old (mapping.now.offset + at) (further_by at mapping.now.kind) length)) }
+    ensures met { refuses_mapping image.old mapping.now.image ≡ None → (out : List (Option Prepared)) → (abstract_of S.view F.backing image.old out).is_sound → IfErr result (IsMetMapped (IsCacheHeld image.old out) (further_by at mapping.now.kind) (IsFoundWhole S.view image.old (mapping.now.offset + at) (further_by at mapping.now.kind) length)) }
     ensures outdated { (out : List (Option Prepared)) → (abstract_of S.view F.backing image.old out).is_sound → result ≡ Err OutdatedMapping
         → ¬ IsFoundWhole S.view image.old (mapping.now.offset + at) (further_by at mapping.now.kind) length }
     ensures mapped { 0 < length → (out : List (Option Prepared)) → (abstract_of S.view F.backing image.old out).is_sound → OnOk result (IsFoundWhole S.view image.old (mapping.now.offset + at) (further_by at mapping.now.kind) length) }

@@ -5,7 +5,7 @@ ghost use Rattle.qcow2_image.specs.BehindHeader.{StaysBehindHeader};
 ghost use Rattle.qcow2_image.specs.declared.mapping.Mapping.{Mapping};
 ghost use Rattle.qcow2_image.specs.Calls.{AnswersCall};
 ghost use Rattle.qcow2_image.specs.Image.{IsSameImage, is_failed};
-ghost use Rattle.qcow2_image.specs.MetAlone.{IsMetLooking, IsMetSpecial};
+ghost use Rattle.qcow2_image.specs.MetAlone.{IsCacheHeld, IsMetLooking, IsMetSpecial};
 ghost use Rattle.qcow2_image.specs.Refusals.{IsMet, unusable};
 ghost use Rattle.qcow2_alloc.specs.declared.error.ImageError.TheVariants.{Compressed, NotCompressed};
 ghost use Rattle.qcow2_image.specs.ImageInvariant.{abstract_of};
@@ -85,7 +85,7 @@ fn read_range<S: Storage, F: WrappedFormat<S>>(
     ensures marks { FailsAs result (is_failed image.old) (is_failed image.new) }
     ensures early { IfSome (unusable image.old) (λ e. (result ≡ Err e) × (image.new ≡ image.old)) }
     ensures late { unusable image.old ≡ None → IfErr result (λ e. (IsMet e ⊎ (e ≡ NotCompressed offset)) × (0 < length)) }
-    ensures met { (out : List (Option Prepared)) → (abstract_of S.view F.backing image.old out).is_sound → IfErr result (IsMetSpecial out offset) }
+    ensures met { (out : List (Option Prepared)) → (abstract_of S.view F.backing image.old out).is_sound → IfErr result (IsMetSpecial (IsCacheHeld image.old out) offset) }
     ensures empty { IfOk result (λ done. length ≡ 0) }
     ensures own { IfErr result (IsOwnOffset offset) }
     ensures tells { (out : List (Option Prepared)) → (abstract_of S.view F.backing image.old out).is_sound → TellsSpecial (known_in S.view image.old.file) offset length result }
@@ -110,7 +110,7 @@ fn try_range<S: Storage, F: WrappedFormat<S>>(
     ensures marks { FailsAs result (is_failed image.old) (is_failed image.new) }
     ensures early { IfSome (unusable image.old) (λ e. (result ≡ Err e) × (image.new ≡ image.old)) }
     ensures late { unusable image.old ≡ None → IfErr result (λ e. IsMet e × (0 < length)) }
-    ensures met { (out : List (Option Prepared)) → (abstract_of S.view F.backing image.old out).is_sound → IfErr result (λ e. IsMetLooking out e ⊎ (e ≡ Compressed)) }
+    ensures met { (out : List (Option Prepared)) → (abstract_of S.view F.backing image.old out).is_sound → IfErr result (λ e. IsMetLooking (IsCacheHeld image.old out) e ⊎ (e ≡ Compressed)) }
     ensures answer { IfOk result (λ plain. MatchOption plain (length ≡ 0) (λ at. at ≡ offset)) }
     ensures tells { (out : List (Option Prepared)) → (abstract_of S.view F.backing image.old out).is_sound → TellsPlain (known_in S.view image.old.file) offset length result }
     ensures sees { AnswersCall S.view F.backing image.old image.new [] (λ plain was is. is ≡ was) result }

@@ -42,11 +42,11 @@ returns-in_err-check_read-clause-met g c = λ none out sound. absurd (refused_no
 
 pub returns-in_err-zeros-clause-met : goal.returns-in_err-zeros-clause-met
 returns-in_err-zeros-clause-met g c = λ none out sound.
-    subst (λ r. IfErr r (IsMetReadingRange out 0 (size_of c.args.image.now) c.args.image.now.file.header.fields (known_in g.S.Storage.view c.args.image.now.file))) (sym (refused_is _ Memory c.from_residual-in_err-zeros.ensures)) (inl (memory_looking out Memory refl))
+    subst (λ r. IfErr r (IsMetReadingRange out 0 (size_of c.args.image.now) c.args.image.now.file.header.fields (known_in g.S.Storage.view c.args.image.now.file))) (sym (refused_is _ Memory c.from_residual-in_err-zeros.ensures)) (inl (memory_looking Memory refl))
 
 pub returns-in_err-bytes-clause-met : goal.returns-in_err-bytes-clause-met
 returns-in_err-bytes-clause-met g c = λ none out sound.
-    subst (λ r. IfErr r (IsMetReadingRange out 0 (size_of c.args.image.now) c.args.image.now.file.header.fields (known_in g.S.Storage.view c.args.image.now.file))) (sym (refused_is _ Memory c.from_residual-in_err-bytes.ensures)) (inl (memory_looking out Memory refl))
+    subst (λ r. IfErr r (IsMetReadingRange out 0 (size_of c.args.image.now) c.args.image.now.file.header.fields (known_in g.S.Storage.view c.args.image.now.file))) (sym (refused_is _ Memory c.from_residual-in_err-bytes.ensures)) (inl (memory_looking Memory refl))
 
 pub returns-in_err-resize-clause-met : goal.returns-in_err-resize-clause-met
 returns-in_err-resize-clause-met g c = λ none out sound.

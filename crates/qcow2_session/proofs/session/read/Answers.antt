@@ -54,7 +54,7 @@ pub returns-in_err-check_read-clause-met : goal.returns-in_err-check_read-clause
 returns-in_err-check_read-clause-met g c = λ none out sound. absurd (refused_none (refuses_to_read c.args.image.now c.args.offset c.args.length) c.in_err-check_read.field-0.0 c.in_err-check_read.ensures.refusal none)
 
 pub returns-in_err-bytes-clause-met : goal.returns-in_err-bytes-clause-met
-returns-in_err-bytes-clause-met g c = λ none out sound. subst (λ r. IfErr r (IsMetReadingRange out c.args.offset (c.args.offset + c.args.length) c.args.image.now.file.header.fields (known_in g.S.Storage.view c.args.image.now.file))) (sym (refused_is _ c.in_err-bytes.field-0.0 c.from_residual-in_err-bytes.ensures)) (inl (memory_looking out c.in_err-bytes.field-0.0 c.in_err-bytes.ensures.cause.0))
+returns-in_err-bytes-clause-met g c = λ none out sound. subst (λ r. IfErr r (IsMetReadingRange out c.args.offset (c.args.offset + c.args.length) c.args.image.now.file.header.fields (known_in g.S.Storage.view c.args.image.now.file))) (sym (refused_is _ c.in_err-bytes.field-0.0 c.from_residual-in_err-bytes.ensures)) (inl (memory_looking c.in_err-bytes.field-0.0 c.in_err-bytes.ensures.cause.0))
 
 pub returns-in_err-read_into-clause-met : goal.returns-in_err-read_into-clause-met
 returns-in_err-read_into-clause-met g c = λ none out sound.

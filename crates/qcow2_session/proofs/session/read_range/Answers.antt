@@ -15,7 +15,7 @@ use Rattle.qcow2_image.specs.Refusals.{unusable}
 use Rattle.qcow2_session.proofs.Causing.{same_error}
 use Rattle.qcow2_image.proofs.Call.BehindHeader.{behind_none}
 use Rattle.qcow2_session.proofs.MetOnSound.{memory_looking}
-use Rattle.qcow2_image.specs.MetAlone.{IsMetMapped}
+use Rattle.qcow2_image.specs.MetAlone.{IsCacheHeld, IsMetMapped}
 use Rattle.std.proofs.Common.{inl}
 use Rattle.qcow2_session.proofs.session.read_range.Goals as goal
 
@@ -99,9 +99,9 @@ pub returns-in_err-check_read-clause-met : goal.returns-in_err-check_read-clause
 returns-in_err-check_read-clause-met g c = λ none out sound. absurd (unchecked (unusable c.args.image.now) c.in_err-check_read.field-0.0 c.in_err-check_read.ensures.refusal (sound_is_usable g.S.Storage.view g.F.BackingDisk.backing c.args.image.now out sound))
 
 pub returns-in_err-bytes-clause-met : goal.returns-in_err-bytes-clause-met
-returns-in_err-bytes-clause-met g c = λ none out sound. subst (λ r. IfErr r (IsMetMapped out (further_by c.args.at c.args.mapping.now.kind) (IsFoundWhole g.S.Storage.view c.args.image.now (c.args.mapping.now.offset + c.args.at) (further_by c.args.at c.args.mapping.now.kind) c.args.length))) (sym (refused_is _ c.in_err-bytes.field-0.0 c.from_residual-in_err-bytes.ensures)) (inl (inl (memory_looking out c.in_err-bytes.field-0.0 c.in_err-bytes.ensures.cause.0)))
+returns-in_err-bytes-clause-met g c = λ none out sound. subst (λ r. IfErr r (IsMetMapped (IsCacheHeld c.args.image.now out) (further_by c.args.at c.args.mapping.now.kind) (IsFoundWhole g.S.Storage.view c.args.image.now (c.args.mapping.now.offset + c.args.at) (further_by c.args.at c.args.mapping.now.kind) c.args.length))) (sym (refused_is _ c.in_err-bytes.field-0.0 c.from_residual-in_err-bytes.ensures)) (inl (inl (memory_looking c.in_err-bytes.field-0.0 c.in_err-bytes.ensures.cause.0)))
 
 pub returns-in_err-read_mapped-clause-met : goal.returns-in_err-read_mapped-clause-met
 returns-in_err-read_mapped-clause-met g c = λ none out sound.
     let long : length c.deref_mut.result.now ≡ c.args.length = grind (arith, common_steps) in
-    subst (λ r. IfErr r (IsMetMapped out (further_by c.args.at c.args.mapping.now.kind) (IsFoundWhole g.S.Storage.view c.args.image.now (c.args.mapping.now.offset + c.args.at) (further_by c.args.at c.args.mapping.now.kind) c.args.length))) (sym (refused_is _ c.in_err-read_mapped.field-0.0 c.from_residual-in_err-read_mapped.ensures)) ((rw long at c.in_err-read_mapped.ensures.met) none out sound)
+    subst (λ r. IfErr r (IsMetMapped (IsCacheHeld c.args.image.now out) (further_by c.args.at c.args.mapping.now.kind) (IsFoundWhole g.S.Storage.view c.args.image.now (c.args.mapping.now.offset + c.args.at) (further_by c.args.at c.args.mapping.now.kind) c.args.length))) (sym (refused_is _ c.in_err-read_mapped.field-0.0 c.from_residual-in_err-read_mapped.ensures)) ((rw long at c.in_err-read_mapped.ensures.met) none out sound)

@@ -21,7 +21,7 @@ use Rattle.qcow2_image.proofs.Call.FaultCounts.{counted_on}
 use Rattle.qcow2_image.specs.Found.{IsFoundWhole, further_by}
 use Rattle.qcow2_image.specs.MetAlone.{IsMetReadingRange}
 use Rattle.qcow2_alloc.specs.ImageFile.{known_in}
-use Rattle.qcow2_session.proofs.MetOnSound.{found_there, reads_found}
+use Rattle.qcow2_session.proofs.MetOnSound.{found_there, looking_prepared, reads_found}
 use Rattle.std.proofs.Common.{inl, ◌<◌, Err}
 use Rattle.qcow2_session.proofs.session.read_some.Goals as goal
 
@@ -124,7 +124,7 @@ returns-in_err-read_mapped-clause-faults g c =
     c.read_mapped.ensures.faults c.in_err-read_mapped.was c.from_residual-in_err-read_mapped.ensures
 
 pub returns-in_err-mapping-clause-met : goal.returns-in_err-mapping-clause-met
-returns-in_err-mapping-clause-met g c = λ none some out sound. subst (λ r. IfErr r (IsMetReadingRange out c.args.offset (c.args.offset + length c.args.bytes.now) c.args.image.now.file.header.fields (known_in g.S.Storage.view c.args.image.now.file))) (sym (refused_is _ c.in_err-mapping.field-0.0 c.from_residual.ensures)) (inl (c.in_err-mapping.ensures.met out sound))
+returns-in_err-mapping-clause-met g c = λ none some out sound. subst (λ r. IfErr r (IsMetReadingRange out c.args.offset (c.args.offset + length c.args.bytes.now) c.args.image.now.file.header.fields (known_in g.S.Storage.view c.args.image.now.file))) (sym (refused_is _ c.in_err-mapping.field-0.0 c.from_residual.ensures)) (inl (looking_prepared c.args.image.now out c.in_err-mapping.field-0.0 (c.in_err-mapping.ensures.met out sound)))
 
 pub returns-then-count-eq0-clause-met : goal.returns-then-count-eq0-clause-met
 returns-then-count-eq0-clause-met g c = λ none some out sound.

@@ -43,7 +43,7 @@ use Rattle.qcow2_image.specs.Prepared.{guest_offset_of, offset_of, table_of}
 use Rattle.qcow2_session.proofs.Copied.{entered_copied, existing_or_not, kept_copied}
 use Rattle.qcow2_alloc.specs.ImageFile.{known_in}
 use Rattle.qcow2_image.proofs.Sizing.Shrinking.{fault_of}
-use Rattle.qcow2_image.specs.MetAlone.{CopiesCompressed, IsMetAlone}
+use Rattle.qcow2_image.specs.MetAlone.{CopiesCompressed, IsCacheHeld, IsMetAlone}
 use Rattle.qcow2_session.proofs.MetOnSound.{existing_found, existing_long, existing_near, met_behind, put_alone}
 use Rattle.qcow2_session.proofs.session.write_some.Goals as goal
 
@@ -464,7 +464,7 @@ returns-in-Err-clause-met g c = λ none out sound free.
     let whole = existing_long view below out old mid p offset n prepared.0 same maps some existing in
     let count_is : count ≡ min n (length_of p) = c.min-count.ensures ∙ ap (λ k. min n k) c.length.ensures in
     chunk_long count (length_of p) c.args.bytes.now count_is ∙ (grind (arith, common_steps, count_is, whole)) in
-    inl (inl (put_alone out p c.in-Err.refusal free (λ existing. existing_near view below out old mid p offset n prepared.0 same maps some existing)
+    inl (inl (put_alone (IsCacheHeld mid (Some p ∷ out)) out p c.in-Err.refusal (λ held. held.1) free (λ existing. existing_near view below out old mid p offset n prepared.0 same maps some existing)
     (λ existing outdated. c.in-Err.ensures.outdated existing (Some p ∷ out) prepared.0 (ap Err outdated) (existing_found view below out old mid p offset n prepared.0 same maps some existing fits prepared.1.0.from (length (take count c.args.bytes.now)) (long existing)))
     (c.in-Err.ensures.met (Some p ∷ out) 0 refl prepared.0 (c.prepare_data_mapping.ensures.image.writable ∙ prepares_writable old offset n none some))))
 

@@ -12,7 +12,7 @@ use Rattle.qcow2_session.proofs.MetOnSound.{memory_looking}
 use Rattle.qcow2_image.specs.Refusals.{unusable}
 use Rattle.std.specs.Prelude.{IfErr}
 use Rattle.std.proofs.Common.{inl}
-use Rattle.qcow2_image.specs.MetAlone.{IsMetSpecial}
+use Rattle.qcow2_image.specs.MetAlone.{IsCacheHeld, IsMetSpecial}
 use Rattle.qcow2_session.proofs.special.read_range.Goals as goal
 
 pub returns-clause-tells : goal.returns-clause-tells
@@ -53,7 +53,7 @@ pub returns-in_err-check_read-clause-met : goal.returns-in_err-check_read-clause
 returns-in_err-check_read-clause-met g c = λ out sound. absurd (unchecked (unusable c.args.image.now) c.in_err-check_read.field-0.0 c.in_err-check_read.ensures.refusal (sound_is_usable g.S.Storage.view g.F.BackingDisk.backing c.args.image.now out sound))
 
 pub returns-in_err-bytes-clause-met : goal.returns-in_err-bytes-clause-met
-returns-in_err-bytes-clause-met g c = λ out sound. subst (λ r. IfErr r (IsMetSpecial out c.args.offset)) (sym (refused_is _ c.in_err-bytes.field-0.0 c.from_residual-in_err-bytes.ensures)) (inl (memory_looking out c.in_err-bytes.field-0.0 c.in_err-bytes.ensures.cause.0))
+returns-in_err-bytes-clause-met g c = λ out sound. subst (λ r. IfErr r (IsMetSpecial (IsCacheHeld c.args.image.now out) c.args.offset)) (sym (refused_is _ c.in_err-bytes.field-0.0 c.from_residual-in_err-bytes.ensures)) (inl (memory_looking c.in_err-bytes.field-0.0 c.in_err-bytes.ensures.cause.0))
 
 pub returns-clause-met : goal.returns-clause-met
 returns-clause-met g c = c.readv_special.ensures.met

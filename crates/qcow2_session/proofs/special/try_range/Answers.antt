@@ -11,7 +11,7 @@ use Rattle.qcow2_session.proofs.MetOnSound.{memory_looking}
 use Rattle.qcow2_image.specs.Refusals.{unusable}
 use Rattle.std.specs.Prelude.{IfErr}
 use Rattle.std.proofs.Common.{inl}
-use Rattle.qcow2_image.specs.MetAlone.{IsMetLooking}
+use Rattle.qcow2_image.specs.MetAlone.{IsCacheHeld, IsMetLooking}
 use Rattle.qcow2_alloc.specs.declared.error.ImageError.TheVariants.{Compressed}
 use Rattle.std.proofs.Common.{◌⊎◌}
 use Rattle.qcow2_session.proofs.special.try_range.Goals as goal
@@ -54,7 +54,7 @@ pub returns-in_err-check_read-clause-met : goal.returns-in_err-check_read-clause
 returns-in_err-check_read-clause-met g c = λ out sound. absurd (unchecked (unusable c.args.image.now) c.in_err-check_read.field-0.0 c.in_err-check_read.ensures.refusal (sound_is_usable g.S.Storage.view g.F.BackingDisk.backing c.args.image.now out sound))
 
 pub returns-in_err-bytes-clause-met : goal.returns-in_err-bytes-clause-met
-returns-in_err-bytes-clause-met g c = λ out sound. subst (λ r. IfErr r (λ e. IsMetLooking out e ⊎ (e ≡ Compressed))) (sym (refused_is _ c.in_err-bytes.field-0.0 c.from_residual-in_err-bytes.ensures)) (inl (memory_looking out c.in_err-bytes.field-0.0 c.in_err-bytes.ensures.cause.0))
+returns-in_err-bytes-clause-met g c = λ out sound. subst (λ r. IfErr r (λ e. IsMetLooking (IsCacheHeld c.args.image.now out) e ⊎ (e ≡ Compressed))) (sym (refused_is _ c.in_err-bytes.field-0.0 c.from_residual-in_err-bytes.ensures)) (inl (memory_looking c.in_err-bytes.field-0.0 c.in_err-bytes.ensures.cause.0))
 
 pub returns-clause-met : goal.returns-clause-met
 returns-clause-met g c = c.try_readv_special.ensures.met
