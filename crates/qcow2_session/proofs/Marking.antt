@@ -1,5 +1,5 @@
 -- When commands fail an image, one call after the other.
-use Rattle.std.proofs.Common.{◌≡◌, ◌∙◌, ℕ, Bool, true, false, IsTrue, Option, Some, None, refl, sym, subst}
+use Rattle.std.proofs.Common.{◌≡◌, ◌∙◌, ℕ, Bool, true, false, IsTrue, Option, Some, None, refl, sym, ap, subst}
 use Rattle.std.specs.Option.{option_or}
 use Rattle.std.specs.Prelude.{◌||◌, MatchOption, OnOk, Result, Ok, Err}
 use Rattle.qcow2_alloc.specs.declared.error.ImageError.{ImageError}
@@ -50,10 +50,14 @@ clear_marks r reply before noted now is marks = subst (λ q. FailsBy (refusal_in
     by (Ok range) same = same
     by (Err e) marks = refused_marks e before noted now marks
 
--- what isn't refused isn't refused as unusable
+-- what nothing refuses before any work isn't refused so
+pub refused_none : (o : Option ImageError) (e : ImageError) → MatchOption o (◌≡◌ {A = Result (Unit {0}) ImageError} (Err e) (Ok tt)) (λ x. ◌≡◌ {A = Result (Unit {0}) ImageError} (Err e) (Err x)) → o ≡ None → ⊥
+refused_none None e is none = cc
+refused_none (Some x) e is none = let no : Some x ≡ None = none in cc
+
+-- so it is of a check of no bytes, which an unusable image alone refuses
 pub unchecked : (u : Option ImageError) (e : ImageError) → MatchOption (option_or u None) (◌≡◌ {A = Result (Unit {0}) ImageError} (Err e) (Ok tt)) (λ x. ◌≡◌ {A = Result (Unit {0}) ImageError} (Err e) (Err x)) → u ≡ None → ⊥
-unchecked None e is none = cc
-unchecked (Some x) e is none = let no : Some x ≡ None = none in cc
+unchecked u e is none = refused_none (option_or u None) e is (ap (λ v. option_or v None) none)
 
 -- a refusal tells nothing of what is answered
 pub none_answered : {A E : Type 0} (r : Result A E) (e : E) (P : Type 0) → r ≡ Err e → OnOk r P

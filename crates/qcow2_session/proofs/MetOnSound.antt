@@ -1,6 +1,6 @@
 -- What reads, lookups and writes of a sound image are refused for.
 use Rattle.std.proofs.Common.{◌≡◌, ⊎_elim, inl, inr, ℕ, zero, suc, ◌+◌, ◌-◌, ◌*◌, ◌/◌, ◌%◌, ◌^◌, ◌<◌, ◌≤◌, ◌∷◌, Bool, true, false, List, [], Option, Some, None, refl, sym, ap, ◌∙◌, subst, arith, pow_mono}
-use Rattle.std.specs.Prelude.{IsNone, IsSome, MatchOption, Result, Ok, Err, is_some, slice_get, ◌&&◌}
+use Rattle.std.specs.Prelude.{IsNone, IsSome, is_some, slice_get, ◌&&◌}
 use Rattle.std.proofs.lemmas.Bool.{cases_lt}
 use Rattle.std.proofs.lemmas.Grind.{common_steps}
 use Rattle.std.proofs.lemmas.Nat.{div-add-mod', mod_below, pow_pos}
@@ -21,7 +21,7 @@ use Rattle.qcow2_alloc.specs.ImageFile.{contents_in, known_in}
 use Rattle.qcow2_alloc.specs.declared.error.ImageError.{ImageError}
 use Rattle.qcow2_alloc.specs.declared.error.ImageError.TheVariants as I
 use Rattle.qcow2_image.proofs.HiddenBytes.{header_is}
-use Rattle.qcow2_image.proofs.Map.Looked.{compressed_there, data_found, found_upto}
+use Rattle.qcow2_image.proofs.Map.Looked.{compressed_there, data_found, found_upto, product_le}
 use Rattle.qcow2_image.proofs.Prepare.NearPlaces.{IsNearData, cover_near}
 use Rattle.qcow2_image.proofs.Shares.{never_private}
 use Rattle.qcow2_image.specs.Backings.{HasPrepared}
@@ -37,11 +37,6 @@ use Rattle.qcow2_image.specs.declared.mapping.MappingKind.TheVariants as M
 use Rattle.qcow2_image.specs.declared.mapping.Place.TheVariants.{Image}
 use Rattle.qcow2_image.specs.declared.prepared.Prepared.{Prepared}
 use Rattle.qcow2_session.proofs.Copied.{kept_cover, same_size}
-
--- what nothing refuses before any work isn't refused so
-pub refused_none : (o : Option ImageError) (e : ImageError) → MatchOption o (◌≡◌ {A = Result (Unit {0}) ImageError} (Err e) (Ok tt)) (λ x. ◌≡◌ {A = Result (Unit {0}) ImageError} (Err e) (Err x)) → o ≡ None → ⊥
-refused_none None e is none = cc
-refused_none (Some x) e is none = let no : Some x ≡ None = none in cc
 
 -- where the cache is full of tables that are held, a mapping is prepared
 pub looking_prepared : {S F : Type 0} (image : Qcow2 S F) (out : List (Option Prepared)) (e : ImageError) → IsMetLooking (IsCacheHeld image out) e → IsMetLooking (HasPrepared out) e
@@ -201,13 +196,10 @@ met_in_part h known offset n done at m e there upto begins (inr (inl compressed)
       },
     ))
   where
-    times_le : (a b : ℕ) → a ≤ b → a * cluster_size h ≤ b * cluster_size h
-    times_le a b le = let d : b ≡ a + (b - a) = omega (arith, le) in let f : b * cluster_size h ≡ a * cluster_size h + (b - a) * cluster_size h = ap (λ x. x * cluster_size h) d ∙ omega arith in omega (arith, f)
-
     whole_behind : (k g : ℕ) → at ≡ k * cluster_size h → at < g * cluster_size h + cluster_size h → at ≤ g * cluster_size h
     whole_behind k g is lt = elim (cases_lt g k) [
-      | inl less ↦ let more : (g + 1) * cluster_size h ≤ k * cluster_size h = times_le (g + 1) k (omega (arith, less)) in absurd (omega (arith, more, is, lt))
-      | inr le ↦ let more : k * cluster_size h ≤ g * cluster_size h = times_le k g (omega (arith, le)) in omega (arith, more, is)
+      | inl less ↦ let more : (g + 1) * cluster_size h ≤ k * cluster_size h = product_le (g + 1) k (cluster_size h) (omega (arith, less)) in absurd (omega (arith, more, is, lt))
+      | inr le ↦ let more : k * cluster_size h ≤ g * cluster_size h = product_le k g (cluster_size h) (omega (arith, le)) in omega (arith, more, is)
     ]
 
     left_behind : (o : ℕ) → at ≤ o → (true && is_within at m o) ≡ false → (true && is_within offset n o) ≡ false

@@ -13,7 +13,7 @@ use Rattle.qcow2_session.specs.Sessions.{IsOfReading}
 use Rattle.qcow2_session.proofs.Counting.{converted, converting_else, converting_image, converting_part, converting_raw, none_counted}
 use Rattle.qcow2_session.proofs.Differing.{early_reading, option_other, reading_differs, reading_other, size_untold}
 use Rattle.qcow2_session.proofs.Converting.{any_nothing, imports_nothing, imports_unflushed, imports_flushed}
-use Rattle.qcow2_session.proofs.MetOnSound.{refused_none}
+use Rattle.qcow2_session.proofs.Marking.{refused_none}
 use Rattle.qcow2_session.proofs.Turns.{refused_is}
 use Rattle.qcow2_image.proofs.Call.BehindHeader.{behind_none, behind_then}
 use Rattle.qcow2_session.proofs.convert.to_qcow2.Goals as goal

@@ -10,7 +10,8 @@ use Rattle.qcow2_alloc.specs.ImageFile.{known_in}
 use Rattle.qcow2_image.specs.Image.{size_of}
 use Rattle.qcow2_image.specs.MetAlone.{IsMetReadingRange}
 use Rattle.qcow2_image.specs.Refusals.{refuses_to_read}
-use Rattle.qcow2_session.proofs.MetOnSound.{memory_looking, refused_none}
+use Rattle.qcow2_session.proofs.Marking.{refused_none}
+use Rattle.qcow2_session.proofs.MetOnSound.{memory_looking}
 use Rattle.qcow2_session.proofs.Counting.{converted, converting_else, converting_part, converting_raw, none_counted}
 use Rattle.qcow2_session.proofs.Exporting.{unchanged_refused, filled_first, filled_all}
 use Rattle.qcow2_session.proofs.Turns.{refused_is}

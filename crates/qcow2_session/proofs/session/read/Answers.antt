@@ -11,7 +11,8 @@ use Rattle.qcow2_session.proofs.Marking.{hands_on, memory_marks, unmarked}
 use Rattle.qcow2_image.proofs.Call.BehindHeader.{behind_none}
 use Rattle.qcow2_image.specs.MetAlone.{IsMetReadingRange}
 use Rattle.qcow2_alloc.specs.ImageFile.{known_in}
-use Rattle.qcow2_session.proofs.MetOnSound.{memory_looking, refused_none}
+use Rattle.qcow2_session.proofs.Marking.{refused_none}
+use Rattle.qcow2_session.proofs.MetOnSound.{memory_looking}
 use Rattle.std.proofs.Common.{inl}
 use Rattle.std.proofs.Common.{◌+◌}
 use Rattle.qcow2_image.specs.Refusals.{refuses_to_read}

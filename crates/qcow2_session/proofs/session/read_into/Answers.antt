@@ -21,7 +21,8 @@ use Rattle.qcow2_session.proofs.Converting.{does_nothing}
 use Rattle.qcow2_alloc.proofs.KeptTables.AllWritten.{written_none, written_then}
 use Rattle.qcow2_image.specs.MetAlone.{IsMetReadingRange}
 use Rattle.qcow2_alloc.specs.ImageFile.{known_in}
-use Rattle.qcow2_session.proofs.MetOnSound.{reads_part, refused_none}
+use Rattle.qcow2_session.proofs.Marking.{refused_none}
+use Rattle.qcow2_session.proofs.MetOnSound.{reads_part}
 use Rattle.qcow2_image.specs.Refusals.{refuses_to_read}
 use Rattle.std.proofs.Common.{◌≤◌}
 use Rattle.qcow2_session.proofs.session.read_into.Goals as goal
