@@ -26,11 +26,11 @@ run_as a b e same run = record {
 
 gave_as : (a b c : EntryTableView) (es : List ClustersToFreeEntry) → SamePlace a b → GaveWay b es c → GaveWay a es c
 gave_as a b c [] same gone = place_then a b c same gone
-gave_as a b c (e ∷ es) same gone = (run_as a b e same gone.0, gone.1, subst (λ n. n < entry_count gone.1) same.count gone.2, gone.3)
+gave_as a b c (e ∷ es) same gone = (run_as a b e same gone.0, gone.1, subst (λ n. n < entry_count gone.1) same.count gone.2, gone.3 ∙ same.bits, gone.4)
 
 gave_then : (a b c : EntryTableView) (es fs : List ClustersToFreeEntry) → GaveWay a es b → GaveWay b fs c → GaveWay a (es ++ fs) c
 gave_then a b c [] fs first then = gave_as a b c fs first then
-gave_then a b c (e ∷ es) fs first then = (first.0, first.1, first.2, gave_then first.1 b c es fs first.3 then)
+gave_then a b c (e ∷ es) fs first then = (first.0, first.1, first.2, first.3, gave_then first.1 b c es fs first.4 then)
 
 -- nothing is listed
 pub former_same : (a b : EntryTableView) (l m : List ClustersToFreeEntry) → KeepsNamed a b → m ≡ l → ListsReftables a b l m
@@ -55,7 +55,7 @@ former_still a b c l m n first same_table same_list = subst (λ (t : EntryTableV
 
 -- one goes
 pub former_one : (a b : EntryTableView) (e : ClustersToFreeEntry) (l m : List ClustersToFreeEntry) → IsRunOfTable a e → entry_count a < entry_count b → NamesBehindHeader a b → KeepsRefblocks a b → m ≡ l ++ e ∷ [] → ListsReftables a b l m
-former_one a b e l m run longer behind ranges is = record { more = e ∷ []; is = is; gone = (run, b, longer, place_none b); behind = behind; ranges = ranges }
+former_one a b e l m run longer behind ranges is = record { more = e ∷ []; is = is; gone = (run, b, longer, behind.bits, place_none b); behind = behind; ranges = ranges }
 
 -- a reftable has whole entries
 pub run_of_table : (t : EntryTableView) (e : ClustersToFreeEntry) (c : ℕ) → t.cluster ≡ Some c → IsRefTable t → e ≡ metadata_entry c ((length t.bytes + 2 ^ t.cluster_bits - 1) / 2 ^ t.cluster_bits) → IsRunOfTable t e

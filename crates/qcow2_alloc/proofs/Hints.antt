@@ -43,7 +43,7 @@ pub range_as : (t : EntryTableView) (cluster per per' : ℕ) → per' ≡ per �
 range_as t cluster per per' same has none = has (ap (λ n. block_offset (entry_at t.bytes (cluster / n))) (sym same) ∙ none)
 
 -- what holds where it was answered, as another word says it
-pub ok_as : (A B : Type 0) (result : Result (Unit {0}) ImageError) → (A → B) → OnOk result A → OnOk result B
+pub ok_as : {T : Type 0} (A B : Type 0) (result : Result T ImageError) → (A → B) → OnOk result A → OnOk result B
 ok_as A B (Ok done) to so = to so
 ok_as A B (Err e) to so = tt
 

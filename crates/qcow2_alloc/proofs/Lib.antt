@@ -20,6 +20,7 @@ pub mod ListedAfter
 pub mod MadeClusters
 pub mod TurnedCaches
 pub mod Leaks
+pub mod UnalignedLeaks
 pub mod Lengths
 pub mod Rooms
 pub mod FullRooms
@@ -34,6 +35,7 @@ pub mod RoomSteps
 pub mod RoomTables
 pub mod GrownReftables
 pub mod FormerReftables
+pub mod AlignedBlocks
 pub mod Limits
 pub mod LoadedTables
 pub mod HeaderClusters

@@ -68,10 +68,10 @@ pub record IsRunOfTable (t : EntryTableView) (e : ClustersToFreeEntry) : Type 0 
   pub placed : t.cluster ≡ Some cluster
   pub run : e ≡ metadata_entry cluster ((8 * entry_count t + 2 ^ t.cluster_bits - 1) / 2 ^ t.cluster_bits)
 
--- one reftable after the other gave way to a longer one, and these entries are for the clusters of those that went
+-- One reftable after the other gave way to a longer one, whose clusters are of the same size. These entries are for the clusters of those that went.
 abbrev pub GaveWay : EntryTableView → List ClustersToFreeEntry → EntryTableView → Type 0
 GaveWay old [] new = SamePlace old new
-GaveWay old (e ∷ es) new = IsRunOfTable old e × (next : EntryTableView) × (entry_count old < entry_count next) × GaveWay next es new
+GaveWay old (e ∷ es) new = IsRunOfTable old e × (next : EntryTableView) × (entry_count old < entry_count next) × (next.cluster_bits ≡ old.cluster_bits) × GaveWay next es new
 
 -- What is listed behind what was listed are the clusters of former reftables, and nothing else. No refblock comes to lie in cluster 0, and each range that has one keeps it.
 pub record ListsReftables (old new : EntryTableView) (list list' : List ClustersToFreeEntry) : Type 0 where

@@ -1,6 +1,12 @@
 -- A cluster that is to be freed is counted once less, or is counted as leaked.
-use Rattle.std.specs.Prelude.{ℕ, ◌+◌, ◌-◌, ◌%◌, ◌^◌, ◌≡◌, ◌⊎◌, ◌<◌, min, Bool, true, false, Some, Result, Ok, Err}
-use Rattle.qcow2_metadata.specs.Header.{counts_per_block}
+use Rattle.std.specs.Prelude.{ℕ, zero, suc, ◌+◌, ◌-◌, ◌/◌, ◌%◌, ◌^◌, ◌≡◌, ◌⊎◌, ◌<◌, ◌≤◌, ◌&&◌, ◌==◌, nat_lt, not, min, if◌then◌else◌, Bool, true, false, List, Some, Result, Ok, Err}
+use Rattle.qcow2_metadata.specs.declared.header.HeaderFields.{HeaderFields}
+use Rattle.qcow2_metadata.specs.Entries.{block_offset}
+use Rattle.qcow2_metadata.specs.EntryTable.{EntryTableView, entry_count}
+use Rattle.qcow2_metadata.specs.Header.{cluster_size, counts_per_block}
+use Rattle.qcow2_metadata.specs.TableBytes.{entry_at}
+use Rattle.qcow2_alloc.specs.MadeClusters.{listed_at}
+use Rattle.qcow2_alloc.specs.declared.clusters_to_free.ClustersToFreeEntry.{ClustersToFreeEntry}
 use Rattle.qcow2_metadata.specs.RefBlock.{RefBlockView, count_at}
 use Rattle.qcow2_alloc.specs.Allocation.{SameLeaks}
 use Rattle.qcow2_alloc.specs.ImageError.{IsFault}
@@ -14,6 +20,20 @@ use Rattle.qcow2_alloc.specs.declared.image_file.ImageFile.{ImageFile}
 -- one cluster more is leaked, up to the greatest u64
 abbrev pub LeaksOne : Allocator → Allocator → Type 0
 LeaksOne old new = new.leaked_clusters ≡ min (old.leaked_clusters + 1) (2 ^ 64 - 1)
+
+-- whether the entry of a range names a refblock that isn't on a cluster
+abbrev pub is_unaligned : HeaderFields → EntryTableView → ℕ → Bool
+is_unaligned h reftable range = nat_lt range (entry_count reftable) && not (block_offset (entry_at reftable.bytes range) % cluster_size h == 0)
+
+-- how often clusters below n are listed, of which the refblock isn't on a cluster
+abbrev pub unaligned_below : HeaderFields → EntryTableView → List ClustersToFreeEntry → ℕ → ℕ
+unaligned_below h reftable list zero = 0
+unaligned_below h reftable list (suc n) = unaligned_below h reftable list n + (if is_unaligned h reftable (n / counts_per_block h) then listed_at list n else 0)
+
+-- A cluster that goes off the list is leaked where its refblock isn't on a cluster. At least as many more are leaked as go off so, up to the greatest u64.
+abbrev pub LeaksUnaligned : HeaderFields → EntryTableView → Allocator → Allocator → List ClustersToFreeEntry → List ClustersToFreeEntry → Type 0
+LeaksUnaligned h reftable old new list list' =
+    (n : ℕ) → n ≤ 2 ^ 64 → min (old.leaked_clusters + unaligned_below h reftable list n) (2 ^ 64 - 1) ≤ new.leaked_clusters + unaligned_below h reftable list' n
 
 module _ {S : Type 0} where
   -- the count at the cluster's place of a refblock that is held was above 0, and is one less

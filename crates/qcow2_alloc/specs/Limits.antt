@@ -1,5 +1,5 @@
 -- What stands in the way of taking clusters where it is no fault: each run has a cluster in use, or the reftable can't grow.
-use Rattle.std.specs.Prelude.{ℕ, ◌+◌, ◌*◌, ◌/◌, ◌^◌, ◌<◌, ◌≤◌, ◌≡◌, ◌⊎◌, Some, Result, Ok, Err}
+use Rattle.std.specs.Prelude.{ℕ, ◌+◌, ◌*◌, ◌/◌, ◌^◌, ◌<◌, ◌≤◌, ◌≡◌, ◌⊎◌, Some}
 use Rattle.qcow2_metadata.specs.declared.header.HeaderFields.{HeaderFields}
 use Rattle.qcow2_metadata.specs.EntryTable.{EntryTableView, entry_count}
 use Rattle.qcow2_metadata.specs.Header.{counts_per_block, entries_per_cluster}
@@ -17,14 +17,21 @@ use Rattle.qcow2_alloc.specs.declared.error.ImageError.TheVariants as I
 abbrev pub IsFaultOr : Type 0 → ImageError → Type 0
 IsFaultOr Cause e = IsFault e ⊎ ((e ≡ I.Limit) × Cause)
 
--- it is no answer, but a fault or 13
-abbrev pub RefusesByLimit : {A : Type 0} → Result A ImageError → Type 0
-RefusesByLimit (Ok answer) = ⊥
-RefusesByLimit (Err e) = IsFault e ⊎ (e ≡ I.Limit)
-
 -- how many clusters begin at an offset that tables can name
 abbrev pub nameable_clusters : HeaderFields → ℕ
 nameable_clusters h = greatest_offset / 2 ^ h.cluster_bits + 1
+
+-- clusters are refused for this reason, or 14 before, where there is no memory for a place in a list
+abbrev pub IsOfTaking : ImageError → ImageError → Type 0
+IsOfTaking why e = (e ≡ I.Memory) ⊎ (e ≡ why)
+
+-- A search for a run ends at the first cluster it looks at. It is refused for this reason where the run fits below the greatest offset, else 13.
+abbrev pub EndsAtFirst : HeaderFields → ℕ → ℕ → ImageError → ImageError → Type 0
+EndsAtFirst h first n why e = ((first + n ≤ nameable_clusters h) × (e ≡ why)) ⊎ ((nameable_clusters h < first + n) × (e ≡ I.Limit))
+
+-- so it is, or 14 before, where there is no memory for a place in a list
+abbrev pub IsOfSearch : HeaderFields → ℕ → ℕ → ImageError → ImageError → Type 0
+IsOfSearch h first n why e = (e ≡ I.Memory) ⊎ EndsAtFirst h first n why e
 
 -- By what counts as in use, and by the header's numbers.
 module _ (used : ℕ → Type 0) (h : HeaderFields) where

@@ -2,9 +2,17 @@
 use Rattle.std.specs.Prelude.{◌≡◌}
 use Rattle.image_access.specs.Moments.{StorageView}
 use Rattle.qcow2_laws.specs.CrashInvariant.{Pending}
+use Rattle.qcow2_laws.specs.Clusters.{RbDependsOnL2}
+use Rattle.qcow2_alloc.specs.ImageError.{IsOfTables}
 use Rattle.qcow2_alloc.specs.ImageFile.{known_in, FileInvariant}
-use Rattle.qcow2_alloc.specs.MetadataCaches.{refblocks}
+use Rattle.qcow2_alloc.specs.MetadataCaches.{order_of, refblocks}
+use Rattle.qcow2_alloc.specs.declared.cache.MetadataCaches.{MetadataCaches}
+use Rattle.qcow2_alloc.specs.declared.error.ImageError.{ImageError}
 use Rattle.qcow2_alloc.specs.declared.image_file.ImageFile.{ImageFile}
+
+-- The caches aren't turned, since L2 tables were written before refblocks up to then, and writing them now is refused.
+abbrev pub IsOfTurning : {S : Type 0} → MetadataCaches S → ImageError → Type 0
+IsOfTurning caches e = (order_of caches ≡ RbDependsOnL2) × IsOfTables e
 
 -- All but storage and caches stays, and so does each cached refblock. Of a sound file nothing that is known changes.
 pub record TurnsAlone {S : Type 0} (view : S → StorageView) (old new : ImageFile S) : Type 0 where

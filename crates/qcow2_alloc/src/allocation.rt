@@ -1,18 +1,18 @@
 //! Taking clusters of the image's file.
-ghost use Rattle.std.specs.Prelude.{◌≡◌, ◌≢◌, max, ℕ, false, ◌+◌, ◌*◌, ◌/◌, ◌^◌, ◌<◌, ◌≤◌, ◌⊎◌, Bool, IsNone, IfOk, IfErr, OnOk, IsErrOf, IsSome, IsTrue, MatchResult};
+ghost use Rattle.std.specs.Prelude.{◌≡◌, ◌≢◌, max, ℕ, false, ◌+◌, ◌*◌, ◌/◌, ◌^◌, ◌<◌, ◌≤◌, ◌⊎◌, Bool, IsNone, IfOk, IfErr, OnOk, IsErrOf, IsErrAnd, IsSome, IsTrue, MatchResult};
 ghost use Rattle.image_access.specs.Moments.{ContentsStay, EachMomentSince};
 ghost use Rattle.qcow2_laws.specs.Clusters.{L2DependsOnRb};
 ghost use Rattle.qcow2_laws.specs.CrashInvariant.{Pending};
-ghost use Rattle.qcow2_alloc.specs.Allocation.{MayTake, IsUnaligned, LacksFirst, LacksBlock, TakesCluster, TakesRun, TakesSomeRun, is_data, Allocates, AllocatesAt, SameLeaks};
+ghost use Rattle.qcow2_alloc.specs.Allocation.{MayTake, HasAlignedBlock, AvoidsUnaligned, IsUnaligned, LacksFirst, LacksBlock, TakesCluster, TakesRun, TakesSomeRun, is_data, Allocates, AllocatesAt, SameLeaks};
 ghost use Rattle.qcow2_alloc.specs.FreeList.{pending_then, run_of, ListsTables, ListsReftables};
 ghost use Rattle.qcow2_alloc.specs.MadeClusters.{run_in, IsMadeInTurn, IsMadeOnTheWay, ListsUsed, TakesAlone};
-ghost use Rattle.qcow2_alloc.specs.TurnedCaches.{TurnsAlone};
+ghost use Rattle.qcow2_alloc.specs.TurnedCaches.{IsOfTurning, TurnsAlone};
 ghost use Rattle.qcow2_alloc.specs.KeptMarks.{KeepsMarks};
-ghost use Rattle.qcow2_alloc.specs.KeptNotes.{KeepsNotes};
+ghost use Rattle.qcow2_alloc.specs.KeptNotes.{KeepsNotes, NoData};
 ghost use Rattle.qcow2_alloc.specs.CachePins.{KeepsPinsAndNotes};
 ghost use Rattle.qcow2_alloc.specs.Faults.{CountsFaults};
 ghost use Rattle.qcow2_alloc.specs.SparedHeaders.{AreBehindHeader, StandsBehindHeader, SparesHeaderButPointer};
-ghost use Rattle.qcow2_alloc.specs.Limits.{IsFaultOr, RefusesByLimit, HasNoPlace, CantCount, CantCountRun, nameable_clusters};
+ghost use Rattle.qcow2_alloc.specs.Limits.{IsFaultOr, IsOfTaking, EndsAtFirst, IsOfSearch, HasNoPlace, CantCount, CantCountRun, nameable_clusters};
 ghost use Rattle.qcow2_alloc.specs.SoundAllocators.{SoundAllocator};
 ghost use Rattle.qcow2_alloc.specs.LowestRuns.{NoFreeBelowHint, IsLowestRun, IsUsed, KeepsNoFreeBelowHint, KeepsUsed, StaysUsed};
 ghost use Rattle.qcow2_alloc.specs.ImageError.{IsOfTables, IsFault};
@@ -105,12 +105,14 @@ impl Allocator {
         ensures cause { IfErr result IsOfTables }
         ensures former { ListsReftables self.old.reftable self.new.reftable file.old.free_list file.new.free_list }
         ensures made { (p : Pending) → AllocatorInvariant S.view self.old p file.old → TakesAlone S.view run_of (IsMadeInTurn file.old.header.fields self.old.reftable self.new.reftable file.old.free_list file.new.free_list) file.old file.new result }
-        ensures unaligned { IsUnaligned file.old.header.fields self.old.reftable (max self.old.first_free_cluster 1 / counts_per_block file.old.header.fields) → 0 < count → OnOk result ⊥ }
-        ensures first_range { LacksFirst file.old.header.fields self.old.reftable (max self.old.first_free_cluster 1) → 0 < count → RefusesByLimit result × (file.new ≡ file.old) }
+        ensures aligned { IfOk result (λ run. AvoidsUnaligned file.old.header.fields self.new.reftable run.first_cluster count) }
+        ensures unaligned { IsUnaligned file.old.header.fields self.old.reftable (max self.old.first_free_cluster 1 / counts_per_block file.old.header.fields) → 0 < count → IsErrAnd result (IsOfSearch file.old.header.fields (max self.old.first_free_cluster 1) count ImageError.UnalignedTable) × (file.new ≡ file.old) }
+        ensures first_range { LacksFirst file.old.header.fields self.old.reftable (max self.old.first_free_cluster 1) → 0 < count → IsErrAnd result (IsOfTaking ImageError.Limit) × (file.new ≡ file.old) }
         ensures storage_faults { CountsFaults S.view file.old.storage file.new.storage result }
         ensures leaks { (p : Pending) → AllocatorInvariant S.view self.old p file.old → SameLeaks self.old self.new }
         ensures limit { (p : Pending) → SoundAllocator S.view self.old p file.old → 0 < count → IfErr result (IsFaultOr (HasNoPlace (IsUsed S.view file.new) file.new.header.fields self.new count)) }
         ensures lowest { (p : Pending) → SoundAllocator S.view self.old p file.old → IfOk result (λ run. IsLowestRun (IsUsed S.view file.new) run.first_cluster count) }
+        ensures uses { (p : Pending) → AllocatorInvariant S.view self.old p file.old → OnOk result (StaysUsed S.view file.old file.new) }
         ensures hint { (p : Pending) → SoundAllocator S.view self.old p file.old → KeepsNoFreeBelowHint S.view self.new file.new result }
         ensures header_cluster { SparesHeaderButPointer S.view self.old.reftable file.old self.new.reftable file.new }
     {
@@ -125,7 +127,7 @@ impl Allocator {
         count: ClusterCount,
     ) -> Result<PendingClusters, ImageError>
         ensures marks { KeepsPinsAndNotes file.old.caches file.new.caches }
-        ensures notes { KeepsNotes S.view file.old.storage file.new.storage }
+        ensures notes { KeepsNotes S.view NoData file.old.storage file.new.storage }
         ensures order { OnOk result (order_of file.new.caches ≡ L2DependsOnRb) }
         ensures noted { OnOk result (IsTrue file.new.caches.is_changed) }
         ensures sound { (p : Pending) → AllocatorInvariant S.view self.old p file.old → Allocates S.view p file.old self.new file.new (pending_then p file.old.free_list file.new.free_list) ClusterKind.Data count result }
@@ -136,12 +138,14 @@ impl Allocator {
         ensures cause { IfErr result IsOfTables }
         ensures former { ListsReftables self.old.reftable self.new.reftable file.old.free_list file.new.free_list }
         ensures made { (p : Pending) → AllocatorInvariant S.view self.old p file.old → TakesAlone S.view run_of (IsMadeInTurn file.old.header.fields self.old.reftable self.new.reftable file.old.free_list file.new.free_list) file.old file.new result }
-        ensures unaligned { IsUnaligned file.old.header.fields self.old.reftable (max self.old.first_free_cluster 1 / counts_per_block file.old.header.fields) → 0 < count → OnOk result ⊥ }
-        ensures first_range { LacksFirst file.old.header.fields self.old.reftable (max self.old.first_free_cluster 1) → 0 < count → OnOk result ⊥ × TurnsAlone S.view file.old file.new }
+        ensures aligned { IfOk result (λ run. AvoidsUnaligned file.old.header.fields self.new.reftable run.first_cluster count) }
+        ensures unaligned { IsUnaligned file.old.header.fields self.old.reftable (max self.old.first_free_cluster 1 / counts_per_block file.old.header.fields) → 0 < count → IsErrAnd result (λ e. IsOfTurning file.old.caches e ⊎ IsOfSearch file.old.header.fields (max self.old.first_free_cluster 1) count ImageError.UnalignedTable e) × TurnsAlone S.view file.old file.new }
+        ensures first_range { LacksFirst file.old.header.fields self.old.reftable (max self.old.first_free_cluster 1) → 0 < count → IsErrAnd result (λ e. IsOfTurning file.old.caches e ⊎ IsOfTaking ImageError.Limit e) × TurnsAlone S.view file.old file.new }
         ensures storage_faults { CountsFaults S.view file.old.storage file.new.storage result }
         ensures leaks { (p : Pending) → AllocatorInvariant S.view self.old p file.old → SameLeaks self.old self.new }
         ensures limit { (p : Pending) → SoundAllocator S.view self.old p file.old → 0 < count → IfErr result (IsFaultOr (HasNoPlace (IsUsed S.view file.new) file.new.header.fields self.new count)) }
         ensures lowest { (p : Pending) → SoundAllocator S.view self.old p file.old → IfOk result (λ run. IsLowestRun (IsUsed S.view file.new) run.first_cluster count) }
+        ensures uses { (p : Pending) → AllocatorInvariant S.view self.old p file.old → OnOk result (StaysUsed S.view file.old file.new) }
         ensures hint { (p : Pending) → SoundAllocator S.view self.old p file.old → KeepsNoFreeBelowHint S.view self.new file.new result }
         ensures header_cluster { SparesHeaderButPointer S.view self.old.reftable file.old self.new.reftable file.new }
     {
@@ -158,7 +162,7 @@ impl Allocator {
         cluster: HostCluster,
     ) -> Result<Option<PendingClusters>, ImageError>
         ensures marks { KeepsPinsAndNotes file.old.caches file.new.caches }
-        ensures notes { KeepsNotes S.view file.old.storage file.new.storage }
+        ensures notes { KeepsNotes S.view NoData file.old.storage file.new.storage }
         ensures order { OnOk result (order_of file.new.caches ≡ L2DependsOnRb) }
         ensures noted { IfOk result (λ run. IsSome run → IsTrue file.new.caches.is_changed) }
         ensures sound { (p : Pending) → AllocatorInvariant S.view self.old p file.old → AllocatesAt S.view p file.old self.new file.new (pending_then p file.old.free_list file.new.free_list) cluster result }
@@ -167,8 +171,9 @@ impl Allocator {
         ensures nameable { IfOk result (λ run. IsSome run → IsHostCluster file.old.header.fields.cluster_bits cluster) }
         ensures elsewhere { IfOk result (λ run. IsSome run → 0 < cluster) }
         ensures cause { IfErr result IsOfTables }
-        ensures unaligned { IsUnaligned file.old.header.fields self.old.reftable (cluster / counts_per_block file.old.header.fields) → 0 < cluster → IsHostCluster file.old.header.fields.cluster_bits cluster → OnOk result ⊥ }
-        ensures first_range { LacksFirst file.old.header.fields self.old.reftable cluster → 0 < cluster → IsHostCluster file.old.header.fields.cluster_bits cluster → OnOk result ⊥ × TurnsAlone S.view file.old file.new }
+        ensures aligned { IfOk result (λ run. IsSome run → HasAlignedBlock file.old.header.fields self.new.reftable (cluster / counts_per_block file.old.header.fields)) }
+        ensures unaligned { IsUnaligned file.old.header.fields self.old.reftable (cluster / counts_per_block file.old.header.fields) → 0 < cluster → IsHostCluster file.old.header.fields.cluster_bits cluster → IsErrAnd result (λ e. IsOfTurning file.old.caches e ⊎ IsOfTaking ImageError.UnalignedTable e) × TurnsAlone S.view file.old file.new }
+        ensures first_range { LacksFirst file.old.header.fields self.old.reftable cluster → 0 < cluster → IsHostCluster file.old.header.fields.cluster_bits cluster → IsErrAnd result (λ e. IsOfTurning file.old.caches e ⊎ IsOfTaking ImageError.Limit e) × TurnsAlone S.view file.old file.new }
         ensures former { ListsReftables self.old.reftable self.new.reftable file.old.free_list file.new.free_list }
         ensures listed { (p : Pending) → AllocatorInvariant S.view self.old p file.old → ListsUsed S.view file.old file.new }
         ensures made { (p : Pending) → AllocatorInvariant S.view self.old p file.old → TakesAlone S.view run_in (IsMadeOnTheWay file.old.header.fields self.old.reftable self.new.reftable) file.old file.new result }
@@ -223,12 +228,14 @@ impl Allocator {
         ensures elsewhere { IfOk result (λ p. 0 < p.first_cluster) }
         ensures cause { IfErr result IsOfTables }
         ensures former { ListsReftables self.old.reftable self.new.reftable file.old.free_list file.new.free_list }
-        ensures unaligned { IsUnaligned file.old.header.fields self.old.reftable (max self.old.first_free_cluster 1 / counts_per_block file.old.header.fields) → 0 < count → OnOk result ⊥ }
-        ensures first_range { LacksFirst file.old.header.fields self.old.reftable (max self.old.first_free_cluster 1) → 0 < count → RefusesByLimit result × (file.new ≡ file.old) }
+        ensures aligned { IfOk result (λ run. AvoidsUnaligned file.old.header.fields self.new.reftable run.first_cluster count) }
+        ensures unaligned { IsUnaligned file.old.header.fields self.old.reftable (max self.old.first_free_cluster 1 / counts_per_block file.old.header.fields) → 0 < count → IsErrAnd result (IsOfSearch file.old.header.fields (max self.old.first_free_cluster 1) count ImageError.UnalignedTable) × (file.new ≡ file.old) }
+        ensures first_range { LacksFirst file.old.header.fields self.old.reftable (max self.old.first_free_cluster 1) → 0 < count → IsErrAnd result (IsOfTaking ImageError.Limit) × (file.new ≡ file.old) }
         ensures storage_faults { CountsFaults S.view file.old.storage file.new.storage result }
         ensures leaks { (p : Pending) → AllocatorInvariant S.view self.old p file.old → SameLeaks self.old self.new }
         ensures limit { (p : Pending) → AllocatorInvariant S.view self.old p file.old → MayTake (is_data kind) file.old → NoFreeBelowHint S.view self.old file.old → 0 < count → IfErr result (IsFaultOr (HasNoPlace (IsUsed S.view file.new) file.new.header.fields self.new count)) }
         ensures lowest { (p : Pending) → AllocatorInvariant S.view self.old p file.old → MayTake (is_data kind) file.old → NoFreeBelowHint S.view self.old file.old → IfOk result (λ run. IsLowestRun (IsUsed S.view file.new) run.first_cluster count) }
+        ensures uses { (p : Pending) → AllocatorInvariant S.view self.old p file.old → MayTake (is_data kind) file.old → OnOk result (StaysUsed S.view file.old file.new) }
         ensures hint { (p : Pending) → AllocatorInvariant S.view self.old p file.old → MayTake (is_data kind) file.old → NoFreeBelowHint S.view self.old file.old → KeepsNoFreeBelowHint S.view self.new file.new result }
         ensures header_cluster { SparesHeaderButPointer S.view self.old.reftable file.old self.new.reftable file.new }
     {
@@ -260,12 +267,14 @@ impl Allocator {
         ensures elsewhere { IfOk result (λ first. 0 < first) }
         ensures cause { IfErr result IsOfTables }
         ensures former { ListsReftables self.old.reftable self.new.reftable file.old.free_list file.new.free_list }
-        ensures unaligned { IsUnaligned file.old.header.fields self.old.reftable (max self.old.first_free_cluster 1 / counts_per_block file.old.header.fields) → 0 < n → OnOk result ⊥ }
+        ensures aligned { IfOk result (λ first. AvoidsUnaligned file.old.header.fields self.new.reftable first n) }
+        ensures unaligned { IsUnaligned file.old.header.fields self.old.reftable (max self.old.first_free_cluster 1 / counts_per_block file.old.header.fields) → 0 < n → IsErrAnd result (EndsAtFirst file.old.header.fields (max self.old.first_free_cluster 1) n ImageError.UnalignedTable) × (file.new ≡ file.old) }
         ensures first_range { LacksFirst file.old.header.fields self.old.reftable (max self.old.first_free_cluster 1) → 0 < n → IsErrOf result ImageError.Limit × (file.new ≡ file.old) }
         ensures storage_faults { CountsFaults S.view file.old.storage file.new.storage result }
         ensures leaks { (p : Pending) → AllocatorInvariant S.view self.old p file.old → SameLeaks self.old self.new }
         ensures limit { (p : Pending) (is_data : Bool) → AllocatorInvariant S.view self.old p file.old → MayTake is_data file.old → NoFreeBelowHint S.view self.old file.old → 0 < n → IfErr result (IsFaultOr (HasNoPlace (IsUsed S.view file.new) file.new.header.fields self.new n)) }
         ensures lowest { (p : Pending) (is_data : Bool) → AllocatorInvariant S.view self.old p file.old → MayTake is_data file.old → NoFreeBelowHint S.view self.old file.old → IfOk result (λ first. IsLowestRun (IsUsed S.view file.new) first n) }
+        ensures uses { (p : Pending) (is_data : Bool) → AllocatorInvariant S.view self.old p file.old → MayTake is_data file.old → OnOk result (StaysUsed S.view file.old file.new) }
         ensures hint { (p : Pending) (is_data : Bool) → AllocatorInvariant S.view self.old p file.old → MayTake is_data file.old → NoFreeBelowHint S.view self.old file.old → KeepsNoFreeBelowHint S.view self.new file.new result }
         ensures header_cluster { SparesHeaderButPointer S.view self.old.reftable file.old self.new.reftable file.new }
     {
@@ -298,8 +307,8 @@ impl Allocator {
         ensures within { IfOk result (λ taken. taken ≤ n) }
         ensures cause { IfErr result IsOfTables }
         ensures former { ListsReftables self.old.reftable self.new.reftable file.old.free_list file.new.free_list }
-        ensures first_range { LacksFirst file.old.header.fields self.old.reftable first → 0 < n → IsErrOf result ImageError.Limit × (file.new ≡ file.old) }
-        ensures lacking { (e : ImageError) → LacksBlock file.old.header.fields self.old.reftable first e → 0 < n → IsErrOf result e }
+        ensures aligned { IfOk result (λ taken. taken ≡ n → AvoidsUnaligned file.old.header.fields self.new.reftable first n) }
+        ensures lacking { (e : ImageError) → LacksBlock file.old.header.fields self.old.reftable first e → 0 < n → IsErrOf result e × (file.new ≡ file.old) }
         ensures storage_faults { CountsFaults S.view file.old.storage file.new.storage result }
         ensures leaks { (p : Pending) → AllocatorInvariant S.view self.old p file.old → SameLeaks self.old self.new }
         ensures limit { (p : Pending) (is_data : Bool) → AllocatorInvariant S.view self.old p file.old → MayTake is_data file.old → NoFreeBelowHint S.view self.old file.old → first + n ≤ nameable_clusters file.old.header.fields → IfErr result (IsFaultOr (CantCountRun (IsUsed S.view file.new) file.new.header.fields self.new first n)) }
@@ -339,7 +348,8 @@ impl Allocator {
         ensures header { KeepsHeader file.old.header file.new.header }
         ensures list { ListsTables file.old.free_list file.new.free_list }
         ensures cause { IfErr result IsOfTables }
-        ensures unaligned { IsUnaligned file.old.header.fields self.old.reftable (cluster / counts_per_block file.old.header.fields) → IsErrOf result ImageError.UnalignedTable }
+        ensures aligned { IfOk result (λ taken. IsTrue taken → HasAlignedBlock file.old.header.fields self.new.reftable (cluster / counts_per_block file.old.header.fields)) }
+        ensures unaligned { IsUnaligned file.old.header.fields self.old.reftable (cluster / counts_per_block file.old.header.fields) → IsErrOf result ImageError.UnalignedTable × (file.new ≡ file.old) }
         ensures first_range { LacksFirst file.old.header.fields self.old.reftable cluster → IsErrOf result ImageError.Limit × (file.new ≡ file.old) }
         ensures former { ListsReftables self.old.reftable self.new.reftable file.old.free_list file.new.free_list }
         ensures listed { (p : Pending) → AllocatorInvariant S.view self.old p file.old → ListsUsed S.view file.old file.new }

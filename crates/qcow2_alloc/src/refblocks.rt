@@ -1,7 +1,7 @@
 //! Refblocks: loading one, counting a cluster in it, and making one that is missing.
 ghost use Rattle.std.specs.Prelude.{◌≡◌, ◌≢◌, ◌/◌, false, ℕ, ◌*◌, ◌^◌, ◌<◌, ◌≤◌, Bool, None, Some, Ok, IfSome, IfOk, IfErr, OnOk, IsErrOf, IsSome, IsTrue};
 ghost use Rattle.qcow2_laws.specs.CrashInvariant.{Pending};
-ghost use Rattle.qcow2_alloc.specs.Allocation.{placing, first_counts, HasPlaceFor, KeepsEntries, KeepsNamed, KeepsNamed, MayTake, LoadsBlock, WritesBlock, PlacesBlock, NamesBlock, IsUnaligned, LacksFirst, TakesOne, HasNone, GetsBlock, TakesLowest, GrowsTable, SameLeaks};
+ghost use Rattle.qcow2_alloc.specs.Allocation.{placing, first_counts, HasPlaceFor, KeepsEntries, KeepsNamed, KeepsNamed, MayTake, LoadsBlock, WritesBlock, PlacesBlock, NamesBlock, HasAlignedBlock, IsUnaligned, LacksFirst, TakesOne, HasNone, GetsBlock, TakesLowest, GrowsTable, SameLeaks};
 ghost use Rattle.qcow2_alloc.specs.FreeList.{pending_then, ListsTables, ListsReftables};
 ghost use Rattle.qcow2_alloc.specs.MadeClusters.{ListsUsed};
 ghost use Rattle.qcow2_alloc.specs.KeptMarks.{KeepsMarks};
@@ -108,7 +108,7 @@ impl Allocator {
         ensures header { file.new.header ≡ file.old.header }
         ensures list { file.new.free_list ≡ file.old.free_list }
         ensures cause { IfErr result IsOfTables }
-        ensures unaligned { IsUnaligned file.old.header.fields self.now.reftable range → IsErrOf result ImageError.UnalignedTable }
+        ensures unaligned { IsUnaligned file.old.header.fields self.now.reftable range → IsErrOf result ImageError.UnalignedTable × (file.new ≡ file.old) }
         ensures names { IfOk result (NamesBlock file.old.header.fields self.now.reftable range) }
         ensures has { IfOk result (λ block. IsSome block → HasNone self.now.reftable range → ⊥) }
         ensures held { IfOk result (λ block. IfSome block (λ block. IsSome (rb_at file.new.caches block))) }
@@ -143,6 +143,8 @@ impl Allocator {
         ensures fault { (p : Pending) → AllocatorInvariant S.view self.old p file.old → IfErr result IsFault }
         ensures used { (p : Pending) → AllocatorInvariant S.view self.old p file.old → (HasNone self.old.reftable (cluster / counts_per_block file.old.header.fields) → ⊥) → IfOk result (λ taken. taken ≡ false → IsUsed S.view file.new cluster) }
         ensures free { (p : Pending) → AllocatorInvariant S.view self.old p file.old → IfOk result (λ taken. IsTrue taken → ¬ IsUsed S.view file.old cluster) }
+        ensures unaligned { IsUnaligned file.old.header.fields self.old.reftable (cluster / counts_per_block file.old.header.fields) → IsErrOf result ImageError.UnalignedTable × (file.new ≡ file.old) }
+        ensures aligned { IfOk result (λ taken. IsTrue taken → HasAlignedBlock file.old.header.fields self.old.reftable (cluster / counts_per_block file.old.header.fields)) }
         ensures header_cluster { SparesHeader S.view self.old.reftable file.old self.new.reftable file.new }
     {
         let bits = file.header.rb_bits();
@@ -165,7 +167,7 @@ impl Allocator {
         ensures header { KeepsHeader file.old.header file.new.header }
         ensures list { ListsTables file.old.free_list file.new.free_list }
         ensures cause { IfErr result IsOfTables }
-        ensures unaligned { IsUnaligned file.old.header.fields self.old.reftable (cluster / counts_per_block file.old.header.fields) → IsErrOf result ImageError.UnalignedTable }
+        ensures unaligned { IsUnaligned file.old.header.fields self.old.reftable (cluster / counts_per_block file.old.header.fields) → IsErrOf result ImageError.UnalignedTable × (file.new ≡ file.old) }
         ensures first_range { LacksFirst file.old.header.fields self.old.reftable cluster → IsErrOf result ImageError.Limit × (file.new ≡ file.old) }
         ensures former { ListsReftables self.old.reftable self.new.reftable file.old.free_list file.new.free_list }
         ensures listed { (p : Pending) → AllocatorInvariant S.view self.old p file.old → ListsUsed S.view file.old file.new }
@@ -198,7 +200,7 @@ impl Allocator {
         ensures header { file.new.header ≡ file.old.header }
         ensures list { file.new.free_list ≡ file.old.free_list }
         ensures cause { IfErr result IsOfTables }
-        ensures unaligned { IsUnaligned file.old.header.fields self.old.reftable (cluster / counts_per_block file.old.header.fields) → IsErrOf result ImageError.UnalignedTable }
+        ensures unaligned { IsUnaligned file.old.header.fields self.old.reftable (cluster / counts_per_block file.old.header.fields) → IsErrOf result ImageError.UnalignedTable × (file.new ≡ file.old) }
         ensures first_range { LacksFirst file.old.header.fields self.old.reftable cluster → IsErrOf result ImageError.Limit × (file.new ≡ file.old) }
         ensures named { KeepsNamed self.old.reftable self.new.reftable }
         ensures storage_faults { CountsFaults S.view file.old.storage file.new.storage result }

@@ -1,6 +1,8 @@
 //! Clusters in use, which a search for free ones passes over.
-ghost use Rattle.std.specs.Prelude.{◌≡◌, ◌+◌, ◌^◌, ◌<◌, ◌≤◌, IfOk, IfErr};
+ghost use Rattle.std.specs.Prelude.{◌≡◌, ◌+◌, ◌/◌, ◌^◌, ◌<◌, ◌≤◌, IfOk, IfErr, IsErrOf};
 ghost use Rattle.qcow2_laws.specs.CrashInvariant.{Pending};
+ghost use Rattle.qcow2_metadata.specs.Header.{counts_per_block};
+ghost use Rattle.qcow2_alloc.specs.Allocation.{IsUnaligned};
 ghost use Rattle.qcow2_alloc.specs.KeptMarks.{KeepsMarks};
 ghost use Rattle.qcow2_alloc.specs.Faults.{CountsFaults};
 ghost use Rattle.qcow2_alloc.specs.SparedHeaders.{SparesHeader};
@@ -31,6 +33,7 @@ impl Allocator {
         ensures behind { IfOk result (λ next. cluster ≤ next) }
         ensures far { IfOk result (GoesFar file.old.header.fields self.old.reftable file.new.caches cluster) }
         ensures hint { (p : Pending) → AllocatorInvariant S.view self.old p file.old → NoFreeBelowHint S.view self.old file.old → KeepsNoFreeBelowHint S.view self.new file.new result }
+        ensures unaligned { IsUnaligned file.old.header.fields self.old.reftable (cluster / counts_per_block file.old.header.fields) → IsErrOf result ImageError.UnalignedTable × (file.new ≡ file.old) }
         ensures header_cluster { SparesHeader S.view self.old.reftable file.old self.new.reftable file.new }
     {
         let next = self.behind_used(file, cluster)?;
@@ -55,6 +58,7 @@ impl Allocator {
         ensures storage_faults { CountsFaults S.view file.old.storage file.new.storage result }
         ensures behind { IfOk result (λ next. cluster ≤ next) }
         ensures far { IfOk result (GoesFar file.old.header.fields self.now.reftable file.new.caches cluster) }
+        ensures unaligned { IsUnaligned file.old.header.fields self.now.reftable (cluster / counts_per_block file.old.header.fields) → IsErrOf result ImageError.UnalignedTable × (file.new ≡ file.old) }
         ensures header_cluster { SparesHeader S.view self.now.reftable file.old self.now.reftable file.new }
     {
         let bits = file.header.rb_bits();

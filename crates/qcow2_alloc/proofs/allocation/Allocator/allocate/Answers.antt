@@ -1,23 +1,18 @@
-use Rattle.std.proofs.Common.{ℕ, ◌≡◌, Err, sym, ap, ◌∙◌, inl, inr, refl, subst, ◌<◌}
+use Rattle.std.proofs.Common.{ℕ, max, sym, ap, ◌∙◌, inl, inr, refl, subst, ◌<◌}
 use Rattle.qcow2_alloc.specs.declared.clusters_to_free.ClustersToFreeEntry.{ClustersToFreeEntry}
-use Rattle.qcow2_alloc.specs.Allocation.{run_at, taken_as, is_data, UnseenAllocatorGrowth}
+use Rattle.qcow2_alloc.specs.Allocation.{AvoidsUnaligned, run_at, taken_as, is_data, UnseenAllocatorGrowth}
 use Rattle.qcow2_alloc.specs.FreeList.{pending_then}
 use Rattle.qcow2_alloc.specs.LowestRuns.{IsLowestRun, IsUsed}
 use Rattle.qcow2_alloc.proofs.AllocationSteps.{of_equal}
-use Rattle.qcow2_alloc.specs.Limits.{IsFaultOr, HasNoPlace}
+use Rattle.qcow2_alloc.specs.Limits.{EndsAtFirst, IsFaultOr, HasNoPlace}
 use Rattle.qcow2_alloc.proofs.FormerReftables.{former_none}
 use Rattle.qcow2_alloc.proofs.ListedAfter.{header_same, lists_none}
 use Rattle.qcow2_alloc.proofs.Faults.{told_ok}
-use Rattle.qcow2_alloc.proofs.Outcomes.{ok_no_err, told_memory, told_err}
+use Rattle.qcow2_alloc.proofs.Outcomes.{ok_no_err, refused_as, told_memory, told_err}
 use Rattle.qcow2_alloc.proofs.SparedHeaders.{spares_none}
 use Rattle.qcow2_alloc.proofs.KeptMarks.{kept_marks_none}
-use Rattle.std.specs.Prelude.{IsErrOf}
-use Rattle.qcow2_alloc.specs.declared.error.ImageError.{ImageError}
 use Rattle.qcow2_alloc.specs.declared.error.ImageError.TheVariants as I
 use Rattle.qcow2_alloc.proofs.allocation.Allocator.allocate.Goals as goal
-
-refused_as : {T : Type 0} (e f : ImageError) → IsErrOf {T = T} (Err e) f → e ≡ f
-refused_as e f is = cc
 
 pub returns-in-Ok-lowest_run-clause-sound : goal.returns-in-Ok-lowest_run-clause-sound
 returns-in-Ok-lowest_run-clause-sound g c = λ p sound may.
@@ -36,6 +31,9 @@ returns-in-Ok-lowest_run-clause-lowest g c = λ p sound may hint.
     let first = ap (λ (r : ClustersToFreeEntry). r.first_cluster) c.placed_at.ensures ∙ c.new-in-Ok-lowest_run.ensures in
     of_equal (λ f n. IsLowestRun (IsUsed g.S.Storage.view c.lowest_run.new.file) f n) c.placed_at.result.first_cluster c.in-Ok-lowest_run.first c.args.count c.value.result first (sym c.value.ensures)
     (c.in-Ok-lowest_run.ensures.lowest p (is_data c.args.kind) sound may hint)
+
+pub returns-in-Ok-lowest_run-clause-uses : goal.returns-in-Ok-lowest_run-clause-uses
+returns-in-Ok-lowest_run-clause-uses g c = λ p sound may. c.in-Ok-lowest_run.ensures.uses p (is_data c.args.kind) sound may
 
 pub returns-in-Ok-lowest_run-clause-hint : goal.returns-in-Ok-lowest_run-clause-hint
 returns-in-Ok-lowest_run-clause-hint g c = λ p sound may hint. c.in-Ok-lowest_run.ensures.hint p (is_data c.args.kind) sound may hint
@@ -115,19 +113,26 @@ pub returns-in_default-clause-header_cluster : goal.returns-in_default-clause-he
 returns-in_default-clause-header_cluster g c = spares_none
 
 pub returns-in_default-clause-unaligned : goal.returns-in_default-clause-unaligned
-returns-in_default-clause-unaligned g c = λ u some. tt
+returns-in_default-clause-unaligned g c = λ u some. (inl refl, refl)
 
 pub returns-in-Ok-lowest_run-clause-unaligned : goal.returns-in-Ok-lowest_run-clause-unaligned
-returns-in-Ok-lowest_run-clause-unaligned g c = λ u some. c.in-Ok-lowest_run.ensures.unaligned u (subst (λ n. 0 < n) (sym c.value.ensures) some)
+returns-in-Ok-lowest_run-clause-unaligned g c = λ u some. absurd (c.in-Ok-lowest_run.ensures.unaligned u (subst (λ n. 0 < n) (sym c.value.ensures) some)).0
 
 pub returns-in-Err-clause-unaligned : goal.returns-in-Err-clause-unaligned
-returns-in-Err-clause-unaligned g c = λ u some. tt
+returns-in-Err-clause-unaligned g c = λ u some.
+    let refused = c.in-Err.ensures.unaligned u (subst (λ n. 0 < n) (sym c.value.ensures) some) in
+    (inr (subst (λ n. EndsAtFirst c.args.file.now.header.fields (max c.args.self.now.first_free_cluster 1) n I.UnalignedTable c.in-Err.refusal) c.value.ensures refused.0), refused.1)
 
 pub returns-in_default-clause-first_range : goal.returns-in_default-clause-first_range
-returns-in_default-clause-first_range g c = λ l some. (inl (inr refl), refl)
+returns-in_default-clause-first_range g c = λ l some. (inl refl, refl)
 
 pub returns-in-Ok-lowest_run-clause-first_range : goal.returns-in-Ok-lowest_run-clause-first_range
 returns-in-Ok-lowest_run-clause-first_range g c = λ l some. ok_no_err c.in-Ok-lowest_run.first I.Limit (c.in-Ok-lowest_run.ensures.first_range l (subst (λ n. 0 < n) (sym c.value.ensures) some)).0
 
 pub returns-in-Err-clause-first_range : goal.returns-in-Err-clause-first_range
 returns-in-Err-clause-first_range g c = λ l some. let refused = c.in-Err.ensures.first_range l (subst (λ n. 0 < n) (sym c.value.ensures) some) in (inr (refused_as {T = ℕ} c.in-Err.refusal I.Limit refused.0), refused.1)
+
+pub returns-in-Ok-lowest_run-clause-aligned : goal.returns-in-Ok-lowest_run-clause-aligned
+returns-in-Ok-lowest_run-clause-aligned g c =
+    let first = ap (λ (r : ClustersToFreeEntry). r.first_cluster) c.placed_at.ensures ∙ c.new-in-Ok-lowest_run.ensures in
+    of_equal (AvoidsUnaligned c.args.file.now.header.fields c.lowest_run.new.self.reftable) c.placed_at.result.first_cluster c.in-Ok-lowest_run.first c.args.count c.value.result first (sym c.value.ensures) c.in-Ok-lowest_run.ensures.aligned

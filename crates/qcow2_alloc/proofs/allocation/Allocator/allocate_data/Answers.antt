@@ -1,21 +1,21 @@
-use Rattle.std.proofs.Common.{◌≢◌, ℕ, Ok, Err, inl, refl, sym, subst, Result, ◌∙◌}
+use Rattle.std.proofs.Common.{◌≡◌, ◌≢◌, ◌⊎◌, max, ℕ, inl, inr, refl, sym, subst, Result, ◌∙◌}
 use Rattle.qcow2_laws.specs.CrashInvariant.{Pending}
 use Rattle.qcow2_alloc.specs.declared.clusters_to_free.ClusterKind.TheVariants.{Data}
 use Rattle.qcow2_alloc.specs.declared.image_file.ImageFile.{ImageFile}
 use Rattle.qcow2_alloc.specs.Allocation.{UnseenAllocatorGrowth, Allocates}
 use Rattle.qcow2_alloc.specs.FreeList.{pending_then}
-use Rattle.qcow2_alloc.specs.LowestRuns.{KeepsNoFreeBelowHint, IsUsed}
-use Rattle.qcow2_alloc.proofs.Hints.{hint_stays}
+use Rattle.qcow2_alloc.specs.LowestRuns.{KeepsNoFreeBelowHint, IsUsed, StaysUsed}
+use Rattle.qcow2_alloc.proofs.Hints.{hint_stays, ok_as}
 use Rattle.qcow2_alloc.proofs.AllocationSteps.{handed_on, on_of, allocator_step_cached, is_sound_now, allocates_then}
 use Rattle.qcow2_alloc.proofs.ListedAfter.{listed_after_same, header_same, lists_none}
-use Rattle.std.specs.Prelude.{OnOk, IfErr}
+use Rattle.std.specs.Prelude.{IfErr}
 use Rattle.qcow2_alloc.specs.declared.error.ImageError.{ImageError}
 use Rattle.qcow2_alloc.specs.declared.clusters_to_free.ClustersToFreeEntry.{ClustersToFreeEntry}
-use Rattle.qcow2_alloc.specs.Limits.{RefusesByLimit, IsFaultOr, HasNoPlace}
+use Rattle.qcow2_alloc.specs.Limits.{IsFaultOr, IsOfSearch, IsOfTaking, HasNoPlace}
 use Rattle.qcow2_alloc.proofs.FormerReftables.{former_none}
 use Rattle.qcow2_alloc.proofs.CachePins.{marks_then}
 use Rattle.qcow2_alloc.proofs.Faults.{told_on, told_since}
-use Rattle.qcow2_alloc.proofs.Outcomes.{on_no_ok, if_no_ok, handed_cause, on_ok}
+use Rattle.qcow2_alloc.proofs.Outcomes.{on_no_ok, if_no_ok, handed_cause, handed_why, on_ok, why_as}
 use Rattle.qcow2_alloc.proofs.SparedHeaders.{spares_then, spares_less, spares_cached}
 use Rattle.qcow2_alloc.specs.KeptNotes.{kept_then}
 use Rattle.qcow2_alloc.proofs.MadeClusters.{alone_since, made_run}
@@ -24,12 +24,17 @@ use Rattle.qcow2_alloc.specs.FreeList.{run_of}
 use Rattle.qcow2_alloc.specs.LowestRuns.{IsUsed}
 use Rattle.qcow2_metadata.specs.Entries.{count}
 use Rattle.qcow2_alloc.proofs.TurnedCaches.{turned}
-use Rattle.qcow2_alloc.specs.TurnedCaches.{TurnsAlone}
+use Rattle.qcow2_alloc.specs.TurnedCaches.{IsOfTurning, TurnsAlone}
+use Rattle.image_access.specs.Moments.{StorageView}
+use Rattle.qcow2_alloc.specs.declared.error.ImageError.TheVariants as I
+use Rattle.std.specs.Result.{IsErrAnd}
 use Rattle.qcow2_alloc.proofs.allocation.Allocator.allocate_data.Goals as goal
 
-by_limit : {A : Type 0} (r : Result A ImageError) → RefusesByLimit r → OnOk r ⊥
-by_limit (Ok answer) none = none
-by_limit (Err e) why = tt
+-- the caches were turned before
+behind_turned : {S : Type 0} (view : S → StorageView) (old file new : ImageFile S) (Why : ImageError → Type 0) (r : Result ClustersToFreeEntry ImageError) → TurnsAlone view old file → IsErrAnd r Why × (new ≡ file)
+    → IsErrAnd r (λ e. IsOfTurning old.caches e ⊎ Why e) × TurnsAlone view old new
+behind_turned view old file new Why r alone refused =
+    (why_as Why (λ e. IsOfTurning old.caches e ⊎ Why e) r (λ e why. inr why) refused.0, subst (TurnsAlone view old) (sym refused.1) alone)
 
 pub returns-in_err-l2_depends_on_rb-clause-sound : goal.returns-in_err-l2_depends_on_rb-clause-sound
 returns-in_err-l2_depends_on_rb-clause-sound g c = λ p sound.
@@ -56,6 +61,14 @@ returns-clause-lowest g c = λ p kept.
     let one = allocator_step_cached g.S.Storage.view p c.args.file.now c.args.self.now c.l2_depends_on_rb.new.storage c.l2_depends_on_rb.new.self kept.sound (c.l2_depends_on_rb.ensures.keeps c.args.file.now.header.fields p kept.sound.sound.honest kept.sound.sound.caches) c.l2_depends_on_rb.ensures.marks in
     let file : ImageFile g.row.S.Denot = record c.args.file.now { storage = c.l2_depends_on_rb.new.storage; caches = c.l2_depends_on_rb.new.self } in
     c.allocate.ensures.lowest p (is_sound_now g.S.Storage.view p p c.args.file.now file c.args.self.now one) c.in_ok-l2_depends_on_rb.ensures.order (hint_stays g.S.Storage.view p c.args.file.now file c.args.self.now c.args.self.now one refl kept.hint)
+
+pub returns-clause-uses : goal.returns-clause-uses
+returns-clause-uses g c = λ p sound.
+    let one = allocator_step_cached g.S.Storage.view p c.args.file.now c.args.self.now c.l2_depends_on_rb.new.storage c.l2_depends_on_rb.new.self sound (c.l2_depends_on_rb.ensures.keeps c.args.file.now.header.fields p sound.sound.honest sound.sound.caches) c.l2_depends_on_rb.ensures.marks in
+    let file : ImageFile g.row.S.Denot = record c.args.file.now { storage = c.l2_depends_on_rb.new.storage; caches = c.l2_depends_on_rb.new.self } in
+    let known = (c.l2_depends_on_rb.ensures.keeps c.args.file.now.header.fields p sound.sound.honest sound.sound.caches).known in
+    ok_as (StaysUsed g.S.Storage.view file c.allocate.new.file) (StaysUsed g.S.Storage.view c.args.file.now c.allocate.new.file) c.allocate.result (λ uses k used. uses k (subst (λ b. count c.args.file.now.header.fields b k ≢ 0) (sym known) used))
+    (c.allocate.ensures.uses p (is_sound_now g.S.Storage.view p p c.args.file.now file c.args.self.now one) c.in_ok-l2_depends_on_rb.ensures.order)
 
 pub returns-clause-hint : goal.returns-clause-hint
 returns-clause-hint g c = λ p kept.
@@ -95,6 +108,9 @@ returns-in_err-l2_depends_on_rb-clause-elsewhere g c = if_no_ok _ c.from_residua
 
 pub returns-in_err-l2_depends_on_rb-clause-lowest : goal.returns-in_err-l2_depends_on_rb-clause-lowest
 returns-in_err-l2_depends_on_rb-clause-lowest g c = λ _ _. if_no_ok _ c.from_residual.result c.in_err-l2_depends_on_rb.field-0.0 c.from_residual.ensures
+
+pub returns-in_err-l2_depends_on_rb-clause-uses : goal.returns-in_err-l2_depends_on_rb-clause-uses
+returns-in_err-l2_depends_on_rb-clause-uses g c = λ _ _. on_no_ok _ c.from_residual.result c.in_err-l2_depends_on_rb.field-0.0 c.from_residual.ensures
 
 pub returns-in_err-l2_depends_on_rb-clause-noted : goal.returns-in_err-l2_depends_on_rb-clause-noted
 returns-in_err-l2_depends_on_rb-clause-noted g c = on_no_ok _ c.from_residual.result c.in_err-l2_depends_on_rb.field-0.0 c.from_residual.ensures
@@ -157,23 +173,28 @@ pub returns-clause-notes : goal.returns-clause-notes
 returns-clause-notes g c = kept_then _ _ _ c.l2_depends_on_rb.ensures.notes c.allocate.ensures.marks.notes
 
 pub returns-in_err-l2_depends_on_rb-clause-unaligned : goal.returns-in_err-l2_depends_on_rb-clause-unaligned
-returns-in_err-l2_depends_on_rb-clause-unaligned g c = λ _ _. on_no_ok _ c.from_residual.result c.in_err-l2_depends_on_rb.field-0.0 c.from_residual.ensures
+returns-in_err-l2_depends_on_rb-clause-unaligned g c = λ _ _.
+    let file : ImageFile g.row.S.Denot = record c.args.file.now { storage = c.l2_depends_on_rb.new.storage; caches = c.l2_depends_on_rb.new.self } in
+    let alone : TurnsAlone g.S.Storage.view c.args.file.now file = turned g.S.Storage.view c.args.file.now c.l2_depends_on_rb.new.storage c.l2_depends_on_rb.new.self c.l2_depends_on_rb.ensures.blocks c.l2_depends_on_rb.ensures.keeps in
+    (handed_why (λ e. IsOfTurning c.args.file.now.caches e ⊎ IsOfSearch c.args.file.now.header.fields (max c.args.self.now.first_free_cluster 1) c.args.count I.UnalignedTable e) c.from_residual.result c.in_err-l2_depends_on_rb.field-0.0 c.from_residual.ensures (inl (c.in_err-l2_depends_on_rb.ensures.turned, c.in_err-l2_depends_on_rb.ensures.cause)), alone)
 
 pub returns-in_err-l2_depends_on_rb-clause-first_range : goal.returns-in_err-l2_depends_on_rb-clause-first_range
 returns-in_err-l2_depends_on_rb-clause-first_range g c = λ _ _.
     let file : ImageFile g.row.S.Denot = record c.args.file.now { storage = c.l2_depends_on_rb.new.storage; caches = c.l2_depends_on_rb.new.self } in
     let alone : TurnsAlone g.S.Storage.view c.args.file.now file = turned g.S.Storage.view c.args.file.now c.l2_depends_on_rb.new.storage c.l2_depends_on_rb.new.self c.l2_depends_on_rb.ensures.blocks c.l2_depends_on_rb.ensures.keeps in
-    (on_no_ok _ c.from_residual.result c.in_err-l2_depends_on_rb.field-0.0 c.from_residual.ensures, alone)
+    (handed_why (λ e. IsOfTurning c.args.file.now.caches e ⊎ IsOfTaking I.Limit e) c.from_residual.result c.in_err-l2_depends_on_rb.field-0.0 c.from_residual.ensures (inl (c.in_err-l2_depends_on_rb.ensures.turned, c.in_err-l2_depends_on_rb.ensures.cause)), alone)
 
 pub returns-clause-unaligned : goal.returns-clause-unaligned
-returns-clause-unaligned g c = c.allocate.ensures.unaligned
-
-pub returns-clause-first_range : goal.returns-clause-first_range
-returns-clause-first_range g c = λ l some.
+returns-clause-unaligned g c = λ lacks some.
     let file : ImageFile g.row.S.Denot = record c.args.file.now { storage = c.l2_depends_on_rb.new.storage; caches = c.l2_depends_on_rb.new.self } in
     let alone : TurnsAlone g.S.Storage.view c.args.file.now file = turned g.S.Storage.view c.args.file.now c.l2_depends_on_rb.new.storage c.l2_depends_on_rb.new.self c.l2_depends_on_rb.ensures.blocks c.l2_depends_on_rb.ensures.keeps in
-    let refused = c.allocate.ensures.first_range l some in
-    (by_limit _ refused.0, subst (λ (f : ImageFile g.row.S.Denot). TurnsAlone g.S.Storage.view c.args.file.now f) (sym refused.1) alone)
+    behind_turned g.S.Storage.view c.args.file.now file c.allocate.new.file (IsOfSearch c.args.file.now.header.fields (max c.args.self.now.first_free_cluster 1) c.args.count I.UnalignedTable) c.allocate.result alone (c.allocate.ensures.unaligned lacks some)
+
+pub returns-clause-first_range : goal.returns-clause-first_range
+returns-clause-first_range g c = λ lacks some.
+    let file : ImageFile g.row.S.Denot = record c.args.file.now { storage = c.l2_depends_on_rb.new.storage; caches = c.l2_depends_on_rb.new.self } in
+    let alone : TurnsAlone g.S.Storage.view c.args.file.now file = turned g.S.Storage.view c.args.file.now c.l2_depends_on_rb.new.storage c.l2_depends_on_rb.new.self c.l2_depends_on_rb.ensures.blocks c.l2_depends_on_rb.ensures.keeps in
+    behind_turned g.S.Storage.view c.args.file.now file c.allocate.new.file (IsOfTaking I.Limit) c.allocate.result alone (c.allocate.ensures.first_range lacks some)
 
 pub returns-in_err-l2_depends_on_rb-clause-made : goal.returns-in_err-l2_depends_on_rb-clause-made
 returns-in_err-l2_depends_on_rb-clause-made g c = λ p sound.
@@ -191,3 +212,9 @@ returns-clause-made g c = λ p sound.
     let uses : (k : ℕ) → IsUsed g.S.Storage.view file k → IsUsed g.S.Storage.view c.args.file.now k = λ k used. subst (λ b. count c.args.file.now.header.fields b k ≢ 0) known used in
     alone_since g.S.Storage.view run_of (IsMadeInTurn c.args.file.now.header.fields c.args.self.now.reftable c.allocate.new.self.reftable c.args.file.now.free_list c.allocate.new.file.free_list) c.args.file.now file c.allocate.new.file c.allocate.result uses
     (made_run g.S.Storage.view p file c.allocate.new.file c.args.self.now c.allocate.new.self now c.allocate.ensures.list Data c.args.count c.allocate.result (c.allocate.ensures.sound p now c.in_ok-l2_depends_on_rb.ensures.order))
+
+pub returns-in_err-l2_depends_on_rb-clause-aligned : goal.returns-in_err-l2_depends_on_rb-clause-aligned
+returns-in_err-l2_depends_on_rb-clause-aligned g c = if_no_ok _ c.from_residual.result c.in_err-l2_depends_on_rb.field-0.0 c.from_residual.ensures
+
+pub returns-clause-aligned : goal.returns-clause-aligned
+returns-clause-aligned g c = c.allocate.ensures.aligned

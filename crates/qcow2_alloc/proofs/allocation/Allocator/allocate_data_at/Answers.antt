@@ -1,11 +1,11 @@
-use Rattle.std.proofs.Common.{◌≢◌, ◌/◌, ℕ, inl, inr, Ok, Err, Some, None, arith, true, refl, sym, ap, ◌∙◌, subst, Result, Option, ◌⊎◌}
+use Rattle.std.proofs.Common.{Bool, ◌≢◌, ◌/◌, ℕ, inl, inr, Ok, Err, Some, None, arith, true, refl, sym, ap, ◌∙◌, subst, Result, Option, ◌⊎◌}
 use Rattle.qcow2_metadata.specs.Entries.{count}
 use Rattle.qcow2_metadata.specs.Header.{counts_per_block}
 use Rattle.qcow2_laws.specs.Changes.{one_at}
 use Rattle.qcow2_laws.specs.CrashInvariant.{Pending}
 use Rattle.qcow2_alloc.specs.declared.clusters_to_free.ClustersToFreeEntry.{ClustersToFreeEntry}
 use Rattle.qcow2_alloc.specs.declared.image_file.ImageFile.{ImageFile}
-use Rattle.qcow2_alloc.specs.Allocation.{IsUnaligned, LacksFirst, taken_as, UnseenAllocatorGrowth, AllocatesAt}
+use Rattle.qcow2_alloc.specs.Allocation.{HasAlignedBlock, IsUnaligned, LacksFirst, taken_as, UnseenAllocatorGrowth, AllocatesAt}
 use Rattle.qcow2_alloc.specs.FreeList.{pending_then}
 use Rattle.qcow2_alloc.specs.LowestRuns.{IsUsed, KeepsNoFreeBelowHint, StaysUsed}
 use Rattle.qcow2_alloc.proofs.AllocationSteps.{handed_on, on_of, allocator_step_on, allocator_step_cached, is_sound_now, leaves_on, of_equal}
@@ -15,19 +15,19 @@ use Rattle.qcow2_alloc.proofs.Runs.{taken_alone}
 use Rattle.std.specs.Prelude.{IfErr}
 use Rattle.qcow2_alloc.specs.declared.error.ImageError.{ImageError}
 use Rattle.qcow2_alloc.specs.ImageError.{IsFault}
-use Rattle.qcow2_alloc.specs.Limits.{IsFaultOr, CantCount}
+use Rattle.qcow2_alloc.specs.Limits.{IsFaultOr, IsOfTaking, CantCount}
 use Rattle.qcow2_metadata.specs.L2Mapping.{IsHostCluster}
 use Rattle.qcow2_alloc.proofs.FormerReftables.{former_none}
 use Rattle.qcow2_alloc.proofs.CachePins.{marks_then}
 use Rattle.qcow2_alloc.proofs.Faults.{told_on, told_ok, told_since}
-use Rattle.qcow2_alloc.proofs.Outcomes.{not_both, ok_no_err, told_memory, told_err, on_no_ok, if_no_ok, handed_cause}
+use Rattle.qcow2_alloc.proofs.Outcomes.{handed_why, refused_as, not_both, ok_no_err, told_memory, told_err, on_no_ok, if_no_ok, handed_cause}
 use Rattle.qcow2_alloc.proofs.SparedHeaders.{spares_then, spares_less, spares_cached}
 use Rattle.qcow2_alloc.specs.KeptNotes.{kept_then}
 use Rattle.qcow2_alloc.specs.declared.error.ImageError.TheVariants as I
 use Rattle.qcow2_alloc.proofs.MadeClusters.{alone_since, lists_used_none, made_before, made_one, made_refused, made_untaken}
 use Rattle.qcow2_alloc.specs.MadeClusters.{run_in, IsMadeOnTheWay, TakesAlone}
 use Rattle.qcow2_alloc.proofs.TurnedCaches.{turned}
-use Rattle.qcow2_alloc.specs.TurnedCaches.{TurnsAlone}
+use Rattle.qcow2_alloc.specs.TurnedCaches.{IsOfTurning, TurnsAlone}
 use Rattle.qcow2_alloc.proofs.allocation.Allocator.allocate_data_at.Goals as goal
 
 pub returns-in_err-l2_depends_on_rb-clause-sound : goal.returns-in_err-l2_depends_on_rb-clause-sound
@@ -181,7 +181,10 @@ pub returns-in_err-l2_depends_on_rb-clause-none : goal.returns-in_err-l2_depends
 returns-in_err-l2_depends_on_rb-clause-none g c = λ _ _. if_no_ok _ c.from_residual.result c.in_err-l2_depends_on_rb.field-0.0 c.from_residual.ensures
 
 pub returns-in_err-l2_depends_on_rb-clause-unaligned : goal.returns-in_err-l2_depends_on_rb-clause-unaligned
-returns-in_err-l2_depends_on_rb-clause-unaligned g c = λ _ _ _. on_no_ok _ c.from_residual.result c.in_err-l2_depends_on_rb.field-0.0 c.from_residual.ensures
+returns-in_err-l2_depends_on_rb-clause-unaligned g c = λ _ _ _.
+    let file : ImageFile g.row.S.Denot = record c.args.file.now { storage = c.l2_depends_on_rb.new.storage; caches = c.l2_depends_on_rb.new.self } in
+    let alone : TurnsAlone g.S.Storage.view c.args.file.now file = turned g.S.Storage.view c.args.file.now c.l2_depends_on_rb.new.storage c.l2_depends_on_rb.new.self c.l2_depends_on_rb.ensures.blocks c.l2_depends_on_rb.ensures.keeps in
+    (handed_why (λ e. IsOfTurning c.args.file.now.caches e ⊎ IsOfTaking I.UnalignedTable e) c.from_residual.result c.in_err-l2_depends_on_rb.field-0.0 c.from_residual.ensures (inl (c.in_err-l2_depends_on_rb.ensures.turned, c.in_err-l2_depends_on_rb.ensures.cause)), alone)
 
 pub returns-in_err-l2_depends_on_rb-clause-order : goal.returns-in_err-l2_depends_on_rb-clause-order
 returns-in_err-l2_depends_on_rb-clause-order g c = on_no_ok _ c.from_residual.result c.in_err-l2_depends_on_rb.field-0.0 c.from_residual.ensures
@@ -364,7 +367,7 @@ pub returns-in_err-l2_depends_on_rb-clause-first_range : goal.returns-in_err-l2_
 returns-in_err-l2_depends_on_rb-clause-first_range g c = λ _ _ _.
     let file : ImageFile g.row.S.Denot = record c.args.file.now { storage = c.l2_depends_on_rb.new.storage; caches = c.l2_depends_on_rb.new.self } in
     let alone : TurnsAlone g.S.Storage.view c.args.file.now file = turned g.S.Storage.view c.args.file.now c.l2_depends_on_rb.new.storage c.l2_depends_on_rb.new.self c.l2_depends_on_rb.ensures.blocks c.l2_depends_on_rb.ensures.keeps in
-    (on_no_ok _ c.from_residual.result c.in_err-l2_depends_on_rb.field-0.0 c.from_residual.ensures, alone)
+    (handed_why (λ e. IsOfTurning c.args.file.now.caches e ⊎ IsOfTaking I.Limit e) c.from_residual.result c.in_err-l2_depends_on_rb.field-0.0 c.from_residual.ensures (inl (c.in_err-l2_depends_on_rb.ensures.turned, c.in_err-l2_depends_on_rb.ensures.cause)), alone)
 
 pub returns-in-Ok-true-clause-first_range : goal.returns-in-Ok-true-clause-first_range
 returns-in-Ok-true-clause-first_range g c = λ l some near. ok_no_err c.in-Ok-true.field-0 I.Limit (c.in-Ok-true.ensures.first_range (subst (LacksFirst c.args.file.now.header.fields c.args.self.now.reftable) (sym c.value.ensures) l)).0
@@ -535,14 +538,14 @@ pub returns-in_default-clause-first_range : goal.returns-in_default-clause-first
 returns-in_default-clause-first_range g c = λ l some near.
     let file : ImageFile g.row.S.Denot = record c.args.file.now { storage = c.l2_depends_on_rb.new.storage; caches = c.l2_depends_on_rb.new.self } in
     let alone : TurnsAlone g.S.Storage.view c.args.file.now file = turned g.S.Storage.view c.args.file.now c.l2_depends_on_rb.new.storage c.l2_depends_on_rb.new.self c.l2_depends_on_rb.ensures.blocks c.l2_depends_on_rb.ensures.keeps in
-    (tt, alone)
+    (inr (inl refl), alone)
 
 pub returns-in-Err-clause-first_range : goal.returns-in-Err-clause-first_range
 returns-in-Err-clause-first_range g c = λ l some near.
     let file : ImageFile g.row.S.Denot = record c.args.file.now { storage = c.l2_depends_on_rb.new.storage; caches = c.l2_depends_on_rb.new.self } in
     let alone : TurnsAlone g.S.Storage.view c.args.file.now file = turned g.S.Storage.view c.args.file.now c.l2_depends_on_rb.new.storage c.l2_depends_on_rb.new.self c.l2_depends_on_rb.ensures.blocks c.l2_depends_on_rb.ensures.keeps in
     let refused = c.in-Err.ensures.first_range (subst (LacksFirst c.args.file.now.header.fields c.args.self.now.reftable) (sym c.value.ensures) l) in
-    (tt, subst (λ (f : ImageFile g.row.S.Denot). TurnsAlone g.S.Storage.view c.args.file.now f) (sym refused.1) alone)
+    (inr (inr (refused_as {T = Bool} c.in-Err.refusal I.Limit refused.0)), subst (TurnsAlone g.S.Storage.view c.args.file.now) (sym refused.1) alone)
 
 pub returns-in_err-l2_depends_on_rb-clause-kept : goal.returns-in_err-l2_depends_on_rb-clause-kept
 returns-in_err-l2_depends_on_rb-clause-kept g c = λ p sound.
@@ -576,17 +579,27 @@ returns-then-not-is_nameable-clause-unaligned g c = λ u some near.
     not_both c.is_nameable.result (c.is_nameable.ensures.1 (subst (λ n. IsHostCluster n c.args.cluster) (sym c.cluster_bits.ensures.value) near)) c.if-not-is_nameable.true
 
 pub returns-in_default-clause-unaligned : goal.returns-in_default-clause-unaligned
-returns-in_default-clause-unaligned g c = λ u some near. tt
+returns-in_default-clause-unaligned g c = λ u some near.
+    let file : ImageFile g.row.S.Denot = record c.args.file.now { storage = c.l2_depends_on_rb.new.storage; caches = c.l2_depends_on_rb.new.self } in
+    let alone : TurnsAlone g.S.Storage.view c.args.file.now file = turned g.S.Storage.view c.args.file.now c.l2_depends_on_rb.new.storage c.l2_depends_on_rb.new.self c.l2_depends_on_rb.ensures.blocks c.l2_depends_on_rb.ensures.keeps in
+    (inr (inl refl), alone)
 
 pub returns-in-Err-clause-unaligned : goal.returns-in-Err-clause-unaligned
-returns-in-Err-clause-unaligned g c = λ u some near. tt
+returns-in-Err-clause-unaligned g c = λ u some near.
+    let file : ImageFile g.row.S.Denot = record c.args.file.now { storage = c.l2_depends_on_rb.new.storage; caches = c.l2_depends_on_rb.new.self } in
+    let alone : TurnsAlone g.S.Storage.view c.args.file.now file = turned g.S.Storage.view c.args.file.now c.l2_depends_on_rb.new.storage c.l2_depends_on_rb.new.self c.l2_depends_on_rb.ensures.blocks c.l2_depends_on_rb.ensures.keeps in
+    let refused = c.in-Err.ensures.unaligned (subst (λ n. IsUnaligned c.args.file.now.header.fields c.args.self.now.reftable (n / counts_per_block c.args.file.now.header.fields)) (sym c.value.ensures) u) in
+    (inr (inr (refused_as {T = Bool} c.in-Err.refusal I.UnalignedTable refused.0)), subst (TurnsAlone g.S.Storage.view c.args.file.now) (sym refused.1) alone)
 
 pub returns-in-Ok-true-clause-unaligned : goal.returns-in-Ok-true-clause-unaligned
-returns-in-Ok-true-clause-unaligned g c = λ u some near.
-    let h = c.args.file.now.header.fields in
-    ok_no_err c.in-Ok-true.field-0 I.UnalignedTable (c.in-Ok-true.ensures.unaligned (subst (λ n. IsUnaligned h c.args.self.now.reftable (n / counts_per_block h)) (sym c.value.ensures) u))
+returns-in-Ok-true-clause-unaligned g c = λ u some near. ok_no_err c.in-Ok-true.field-0 I.UnalignedTable (c.in-Ok-true.ensures.unaligned (subst (λ n. IsUnaligned c.args.file.now.header.fields c.args.self.now.reftable (n / counts_per_block c.args.file.now.header.fields)) (sym c.value.ensures) u)).0
 
 pub returns-in-Ok-false-clause-unaligned : goal.returns-in-Ok-false-clause-unaligned
-returns-in-Ok-false-clause-unaligned g c = λ u some near.
-    let h = c.args.file.now.header.fields in
-    ok_no_err c.in-Ok-false.field-0 I.UnalignedTable (c.in-Ok-false.ensures.unaligned (subst (λ n. IsUnaligned h c.args.self.now.reftable (n / counts_per_block h)) (sym c.value.ensures) u))
+returns-in-Ok-false-clause-unaligned g c = λ u some near. ok_no_err c.in-Ok-false.field-0 I.UnalignedTable (c.in-Ok-false.ensures.unaligned (subst (λ n. IsUnaligned c.args.file.now.header.fields c.args.self.now.reftable (n / counts_per_block c.args.file.now.header.fields)) (sym c.value.ensures) u)).0
+
+-- the cluster is counted in a refblock that begins at a cluster
+pub returns-in_err-l2_depends_on_rb-clause-aligned : goal.returns-in_err-l2_depends_on_rb-clause-aligned
+returns-in_err-l2_depends_on_rb-clause-aligned g c = if_no_ok _ c.from_residual.result c.in_err-l2_depends_on_rb.field-0.0 c.from_residual.ensures
+
+pub returns-in-Ok-true-clause-aligned : goal.returns-in-Ok-true-clause-aligned
+returns-in-Ok-true-clause-aligned g c = λ some. subst (λ n. HasAlignedBlock c.args.file.now.header.fields c.take.new.self.reftable (n / counts_per_block c.args.file.now.header.fields)) c.value.ensures (c.in-Ok-true.ensures.aligned c.in-Ok-true.field-0-test)

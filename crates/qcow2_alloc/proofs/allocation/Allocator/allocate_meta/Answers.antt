@@ -8,6 +8,9 @@ returns-clause-sound g c = λ p sound. c.allocate.ensures.sound p sound tt
 pub returns-clause-lowest : goal.returns-clause-lowest
 returns-clause-lowest g c = λ p kept. c.allocate.ensures.lowest p kept.sound tt kept.hint
 
+pub returns-clause-uses : goal.returns-clause-uses
+returns-clause-uses g c = λ p sound. c.allocate.ensures.uses p sound tt
+
 pub returns-clause-hint : goal.returns-clause-hint
 returns-clause-hint g c = λ p kept. c.allocate.ensures.hint p kept.sound tt kept.hint
 
@@ -25,3 +28,6 @@ returns-clause-first_range g c = c.allocate.ensures.first_range
 
 pub returns-clause-made : goal.returns-clause-made
 returns-clause-made g c = λ p sound. made_run g.S.Storage.view p c.args.file.now c.allocate.new.file c.args.self.now c.allocate.new.self sound c.allocate.ensures.list Metadata c.args.count c.allocate.result (c.allocate.ensures.sound p sound tt)
+
+pub returns-clause-aligned : goal.returns-clause-aligned
+returns-clause-aligned g c = c.allocate.ensures.aligned

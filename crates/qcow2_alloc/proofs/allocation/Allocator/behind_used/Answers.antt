@@ -14,7 +14,9 @@ use Rattle.qcow2_alloc.specs.declared.cache.MetadataCaches.{MetadataCaches}
 use Rattle.qcow2_alloc.specs.ImageFile.{contents_in}
 use Rattle.qcow2_alloc.proofs.AllocationSteps.{handed_on, counted_at, none_named}
 use Rattle.qcow2_alloc.proofs.CachedEntries.Putting.{some_of}
-use Rattle.qcow2_alloc.proofs.Outcomes.{if_no_ok}
+use Rattle.qcow2_alloc.proofs.Outcomes.{handed_unaligned, if_no_ok, ok_no_err}
+use Rattle.qcow2_alloc.specs.declared.error.ImageError.TheVariants as I
+use Rattle.qcow2_alloc.proofs.AlignedBlocks.{unaligned_as}
 use Rattle.qcow2_alloc.proofs.allocation.Allocator.behind_used.Goals as goal
 
 -- a cluster behind another one in its range
@@ -116,3 +118,14 @@ returns-clause-marks g c = rw c.rb_used_from-used.ensures.same c.load_block.ensu
 
 pub returns-clause-header_cluster : goal.returns-clause-header_cluster
 returns-clause-header_cluster g c = rw c.rb_used_from-used.ensures.same c.load_block.ensures.header_cluster
+
+pub returns-in_err-block-clause-unaligned : goal.returns-in_err-block-clause-unaligned
+returns-in_err-block-clause-unaligned g c = λ u.
+    let refused = c.in_err-block.ensures.unaligned (unaligned_as c.args.file.now.header.fields c.args.self.now.reftable c.args.cluster _ c.rb_bits-bits.ensures.counts u) in
+    (handed_unaligned c.from_residual.result c.in_err-block.field-0.0 c.from_residual.ensures refused.0, refused.1)
+
+pub returns-in_default-clause-unaligned : goal.returns-in_default-clause-unaligned
+returns-in_default-clause-unaligned g c = λ u. ok_no_err _ I.UnalignedTable (c.in_ok-block.ensures.unaligned (unaligned_as c.args.file.now.header.fields c.args.self.now.reftable c.args.cluster _ c.rb_bits-bits.ensures.counts u)).0
+
+pub returns-clause-unaligned : goal.returns-clause-unaligned
+returns-clause-unaligned g c = λ u. ok_no_err _ I.UnalignedTable (c.in_ok-block.ensures.unaligned (unaligned_as c.args.file.now.header.fields c.args.self.now.reftable c.args.cluster _ c.rb_bits-bits.ensures.counts u)).0

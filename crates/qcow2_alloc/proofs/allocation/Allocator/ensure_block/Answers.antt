@@ -251,7 +251,9 @@ pub returns-else-is_fault-clause-list : goal.returns-else-is_fault-clause-list
 returns-else-is_fault-clause-list g c = c.cover_range-in-Err.ensures.list ∙ c.take_lowest_below.ensures.list ∙ c.load_block.ensures.list
 
 pub returns-in_err-load_block-clause-unaligned : goal.returns-in_err-load_block-clause-unaligned
-returns-in_err-load_block-clause-unaligned g c = λ u. handed_unaligned c.from_residual.result c.in_err-load_block.field-0.0 c.from_residual.ensures (c.in_err-load_block.ensures.unaligned (is_unaligned c.args.file.now.header.fields c.args.self.now.reftable c.args.cluster (2 ^ c.rb_bits-bits.result) (counts_per_block c.args.file.now.header.fields) c.rb_bits-bits.ensures.counts u))
+returns-in_err-load_block-clause-unaligned g c = λ u.
+    let refused = c.in_err-load_block.ensures.unaligned (is_unaligned c.args.file.now.header.fields c.args.self.now.reftable c.args.cluster (2 ^ c.rb_bits-bits.result) (counts_per_block c.args.file.now.header.fields) c.rb_bits-bits.ensures.counts u) in
+    (handed_unaligned c.from_residual.result c.in_err-load_block.field-0.0 c.from_residual.ensures refused.0, refused.1)
 
 pub returns-in_err-load_block-clause-cause : goal.returns-in_err-load_block-clause-cause
 returns-in_err-load_block-clause-cause g c = handed_cause c.from_residual.result c.in_err-load_block.field-0.0 c.from_residual.ensures c.in_err-load_block.ensures.cause
@@ -296,22 +298,22 @@ pub returns-then-not-can_name-clause-storage_faults : goal.returns-then-not-can_
 returns-then-not-can_name-clause-storage_faults g c = told_limit _ _ c.in_ok-load_block.ensures.storage_faults.told
 
 pub returns-then-is_some-clause-unaligned : goal.returns-then-is_some-clause-unaligned
-returns-then-is_some-clause-unaligned g c = λ u. ok_no_err _ I.UnalignedTable (c.in_ok-load_block.ensures.unaligned (is_unaligned c.args.file.now.header.fields c.args.self.now.reftable c.args.cluster (2 ^ c.rb_bits-bits.result) (counts_per_block c.args.file.now.header.fields) c.rb_bits-bits.ensures.counts u))
+returns-then-is_some-clause-unaligned g c = λ u. ok_no_err _ I.UnalignedTable (c.in_ok-load_block.ensures.unaligned (is_unaligned c.args.file.now.header.fields c.args.self.now.reftable c.args.cluster (2 ^ c.rb_bits-bits.result) (counts_per_block c.args.file.now.header.fields) c.rb_bits-bits.ensures.counts u)).0
 
 pub returns-then-not-can_name-clause-unaligned : goal.returns-then-not-can_name-clause-unaligned
-returns-then-not-can_name-clause-unaligned g c = λ u. ok_no_err _ I.UnalignedTable (c.in_ok-load_block.ensures.unaligned (is_unaligned c.args.file.now.header.fields c.args.self.now.reftable c.args.cluster (2 ^ c.rb_bits-bits.result) (counts_per_block c.args.file.now.header.fields) c.rb_bits-bits.ensures.counts u))
+returns-then-not-can_name-clause-unaligned g c = λ u. ok_no_err _ I.UnalignedTable (c.in_ok-load_block.ensures.unaligned (is_unaligned c.args.file.now.header.fields c.args.self.now.reftable c.args.cluster (2 ^ c.rb_bits-bits.result) (counts_per_block c.args.file.now.header.fields) c.rb_bits-bits.ensures.counts u)).0
 
 pub returns-in-Ok-Some-clause-unaligned : goal.returns-in-Ok-Some-clause-unaligned
-returns-in-Ok-Some-clause-unaligned g c = λ u. ok_no_err _ I.UnalignedTable (c.in_ok-load_block.ensures.unaligned (is_unaligned c.args.file.now.header.fields c.args.self.now.reftable c.args.cluster (2 ^ c.rb_bits-bits.result) (counts_per_block c.args.file.now.header.fields) c.rb_bits-bits.ensures.counts u))
+returns-in-Ok-Some-clause-unaligned g c = λ u. ok_no_err _ I.UnalignedTable (c.in_ok-load_block.ensures.unaligned (is_unaligned c.args.file.now.header.fields c.args.self.now.reftable c.args.cluster (2 ^ c.rb_bits-bits.result) (counts_per_block c.args.file.now.header.fields) c.rb_bits-bits.ensures.counts u)).0
 
 pub returns-in-Ok-None-clause-unaligned : goal.returns-in-Ok-None-clause-unaligned
-returns-in-Ok-None-clause-unaligned g c = λ u. ok_no_err _ I.UnalignedTable (c.in_ok-load_block.ensures.unaligned (is_unaligned c.args.file.now.header.fields c.args.self.now.reftable c.args.cluster (2 ^ c.rb_bits-bits.result) (counts_per_block c.args.file.now.header.fields) c.rb_bits-bits.ensures.counts u))
+returns-in-Ok-None-clause-unaligned g c = λ u. ok_no_err _ I.UnalignedTable (c.in_ok-load_block.ensures.unaligned (is_unaligned c.args.file.now.header.fields c.args.self.now.reftable c.args.cluster (2 ^ c.rb_bits-bits.result) (counts_per_block c.args.file.now.header.fields) c.rb_bits-bits.ensures.counts u)).0
 
 pub returns-then-is_fault-clause-unaligned : goal.returns-then-is_fault-clause-unaligned
-returns-then-is_fault-clause-unaligned g c = λ u. ok_no_err _ I.UnalignedTable (c.in_ok-load_block.ensures.unaligned (is_unaligned c.args.file.now.header.fields c.args.self.now.reftable c.args.cluster (2 ^ c.rb_bits-bits.result) (counts_per_block c.args.file.now.header.fields) c.rb_bits-bits.ensures.counts u))
+returns-then-is_fault-clause-unaligned g c = λ u. ok_no_err _ I.UnalignedTable (c.in_ok-load_block.ensures.unaligned (is_unaligned c.args.file.now.header.fields c.args.self.now.reftable c.args.cluster (2 ^ c.rb_bits-bits.result) (counts_per_block c.args.file.now.header.fields) c.rb_bits-bits.ensures.counts u)).0
 
 pub returns-else-is_fault-clause-unaligned : goal.returns-else-is_fault-clause-unaligned
-returns-else-is_fault-clause-unaligned g c = λ u. ok_no_err _ I.UnalignedTable (c.in_ok-load_block.ensures.unaligned (is_unaligned c.args.file.now.header.fields c.args.self.now.reftable c.args.cluster (2 ^ c.rb_bits-bits.result) (counts_per_block c.args.file.now.header.fields) c.rb_bits-bits.ensures.counts u))
+returns-else-is_fault-clause-unaligned g c = λ u. ok_no_err _ I.UnalignedTable (c.in_ok-load_block.ensures.unaligned (is_unaligned c.args.file.now.header.fields c.args.self.now.reftable c.args.cluster (2 ^ c.rb_bits-bits.result) (counts_per_block c.args.file.now.header.fields) c.rb_bits-bits.ensures.counts u)).0
 
 pub returns-then-is_some-clause-fault : goal.returns-then-is_some-clause-fault
 returns-then-is_some-clause-fault g c = λ p sound within near. tt

@@ -14,6 +14,8 @@ use Rattle.qcow2_alloc.proofs.Outcomes.{told_after, on_no_ok, handed_cause}
 use Rattle.std.proofs.Math.Nat.{le_trans}
 use Rattle.qcow2_alloc.proofs.SparedHeaders.{spares_then, spares_cached}
 use Rattle.qcow2_alloc.specs.KeptNotes.{kept_then}
+use Rattle.qcow2_metadata.specs.Header.{HeaderView}
+use Rattle.qcow2_alloc.proofs.UnalignedLeaks.{leaks_as, leaks_then}
 use Rattle.qcow2_alloc.proofs.allocation.Allocator.free.Goals as goal
 
 pub returns-in_err-free_kind-clause-sound : goal.returns-in_err-free_kind-clause-sound
@@ -222,3 +224,18 @@ returns-in_err-rb_depends_on_l2-clause-reftable g c = c.free_kind.ensures.reftab
 
 pub returns-clause-reftable : goal.returns-clause-reftable
 returns-clause-reftable g c = c.free_kind-2.ensures.reftable ∙ c.free_kind.ensures.reftable
+
+pub returns-in_err-free_kind-clause-unaligned : goal.returns-in_err-free_kind-clause-unaligned
+returns-in_err-free_kind-clause-unaligned g c = c.free_kind.ensures.unaligned
+
+pub returns-then-is_empty-clause-unaligned : goal.returns-then-is_empty-clause-unaligned
+returns-then-is_empty-clause-unaligned g c = c.free_kind.ensures.unaligned
+
+pub returns-in_err-rb_depends_on_l2-clause-unaligned : goal.returns-in_err-rb_depends_on_l2-clause-unaligned
+returns-in_err-rb_depends_on_l2-clause-unaligned g c = c.free_kind.ensures.unaligned
+
+pub returns-clause-unaligned : goal.returns-clause-unaligned
+returns-clause-unaligned g c =
+    leaks_then c.args.file.now.header.fields c.args.self.now.reftable c.args.self.now c.free_kind.new.self c.free_kind-2.new.self c.args.file.now.free_list c.free_kind.new.file.free_list c.free_kind-2.new.file.free_list c.free_kind.ensures.unaligned
+    (leaks_as c.args.file.now.header.fields c.free_kind.new.file.header.fields c.args.self.now.reftable c.free_kind.new.self.reftable c.free_kind.new.self c.free_kind-2.new.self c.free_kind.new.file.free_list c.free_kind.new.file.free_list c.free_kind-2.new.file.free_list c.free_kind-2.new.file.free_list
+    (ap (λ (x : HeaderView). x.fields) c.free_kind.ensures.header) c.free_kind.ensures.reftable refl refl c.free_kind-2.ensures.unaligned)

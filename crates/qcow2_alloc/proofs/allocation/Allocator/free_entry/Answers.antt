@@ -6,6 +6,8 @@ use Rattle.qcow2_alloc.specs.ImageFile.{AllocatorInvariant}
 use Rattle.qcow2_alloc.proofs.Freeing.{listed_none, with_one, but_same, frees_as}
 use Rattle.qcow2_alloc.proofs.Faults.{told_ok}
 use Rattle.qcow2_alloc.proofs.SparedHeaders.{spares_listed}
+use Rattle.qcow2_alloc.specs.Leaks.{LeaksUnaligned}
+use Rattle.qcow2_alloc.proofs.UnalignedLeaks.{leaks_behind, leaks_done}
 use Rattle.qcow2_alloc.proofs.allocation.Allocator.free_entry.Goals as goal
 
 pub returns-in-Ok-clause-sound : goal.returns-in-Ok-clause-sound
@@ -95,3 +97,12 @@ returns-in-Ok-clause-reftable g c = c.free_run.ensures.reftable
 
 pub returns-in-Err-clause-reftable : goal.returns-in-Err-clause-reftable
 returns-in-Err-clause-reftable g c = c.free_run.ensures.reftable
+
+pub returns-in-Ok-clause-unaligned : goal.returns-in-Ok-clause-unaligned
+returns-in-Ok-clause-unaligned g c =
+    subst (λ l. LeaksUnaligned c.args.file.now.header.fields c.args.self.now.reftable c.args.self.now c.free_run.new.self (c.args.file.now.free_list ++ c.args.pending ∷ []) l) (sym c.free_run.ensures.list)
+    (leaks_done c.args.file.now.header.fields c.args.self.now.reftable c.args.self.now c.free_run.new.self c.args.file.now.free_list (c.args.file.now.free_list ++ c.args.pending ∷ []) c.free_run.new.run c.in-Ok.ensures.all (leaks_behind c.args.file.now.header.fields c.args.self.now.reftable c.args.self.now c.free_run.new.self c.args.file.now.free_list (c.args.pending ∷ []) (c.free_run.new.run ∷ []) c.free_run.ensures.unaligned))
+
+pub returns-in-Err-clause-unaligned : goal.returns-in-Err-clause-unaligned
+returns-in-Err-clause-unaligned g c =
+    subst (λ l. LeaksUnaligned c.args.file.now.header.fields c.args.self.now.reftable c.args.self.now c.free_run.new.self (c.args.file.now.free_list ++ c.args.pending ∷ []) l) (sym (c.hand_back.ensures ∙ ap (λ l. l ++ c.free_run.new.run ∷ []) c.free_run.ensures.list)) (leaks_behind c.args.file.now.header.fields c.args.self.now.reftable c.args.self.now c.free_run.new.self c.args.file.now.free_list (c.args.pending ∷ []) (c.free_run.new.run ∷ []) c.free_run.ensures.unaligned)

@@ -7,6 +7,7 @@ use Rattle.qcow2_alloc.specs.ImageFile.{AllocatorInvariant}
 use Rattle.qcow2_alloc.proofs.AllocationSteps.{may_lower_still}
 use Rattle.qcow2_alloc.proofs.Freeing.{with_relisted, frees_as}
 use Rattle.qcow2_alloc.proofs.SparedHeaders.{spares_none, spares_then, spares_listed}
+use Rattle.qcow2_alloc.proofs.UnalignedLeaks.{leaks_as}
 use Rattle.qcow2_alloc.proofs.allocation.Allocator.free_kind.Goals as goal
 
 pub returns-clause-sound : goal.returns-clause-sound
@@ -40,3 +41,8 @@ returns-clause-header_cluster g c = spares_listed c.hand_back.new.list (spares_t
 
 pub returns-clause-reftable : goal.returns-clause-reftable
 returns-clause-reftable g c = c.free_taken-done.ensures.reftable
+
+pub returns-clause-unaligned : goal.returns-clause-unaligned
+returns-clause-unaligned g c =
+    let all : c.take-taken.new.self ++ c.take-taken.result ≡ c.args.file.now.free_list = ap (λ l. l ++ c.take-taken.result) c.take-taken.ensures.emptied ∙ c.take-taken.ensures.taken in
+    leaks_as c.args.file.now.header.fields c.args.file.now.header.fields c.args.self.now.reftable c.args.self.now.reftable c.args.self.now c.free_taken-done.new.self c.args.file.now.free_list (c.take-taken.new.self ++ c.take-taken.result) c.hand_back.new.list (c.free_taken-done.new.file.free_list ++ c.free_taken-done.new.taken) refl refl all (sym c.hand_back.ensures) c.free_taken-done.ensures.unaligned

@@ -1,4 +1,4 @@
-use Rattle.std.proofs.Common.{◌≡◌, sym, ◌∙◌, subst, rules, refl}
+use Rattle.std.proofs.Common.{◌≡◌, ◌++◌, ◌∷◌, [], sym, ◌∙◌, subst, rules, refl}
 use Rattle.qcow2_alloc.specs.declared.clusters_to_free.ClusterKind.{ClusterKind}
 use Rattle.qcow2_alloc.specs.Allocation.{MayFree}
 use Rattle.qcow2_alloc.specs.FreeList.{but}
@@ -7,6 +7,8 @@ use Rattle.qcow2_alloc.proofs.Faults.{told_ok}
 use Rattle.std.proofs.Math.Nat.{le_refl}
 use Rattle.qcow2_alloc.proofs.SparedHeaders.{spares_none, spares_listed}
 use Rattle.qcow2_alloc.proofs.KeptMarks.{kept_marks_none}
+use Rattle.qcow2_alloc.specs.Leaks.{LeaksUnaligned}
+use Rattle.qcow2_alloc.proofs.UnalignedLeaks.{leaks_none}
 use Rattle.qcow2_alloc.proofs.allocation.Allocator.free_or_list.Goals as goal
 
 pub returns-then-eq-clause-sound : goal.returns-then-eq-clause-sound
@@ -73,3 +75,9 @@ returns-then-eq-clause-reftable g c = c.free_entry.ensures.reftable
 
 pub returns-clause-reftable : goal.returns-clause-reftable
 returns-clause-reftable g c = refl
+
+pub returns-then-eq-clause-unaligned : goal.returns-then-eq-clause-unaligned
+returns-then-eq-clause-unaligned g c = c.free_entry.ensures.unaligned
+
+pub returns-clause-unaligned : goal.returns-clause-unaligned
+returns-clause-unaligned g c = subst (λ l. LeaksUnaligned c.args.file.now.header.fields c.args.self.now.reftable c.args.self.now c.args.self.now (c.args.file.now.free_list ++ c.args.pending ∷ []) l) (sym c.hand_back.ensures) (leaks_none c.args.file.now.header.fields c.args.self.now.reftable c.args.self.now c.args.self.now (c.args.file.now.free_list ++ c.args.pending ∷ []) (le_refl _))

@@ -1,6 +1,7 @@
-use Rattle.std.proofs.Common.{refl, ◌<◌, ◌∙◌, arith}
+use Rattle.std.proofs.Common.{refl, sym, ap, subst, [], ◌∷◌, ◌<◌, ◌/◌, ◌∙◌, arith}
+use Rattle.qcow2_metadata.specs.Header.{HeaderView, counts_per_block}
 use Rattle.qcow2_laws.specs.CrashInvariant.{Pending}
-use Rattle.qcow2_alloc.specs.Allocation.{Listed, listed_as, Frees}
+use Rattle.qcow2_alloc.specs.Allocation.{IsUnaligned, Listed, listed_as, Frees}
 use Rattle.qcow2_alloc.specs.FreeList.{run_of}
 use Rattle.qcow2_alloc.specs.LowestRuns.{KeepsNoFreeBelowHint}
 use Rattle.qcow2_alloc.proofs.AllocationSteps.{handed_on, may_lower_still, is_sound_now}
@@ -10,6 +11,7 @@ use Rattle.qcow2_alloc.proofs.Outcomes.{told_after, on_no_ok, handed_cause}
 use Rattle.std.proofs.Math.Nat.{le_trans}
 use Rattle.qcow2_alloc.proofs.SparedHeaders.{spares_then}
 use Rattle.qcow2_alloc.proofs.KeptMarks.{kept_marks_then}
+use Rattle.qcow2_alloc.proofs.UnalignedLeaks.{leaks_as, leaks_first, leaks_none, leaks_then}
 use Rattle.qcow2_alloc.proofs.allocation.Allocator.free_run.Goals as goal
 
 pub returns-in_err-lower-clause-sound : goal.returns-in_err-lower-clause-sound
@@ -58,6 +60,14 @@ freeing-preserved g c = record {
       (first_owed g.S.Storage.view kind p c.freeing.run some c.value-in-freeing.result at c.freeing.file c.freeing.self (is_sound_now g.S.Storage.view q now c.args.file.now c.freeing.file c.freeing.self before))
       (may_lower_still (Listed kind) c.args.file.now c.freeing.file c.freeing.invariant.marks.order may) (c.freeing.invariant.hint p sound may hint);
   grows = omega (arith, c.freeing.invariant.grows, c.lower.ensures.grows);
+  unaligned =
+      let at = c.value-in-freeing.ensures ∙ c.cluster.ensures in
+      let some : 0 < c.freeing.run.count = omega (arith, c.freeing-test.true, c.value.ensures, c.count.ensures) in
+      leaks_then c.args.file.now.header.fields c.args.self.now.reftable c.args.self.now c.freeing.self c.lower.new.self (c.args.run.now ∷ []) (c.freeing.run ∷ []) (c.drop_first.new.self ∷ []) c.freeing.invariant.unaligned
+      (leaks_as c.args.file.now.header.fields c.freeing.file.header.fields c.args.self.now.reftable c.freeing.self.reftable c.freeing.self c.lower.new.self (c.freeing.run ∷ []) (c.freeing.run ∷ []) (c.drop_first.new.self ∷ []) (c.drop_first.new.self ∷ [])
+      (ap (λ (x : HeaderView). x.fields) c.freeing.invariant.header) c.freeing.invariant.reftable refl refl
+      (leaks_first c.freeing.file.header.fields c.freeing.self.reftable c.freeing.run c.drop_first.new.self some c.drop_first.ensures.first c.drop_first.ensures.count c.freeing.self c.lower.new.self c.lower.ensures.grows
+      (λ u. (c.lower.ensures.unaligned (subst (λ n. IsUnaligned c.freeing.file.header.fields c.freeing.self.reftable (n / counts_per_block c.freeing.file.header.fields)) (sym at) u)).1)));
   leaks = λ p sound may.
       let kind = c.args.run.now.kind in
       let q : Pending = listed_as kind p (run_of c.args.run.now) in
@@ -156,3 +166,10 @@ returns-in_err-lower-clause-reftable g c = c.lower.ensures.reftable ∙ c.freein
 
 pub returns-clause-reftable : goal.returns-clause-reftable
 returns-clause-reftable g c = c.freeing.invariant.reftable
+
+pub returns-in_err-lower-clause-unaligned : goal.returns-in_err-lower-clause-unaligned
+returns-in_err-lower-clause-unaligned g c = leaks_then c.args.file.now.header.fields c.args.self.now.reftable c.args.self.now c.freeing.self c.lower.new.self (c.args.run.now ∷ []) (c.freeing.run ∷ []) (c.freeing.run ∷ []) c.freeing.invariant.unaligned
+    (leaks_none c.args.file.now.header.fields c.args.self.now.reftable c.freeing.self c.lower.new.self (c.freeing.run ∷ []) c.lower.ensures.grows)
+
+pub returns-clause-unaligned : goal.returns-clause-unaligned
+returns-clause-unaligned g c = c.freeing.invariant.unaligned

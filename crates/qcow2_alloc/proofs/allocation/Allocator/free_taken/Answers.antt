@@ -1,4 +1,5 @@
 use Rattle.std.proofs.Common.{◌≡◌, ◌++◌, ◌∷◌, [], Ok, Err, refl, sym, ap, ◌∙◌, subst, append_assoc, arith}
+use Rattle.qcow2_metadata.specs.Header.{HeaderView}
 use Rattle.qcow2_laws.specs.CrashInvariant.{Pending}
 use Rattle.qcow2_alloc.specs.Allocation.{Listed, UnseenAllocatorStep, Frees}
 use Rattle.qcow2_alloc.specs.FreeList.{with_listed, but}
@@ -10,6 +11,8 @@ use Rattle.qcow2_alloc.proofs.Outcomes.{told_after, on_no_ok, handed_cause}
 use Rattle.std.proofs.Math.Nat.{le_trans}
 use Rattle.qcow2_alloc.proofs.SparedHeaders.{spares_then}
 use Rattle.qcow2_alloc.proofs.KeptMarks.{kept_marks_then}
+use Rattle.qcow2_alloc.specs.Leaks.{LeaksUnaligned}
+use Rattle.qcow2_alloc.proofs.UnalignedLeaks.{leaks_as, leaks_before, leaks_then}
 use Rattle.qcow2_alloc.proofs.allocation.Allocator.free_taken.Goals as goal
 
 pub freeing-preserved : goal.freeing-preserved
@@ -40,6 +43,10 @@ freeing-preserved g c = record {
       (entry_sound g.S.Storage.view p c.freeing.taken c.next_pending.new.self c.in-Some.pending c.in-Some.ensures.some c.freeing.file c.freeing.self (is_sound_now g.S.Storage.view q now c.args.file.now c.freeing.file c.freeing.self (c.freeing.invariant.sound p sound may)))
       (may_lower_still (Listed c.args.kind) c.args.file.now c.freeing.file c.freeing.invariant.marks.order may) (c.freeing.invariant.hint p sound may hint);
   grows = omega (arith, c.freeing.invariant.grows, c.free_or_list.ensures.grows);
+  unaligned = leaks_then c.args.file.now.header.fields c.args.self.now.reftable c.args.self.now c.freeing.self c.free_or_list.new.self (c.args.file.now.free_list ++ c.args.taken.now) (c.freeing.file.free_list ++ c.freeing.taken) (c.free_or_list.new.file.free_list ++ c.next_pending.new.self) c.freeing.invariant.unaligned
+      (leaks_as c.args.file.now.header.fields c.freeing.file.header.fields c.args.self.now.reftable c.freeing.self.reftable c.freeing.self c.free_or_list.new.self (c.freeing.file.free_list ++ c.freeing.taken) ((c.freeing.file.free_list ++ c.in-Some.pending ∷ []) ++ c.next_pending.new.self) (c.free_or_list.new.file.free_list ++ c.next_pending.new.self) (c.free_or_list.new.file.free_list ++ c.next_pending.new.self)
+      (ap (λ (x : HeaderView). x.fields) c.freeing.invariant.header) c.freeing.invariant.reftable (append_assoc c.freeing.file.free_list (c.in-Some.pending ∷ []) c.next_pending.new.self ∙ ap (λ l. c.freeing.file.free_list ++ l) (sym c.in-Some.ensures.some)) refl
+      (leaks_before c.freeing.file.header.fields c.freeing.self.reftable c.freeing.self c.free_or_list.new.self (c.freeing.file.free_list ++ c.in-Some.pending ∷ []) c.free_or_list.new.file.free_list c.next_pending.new.self c.free_or_list.ensures.unaligned));
   leaks = λ p sound may.
       let q : Pending = with_listed p (c.args.file.now.free_list ++ c.args.taken.now) in
       let now : Pending = with_listed p (c.freeing.file.free_list ++ c.freeing.taken) in
@@ -141,3 +148,15 @@ returns-in_err-free_or_list-clause-reftable g c = c.free_or_list.ensures.reftabl
 
 pub returns-clause-reftable : goal.returns-clause-reftable
 returns-clause-reftable g c = c.freeing.invariant.reftable
+
+pub returns-in_err-free_or_list-clause-unaligned : goal.returns-in_err-free_or_list-clause-unaligned
+returns-in_err-free_or_list-clause-unaligned g c =
+    leaks_then c.args.file.now.header.fields c.args.self.now.reftable c.args.self.now c.freeing.self c.free_or_list.new.self (c.args.file.now.free_list ++ c.args.taken.now) (c.freeing.file.free_list ++ c.freeing.taken) (c.free_or_list.new.file.free_list ++ c.next_pending.new.self) c.freeing.invariant.unaligned
+    (leaks_as c.args.file.now.header.fields c.freeing.file.header.fields c.args.self.now.reftable c.freeing.self.reftable c.freeing.self c.free_or_list.new.self (c.freeing.file.free_list ++ c.freeing.taken) ((c.freeing.file.free_list ++ c.in-Some.pending ∷ []) ++ c.next_pending.new.self) (c.free_or_list.new.file.free_list ++ c.next_pending.new.self) (c.free_or_list.new.file.free_list ++ c.next_pending.new.self)
+    (ap (λ (x : HeaderView). x.fields) c.freeing.invariant.header) c.freeing.invariant.reftable (append_assoc c.freeing.file.free_list (c.in-Some.pending ∷ []) c.next_pending.new.self ∙ ap (λ l. c.freeing.file.free_list ++ l) (sym c.in-Some.ensures.some)) refl
+    (leaks_before c.freeing.file.header.fields c.freeing.self.reftable c.freeing.self c.free_or_list.new.self (c.freeing.file.free_list ++ c.in-Some.pending ∷ []) c.free_or_list.new.file.free_list c.next_pending.new.self c.free_or_list.ensures.unaligned))
+
+pub returns-clause-unaligned : goal.returns-clause-unaligned
+returns-clause-unaligned g c =
+    let same : c.freeing.taken ≡ c.next_pending.new.self = (c.in_default.ensures.none refl).0 ∙ sym (c.in_default.ensures.none refl).1 in
+    subst (λ l. LeaksUnaligned c.args.file.now.header.fields c.args.self.now.reftable c.args.self.now c.freeing.self (c.args.file.now.free_list ++ c.args.taken.now) (c.freeing.file.free_list ++ l)) same c.freeing.invariant.unaligned

@@ -5,6 +5,7 @@ use Rattle.qcow2_alloc.specs.KeptMarks.{KeepsMarks}
 use Rattle.qcow2_alloc.specs.Faults.{faults_of}
 use Rattle.qcow2_alloc.specs.FreeList.{with_listed, but}
 use Rattle.qcow2_alloc.specs.ImageFile.{AllocatorInvariant}
+use Rattle.qcow2_alloc.specs.Leaks.{LeaksUnaligned}
 use Rattle.qcow2_alloc.specs.LowestRuns.{NoFreeBelowHint}
 use Rattle.qcow2_alloc.specs.SparedHeaders.{SparesHeader}
 use Rattle.qcow2_alloc.proofs.allocation.Allocator.free_taken.Given as goal
@@ -23,6 +24,7 @@ invariant-freeing g l = record {
       → UnseenAllocatorStep g.S.Storage.view (with_listed p (l.fn.file.free_list ++ l.fn.taken)) l.fn.file l.self l.file (with_listed p (l.file.free_list ++ l.taken));
   hint : (p : Pending) → AllocatorInvariant g.S.Storage.view l.fn.self (with_listed p (l.fn.file.free_list ++ l.fn.taken)) l.fn.file → MayFree l.fn.kind l.fn.file → NoFreeBelowHint g.S.Storage.view l.fn.self l.fn.file → NoFreeBelowHint g.S.Storage.view l.self l.file;
   grows : l.fn.self.leaked_clusters ≤ l.self.leaked_clusters;
+  unaligned : LeaksUnaligned l.fn.file.header.fields l.fn.self.reftable l.fn.self l.self (l.fn.file.free_list ++ l.fn.taken) (l.file.free_list ++ l.taken);
   leaks : (p : Pending) → AllocatorInvariant g.S.Storage.view l.fn.self (with_listed p (l.fn.file.free_list ++ l.fn.taken)) l.fn.file → MayFree l.fn.kind l.fn.file → SameLeaks l.fn.self l.self;
 }
 

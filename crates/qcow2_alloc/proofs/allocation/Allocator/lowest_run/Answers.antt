@@ -1,25 +1,27 @@
-use Rattle.std.proofs.Common.{◌≡◌, max, inl, false, refl, sym, ap, ◌+◌, ◌/◌, ◌^◌, ◌∙◌, subst, arith, inr, Result, ℕ, ◌≤◌, ◌<◌}
+use Rattle.std.proofs.Common.{◌≡◌, max, Ok, inl, false, refl, sym, ap, ◌+◌, ◌/◌, ◌^◌, ◌∙◌, subst, arith, inr, Result, ℕ, ◌≤◌, ◌<◌}
 use Rattle.qcow2_metadata.specs.L2Mapping.{greatest_offset}
 use Rattle.std.proofs.Math.Nat.{div-le_self}
 use Rattle.qcow2_laws.specs.CrashInvariant.{Pending}
 use Rattle.qcow2_alloc.specs.LowestRuns.{KeepsNoFreeBelowHint, IsUsed}
 use Rattle.qcow2_alloc.specs.declared.allocation.Allocator.{Allocator}
 use Rattle.qcow2_alloc.proofs.Hints.{hint_header, lowest_behind, lowest_first, lowest_passed, lowest_stays, not_broken, used_stays}
-use Rattle.qcow2_alloc.specs.Allocation.{LacksBlock, LacksFirst, run_at, UnseenAllocatorGrowth, TakesSomeRun, RefusedGrowth}
+use Rattle.qcow2_alloc.specs.Allocation.{LacksBlock, run_at, UnseenAllocatorGrowth, TakesSomeRun, RefusedGrowth}
 use Rattle.qcow2_alloc.specs.FreeList.{pending_then}
 use Rattle.qcow2_alloc.proofs.AllocationSteps.{handed_on, may_still, on_none, on_of, leaves_as, is_sound_on}
 use Rattle.qcow2_alloc.proofs.ListedAfter.{header_same, header_then, lists_none, lists_same, lists_then, listed_after_same, then_none, then_taken, then_leaves, header_bits}
 use Rattle.std.specs.Prelude.{IsErrOf, IfErr}
 use Rattle.qcow2_alloc.specs.declared.error.ImageError.{ImageError}
-use Rattle.qcow2_alloc.specs.Limits.{IsFaultOr, HasNoPlace, nameable_clusters}
+use Rattle.qcow2_alloc.specs.Limits.{EndsAtFirst, IsFaultOr, HasNoPlace, nameable_clusters}
+use Rattle.std.proofs.lemmas.Bool.{cases_lt}
+use Rattle.qcow2_alloc.specs.declared.image_file.ImageFile.{ImageFile}
+use Rattle.qcow2_alloc.proofs.AlignedBlocks.{avoids_as}
 use Rattle.qcow2_alloc.proofs.Limits.{full_behind, limit_is_no_fault}
 use Rattle.qcow2_alloc.proofs.KeptMarks.{kept_marks_none, kept_marks_then}
 use Rattle.qcow2_alloc.proofs.allocation.Allocator.lowest_run.Goals.{then-search-test+then-n-limit+else-first-limit, then-search-test+else-n-limit, else-search-test}
 use Rattle.qcow2_alloc.proofs.FormerReftables.{former_none, former_still, former_then}
 use Rattle.qcow2_alloc.proofs.Faults.{told_ok}
-use Rattle.qcow2_alloc.proofs.Outcomes.{ok_no_err, err_as, told_limit, told_after, on_no_ok, if_no_ok, handed_cause}
+use Rattle.qcow2_alloc.proofs.Outcomes.{ok_no_err, err_as, handed_why, refused_as, told_limit, told_after, on_no_ok, if_no_ok, handed_cause}
 use Rattle.qcow2_alloc.proofs.SparedHeaders.{spares_none, spares_then, spares_less}
-use Rattle.qcow2_metadata.specs.Header.{HeaderView}
 use Rattle.qcow2_metadata.specs.EntryTable.{EntryTableView}
 use Rattle.qcow2_metadata.specs.declared.header.HeaderFields.{HeaderFields}
 use Rattle.qcow2_alloc.specs.declared.error.ImageError.TheVariants as I
@@ -46,10 +48,6 @@ lacks_here : (h h' : HeaderFields) (t t' : EntryTableView) (from first : ℕ) (e
 lacks_here h h' t t' from first e same_header same_table place lacks =
     subst (λ x. LacksBlock x t' first e) (sym same_header) (subst (λ (y : EntryTableView). LacksBlock h y first e) (sym same_table) (subst (λ n. LacksBlock h t n e) (sym place) lacks))
 
-first_here : (h h' : HeaderFields) (t t' : EntryTableView) (from first : ℕ) → h' ≡ h → t' ≡ t → first ≡ from → LacksFirst h t from → LacksFirst h' t' first
-first_here h h' t t' from first same_header same_table place l =
-    subst (λ x. LacksFirst x t' first) (sym same_header) (subst (λ (y : EntryTableView). LacksFirst h y first) (sym same_table) (subst (LacksFirst h t) (sym place) l))
-
 pub search-init : goal.search-init
 search-init g c = record {
   header = header_same c.args.file.now.header c.args.file.now.header refl;
@@ -65,12 +63,12 @@ search-init g c = record {
       (on_none g.S.Storage.view p c.args.file.now (record c.args.self.now { first_free_cluster = c.max-self.result }) (record { sound = sound.sound; reftable = sound.reftable }));
   above = let first = c.max-self.ensures in omega (arith, first);
   lacking = λ e lacks. (c.max-self.ensures, refl, refl);
-  untouched = λ l. refl;
   leaks = λ p sound. refl;
   hint = λ p d sound may hint. hint_header g.S.Storage.view p c.args.file.now c.args.self.now (record c.args.self.now { first_free_cluster = c.max-self.result }) sound.sound (λ k some below. let first = c.max-self.ensures in omega (arith, first, some, below)) hint;
   lowest = λ p d sound may hint some.
       let begin : Allocator = record c.args.self.now { first_free_cluster = c.max-self.result } in
       lowest_first g.S.Storage.view c.args.file.now begin c.args.n (hint_header g.S.Storage.view p c.args.file.now c.args.self.now begin sound.sound (λ k some below. let first = c.max-self.ensures in omega (arith, first, some, below)) hint) some;
+  uses = λ p d sound may k used. used;
 }
 
 pub search-preserved : goal.search-preserved
@@ -98,8 +96,7 @@ search-preserved g c = record {
       (on_of g.S.Storage.view r r c.take_run.new.file c.pass_used.new.file c.pass_used.new.self (c.in_ok-first.ensures.sound r there).0));
   lacking = λ e lacks.
       let at = c.search.invariant.lacking e lacks in
-      ok_no_err c.in_ok-taken.taken e (c.in_ok-taken.ensures.lacking e (lacks_here c.args.file.now.header.fields c.search.file.header.fields c.args.self.now.reftable c.search.self.reftable (max c.args.self.now.first_free_cluster 1) c.search.first e (ap (λ (h : HeaderView). h.fields) at.2) at.1 at.0 lacks) c.search-test.true);
-  untouched = λ l. let at = c.search.invariant.lacking I.Limit (inr (l, refl)) in ok_no_err c.in_ok-taken.taken I.Limit (c.in_ok-taken.ensures.first_range (first_here c.args.file.now.header.fields c.search.file.header.fields c.args.self.now.reftable c.search.self.reftable (max c.args.self.now.first_free_cluster 1) c.search.first (ap (λ (h : HeaderView). h.fields) at.2) at.1 at.0 l) c.search-test.true).0;
+      ok_no_err c.in_ok-taken.taken e (c.in_ok-taken.ensures.lacking e (lacks_here c.args.file.now.header.fields c.search.file.header.fields c.args.self.now.reftable c.search.self.reftable (max c.args.self.now.first_free_cluster 1) c.search.first e (ap (λ (f : ImageFile g.row.S.Denot). f.header.fields) at.2) at.1 at.0 lacks) c.search-test.true).0;
   leaks = λ p sound.
       let q : Pending = pending_then p c.args.file.now.free_list c.search.file.free_list in
       let now = is_sound_on g.S.Storage.view p q c.args.file.now c.search.file c.search.self (c.search.invariant.sound p sound) in
@@ -128,6 +125,15 @@ search-preserved g c = record {
       (lowest_stays g.S.Storage.view c.take_run.new.file c.pass_used.new.file (c.search.first + (c.in_ok-taken.taken + 1)) c.args.n (λ k used. used_stays g.S.Storage.view r r c.take_run.new.file c.pass_used.new.file c.pass_used.new.self k passed.0 (omega arith) used)
       (lowest_behind g.S.Storage.view c.take_run.new.file c.search.first c.args.n c.in_ok-taken.taken c.in_ok-taken.ensures.within c.if-taken-n.false (c.in_ok-taken.ensures.used q d now may_now c.if-taken-n.false)
       (lowest_stays g.S.Storage.view c.search.file c.take_run.new.file c.search.first c.args.n (c.in_ok-taken.ensures.uses q d now may_now) (c.search.invariant.lowest p d sound may hint some))));
+  uses = λ p d sound may k used.
+      let before = c.search.invariant.sound p sound in
+      let q : Pending = pending_then p c.args.file.now.free_list c.search.file.free_list in
+      let now = is_sound_on g.S.Storage.view p q c.args.file.now c.search.file c.search.self before in
+      let mid = then_none g.S.Storage.view p c.args.file.now c.search.file c.take_run.new.file c.search.self c.take_run.new.self c.search.invariant.list c.take_run.ensures.list before ((c.in_ok-taken.ensures.sound q false now tt).1 c.if-taken-n.false) in
+      let r : Pending = pending_then p c.args.file.now.free_list c.take_run.new.file.free_list in
+      let there = is_sound_on g.S.Storage.view p r c.args.file.now c.take_run.new.file c.take_run.new.self mid in
+      used_stays g.S.Storage.view r r c.take_run.new.file c.pass_used.new.file c.pass_used.new.self k (c.in_ok-first.ensures.sound r there).0 (omega arith)
+      (c.in_ok-taken.ensures.uses q d now (may_still d c.args.file.now c.search.file c.search.invariant.marks.order may) k (c.search.invariant.uses p d sound may k used));
 }
 
 pub returns-in_err-first-clause-sound : goal.returns-in_err-first-clause-sound
@@ -143,6 +149,13 @@ returns-in_err-first-clause-sound g c = λ p d sound may.
     (then_leaves g.S.Storage.view p c.args.file.now c.take_run.new.file c.pass_used.new.file c.take_run.new.self c.pass_used.new.self lists (lists_same c.take_run.new.file.free_list c.pass_used.new.file.free_list c.pass_used.ensures.list) mid c.in_err-first.field-0.0
     (subst (λ (s : Pending). RefusedGrowth g.S.Storage.view r c.take_run.new.file c.pass_used.new.self c.pass_used.new.file s c.in_err-first.field-0.0) (sym (listed_after_same r c.take_run.new.file.free_list c.pass_used.new.file.free_list c.pass_used.ensures.list))
     (leaves_as g.S.Storage.view r c.take_run.new.file c.pass_used.new.file c.pass_used.new.self c.in_err-first.field-0.0 (c.in_err-first.ensures.sound r there).1)))
+
+pub returns-then-taken-n-clause-uses : goal.returns-then-taken-n-clause-uses
+returns-then-taken-n-clause-uses g c = λ p d sound may k used.
+    let before = c.search.invariant.sound p sound in
+    let q : Pending = pending_then p c.args.file.now.free_list c.search.file.free_list in
+    let now = is_sound_on g.S.Storage.view p q c.args.file.now c.search.file c.search.self before in
+    c.in_ok-taken.ensures.uses q d now (may_still d c.args.file.now c.search.file c.search.invariant.marks.order may) k (c.search.invariant.uses p d sound may k used)
 
 pub returns-in_err-first-clause-hint : goal.returns-in_err-first-clause-hint
 returns-in_err-first-clause-hint g c = λ p d sound may hint.
@@ -364,29 +377,86 @@ returns-in_err-first-clause-header_cluster g c = spares_then (spares_then c.sear
 pub returns-clause-header_cluster : goal.returns-clause-header_cluster
 returns-clause-header_cluster g c = c.search.invariant.spared
 
+-- ---- where the refblock of the first cluster can't be had: no run is taken
+answers_none : {A : Type 0} (h h' : HeaderFields) (t t' : EntryTableView) (from first n taken : ℕ) (e : ImageError) (Stays : Type 0) → h' ≡ h → t' ≡ t → first ≡ from → LacksBlock h t from e
+    → ((e : ImageError) → LacksBlock h' t' first e → 0 < n → IsErrOf (Ok taken) e × Stays) → 0 < n → A
+answers_none h h' t t' from first n taken e Stays same_header same_table place lacks refuses some = ok_no_err taken e (refuses e (lacks_here h h' t t' from first e same_header same_table place lacks) some).0
+
 pub returns-in_err-first-clause-unaligned : goal.returns-in_err-first-clause-unaligned
-returns-in_err-first-clause-unaligned g c = λ u some. on_no_ok _ c.from_residual-in_err-first.result c.in_err-first.field-0.0 c.from_residual-in_err-first.ensures
+returns-in_err-first-clause-unaligned g c = λ u some.
+    let e : ImageError = I.UnalignedTable in
+    let lacks : LacksBlock c.args.file.now.header.fields c.args.self.now.reftable (max c.args.self.now.first_free_cluster 1) e = inl (u, refl) in
+    let at = c.search.invariant.lacking e lacks in
+    answers_none c.args.file.now.header.fields c.search.file.header.fields c.args.self.now.reftable c.search.self.reftable (max c.args.self.now.first_free_cluster 1) c.search.first c.args.n c.in_ok-taken.taken e (c.take_run.new.file ≡ c.search.file) (ap (λ (f : ImageFile g.row.S.Denot). f.header.fields) at.2) at.1 at.0 lacks c.in_ok-taken.ensures.lacking some
 
 pub returns-in_err-taken-clause-unaligned : goal.returns-in_err-taken-clause-unaligned
-returns-in_err-taken-clause-unaligned g c = λ u some. on_no_ok _ c.from_residual.result c.in_err-taken.field-0.0 c.from_residual.ensures
+returns-in_err-taken-clause-unaligned g c = λ u some.
+    let e : ImageError = I.UnalignedTable in
+    let lacks : LacksBlock c.args.file.now.header.fields c.args.self.now.reftable (max c.args.self.now.first_free_cluster 1) e = inl (u, refl) in
+    let at = c.search.invariant.lacking e lacks in
+    let refused = c.in_err-taken.ensures.lacking e (lacks_here c.args.file.now.header.fields c.search.file.header.fields c.args.self.now.reftable c.search.self.reftable (max c.args.self.now.first_free_cluster 1) c.search.first e (ap (λ (f : ImageFile g.row.S.Denot). f.header.fields) at.2) at.1 at.0 lacks) some in
+    let fits : max c.args.self.now.first_free_cluster 1 + c.args.n ≤ nameable_clusters c.args.file.now.header.fields =
+    let few = c.if-n-limit.true in let below = c.if-first-limit.true in let limit = c.search.invariant.limit in let first = at.0 in omega (arith, few, below, limit, first) in (
+      handed_why (EndsAtFirst c.args.file.now.header.fields (max c.args.self.now.first_free_cluster 1) c.args.n e) c.from_residual.result c.in_err-taken.field-0.0 c.from_residual.ensures (inl (fits, refused_as {T = ℕ} c.in_err-taken.field-0.0 e refused.0)),
+      refused.1 ∙ at.2,
+    )
 
 pub returns-then-taken-n-clause-unaligned : goal.returns-then-taken-n-clause-unaligned
-returns-then-taken-n-clause-unaligned g c = λ u some. let e : ImageError = I.UnalignedTable in let lacks : LacksBlock c.args.file.now.header.fields c.args.self.now.reftable (max c.args.self.now.first_free_cluster 1) e = inl (u, refl) in let at = c.search.invariant.lacking e lacks in ok_no_err c.in_ok-taken.taken e (c.in_ok-taken.ensures.lacking e (lacks_here c.args.file.now.header.fields c.search.file.header.fields c.args.self.now.reftable c.search.self.reftable (max c.args.self.now.first_free_cluster 1) c.search.first e (ap (λ (h : HeaderView). h.fields) at.2) at.1 at.0 lacks) some)
+returns-then-taken-n-clause-unaligned g c = λ u some.
+    let e : ImageError = I.UnalignedTable in
+    let lacks : LacksBlock c.args.file.now.header.fields c.args.self.now.reftable (max c.args.self.now.first_free_cluster 1) e = inl (u, refl) in
+    let at = c.search.invariant.lacking e lacks in
+    answers_none c.args.file.now.header.fields c.search.file.header.fields c.args.self.now.reftable c.search.self.reftable (max c.args.self.now.first_free_cluster 1) c.search.first c.args.n c.in_ok-taken.taken e (c.take_run.new.file ≡ c.search.file) (ap (λ (f : ImageFile g.row.S.Denot). f.header.fields) at.2) at.1 at.0 lacks c.in_ok-taken.ensures.lacking some
 
 pub returns-clause-unaligned : goal.returns-clause-unaligned
-returns-clause-unaligned g c = λ u some. tt
+returns-clause-unaligned g c = λ u some.
+    let e : ImageError = I.UnalignedTable in
+    let lacks : LacksBlock c.args.file.now.header.fields c.args.self.now.reftable (max c.args.self.now.first_free_cluster 1) e = inl (u, refl) in
+    let at = c.search.invariant.lacking e lacks in
+    let limit = c.search.invariant.limit in
+    let past : c.args.n ≤ greatest_offset / 2 ^ c.cluster_bits.result + 1 → greatest_offset / 2 ^ c.cluster_bits.result + 1 < c.search.first + c.args.n = λ few. elim c.search-test.branch [
+      | then-search-test+then-n-limit+else-first-limit w ↦ let past = w.if-first-limit.false in omega (arith, few, past)
+      | then-search-test+else-n-limit w ↦ let many = w.if-n-limit.false in omega (arith, few, many)
+      | else-search-test w ↦ let none = w.search-test.false in omega (arith, some, none)
+    ] in
+    let first = at.0 in
+    let passed : nameable_clusters c.args.file.now.header.fields < max c.args.self.now.first_free_cluster 1 + c.args.n = elim (cases_lt (greatest_offset / 2 ^ c.cluster_bits.result + 1) c.args.n) [
+      | inl many ↦ omega (arith, limit, many)
+      | inr few ↦ let past = past few in omega (arith, limit, past, first)
+    ] in
+    (inr (passed, refl), at.2)
 
 pub returns-in_err-first-clause-first_range : goal.returns-in_err-first-clause-first_range
-returns-in_err-first-clause-first_range g c = λ l some. let e : ImageError = I.Limit in let lacks : LacksBlock c.args.file.now.header.fields c.args.self.now.reftable (max c.args.self.now.first_free_cluster 1) e = inr (l, refl) in let at = c.search.invariant.lacking e lacks in ok_no_err c.in_ok-taken.taken e (c.in_ok-taken.ensures.lacking e (lacks_here c.args.file.now.header.fields c.search.file.header.fields c.args.self.now.reftable c.search.self.reftable (max c.args.self.now.first_free_cluster 1) c.search.first e (ap (λ (h : HeaderView). h.fields) at.2) at.1 at.0 lacks) some)
+returns-in_err-first-clause-first_range g c = λ l some.
+    let e : ImageError = I.Limit in
+    let lacks : LacksBlock c.args.file.now.header.fields c.args.self.now.reftable (max c.args.self.now.first_free_cluster 1) e = inr (l, refl) in
+    let at = c.search.invariant.lacking e lacks in
+    answers_none c.args.file.now.header.fields c.search.file.header.fields c.args.self.now.reftable c.search.self.reftable (max c.args.self.now.first_free_cluster 1) c.search.first c.args.n c.in_ok-taken.taken e (c.take_run.new.file ≡ c.search.file) (ap (λ (f : ImageFile g.row.S.Denot). f.header.fields) at.2) at.1 at.0 lacks c.in_ok-taken.ensures.lacking some
 
 pub returns-in_err-taken-clause-first_range : goal.returns-in_err-taken-clause-first_range
 returns-in_err-taken-clause-first_range g c = λ l some.
-    let at = c.search.invariant.lacking I.Limit (inr (l, refl)) in
-    let refused = c.in_err-taken.ensures.first_range (first_here c.args.file.now.header.fields c.search.file.header.fields c.args.self.now.reftable c.search.self.reftable (max c.args.self.now.first_free_cluster 1) c.search.first (ap (λ (h : HeaderView). h.fields) at.2) at.1 at.0 l) some in
-    (handed_on (λ r. IsErrOf r I.Limit) c.from_residual.result c.in_err-taken.field-0.0 c.from_residual.ensures (err_as c.in_err-taken.field-0.0 I.Limit refused.0), refused.1 ∙ c.search.invariant.untouched l)
+    let e : ImageError = I.Limit in
+    let lacks : LacksBlock c.args.file.now.header.fields c.args.self.now.reftable (max c.args.self.now.first_free_cluster 1) e = inr (l, refl) in
+    let at = c.search.invariant.lacking e lacks in
+    let refused = c.in_err-taken.ensures.lacking e (lacks_here c.args.file.now.header.fields c.search.file.header.fields c.args.self.now.reftable c.search.self.reftable (max c.args.self.now.first_free_cluster 1) c.search.first e (ap (λ (f : ImageFile g.row.S.Denot). f.header.fields) at.2) at.1 at.0 lacks) some in
+    (handed_on (λ r. IsErrOf r I.Limit) c.from_residual.result c.in_err-taken.field-0.0 c.from_residual.ensures (err_as c.in_err-taken.field-0.0 I.Limit refused.0), refused.1 ∙ at.2)
 
 pub returns-then-taken-n-clause-first_range : goal.returns-then-taken-n-clause-first_range
-returns-then-taken-n-clause-first_range g c = λ l some. let e : ImageError = I.Limit in let lacks : LacksBlock c.args.file.now.header.fields c.args.self.now.reftable (max c.args.self.now.first_free_cluster 1) e = inr (l, refl) in let at = c.search.invariant.lacking e lacks in ok_no_err c.in_ok-taken.taken e (c.in_ok-taken.ensures.lacking e (lacks_here c.args.file.now.header.fields c.search.file.header.fields c.args.self.now.reftable c.search.self.reftable (max c.args.self.now.first_free_cluster 1) c.search.first e (ap (λ (h : HeaderView). h.fields) at.2) at.1 at.0 lacks) some)
+returns-then-taken-n-clause-first_range g c = λ l some.
+    let e : ImageError = I.Limit in
+    let lacks : LacksBlock c.args.file.now.header.fields c.args.self.now.reftable (max c.args.self.now.first_free_cluster 1) e = inr (l, refl) in
+    let at = c.search.invariant.lacking e lacks in
+    answers_none c.args.file.now.header.fields c.search.file.header.fields c.args.self.now.reftable c.search.self.reftable (max c.args.self.now.first_free_cluster 1) c.search.first c.args.n c.in_ok-taken.taken e (c.take_run.new.file ≡ c.search.file) (ap (λ (f : ImageFile g.row.S.Denot). f.header.fields) at.2) at.1 at.0 lacks c.in_ok-taken.ensures.lacking some
 
 pub returns-clause-first_range : goal.returns-clause-first_range
-returns-clause-first_range g c = λ l some. (refl, c.search.invariant.untouched l)
+returns-clause-first_range g c = λ l some. (refl, (c.search.invariant.lacking I.Limit (inr (l, refl))).2)
+
+-- ---- each cluster of the run is counted in a refblock that begins at a cluster
+pub returns-in_err-taken-clause-aligned : goal.returns-in_err-taken-clause-aligned
+returns-in_err-taken-clause-aligned g c = if_no_ok _ c.from_residual.result c.in_err-taken.field-0.0 c.from_residual.ensures
+
+pub returns-then-taken-n-clause-aligned : goal.returns-then-taken-n-clause-aligned
+returns-then-taken-n-clause-aligned g c = avoids_as c.args.file.now.header c.search.file.header c.take_run.new.self.reftable c.search.first c.args.n c.search.invariant.header (c.in_ok-taken.ensures.aligned c.if-taken-n.true)
+
+pub returns-in_err-first-clause-aligned : goal.returns-in_err-first-clause-aligned
+returns-in_err-first-clause-aligned g c = if_no_ok _ c.from_residual-in_err-first.result c.in_err-first.field-0.0 c.from_residual-in_err-first.ensures

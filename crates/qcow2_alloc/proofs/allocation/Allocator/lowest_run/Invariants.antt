@@ -1,12 +1,12 @@
 use Rattle.std.proofs.Common.{max, ◌≡◌, ◌+◌, ◌-◌, ◌/◌, ◌^◌, ◌<◌, ◌≤◌, Bool}
 use Rattle.qcow2_metadata.specs.L2Mapping.{greatest_offset}
 use Rattle.qcow2_laws.specs.CrashInvariant.{Pending}
-use Rattle.qcow2_alloc.specs.Allocation.{LacksBlock, LacksFirst, UnseenAllocatorGrowth, MayTake, SameLeaks}
+use Rattle.qcow2_alloc.specs.Allocation.{LacksBlock, UnseenAllocatorGrowth, MayTake, SameLeaks}
 use Rattle.qcow2_alloc.specs.KeptMarks.{KeepsMarks}
 use Rattle.qcow2_alloc.specs.Faults.{faults_of}
 use Rattle.qcow2_alloc.specs.ImageFile.{AllocatorInvariant, KeepsHeader}
 use Rattle.qcow2_alloc.specs.FreeList.{pending_then, ListsTables, ListsReftables}
-use Rattle.qcow2_alloc.specs.LowestRuns.{NoFreeBelowHint, IsLowestRun, IsUsed}
+use Rattle.qcow2_alloc.specs.LowestRuns.{NoFreeBelowHint, IsLowestRun, IsUsed, StaysUsed}
 use Rattle.qcow2_alloc.specs.SparedHeaders.{SparesHeaderButPointer}
 use Rattle.qcow2_alloc.specs.declared.error.ImageError.{ImageError}
 use Rattle.qcow2_alloc.proofs.allocation.Allocator.lowest_run.Given as goal
@@ -26,9 +26,9 @@ invariant-search g l = record {
   sound : (p : Pending) → AllocatorInvariant g.S.Storage.view l.fn.self p l.fn.file → UnseenAllocatorGrowth g.S.Storage.view p l.fn.file l.self l.file (pending_then p l.fn.file.free_list l.file.free_list);
   leaks : (p : Pending) → AllocatorInvariant g.S.Storage.view l.fn.self p l.fn.file → SameLeaks l.fn.self l.self;
   hint : (p : Pending) (d : Bool) → AllocatorInvariant g.S.Storage.view l.fn.self p l.fn.file → MayTake d l.fn.file → NoFreeBelowHint g.S.Storage.view l.fn.self l.fn.file → NoFreeBelowHint g.S.Storage.view l.self l.file;
-  lacking : (e : ImageError) → LacksBlock l.fn.file.header.fields l.fn.self.reftable (max l.fn.self.first_free_cluster 1) e → (l.first ≡ max l.fn.self.first_free_cluster 1) × (l.self.reftable ≡ l.fn.self.reftable) × (l.file.header ≡ l.fn.file.header);
-  untouched : LacksFirst l.fn.file.header.fields l.fn.self.reftable (max l.fn.self.first_free_cluster 1) → l.file ≡ l.fn.file;
+  lacking : (e : ImageError) → LacksBlock l.fn.file.header.fields l.fn.self.reftable (max l.fn.self.first_free_cluster 1) e → (l.first ≡ max l.fn.self.first_free_cluster 1) × (l.self.reftable ≡ l.fn.self.reftable) × (l.file ≡ l.fn.file);
   lowest : (p : Pending) (d : Bool) → AllocatorInvariant g.S.Storage.view l.fn.self p l.fn.file → MayTake d l.fn.file → NoFreeBelowHint g.S.Storage.view l.fn.self l.fn.file → 0 < l.fn.n → IsLowestRun (IsUsed g.S.Storage.view l.file) l.first l.fn.n;
+  uses : (p : Pending) (d : Bool) → AllocatorInvariant g.S.Storage.view l.fn.self p l.fn.file → MayTake d l.fn.file → StaysUsed g.S.Storage.view l.fn.file l.file;
 }
 
 abbrev pub decreases-search : goal.decreases-search

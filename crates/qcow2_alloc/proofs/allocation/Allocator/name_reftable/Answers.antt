@@ -94,7 +94,7 @@ returns-in_err-set_reftable-clause-cause g c = handed_cause c.from_residual.resu
 
 pub returns-in_err-write_reftable_pointer-clause-marks : goal.returns-in_err-write_reftable_pointer-clause-marks
 returns-in_err-write_reftable_pointer-clause-marks g c =
-    (marks_of_storage refl (told_kept c.args.file.now.storage c.will_write.new.self c.write_reftable_pointer.new.self c.write_reftable_pointer.result c.will_write.ensures.storage c.will_write.ensures.changed _ c.write_reftable_pointer.ensures.written c.write_reftable_pointer.ensures.calls c.write_reftable_pointer.ensures.noted))
+    (marks_of_storage refl (told_kept c.args.file.now.storage c.will_write.new.self c.write_reftable_pointer.new.self c.write_reftable_pointer.result c.will_write.ensures.storage c.will_write.ensures.changed c.will_write.ensures.kind _ c.write_reftable_pointer.ensures.written c.write_reftable_pointer.ensures.calls c.write_reftable_pointer.ensures.noted))
 
 pub returns-in_err-write_reftable_pointer-clause-list : goal.returns-in_err-write_reftable_pointer-clause-list
 returns-in_err-write_reftable_pointer-clause-list g c = refl
@@ -113,7 +113,7 @@ returns-in_err-write_reftable_pointer-clause-cause g c = handed_cause c.from_res
 
 pub returns-clause-marks : goal.returns-clause-marks
 returns-clause-marks g c =
-    (marks_of_storage refl (told_kept c.args.file.now.storage c.will_write.new.self c.write_reftable_pointer.new.self c.write_reftable_pointer.result c.will_write.ensures.storage c.will_write.ensures.changed _ c.write_reftable_pointer.ensures.written c.write_reftable_pointer.ensures.calls c.write_reftable_pointer.ensures.noted))
+    (marks_of_storage refl (told_kept c.args.file.now.storage c.will_write.new.self c.write_reftable_pointer.new.self c.write_reftable_pointer.result c.will_write.ensures.storage c.will_write.ensures.changed c.will_write.ensures.kind _ c.write_reftable_pointer.ensures.written c.write_reftable_pointer.ensures.calls c.write_reftable_pointer.ensures.noted))
 
 pub returns-clause-list : goal.returns-clause-list
 returns-clause-list g c = refl

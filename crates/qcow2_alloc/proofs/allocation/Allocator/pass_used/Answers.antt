@@ -6,7 +6,8 @@ use Rattle.qcow2_alloc.proofs.AllocationSteps.{handed_on, allocator_step_as}
 use Rattle.qcow2_alloc.proofs.Hints.{hint_passed, hint_stays, hint_refused}
 use Rattle.qcow2_alloc.proofs.allocation.Allocator.pass_used.Goals.{then-cluster-self, else-cluster-self}
 use Rattle.qcow2_alloc.proofs.SparedHeaders.{spares_as}
-use Rattle.qcow2_alloc.proofs.Outcomes.{if_no_ok}
+use Rattle.qcow2_alloc.proofs.Outcomes.{handed_unaligned, if_no_ok, ok_no_err}
+use Rattle.qcow2_alloc.specs.declared.error.ImageError.TheVariants as I
 use Rattle.qcow2_alloc.proofs.allocation.Allocator.pass_used.Goals as goal
 
 pub returns-in_err-next-clause-sound : goal.returns-in_err-next-clause-sound
@@ -50,3 +51,11 @@ returns-clause-header_cluster g c =
 
 pub returns-in_err-next-clause-far : goal.returns-in_err-next-clause-far
 returns-in_err-next-clause-far g c = if_no_ok _ c.from_residual.result c.in_err-next.field-0.0 c.from_residual.ensures
+
+pub returns-in_err-next-clause-unaligned : goal.returns-in_err-next-clause-unaligned
+returns-in_err-next-clause-unaligned g c = λ u.
+    let refused = c.in_err-next.ensures.unaligned u in
+    (handed_unaligned c.from_residual.result c.in_err-next.field-0.0 c.from_residual.ensures refused.0, refused.1)
+
+pub returns-clause-unaligned : goal.returns-clause-unaligned
+returns-clause-unaligned g c = λ u. ok_no_err _ I.UnalignedTable (c.in_ok-next.ensures.unaligned u).0

@@ -3,7 +3,10 @@ use Rattle.std.specs.Prelude.{IfErr}
 use Rattle.std.proofs.lemmas.Bool.Decides.{nat_tests}
 use Rattle.qcow2_metadata.specs.Entries.{block_offset, count}
 use Rattle.qcow2_metadata.specs.TableBytes.{entry_at}
-use Rattle.qcow2_alloc.specs.Allocation.{TakesOne}
+use Rattle.qcow2_alloc.specs.Allocation.{HasAlignedBlock, NamesBlock, TakesOne}
+use Rattle.qcow2_alloc.proofs.AlignedBlocks.{unaligned_as}
+use Rattle.qcow2_alloc.proofs.Outcomes.{if_no_ok, ok_no_err, handed_unaligned}
+use Rattle.qcow2_alloc.specs.declared.error.ImageError.TheVariants as I
 use Rattle.qcow2_alloc.specs.declared.error.ImageError.{ImageError}
 use Rattle.qcow2_alloc.specs.ImageFile.{IsFault, known_in, contents_in}
 use Rattle.qcow2_alloc.proofs.AllocationSteps.{handed_on, of_equal, counted_at, none_in_memory, taken_one}
@@ -101,3 +104,29 @@ returns-clause-marks g c = elim c.if-rb_is_zero.branch [
   | then-rb_is_zero w ↦ subst (λ (f : ImageFile g.row.S.Denot). KeepsMarks g.S.Storage.view c.args.file.now f) (sym w.file-is) (kept_marks_then c.load_block.ensures.marks (marks_of_caches w.rb_increment.ensures.marks w.rb_increment.ensures.order))
   | else-rb_is_zero w ↦ subst (λ (f : ImageFile g.row.S.Denot). KeepsMarks g.S.Storage.view c.args.file.now f) (sym w.file-is) c.load_block.ensures.marks
 ]
+
+-- the range's refblock was loaded
+pub returns-in_err-block-clause-aligned : goal.returns-in_err-block-clause-aligned
+returns-in_err-block-clause-aligned g c = if_no_ok _ c.from_residual.result c.in_err-block.field-0.0 c.from_residual.ensures
+
+pub returns-in_default-clause-aligned : goal.returns-in_default-clause-aligned
+returns-in_default-clause-aligned g c = λ taken. absurd (let bad : false ≡ true = taken in cc)
+
+pub returns-clause-aligned : goal.returns-clause-aligned
+returns-clause-aligned g c = λ taken.
+    let h = c.args.file.now.header.fields in
+    let t = c.args.self.now.reftable in
+    let range = c.args.cluster / 2 ^ c.rb_bits-bits.result in
+    subst (λ n. HasAlignedBlock h t (c.args.cluster / n)) (sym c.rb_bits-bits.ensures.counts)
+    (record { some = rw c.in-Some.is at c.in_ok-block.ensures.has refl; block = c.in-Some.block; names = subst (NamesBlock h t range) c.in-Some.is c.in_ok-block.ensures.names })
+
+pub returns-in_err-block-clause-unaligned : goal.returns-in_err-block-clause-unaligned
+returns-in_err-block-clause-unaligned g c = λ u.
+    let refused = c.in_err-block.ensures.unaligned (unaligned_as c.args.file.now.header.fields c.args.self.now.reftable c.args.cluster _ c.rb_bits-bits.ensures.counts u) in
+    (handed_unaligned c.from_residual.result c.in_err-block.field-0.0 c.from_residual.ensures refused.0, refused.1)
+
+pub returns-in_default-clause-unaligned : goal.returns-in_default-clause-unaligned
+returns-in_default-clause-unaligned g c = λ u. ok_no_err _ I.UnalignedTable (c.in_ok-block.ensures.unaligned (unaligned_as c.args.file.now.header.fields c.args.self.now.reftable c.args.cluster _ c.rb_bits-bits.ensures.counts u)).0
+
+pub returns-clause-unaligned : goal.returns-clause-unaligned
+returns-clause-unaligned g c = λ u. ok_no_err _ I.UnalignedTable (c.in_ok-block.ensures.unaligned (unaligned_as c.args.file.now.header.fields c.args.self.now.reftable c.args.cluster _ c.rb_bits-bits.ensures.counts u)).0

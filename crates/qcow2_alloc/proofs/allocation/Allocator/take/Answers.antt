@@ -13,6 +13,7 @@ use Rattle.qcow2_alloc.proofs.allocation.Allocator.take.Goals.{then-cluster-self
 use Rattle.std.specs.Prelude.{IsErrOf, IfErr}
 use Rattle.qcow2_alloc.specs.declared.error.ImageError.{ImageError}
 use Rattle.qcow2_alloc.specs.Limits.{CantCount, IsFaultOr}
+use Rattle.qcow2_alloc.proofs.AlignedBlocks.{aligned_as}
 use Rattle.qcow2_alloc.proofs.FormerReftables.{former_still}
 use Rattle.qcow2_alloc.proofs.Faults.{told_on, told_ok}
 use Rattle.qcow2_alloc.proofs.Outcomes.{err_as, ok_no_err, told_after, if_no_ok, handed_cause, handed_unaligned}
@@ -147,7 +148,7 @@ pub returns-in_err-reach_block-clause-free : goal.returns-in_err-reach_block-cla
 returns-in_err-reach_block-clause-free g c = λ _ _. if_no_ok _ c.from_residual.result c.in_err-reach_block.field-0.0 c.from_residual.ensures
 
 pub returns-in_err-reach_block-clause-unaligned : goal.returns-in_err-reach_block-clause-unaligned
-returns-in_err-reach_block-clause-unaligned g c = λ u. handed_unaligned c.from_residual.result c.in_err-reach_block.field-0.0 c.from_residual.ensures (c.in_err-reach_block.ensures.unaligned u)
+returns-in_err-reach_block-clause-unaligned g c = λ u. let refused = c.in_err-reach_block.ensures.unaligned u in (handed_unaligned c.from_residual.result c.in_err-reach_block.field-0.0 c.from_residual.ensures refused.0, refused.1)
 
 pub returns-in_err-reach_block-clause-header : goal.returns-in_err-reach_block-clause-header
 returns-in_err-reach_block-clause-header g c = c.reach_block.ensures.header
@@ -183,7 +184,7 @@ pub returns-in_err-taken-clause-list : goal.returns-in_err-taken-clause-list
 returns-in_err-taken-clause-list g c = lists_then _ _ _ c.reach_block.ensures.list (lists_same _ _ c.raise.ensures.list)
 
 pub returns-in_err-taken-clause-unaligned : goal.returns-in_err-taken-clause-unaligned
-returns-in_err-taken-clause-unaligned g c = λ u. ok_no_err _ I.UnalignedTable (c.in_ok-reach_block.ensures.unaligned u)
+returns-in_err-taken-clause-unaligned g c = λ u. ok_no_err _ I.UnalignedTable (c.in_ok-reach_block.ensures.unaligned u).0
 
 pub returns-clause-marks : goal.returns-clause-marks
 returns-clause-marks g c = kept_marks_then c.reach_block.ensures.marks c.raise.ensures.marks
@@ -195,7 +196,7 @@ pub returns-clause-list : goal.returns-clause-list
 returns-clause-list g c = lists_then _ _ _ c.reach_block.ensures.list (lists_same _ _ c.raise.ensures.list)
 
 pub returns-clause-unaligned : goal.returns-clause-unaligned
-returns-clause-unaligned g c = λ u. ok_no_err _ I.UnalignedTable (c.in_ok-reach_block.ensures.unaligned u)
+returns-clause-unaligned g c = λ u. ok_no_err _ I.UnalignedTable (c.in_ok-reach_block.ensures.unaligned u).0
 
 pub returns-clause-noted : goal.returns-clause-noted
 returns-clause-noted g c = c.in_ok-taken.ensures.noted
@@ -254,3 +255,18 @@ returns-in_err-taken-clause-listed g c = λ p sound. lists_used_still g.S.Storag
 
 pub returns-clause-listed : goal.returns-clause-listed
 returns-clause-listed g c = λ p sound. lists_used_still g.S.Storage.view c.args.file.now c.reach_block.new.file c.raise.new.file (c.reach_block.ensures.listed p sound) c.raise.ensures.list
+
+-- its refblock is loaded again where the count is raised
+pub returns-in_err-reach_block-clause-aligned : goal.returns-in_err-reach_block-clause-aligned
+returns-in_err-reach_block-clause-aligned g c = if_no_ok _ c.from_residual.result c.in_err-reach_block.field-0.0 c.from_residual.ensures
+
+pub returns-in_err-taken-clause-aligned : goal.returns-in_err-taken-clause-aligned
+returns-in_err-taken-clause-aligned g c = if_no_ok _ c.from_residual-in_err-taken.result c.in_err-taken.field-0.0 c.from_residual-in_err-taken.ensures
+
+pub returns-clause-aligned : goal.returns-clause-aligned
+returns-clause-aligned g c = λ taken.
+    let same : c.if-cluster-self.self.reftable ≡ c.raise.new.self.reftable = elim c.if-cluster-self.branch [
+      | then-cluster-self w ↦ ap (λ (t : Allocator). t.reftable) w.self-is
+      | else-cluster-self w ↦ ap (λ (t : Allocator). t.reftable) w.self-is
+    ] in
+    aligned_as c.args.file.now.header c.reach_block.new.file.header c.reach_block.new.self.reftable c.if-cluster-self.self.reftable c.args.cluster c.reach_block.ensures.header (same ∙ ap (λ (t : Allocator). t.reftable) c.raise.ensures.same) (c.in_ok-taken.ensures.aligned taken)

@@ -5,7 +5,7 @@ use Rattle.qcow2_laws.specs.CrashInvariant.{Pending}
 use Rattle.qcow2_alloc.specs.declared.allocation.Allocator.{Allocator}
 use Rattle.qcow2_alloc.specs.declared.error.ImageError.{ImageError}
 use Rattle.qcow2_alloc.specs.declared.image_file.ImageFile.{ImageFile}
-use Rattle.qcow2_alloc.specs.Allocation.{IsUnaligned, LacksFirst, LacksBlock, run_at, taken_as, UnseenAllocatorGrowth, RefusedGrowth, TakesRun}
+use Rattle.qcow2_alloc.specs.Allocation.{AvoidsUnaligned, IsUnaligned, LacksFirst, LacksBlock, run_at, taken_as, UnseenAllocatorGrowth, RefusedGrowth, TakesRun}
 use Rattle.qcow2_alloc.specs.FreeList.{pending_then, ListsTables}
 use Rattle.qcow2_alloc.specs.ImageFile.{IsFault, KeepsHeader}
 use Rattle.qcow2_alloc.proofs.AllocationSteps.{handed_on, of_equal, may_still, on_none, is_sound_on, still_as}
@@ -20,13 +20,14 @@ use Rattle.std.specs.Prelude.{IsErrOf, IfErr}
 use Rattle.qcow2_metadata.specs.L2Mapping.{IsHostCluster}
 use Rattle.qcow2_alloc.specs.Limits.{CantCount, CantCountRun, IsFaultOr}
 use Rattle.qcow2_alloc.proofs.Limits.{cause_as, count_back, host_of_few}
+use Rattle.qcow2_alloc.proofs.AlignedBlocks.{aligned_as, avoids_more, avoids_none, avoids_then}
 use Rattle.qcow2_alloc.proofs.FormerReftables.{former_none, former_then, former_still}
 use Rattle.qcow2_alloc.proofs.Faults.{stays_else, told_ok, told_since}
 use Rattle.qcow2_alloc.proofs.Outcomes.{ok_no_err, err_as, told_after, if_no_ok, handed_cause, told_err, told_still, not_both}
 use Rattle.qcow2_alloc.specs.Faults.{FaultsTold, faults_of}
 use Rattle.qcow2_alloc.proofs.SparedHeaders.{spares_none, spares_then, spares_less}
 use Rattle.qcow2_alloc.specs.SparedHeaders.{SparesHeaderButPointer}
-use Rattle.qcow2_metadata.specs.Header.{HeaderView, counts_per_block}
+use Rattle.qcow2_metadata.specs.Header.{counts_per_block}
 use Rattle.qcow2_metadata.specs.EntryTable.{EntryTableView}
 use Rattle.qcow2_metadata.specs.declared.header.HeaderFields.{HeaderFields}
 use Rattle.qcow2_alloc.specs.declared.error.ImageError.TheVariants as I
@@ -49,21 +50,19 @@ ends_run view d p from n a b c t t' e first then before noted fault leaves = eli
 ]
 
 -- the first cluster of a run can't be had
-refuses : (h h' : HeaderFields) (t t' : EntryTableView) (first taken : ℕ) (result : Result Bool ImageError) (e : ImageError) → h' ≡ h → t' ≡ t → taken ≡ 0
-    → (IsUnaligned h' t' ((first + taken) / counts_per_block h') → IsErrOf result I.UnalignedTable) → (LacksFirst h' t' (first + taken) → IsErrOf result I.Limit) → LacksBlock h t first e → IsErrOf result e
-refuses h h' t t' first taken result e same_header same_table none unaligned first_range lacks =
+refuses : (h h' : HeaderFields) (t t' : EntryTableView) (first taken : ℕ) (result : Result Bool ImageError) (Stays : Type 0) (e : ImageError) → h' ≡ h → t' ≡ t → taken ≡ 0
+    → (IsUnaligned h' t' ((first + taken) / counts_per_block h') → IsErrOf result I.UnalignedTable × Stays) → (LacksFirst h' t' (first + taken) → IsErrOf result I.Limit × Stays) → LacksBlock h t first e → IsErrOf result e × Stays
+refuses h h' t t' first taken result Stays e same_header same_table none unaligned first_range lacks =
     let place : first ≡ first + taken = omega (arith, none) in
     elim lacks [
-      | inl u ↦ subst (IsErrOf result) (sym u.1) (unaligned (subst (λ x. IsUnaligned x t' ((first + taken) / counts_per_block x)) (sym same_header) (subst (λ (y : EntryTableView). IsUnaligned h y ((first + taken) / counts_per_block h)) (sym same_table)
-          (subst (λ n. IsUnaligned h t (n / counts_per_block h)) place u.0))))
-      | inr l ↦ subst (IsErrOf result) (sym l.1) (first_range (subst (λ x. LacksFirst x t' (first + taken)) (sym same_header) (subst (λ (y : EntryTableView). LacksFirst h y (first + taken)) (sym same_table) (subst (LacksFirst h t) place l.0))))
+      | inl u ↦
+          let refused = unaligned (subst (λ x. IsUnaligned x t' ((first + taken) / counts_per_block x)) (sym same_header) (subst (λ (y : EntryTableView). IsUnaligned h y ((first + taken) / counts_per_block h)) (sym same_table)
+          (subst (λ n. IsUnaligned h t (n / counts_per_block h)) place u.0))) in
+          (subst (IsErrOf result) (sym u.1) refused.0, refused.1)
+      | inr l ↦
+          let refused = first_range (subst (λ x. LacksFirst x t' (first + taken)) (sym same_header) (subst (λ (y : EntryTableView). LacksFirst h y (first + taken)) (sym same_table) (subst (LacksFirst h t) place l.0))) in
+          (subst (IsErrOf result) (sym l.1) refused.0, refused.1)
     ]
-
--- so it is of the first range
-lacks_first : (h h' : HeaderFields) (t t' : EntryTableView) (first taken : ℕ) → h' ≡ h → t' ≡ t → taken ≡ 0 → LacksFirst h t first → LacksFirst h' t' (first + taken)
-lacks_first h h' t t' first taken same_header same_table none l =
-    let place : first ≡ first + taken = omega (arith, none) in
-    subst (λ x. LacksFirst x t' (first + taken)) (sym same_header) (subst (λ (y : EntryTableView). LacksFirst h y (first + taken)) (sym same_table) (subst (LacksFirst h t) place l))
 
 pub taking-init : goal.taking-init
 taking-init g c = record {
@@ -79,7 +78,7 @@ taking-init g c = record {
   uses = λ p d sound may k used. used;
   free = λ p d sound may k some used. let none = run_none c.args.first k in omega (arith, none, some);
   lacking = λ e lacks. (refl, refl, refl);
-  untouched = λ l. refl;
+  aligned = avoids_none c.args.file.now.header.fields c.args.self.now.reftable c.args.first;
   sound = λ p d sound may.
       subst (λ (r : Pending). UnseenAllocatorGrowth g.S.Storage.view p c.args.file.now c.args.self.now c.args.file.now r)
       (sym (taken_none d (pending_then p c.args.file.now.free_list c.args.file.now.free_list) c.args.first 0 refl ∙ listed_after_same p c.args.file.now.free_list c.args.file.now.free_list refl)) (on_none g.S.Storage.view p c.args.file.now c.args.self.now sound);
@@ -165,8 +164,9 @@ taking-preserved g c = record {
       more_taken g.S.Storage.view d p (run_at c.args.first c.taking.taken) c.args.file.now c.taking.file c.take.new.file c.taking.self c.take.new.self c.taking.invariant.list c.take.ensures.list c.args.first c.taking.taken refl before two;
   lacking = λ e lacks.
       let at = c.taking.invariant.lacking e lacks in
-      ok_no_err c.in-Ok-true.field-0 e (refuses c.args.file.now.header.fields c.taking.file.header.fields c.args.self.now.reftable c.taking.self.reftable c.args.first c.taking.taken (Ok c.in-Ok-true.field-0) e (ap (λ (h : HeaderView). h.fields) at.2) at.1 at.0 c.in-Ok-true.ensures.unaligned (λ u. (c.in-Ok-true.ensures.first_range u).0) lacks);
-  untouched = λ l. let at = c.taking.invariant.lacking I.Limit (inr (l, refl)) in ok_no_err c.in-Ok-true.field-0 I.Limit (c.in-Ok-true.ensures.first_range (lacks_first c.args.file.now.header.fields c.taking.file.header.fields c.args.self.now.reftable c.taking.self.reftable c.args.first c.taking.taken (ap (λ (h : HeaderView). h.fields) at.2) at.1 at.0 l)).0;
+      ok_no_err c.in-Ok-true.field-0 e (refuses c.args.file.now.header.fields c.taking.file.header.fields c.args.self.now.reftable c.taking.self.reftable c.args.first c.taking.taken (Ok c.in-Ok-true.field-0) (c.take.new.file ≡ c.taking.file) e (ap (λ (f : ImageFile g.row.S.Denot). f.header.fields) at.2) at.1 at.0 c.in-Ok-true.ensures.unaligned c.in-Ok-true.ensures.first_range lacks).0;
+  aligned = avoids_more c.args.file.now.header.fields c.take.new.self.reftable c.args.first c.taking.taken (avoids_then c.args.file.now.header.fields c.taking.self.reftable c.take.new.self.reftable c.args.first c.taking.taken c.take.ensures.former.ranges c.taking.invariant.aligned)
+      (aligned_as c.args.file.now.header c.taking.file.header c.take.new.self.reftable c.take.new.self.reftable (c.args.first + c.taking.taken) c.taking.invariant.header refl (c.in-Ok-true.ensures.aligned c.in-Ok-true.field-0-test));
   leaks = λ p sound.
       let before = c.taking.invariant.sound p false sound tt in
       let q : Pending = taken_as false (pending_then p c.args.file.now.free_list c.taking.file.free_list) (run_at c.args.first c.taking.taken) in
@@ -577,12 +577,12 @@ returns-clause-lacking g c = λ e lacks some.
 pub returns-in_err-give_back-in-Ok-false-clause-lacking : goal.returns-in_err-give_back-in-Ok-false-clause-lacking
 returns-in_err-give_back-in-Ok-false-clause-lacking g c = λ e lacks some.
     let at = c.taking.invariant.lacking e lacks in
-    ok_no_err c.in-Ok-false.field-0 e (refuses c.args.file.now.header.fields c.taking.file.header.fields c.args.self.now.reftable c.taking.self.reftable c.args.first c.taking.taken (Ok c.in-Ok-false.field-0) e (ap (λ (h : HeaderView). h.fields) at.2) at.1 at.0 c.in-Ok-false.ensures.unaligned (λ u. (c.in-Ok-false.ensures.first_range u).0) lacks)
+    ok_no_err c.in-Ok-false.field-0 e (refuses c.args.file.now.header.fields c.taking.file.header.fields c.args.self.now.reftable c.taking.self.reftable c.args.first c.taking.taken (Ok c.in-Ok-false.field-0) (c.take.new.file ≡ c.taking.file) e (ap (λ (f : ImageFile g.row.S.Denot). f.header.fields) at.2) at.1 at.0 c.in-Ok-false.ensures.unaligned c.in-Ok-false.ensures.first_range lacks).0
 
 pub returns-in-Ok-false-clause-lacking : goal.returns-in-Ok-false-clause-lacking
 returns-in-Ok-false-clause-lacking g c = λ e lacks some.
     let at = c.taking.invariant.lacking e lacks in
-    ok_no_err c.in-Ok-false.field-0 e (refuses c.args.file.now.header.fields c.taking.file.header.fields c.args.self.now.reftable c.taking.self.reftable c.args.first c.taking.taken (Ok c.in-Ok-false.field-0) e (ap (λ (h : HeaderView). h.fields) at.2) at.1 at.0 c.in-Ok-false.ensures.unaligned (λ u. (c.in-Ok-false.ensures.first_range u).0) lacks)
+    ok_no_err c.in-Ok-false.field-0 e (refuses c.args.file.now.header.fields c.taking.file.header.fields c.args.self.now.reftable c.taking.self.reftable c.args.first c.taking.taken (Ok c.in-Ok-false.field-0) (c.take.new.file ≡ c.taking.file) e (ap (λ (f : ImageFile g.row.S.Denot). f.header.fields) at.2) at.1 at.0 c.in-Ok-false.ensures.unaligned c.in-Ok-false.ensures.first_range lacks).0
 
 pub returns-in_err-give_back-in-Err-clause-lacking : goal.returns-in_err-give_back-in-Err-clause-lacking
 returns-in_err-give_back-in-Err-clause-lacking g c = λ e lacks some.
@@ -592,31 +592,26 @@ returns-in_err-give_back-in-Err-clause-lacking g c = λ e lacks some.
 pub returns-in-Err-clause-lacking : goal.returns-in-Err-clause-lacking
 returns-in-Err-clause-lacking g c = λ e lacks some.
     let at = c.taking.invariant.lacking e lacks in
-    err_as c.in-Err.refusal e (refuses c.args.file.now.header.fields c.taking.file.header.fields c.args.self.now.reftable c.taking.self.reftable c.args.first c.taking.taken (Err c.in-Err.refusal) e (ap (λ (h : HeaderView). h.fields) at.2) at.1 at.0 c.in-Err.ensures.unaligned (λ u. (c.in-Err.ensures.first_range u).0) lacks)
-
-pub returns-clause-first_range : goal.returns-clause-first_range
-returns-clause-first_range g c = λ l some.
-    let all : c.taking.taken ≡ c.args.n = let le = c.taking.auto.taken-end in let past = c.taking-test.false in omega arith in
-    let none = (c.taking.invariant.lacking I.Limit (inr (l, refl))).0 in
-    absurd (omega (arith, all, none, some))
-
-pub returns-in_err-give_back-in-Ok-false-clause-first_range : goal.returns-in_err-give_back-in-Ok-false-clause-first_range
-returns-in_err-give_back-in-Ok-false-clause-first_range g c = λ l some. let at = c.taking.invariant.lacking I.Limit (inr (l, refl)) in ok_no_err c.in-Ok-false.field-0 I.Limit (c.in-Ok-false.ensures.first_range (lacks_first c.args.file.now.header.fields c.taking.file.header.fields c.args.self.now.reftable c.taking.self.reftable c.args.first c.taking.taken (ap (λ (h : HeaderView). h.fields) at.2) at.1 at.0 l)).0
-
-pub returns-in-Ok-false-clause-first_range : goal.returns-in-Ok-false-clause-first_range
-returns-in-Ok-false-clause-first_range g c = λ l some. let at = c.taking.invariant.lacking I.Limit (inr (l, refl)) in ok_no_err c.in-Ok-false.field-0 I.Limit (c.in-Ok-false.ensures.first_range (lacks_first c.args.file.now.header.fields c.taking.file.header.fields c.args.self.now.reftable c.taking.self.reftable c.args.first c.taking.taken (ap (λ (h : HeaderView). h.fields) at.2) at.1 at.0 l)).0
-
-pub returns-in_err-give_back-in-Err-clause-first_range : goal.returns-in_err-give_back-in-Err-clause-first_range
-returns-in_err-give_back-in-Err-clause-first_range g c = λ l some. let bad = (c.in_err-give_back-in-Err.ensures.none (c.taking.invariant.lacking I.Limit (inr (l, refl))).0).0 in absurd (cc)
-
-pub returns-in-Err-clause-first_range : goal.returns-in-Err-clause-first_range
-returns-in-Err-clause-first_range g c = λ l some.
-    let at = c.taking.invariant.lacking I.Limit (inr (l, refl)) in
-    let refused = c.in-Err.ensures.first_range (lacks_first c.args.file.now.header.fields c.taking.file.header.fields c.args.self.now.reftable c.taking.self.reftable c.args.first c.taking.taken (ap (λ (h : HeaderView). h.fields) at.2) at.1 at.0 l) in
-    let same = refused.1 ∙ c.taking.invariant.untouched l in (
-      err_as c.in-Err.refusal I.Limit refused.0,
+    let refused = refuses c.args.file.now.header.fields c.taking.file.header.fields c.args.self.now.reftable c.taking.self.reftable c.args.first c.taking.taken (Err c.in-Err.refusal) (c.take.new.file ≡ c.taking.file) e (ap (λ (f : ImageFile g.row.S.Denot). f.header.fields) at.2) at.1 at.0 c.in-Err.ensures.unaligned c.in-Err.ensures.first_range lacks in
+    let same = refused.1 ∙ at.2 in (
+      err_as c.in-Err.refusal e refused.0,
       elim c.if-not-is_fault.branch [
         | then-not-is_fault+in_ok-give_back-in-Err w ↦ w.file-is ∙ (w.give_back-then-not-is_fault.ensures.none at.0).1 ∙ same
         | else-not-is_fault w ↦ w.file-is ∙ same
       ],
     )
+
+-- each cluster of a run that was taken is counted in a refblock that begins at a cluster
+pub returns-in_err-give_back-in-Ok-false-clause-aligned : goal.returns-in_err-give_back-in-Ok-false-clause-aligned
+returns-in_err-give_back-in-Ok-false-clause-aligned g c = if_no_ok _ c.from_residual.result c.in_err-give_back-in-Ok-false.field-0.0 c.from_residual.ensures
+
+pub returns-in-Ok-false-clause-aligned : goal.returns-in-Ok-false-clause-aligned
+returns-in-Ok-false-clause-aligned g c = λ all. absurd (let lt = c.taking-test.true in omega (arith, all, lt))
+
+pub returns-in_err-give_back-in-Err-clause-aligned : goal.returns-in_err-give_back-in-Err-clause-aligned
+returns-in_err-give_back-in-Err-clause-aligned g c = if_no_ok _ c.from_residual-in_err-give_back-in-Err.result c.in_err-give_back-in-Err.field-0.0 c.from_residual-in_err-give_back-in-Err.ensures
+
+pub returns-clause-aligned : goal.returns-clause-aligned
+returns-clause-aligned g c = λ all.
+    let all : c.taking.taken ≡ c.args.n = let le = c.taking.auto.taken-end in let past = c.taking-test.false in omega arith in
+    subst (AvoidsUnaligned c.args.file.now.header.fields c.taking.self.reftable c.args.first) all c.taking.invariant.aligned

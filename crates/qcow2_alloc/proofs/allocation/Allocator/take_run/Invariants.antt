@@ -1,6 +1,6 @@
 use Rattle.std.proofs.Common.{◌≡◌, ℕ, ◌<◌, Bool, IsTrue}
 use Rattle.qcow2_laws.specs.CrashInvariant.{Pending}
-use Rattle.qcow2_alloc.specs.Allocation.{run_at, taken_as, LacksBlock, LacksFirst, MayTake, SameLeaks, UnseenAllocatorGrowth}
+use Rattle.qcow2_alloc.specs.Allocation.{run_at, taken_as, AvoidsUnaligned, LacksBlock, MayTake, SameLeaks, UnseenAllocatorGrowth}
 use Rattle.qcow2_alloc.specs.KeptMarks.{KeepsMarks}
 use Rattle.qcow2_alloc.specs.Faults.{faults_of}
 use Rattle.qcow2_alloc.specs.ImageFile.{AllocatorInvariant, KeepsHeader}
@@ -25,6 +25,6 @@ invariant-taking g l = record {
   hint : (p : Pending) (d : Bool) → AllocatorInvariant g.S.Storage.view l.fn.self p l.fn.file → MayTake d l.fn.file → NoFreeBelowHint g.S.Storage.view l.fn.self l.fn.file → NoFreeBelowHint g.S.Storage.view l.self l.file;
   uses : (p : Pending) (d : Bool) → AllocatorInvariant g.S.Storage.view l.fn.self p l.fn.file → MayTake d l.fn.file → (k : ℕ) → IsUsed g.S.Storage.view l.fn.file k → IsUsed g.S.Storage.view l.file k;
   free : (p : Pending) (d : Bool) → AllocatorInvariant g.S.Storage.view l.fn.self p l.fn.file → MayTake d l.fn.file → (k : ℕ) → 0 < run_at l.fn.first l.taken k → ¬ IsUsed g.S.Storage.view l.fn.file k;
-  lacking : (e : ImageError) → LacksBlock l.fn.file.header.fields l.fn.self.reftable l.fn.first e → (l.taken ≡ 0) × (l.self.reftable ≡ l.fn.self.reftable) × (l.file.header ≡ l.fn.file.header);
-  untouched : LacksFirst l.fn.file.header.fields l.fn.self.reftable l.fn.first → l.file ≡ l.fn.file;
+  lacking : (e : ImageError) → LacksBlock l.fn.file.header.fields l.fn.self.reftable l.fn.first e → (l.taken ≡ 0) × (l.self.reftable ≡ l.fn.self.reftable) × (l.file ≡ l.fn.file);
+  aligned : AvoidsUnaligned l.fn.file.header.fields l.self.reftable l.fn.first l.taken;
 }

@@ -11,6 +11,9 @@ use Rattle.qcow2_metadata.specs.Header.{counts_per_block}
 use Rattle.qcow2_alloc.proofs.Leaks.{tried}
 use Rattle.qcow2_alloc.proofs.SparedHeaders.{spares_then, spares_tables, spares_as}
 use Rattle.qcow2_alloc.proofs.KeptMarks.{kept_marks_then, marks_of_caches}
+use Rattle.qcow2_alloc.specs.declared.error.ImageError.TheVariants as I
+use Rattle.qcow2_alloc.proofs.AlignedBlocks.{unaligned_as}
+use Rattle.qcow2_alloc.proofs.Outcomes.{handed_unaligned, ok_no_err}
 use Rattle.qcow2_alloc.proofs.allocation.Allocator.try_lower.Goals as goal
 
 pub returns-in_err-block-clause-sound : goal.returns-in_err-block-clause-sound
@@ -74,3 +77,14 @@ returns-clause-header_cluster g c = spares_as c.note_lowered.ensures.reftable (s
 
 pub returns-clause-marks : goal.returns-clause-marks
 returns-clause-marks g c = kept_marks_then c.load_block.ensures.marks (marks_of_caches c.rb_decrement-lowered.ensures.marks c.rb_decrement-lowered.ensures.order)
+
+pub returns-in_err-block-clause-unaligned : goal.returns-in_err-block-clause-unaligned
+returns-in_err-block-clause-unaligned g c = λ u.
+    let refused = c.in_err-block.ensures.unaligned (unaligned_as c.args.file.now.header.fields c.args.self.now.reftable c.args.cluster _ c.rb_bits-bits.ensures.counts u) in
+    (handed_unaligned c.from_residual.result c.in_err-block.field-0.0 c.from_residual.ensures refused.0, refused.1)
+
+pub returns-in_default-clause-unaligned : goal.returns-in_default-clause-unaligned
+returns-in_default-clause-unaligned g c = λ u. ok_no_err _ I.UnalignedTable (c.in_ok-block.ensures.unaligned (unaligned_as c.args.file.now.header.fields c.args.self.now.reftable c.args.cluster _ c.rb_bits-bits.ensures.counts u)).0
+
+pub returns-clause-unaligned : goal.returns-clause-unaligned
+returns-clause-unaligned g c = λ u. ok_no_err _ I.UnalignedTable (c.in_ok-block.ensures.unaligned (unaligned_as c.args.file.now.header.fields c.args.self.now.reftable c.args.cluster _ c.rb_bits-bits.ensures.counts u)).0

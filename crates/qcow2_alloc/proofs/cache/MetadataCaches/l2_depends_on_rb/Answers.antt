@@ -3,6 +3,7 @@ use Rattle.qcow2_alloc.specs.declared.cache.Direction.TheVariants as D
 use Rattle.qcow2_alloc.specs.MetadataCaches.{order}
 use Rattle.qcow2_alloc.proofs.KeptTables.Turning.{tables_free, keep_none, keep_turned, may_l2_depend}
 use Rattle.qcow2_alloc.specs.ImageError.{IsFault}
+use Rattle.qcow2_alloc.proofs.Outcomes.{on_err}
 use Rattle.qcow2_alloc.proofs.KeptTables.Causes.{given_err}
 use Rattle.qcow2_alloc.proofs.KeptTables.InOrder.{order_none}
 use Rattle.qcow2_alloc.proofs.KeptTables.BehindHeader.{caches_none, turned_behind}
@@ -70,3 +71,7 @@ returns-clause-written g c = elim c.match-self.branch [
   | in-None w ↦ λ was. absurd (let e = sym (ap order w.in-None.is) ∙ was in cc)
   | in-RbDependsOnL2+in_ok-write_tables-in-RbDependsOnL2 w ↦ λ _. rw w.self-is w.in_ok-write_tables-in-RbDependsOnL2.ensures.written
 ]
+
+-- only the tables that are written can refuse it
+pub returns-in_err-write_tables-in-RbDependsOnL2-clause-turned : goal.returns-in_err-write_tables-in-RbDependsOnL2-clause-turned
+returns-in_err-write_tables-in-RbDependsOnL2-clause-turned g c = on_err _ c.from_residual.result (ap order c.in-RbDependsOnL2.is)

@@ -11,7 +11,6 @@ use Rattle.std.proofs.Common.{◌≡◌, ℕ, ◌≤◌, List, Option}
 use Rattle.std.specs.Option.{IfSome}
 use Rattle.qcow2_metadata.specs.L2Mapping.{old_data_run}
 use Rattle.qcow2_metadata.specs.L2Table.{cover_at, entries_of}
-use Rattle.qcow2_metadata.specs.TableBytes.{ChangesEntry}
 use Rattle.qcow2_alloc.specs.declared.async_lru_cache.slot.Slot.{Slot}
 use Rattle.qcow2_alloc.specs.AsyncLruCache.{value_at}
 use Rattle.qcow2_alloc.specs.TableChanges.{changed_table}
